@@ -1,7 +1,7 @@
 -- Laws of what a builder holds.
 use Rattle.std.proofs.Common.{◌≡◌, ℕ, List, [], ◌∷◌, ◌++◌, Some, option_map, map, refl, ap, ◌∙◌}
 use Rattle.indexmap.proofs.MapLemmas.{insert_all_push}
-use Rattle.plist_base.specs.Events.{PlainEvent, StartArray, StartDictionary, EndCollection, Single}
+use Rattle.plist_base.specs.Events.{PlainEvent, StartArray, StartDictionary, EndCollection, ScalarEvent}
 use Rattle.plist_base.specs.Trees.{String, Tree, Array, Dictionary, trees_of, members_of}
 use Rattle.std.proofs.lemmas.List.{map_push}
 use Rattle.plist.specs.LastWins.{TreePairs, with_pair, last_values, last_wins, last_wins_in_items, last_wins_in_pairs}
@@ -41,7 +41,7 @@ begun-last : (outer : List OpenCollection) (e : PlainEvent)
 begun-last outer (StartArray n) = refl
 begun-last outer (StartDictionary n) = refl
 begun-last outer EndCollection = refl
-begun-last outer (Single x) = ap Some (tree-last _ _)
+begun-last outer (ScalarEvent x) = ap Some (tree-last _ _)
 
 array-last : (ts : List Tree) (outer : List OpenCollection) (e : PlainEvent)
     → option_map last_wins_so_far (in_array and_pair ts outer e)
@@ -59,7 +59,7 @@ dictionary-last ps outer EndCollection =
     ap Some (tree-last _ _
     ∙ ap (λ l. and_tree with_pair (Dictionary (members_of l)) (map last_wins_within outer))
     (ap last_values (pairs-last ps)))
-dictionary-last ps outer (Single (String k)) = refl
+dictionary-last ps outer (ScalarEvent (String k)) = refl
 dictionary-last ps outer e = refl
 
 -- to add a pair in its place is to take the last values of what was added at the end

@@ -15,7 +15,7 @@ use Rattle.plist.specs.inner.Following.{complete, refusal-last, carried}
 use Rattle.std.proofs.lemmas.Option.{none-some, same_Some}
 use Rattle.plist_base.specs.Faults.{fault_of}
 use Rattle.plist.specs.declared.value.Value.{Value}
-use Rattle.plist.specs.Views.{tree_of}
+use Rattle.plist.specs.ValueTrees.{tree_of}
 use Rattle.plist.specs.Collecting.{IsBuiltFrom, TakesOne, RefusesOne, built_tree}
 use Rattle.plist.proofs.Carrying.{carried-last}
 

@@ -13,14 +13,14 @@ use Rattle.std.specs.Cmp.Derive.{both_true}
 use Rattle.std_collections.specs.HashMap.Eq.{get_from_hash_map_eq}
 use Rattle.std_collections.proofs.HashMapEq.{key_at, own_value, equal_by_keys}
 use Rattle.plist_base.specs.Trees.{Dictionary}
-use Rattle.plist.specs.declared.same.Later.{Later}
-use Rattle.plist.specs.declared.same.Pair.{Pair}
+use Rattle.plist.specs.declared.equal.Later.{Later}
+use Rattle.plist.specs.declared.equal.Pair.{Pair}
 use Rattle.plist.specs.declared.value.Value.{Value, Value-F, fold_out-Value}
 use Rattle.plist_pairs.specs.inner.PairsSame.{as_map}
 use Rattle.plist.specs.inner.PutOff.{Compares, ComparesItems, ComparesPairs, ComparesValues, ItemsLeft, PairsLeft, are_covered, are_same, same_values, to_compare, waiting}
-use Rattle.plist.specs.Same.{same, same_items}
+use Rattle.plist.specs.Equal.{same, same_items}
 use Rattle.plist_pairs.specs.Equal.{same_pairs}
-use Rattle.plist.specs.Views.{item_trees, pair_trees}
+use Rattle.plist.specs.ValueTrees.{item_trees, pair_trees}
 use Rattle.plist.specs.inner.Weights.{weight, weight_step, weights}
 use Rattle.plist.proofs.Dropping.{weights-more}
 use Rattle.plist.proofs.SameTrees.{same_dictionaries}

@@ -1,6 +1,6 @@
 -- The events of a value are gathered, and their file goes out.
 use Rattle.std.proofs.Common.{◌≡◌, ℕ, List, ◌∷◌, [], ◌++◌, Option, Some, Result, Ok, Err, map, refl, sym, ap, ◌∙◌, subst, append_assoc, append-nil, None, IfErr}
-use Rattle.plist_base.specs.Bracketing.{bracketing, without_length, lengthless, AreAlike, AreWhole}
+use Rattle.plist_base.specs.Bracketing.{bracketing, without_length, lengthless, AreAlike, AreTreeEvents}
 use Rattle.plist_base.specs.declared.error.Error.{Error}
 use Rattle.plist_base.specs.declared.event.Event.{Event}
 use Rattle.plist_base.specs.Events.{PlainEvent, event_of}
@@ -46,7 +46,7 @@ gathered_alike tree es is =
 -- ---- sending them
 
 module _ (tree : Tree) (es : List PlainEvent) (alike : AreAlike es (bracketing tree)) where
-  pub whole_tree : AreWhole es
+  pub whole_tree : AreTreeEvents es
   whole_tree = (tree, alike)
 
   module _ {W : Type 0} (contents : W → Option (List ℕ)) (old new : W) where

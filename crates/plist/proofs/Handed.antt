@@ -6,7 +6,7 @@ use Rattle.plist_base.specs.Events.{PlainEvent, event_of, item_of}
 use Rattle.plist_base.specs.Faults.{Fault}
 use Rattle.plist_base.specs.Writing.{Answer}
 use Rattle.plist.specs.declared.stream.events.Events.{Events}
-use Rattle.plist.specs.Handing.{TakesAll, Hands, HandsItem}
+use Rattle.plist.specs.WrittenEvents.{TakesAll, WritesEvents, WritesItem}
 use Rattle.plist.specs.Events.{remaining_events, GivesEvent}
 
 module _ {S : Type 0} (Step : S → PlainEvent → Answer → S → Type 0) where
@@ -27,7 +27,7 @@ module _ {S : Type 0} (Step : S → PlainEvent → Answer → S → Type 0) wher
   pub one-more : (before now after : S) (all : List PlainEvent) (events left : Events)
       (item : Result Event Error) → HandedSoFar before all events now
       → GivesEvent events (Some item) left
-      → HandsItem Step now (item_of item) (Ok tt) after → HandedSoFar before all left after
+      → WritesItem Step now (item_of item) (Ok tt) after → HandedSoFar before all left after
   one-more before now after all events left (Ok e) (taken, is, took) g s = (
     taken ++ event_of e ∷ [],
     is ∙ ap (λ l. taken ++ l) g.0
@@ -40,8 +40,8 @@ module _ {S : Type 0} (Step : S → PlainEvent → Answer → S → Type 0) wher
   pub refused : (before now after : S) (all : List PlainEvent) (events left : Events)
       (item : Result Event Error) (fault : Fault) → HandedSoFar before all events now
       → GivesEvent events (Some item) left
-      → HandsItem Step now (item_of item) (Err fault) after
-      → Hands Step before all (Err fault) after
+      → WritesItem Step now (item_of item) (Err fault) after
+      → WritesEvents Step before all (Err fault) after
   refused before now after all events left (Ok e) fault (taken, is, took) g s =
       (taken, event_of e ∷ remaining_events left, is ∙ ap (λ l. taken ++ l) g.0, (now, took, inl s))
   refused before now after all events left (Err error) fault (taken, is, took) g s = (

@@ -8,10 +8,10 @@ use Rattle.plist_base.specs.Events.{PlainEvent}
 use Rattle.plist_base.specs.Trees.{Tree, Leaf, Array, Dictionary}
 use Rattle.plist_base.specs.Writing.{Answer}
 use Rattle.plist_base.proofs.Grammar.{alike_last, alike_with}
-use Rattle.plist_binwrite.specs.declared.shared.Sharing.{Ghosts as SharingGhosts}
+use Rattle.plist_binwrite.specs.declared.sharing.Sharing.{Ghosts as SharingGhosts}
 use Rattle.plist_binwrite.specs.declared.writer.FileWriter.{FileWriter}
-use Rattle.plist_binwrite.specs.FileWriter.{Completes, Holds, Takes, TakesEvent, open_events, failed_of, sink_of}
-use Rattle.plist.specs.Handing.{TakesAll}
+use Rattle.plist_binwrite.specs.FileWriter.{Completes, Holds, IsWriterStep, TakesEvent, open_events, failed_of, sink_of}
+use Rattle.plist.specs.WrittenEvents.{TakesAll}
 
 begins : (tree : Tree) → (event : PlainEvent) × (events : List PlainEvent)
     × (bracketing tree ≡ event ∷ events)
@@ -22,7 +22,7 @@ begins (Dictionary pairs) = (_, _, refl)
 module _ {W S : Type 0} {g : Ghosts W} {h : SharingGhosts S} (IsFile : Tree → List ℕ → Type 0)
     (size : Tree → ℕ) (contents : W → Option (List ℕ)) (tree : Tree) where
   abbrev Step : FileWriter W S g h → PlainEvent → Answer → FileWriter W S g h → Type 0
-  Step before event answer after = Takes IsFile size contents before event answer after
+  Step before event answer after = IsWriterStep IsFile size contents before event answer after
 
   -- these events are held, and nothing went out
   abbrev IsHolding : (start : W) → List PlainEvent → FileWriter W S g h → Type 0

@@ -12,7 +12,7 @@ use Rattle.plist_base.specs.Bracketing.{bracketing, without_length, AreAlike}
 use Rattle.plist.specs.Building.{Unfinished, events_so_far, refusal_at, IsNested}
 use Rattle.plist.specs.Collecting.{Collects, IsRefusal, RefusesOne, item_by}
 use Rattle.plist.specs.inner.Following.{refused-ends}
-use Rattle.plist.specs.Inputs.{AreOf, IsValueOf, IsReadIfKnown, BeginsWith, BeginsWithIfKnown, IsReadBack, ForeseesItems}
+use Rattle.plist.specs.ValueOfItems.{AreItemsOfTree, IsValueOf, IsReadIfKnown, BeginsWith, BeginsWithIfKnown, IsReadBack, ForeseesItems}
 use Rattle.plist.specs.LastWins.{last_wins}
 use Rattle.plist_base.proofs.OneTree.{one_tree}
 use Rattle.plist_base.proofs.Grammar.{alike_with}
@@ -40,7 +40,7 @@ no-events (x ∷ es) p = cc p
 
 -- an error among the items, or a refused event, and they are no tree's
 no-tree-error : (all : List Item) (events : List PlainEvent) (error : Fault) (more : List Item)
-    → all ≡ map Ok events ++ Err error ∷ more → (tree : Tree) → AreOf all tree → ⊥
+    → all ≡ map Ok events ++ Err error ∷ more → (tree : Tree) → AreItemsOfTree all tree → ⊥
 no-tree-error all events error more is tree (others, same, alike) =
     let r = all-events _ _ _ (sym is ∙ same) in never r.0 r.1
   where
@@ -51,7 +51,7 @@ no-tree-error all events error more is tree (others, same, alike) =
 no-tree-event : (all : List Item) (events : List PlainEvent) (held : Unfinished) (e : PlainEvent)
     (kind : FaultKind) (more : List Item) → all ≡ map Ok events ++ Ok e ∷ more → IsNested held
     → AreAlike (events_so_far held) events → refusal_at held e ≡ Some kind
-    → (tree : Tree) → AreOf all tree → ⊥
+    → (tree : Tree) → AreItemsOfTree all tree → ⊥
 no-tree-event all events held e kind more is ok alike r tree (others, same, like) =
     let s = all-events events others (Ok e ∷ more) (sym is ∙ same) in
     let rest = first s.0 s.1 in
@@ -69,7 +69,7 @@ no-tree-event all events held e kind more is ok alike r tree (others, same, like
     first (x ∷ es) p = (es, cc p)
 
 no-tree-end : (all : List Item) (events : List PlainEvent) → all ≡ map Ok events
-    → ((tree : Tree) → AreAlike events (bracketing tree) → ⊥) → (tree : Tree) → AreOf all tree → ⊥
+    → ((tree : Tree) → AreAlike events (bracketing tree) → ⊥) → (tree : Tree) → AreItemsOfTree all tree → ⊥
 no-tree-end all events is none tree (others, same, like) =
     let s = all-events events others [] (append-nil _ ∙ sym is ∙ same) in
     let e : others ≡ events = s.2 ∙ ap (λ l. events ++ l) (no-events s.0 s.1) ∙ append-nil events in

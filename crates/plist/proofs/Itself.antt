@@ -9,10 +9,10 @@ use Rattle.plist.specs.declared.value.Value.TheOpen.{Value-F}
 use Rattle.plist.specs.declared.value.Value.TheFolds.{map-Value}
 use Rattle.plist.specs.LastWins.{TreePairs, with_pair, last_values, last_wins}
 use Rattle.plist.specs.Building.{Unfinished, IsNested, IsCarriedOn, refusal_at, last_wins_in_rows, last_wins_within, last_wins_so_far, InArray, InDictionary, AfterKey, Within, Complete}
-use Rattle.plist.specs.declared.unfinished.Unended.{Unended}
-use Rattle.plist.specs.declared.unfinished.Unended.TheVariants as run
+use Rattle.plist.specs.declared.unfinished.UnclosedCollection.{UnclosedCollection}
+use Rattle.plist.specs.declared.unfinished.UnclosedCollection.TheVariants as run
 use Rattle.plist.specs.UnfinishedValues.{open_of, held_in}
-use Rattle.plist.specs.Views.{tree_of, tree_step, tree_pairs}
+use Rattle.plist.specs.ValueTrees.{tree_of, tree_step, tree_pairs}
 use Rattle.plist_pairs.proofs.Keeping.{last-values-once, once-last, values-inserts}
 use Rattle.plist.specs.inner.Steps.{carried_on}
 use Rattle.plist.specs.inner.Following.{taken_before}
@@ -72,13 +72,13 @@ pairs-itself ps =
     rows-itself (tree_pairs ps) (fixed (λ p. (p.0, last_wins p.1)) (λ p. (p.0, tree_of p.1))
     (λ p. ap (λ t. (p.0, t)) (itself p.1)) ps)
 
-open-itself : (c : Unended) → last_wins_within (open_of c) ≡ open_of c
+open-itself : (c : UnclosedCollection) → last_wins_within (open_of c) ≡ open_of c
 open-itself (run.Array items) = ap InArray (fixed last_wins tree_of itself items.items)
 open-itself (run.Dictionary pairs) = ap InDictionary (pairs-itself pairs)
 open-itself (run.AfterKey pairs key) = ap (λ d. AfterKey d (string_bytes key)) (pairs-itself pairs)
 
 -- what is held is its own last-value form
-pub held-itself : (root : Option Value) (cs : List Unended)
+pub held-itself : (root : Option Value) (cs : List UnclosedCollection)
     → last_wins_so_far (held_in root cs) ≡ held_in root cs
 held-itself (Some v) cs = ap Complete (itself v)
 held-itself None [] = refl
@@ -86,7 +86,7 @@ held-itself None (c ∷ cs) =
     λ i. Within (open-itself c i) (fixed last_wins_within open_of open-itself cs i)
 
 -- what a builder holds is carried on by an event as the plain events are
-pub carry : (root : Option Value) (cs : List Unended) (e : PlainEvent) (a : Unfinished)
+pub carry : (root : Option Value) (cs : List UnclosedCollection) (e : PlainEvent) (a : Unfinished)
     → IsNested (held_in root cs) → refusal_at (held_in root cs) e ≡ None
     → carried_on with_pair (held_in root cs) e ≡ Some a → IsCarriedOn (held_in root cs) e a
 carry root cs e a ok p q =

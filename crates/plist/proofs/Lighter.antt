@@ -1,7 +1,7 @@
 -- A tree's last-value form has no more events than the tree, and its texts and data no more bytes.
 use Rattle.std.proofs.Common.{◌≡◌, ℕ, ◌+◌, ◌≤◌, Bool, true, false, List, [], ◌∷◌, ◌++◌, length, Option, None, Some, refl, arith, bytes_eq, if◌then◌else◌}
 use Rattle.plist_base.specs.declared.limits.Limits.{Limits}
-use Rattle.plist_base.specs.Events.{PlainEvent, Single, StartArray, StartDictionary, EndCollection}
+use Rattle.plist_base.specs.Events.{PlainEvent, ScalarEvent, StartArray, StartDictionary, EndCollection}
 use Rattle.plist_base.specs.Limits.{HasBytesWithin, bytes_in, total_bytes}
 use Rattle.plist_base.specs.Trees.{Tree, Leaf, Array, Dictionary, Trees, NoTrees, TreeAnd, Members, NoMembers, MemberAnd, String, trees_of, members_of}
 use Rattle.plist_base.specs.Bracketing.{bracketing, bracketing_of_items, bracketing_of_pairs}
@@ -51,7 +51,7 @@ module _ (w : PlainEvent → ℕ) (arrays : (k l : Option ℕ) → w (StartArray
   pairs_weight members = weight_of w (bracketing_of_pairs members)
 
   abbrev key_weight : List ℕ → ℕ
-  key_weight key = w (Single (String key))
+  key_weight key = w (ScalarEvent (String key))
 
   abbrev rows_weight : TreePairs → ℕ
   rows_weight [] = 0

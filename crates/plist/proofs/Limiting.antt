@@ -13,12 +13,12 @@ use Rattle.plist_base.specs.declared.limits.Limiter.{Limiter}
 use Rattle.plist_base.specs.Events as event
 use Rattle.plist_base.specs.Events.{Item, PlainEvent, event_of}
 use Rattle.plist_base.specs.Faults.{Fault, kind_of, error_kind_of}
-use Rattle.plist_base.specs.Limits.{GivesLimited, PassesNext, come_of, event_or_limit, iterator_of, level_behind, limit_at, limited_from, limited_items, is_too_long, left_behind, opens, total_bytes, under, bytes_in, HasBytesWithin}
+use Rattle.plist_base.specs.Limits.{GivesLimited, PassesNext, items_admitted, event_or_limit, iterator_of, level_after, limit_at, limited_from, limited_items, is_too_long, left_after_event, opens, total_bytes, limited_by, bytes_in, HasBytesWithin}
 use Rattle.plist_base.specs.Trees.{Tree, Leaf, Array, Dictionary, Trees, NoTrees, TreeAnd, Members, NoMembers, MemberAnd, String}
 use Rattle.plist_base.specs.Bracketing.{AreAlike, bracketing, bracketing_of_items, bracketing_of_pairs, without_length}
 use Rattle.plist_reader.specs.Reader.{limited_input}
 use Rattle.plist.specs.Collecting.{Collects, item_by}
-use Rattle.plist.specs.Inputs.{BeginsWith, BeginsWithIfKnown, ForeseesItems}
+use Rattle.plist.specs.ValueOfItems.{BeginsWith, BeginsWithIfKnown, ForeseesItems}
 use Rattle.plist.specs.Limiting.{AreWithin, IsWithinLimits, NestsWithin, ItemsNestWithin, PairsNestWithin}
 use Rattle.plist_base.proofs.Refusals.{MatchFault-all, MatchFault-weaker}
 use Rattle.plist.proofs.KeysOnce.{last-nests}
@@ -28,7 +28,7 @@ abbrev Given : Type 0
 Given = Option (Result Event Error)
 
 abbrev come : Bool → Limiter → List Item → List Item
-come ended limiter items = cond ended [] (under limiter items)
+come ended limiter items = cond ended [] (limited_by limiter items)
 
 -- ---- what is seen to come
 
@@ -40,14 +40,14 @@ begins was old new now None item all left w b p =
     rw (p.0, w, b) refl
 begins was old new now (Some (Ok asked)) None all left w b p = absurd p
 begins was old new now (Some (Ok asked)) (Some (Ok passed)) all left w b p =
-    rw (w, p.2) (ap (under old) b ∙ p.1 left ∙ ap (λ v. Ok (event_of v) ∷ under new left) (sym p.0))
+    rw (w, p.2) (ap (limited_by old) b ∙ p.1 left ∙ ap (λ v. Ok (event_of v) ∷ limited_by new left) (sym p.0))
 begins was old new now (Some (Ok asked)) (Some (Err error)) all left w b p =
     MatchFault-all (kind_of (error_kind_of error)) tt tt
-    (rw (w, p.1) (ap (under old) b ∙ p.0.2 left))
+    (rw (w, p.1) (ap (limited_by old) b ∙ p.0.2 left))
 begins was old new now (Some (Err fault)) None all left w b p = absurd p
 begins was old new now (Some (Err fault)) (Some given) all left w b p =
     rw p.0 (MatchFault-weaker (kind_of (error_kind_of fault)) (λ _. tt) (λ _. tt)
-    (λ c. rw (w, p.1) (ap (under old) c)) b)
+    (λ c. rw (w, p.1) (ap (limited_by old) c)) b)
 
 goes : (was : Bool) (old new : Limiter) (now : Bool) (k l : Option (List Item)) (asked item : Given)
     → was ≡ false → BeginsWithIfKnown k (option_map (item_by event_of) asked) l
@@ -66,29 +66,29 @@ module _ {I : Type 0} (inner_gives : I → Given → I → Type 0) where
   -- nothing more comes
   over : (coming : I → Option (List Item)) (old new : Limited I) (item : Given) → old.ended ≡ true
       → item ≡ None → new ≡ old
-      → BeginsWithIfKnown (option_map (come_of old) (coming (iterator_of old)))
-      (option_map (item_by event_of) item) (option_map (come_of new) (coming (iterator_of new)))
+      → BeginsWithIfKnown (option_map (items_admitted old) (coming (iterator_of old)))
+      (option_map (item_by event_of) item) (option_map (items_admitted new) (coming (iterator_of new)))
   over coming old new item e none same =
       rw (same, none) (stays _)
     where
       stays : (k : Option (List Item))
-          → BeginsWithIfKnown (option_map (come_of old) k) None (option_map (come_of old) k)
+          → BeginsWithIfKnown (option_map (items_admitted old) k) None (option_map (items_admitted old) k)
       stays None = tt
-      stays (Some all) = (come_of old all, refl, rw e refl)
+      stays (Some all) = (items_admitted old all, refl, rw e refl)
 
   -- whatever shows the items of an iterator, shows these items under limits
   pub limited-shows : (coming : I → Option (List Item)) → ForeseesItems event_of inner_gives coming
       → ForeseesItems event_of (GivesLimited inner_gives)
-      (λ l. option_map (come_of l) (coming (iterator_of l)))
+      (λ l. option_map (items_admitted l) (coming (iterator_of l)))
   limited-shows coming shows old item new h = by old.ended refl h
     where
       by : (b : Bool) → old.ended ≡ b
           → MatchBool b ((item ≡ None) × (new ≡ old))
           ((asked : Given) × inner_gives old.inner asked new.inner
           × PassesNext old.limiter asked item new.limiter new.ended)
-          → BeginsWithIfKnown (option_map (come_of old) (coming (iterator_of old)))
+          → BeginsWithIfKnown (option_map (items_admitted old) (coming (iterator_of old)))
           (option_map (item_by event_of) item)
-          (option_map (come_of new) (coming (iterator_of new)))
+          (option_map (items_admitted new) (coming (iterator_of new)))
       by true e (none, same) = over coming old new item e none same
       by false e (asked, gave, passes) =
           goes old.ended old.limiter new.limiter new.ended (coming old.inner) (coming new.inner)
@@ -116,7 +116,7 @@ asked-by false h never = (refl, h)
 run-passes : {I : Type 0} (inner_gives : I → Given → I → Type 0) (old rest : Limited I)
     (taken : List (Result Event Error)) (events : List PlainEvent)
     → Yields (GivesLimited inner_gives) old taken rest
-    → map (item_by event_of) taken ≡ map Ok events → come_of old (map Ok events) ≡ map Ok events
+    → map (item_by event_of) taken ≡ map Ok events → items_admitted old (map Ok events) ≡ map Ok events
 run-passes inner_gives old rest [] [] y e = none old.ended
   where
     none : (b : Bool) → come b old.limiter [] ≡ []
@@ -137,7 +137,7 @@ module _ (limits : Limits) where
   abbrev Pass : (came level : ℕ) (left : Option ℕ) → List PlainEvent → Type 0
   Pass came level left [] = ⊤
   Pass came level left (e ∷ es) = (limit_at limits came level left e ≡ None)
-      × Pass (came + 1) (level_behind e level) (left_behind left e) es
+      × Pass (came + 1) (level_after e level) (left_after_event left e) es
 
   pass-choice : (o : Option Limit) (e : PlainEvent) (behind es : List Item)
       → event_or_limit o e behind ≡ Ok e ∷ es → (o ≡ None) × (behind ≡ es)
@@ -221,7 +221,7 @@ module _ (limits : Limits) where
   -- what nests within a collection, nests one level deeper with it
   around : (P : ℕ → Type 0) (inside rest : List PlainEvent) (came level : ℕ) (left : Option ℕ)
       → limit_at limits came level left (event.StartArray None) ≡ None
-      → Pass (came + 1) (level + 1) (left_behind left (event.StartArray None))
+      → Pass (came + 1) (level + 1) (left_after_event left (event.StartArray None))
       ((inside ++ event.EndCollection ∷ []) ++ rest)
       → (PassFrom (level + 1) (inside ++ event.EndCollection ∷ rest)
       → P (limits.depth - (level + 1)) × PassFrom (level + 1) (event.EndCollection ∷ rest))
@@ -232,20 +232,20 @@ module _ (limits : Limits) where
       let same : level + 1 - 1 ≡ level = omega arith in
       let n = nests (
         came + 1,
-        left_behind left (event.StartArray None),
-        subst (Pass (came + 1) (level + 1) (left_behind left (event.StartArray None)))
+        left_after_event left (event.StartArray None),
+        subst (Pass (came + 1) (level + 1) (left_after_event left (event.StartArray None)))
             (append_assoc inside _ rest) passed,
       )
       in (
         (omega arith, rw (← one) n.0),
-        (n.1.0 + 1, left_behind n.1.1 event.EndCollection, rw same at n.1.2.1),
+        (n.1.0 + 1, left_after_event n.1.1 event.EndCollection, rw same at n.1.2.1),
       )
 
   mutual
     tree-nests : (t : Tree) (level : ℕ) (rest : List PlainEvent)
         → PassFrom level (bracketing t ++ rest)
         → NestsWithin t (limits.depth - level) × PassFrom level rest
-    tree-nests (Leaf s) level rest (n, left, h) = (tt, (n + 1, left_behind left (event.Single s), h.1))
+    tree-nests (Leaf s) level rest (n, left, h) = (tt, (n + 1, left_after_event left (event.ScalarEvent s), h.1))
     tree-nests (Array items) level rest (n, left, h) =
         around (ItemsNestWithin items) (bracketing_of_items items) rest n level left h.0 h.1
         (λ p. items-nest items (level + 1) (event.EndCollection ∷ rest) p)
@@ -274,8 +274,8 @@ module _ (limits : Limits) where
     pairs-nest (MemberAnd key tree members) level rest (n, left, h) =
         let first = tree-nests tree level (bracketing_of_pairs members ++ rest) (
           n + 1,
-          left_behind left (event.Single (String key)),
-          subst (Pass (n + 1) level (left_behind left (event.Single (String key))))
+          left_after_event left (event.ScalarEvent (String key)),
+          subst (Pass (n + 1) level (left_after_event left (event.ScalarEvent (String key))))
               (append_assoc (bracketing tree) (bracketing_of_pairs members) rest) h.1,
         ) in
         let others = pairs-nest members level rest first.1 in ((first.0, others.0), others.1)
@@ -289,16 +289,16 @@ limited-twice : (limits : Limits) (came level : ℕ) (left : Option ℕ) (items 
 limited-twice limits came level left [] = refl
 limited-twice limits came level left (Ok e ∷ items) =
     by (limit_at limits came level left e) refl
-    (limited-twice limits (came + 1) (level_behind e level) (left_behind left e) items)
+    (limited-twice limits (came + 1) (level_after e level) (left_after_event left e) items)
   where
     by : (reached : Option Limit) → limit_at limits came level left e ≡ reached
-        → limited_from limits (came + 1) (level_behind e level) (left_behind left e)
-        (limited_from limits (came + 1) (level_behind e level) (left_behind left e) items)
-        ≡ limited_from limits (came + 1) (level_behind e level) (left_behind left e) items
+        → limited_from limits (came + 1) (level_after e level) (left_after_event left e)
+        (limited_from limits (came + 1) (level_after e level) (left_after_event left e) items)
+        ≡ limited_from limits (came + 1) (level_after e level) (left_after_event left e) items
         → limited_from limits came level left (event_or_limit reached e
-        (limited_from limits (came + 1) (level_behind e level) (left_behind left e) items))
+        (limited_from limits (came + 1) (level_after e level) (left_after_event left e) items))
         ≡ event_or_limit reached e
-        (limited_from limits (came + 1) (level_behind e level) (left_behind left e) items)
+        (limited_from limits (came + 1) (level_after e level) (left_after_event left e) items)
     by None is again = rw is (ap (λ items. Ok e ∷ items) again)
     by (Some limit) is again = refl
 limited-twice limits came level left (Err fault ∷ items) = refl
@@ -312,7 +312,7 @@ input-twice limits (Some bytes) = ap Some (limited-twice limits 0 0 limits.bytes
 -- ---- the value
 
 pub built-within : {I : Type 0} (inner_gives : I → Given → I → Type 0) (limits : Limits)
-    (limited : Limited I) (answer : Result Tree Fault) → come_of limited ≡ limited_items limits
+    (limited : Limited I) (answer : Result Tree Fault) → items_admitted limited ≡ limited_items limits
     → Collects event_of (GivesLimited inner_gives) limited answer → IfOk answer
     (IsWithinLimits limits)
 built-within inner_gives limits limited (Err fault) fresh c = tt

@@ -19,7 +19,7 @@ use Rattle.plist_reader.specs.Reader.{Gives, IsReaderFault, reader_is_limited}
 use Rattle.plist.specs.declared.value.Value.{Value}
 use Rattle.plist.specs.Building.{Unfinished, NotBegun, Within, Complete, expected_within, if_refused, refusal_at}
 use Rattle.plist.specs.Collecting.{Collects, IsRefusal, built_tree, item_by}
-use Rattle.plist.specs.ReadBy.{IsFaultOfEvents, IsReadingFault}
+use Rattle.plist.specs.FromReader.{IsFaultOfEvents, IsReadingFault}
 
 -- ---- an event that can't come
 

@@ -18,7 +18,7 @@ use Rattle.plist_reader.specs.Formats.{input_front, format_of}
 use Rattle.plist_reader.proofs.Giving.{ascii-goes}
 use Rattle.plist.specs.declared.stream.events.Events.{Events}
 use Rattle.plist.specs.Collecting.{item_by}
-use Rattle.plist.specs.Inputs.{IsValueOf, IsReadIfKnown, BeginsWith, BeginsWithIfKnown}
+use Rattle.plist.specs.ValueOfItems.{IsValueOf, IsReadIfKnown, BeginsWith, BeginsWithIfKnown}
 use Rattle.plist.specs.Events.{GivesEvent, remaining_events}
 use Rattle.plist_base.proofs.Refusals.{MatchFault-weaker, MatchFault-at}
 use Rattle.plist_binread.specs.declared.counter.DecodeCounter.{Ghosts as CounterGhosts}
@@ -26,7 +26,7 @@ use Rattle.plist_base.specs.Bracketing.{bracketing}
 use Rattle.plist_format.specs.Container.{magic}
 use Rattle.plist_binwrite.specs.Written.{IsWrittenAs}
 use Rattle.plist.specs.ReadingBack.{ReadsBack}
-use Rattle.plist.specs.Views.{tree_of}
+use Rattle.plist.specs.ValueTrees.{tree_of}
 use Rattle.plist.proofs.Inputs.{back}
 use Rattle.plist.proofs.Itself.{itself}
 use Rattle.plist_ascii.specs.AsciiReader as ascii

@@ -2,7 +2,7 @@
 use Rattle.std.proofs.Common.{◌≡◌, ℕ, List, sym, ap, ◌∙◌, Vec, Global, [], ◌∷◌, ◌++◌, Some, map, length, refl, append_assoc, arith, bytes_eq}
 use Rattle.plist.specs.declared.value.Value.{Value, fold-roll-Value}
 use Rattle.plist.specs.declared.value.Value.TheVariants.{rolls-Array, rolls-Dictionary}
-use Rattle.plist.specs.Views.{tree_of, item_trees, pair_trees, tree_pairs}
+use Rattle.plist.specs.ValueTrees.{tree_of, item_trees, pair_trees, tree_pairs}
 use Rattle.std.specs.List.{IsDistinct}
 use Rattle.std.specs.Map.{keys_of}
 use Rattle.plist_base.specs.Events.{PlainEvent, StartArray, StartDictionary, EndCollection}

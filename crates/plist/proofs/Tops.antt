@@ -4,22 +4,22 @@ use Rattle.std.proofs.lemmas.List.{reverse-append}
 use Rattle.std.specs.List.{IsDistinct}
 use Rattle.std.proofs.lemmas.Map.Made.{keys_of-map_values}
 use Rattle.indexmap.specs.IndexMap.{insert_entry}
-use Rattle.plist.specs.declared.unfinished.Unended.{Unended}
-use Rattle.plist.specs.declared.unfinished.Unended.TheVariants as run
+use Rattle.plist.specs.declared.unfinished.UnclosedCollection.{UnclosedCollection}
+use Rattle.plist.specs.declared.unfinished.UnclosedCollection.TheVariants as run
 use Rattle.plist.specs.declared.value.Value.{Value}
 use Rattle.plist.specs.Building.{InDictionary, Within}
 use Rattle.plist.specs.LastWins.{with_pair, last_values}
 use Rattle.plist.specs.UnfinishedValues.{open_of, held_in}
 use Rattle.plist.specs.inner.Steps.{and_tree}
-use Rattle.plist.specs.Views.{tree_of, tree_pairs}
+use Rattle.plist.specs.ValueTrees.{tree_of, tree_pairs}
 use Rattle.plist_pairs.proofs.Keeping.{EachOnce, last-values-once, once-earlier, values-insert}
 
 -- the innermost collection stands first
-pub innermost : (outer : List Unended) (inner : Unended)
+pub innermost : (outer : List UnclosedCollection) (inner : UnclosedCollection)
     → reverse (outer ++ inner ∷ []) ≡ inner ∷ reverse outer
 innermost outer inner = reverse-append outer _
 
-pub innermost_of : (collections outer : List Unended) (popped : Option Unended) (inner : Unended)
+pub innermost_of : (collections outer : List UnclosedCollection) (popped : Option UnclosedCollection) (inner : UnclosedCollection)
     → collections ≡ outer ++ option_to_list popped → popped ≡ Some inner
     → reverse collections ≡ inner ∷ reverse outer
 innermost_of collections outer popped inner p q =
@@ -42,7 +42,7 @@ last_insert k v ps after s once =
     (trees-once ps (once-earlier k v ps (subst EachOnce s once))))
 
 -- a value behind a key makes a pair
-pub pair_made : (collections outer new : List Unended) (popped : Option Unended)
+pub pair_made : (collections outer new : List UnclosedCollection) (popped : Option UnclosedCollection)
     (pairs after : List (List ℕ × Value)) (key : String Global) (value : Value)
     → collections ≡ outer ++ option_to_list popped → popped ≡ Some (run.AfterKey pairs key)
     → new ≡ outer ++ run.Dictionary after ∷ []

@@ -9,7 +9,7 @@ use Rattle.plist.specs.declared.stream.builder.Builder.{Builder}
 use Rattle.plist.specs.Building.{Built, IsNested, IsAnswered, complete_tree, events_so_far}
 use Rattle.plist.specs.Collecting.{RefusesOne, TakesOne}
 use Rattle.plist.specs.UnfinishedValues.{CarriesOn, unfinished_of}
-use Rattle.plist.specs.Views.{tree_of}
+use Rattle.plist.specs.ValueTrees.{tree_of}
 use Rattle.plist.specs.declared.value.Value.{Value}
 
 -- what a builder holds, and whether it has failed

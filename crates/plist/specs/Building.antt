@@ -8,7 +8,7 @@ use Rattle.plist_base.specs.declared.expects.Expect.TheVariants.{OneValue, Items
 use Rattle.plist_base.specs.declared.expects.Change.{Change}
 use Rattle.plist_base.specs.declared.expects.Change.TheVariants.{Refused}
 use Rattle.plist_base.specs.Expects.{change_of}
-use Rattle.plist_base.specs.Events.{PlainEvent, StartArray, StartDictionary, Single, kind_of_event}
+use Rattle.plist_base.specs.Events.{PlainEvent, StartArray, StartDictionary, ScalarEvent, kind_of_event}
 use Rattle.plist_base.specs.Faults.{FaultKind, Fault, UnexpectedEventType, ExpectedEndOfEventStream, UnexpectedEndOfEventStream, OutOfMemory, WriterFailed}
 use Rattle.plist_base.specs.Trees.{Tree, String, trees_of, members_of}
 use Rattle.plist_base.specs.Bracketing.{bracketing, bracketing_of_items, bracketing_of_pairs, AreAlike}
@@ -65,7 +65,7 @@ abbrev pub events_within : OpenCollection → List PlainEvent
 events_within (InArray items) = StartArray None ∷ bracketing_of_items (trees_of items)
 events_within (InDictionary pairs) = StartDictionary None ∷ bracketing_of_pairs (members_of pairs)
 events_within (AfterKey pairs key) =
-    StartDictionary None ∷ (bracketing_of_pairs (members_of pairs) ++ Single (String key) ∷ [])
+    StartDictionary None ∷ (bracketing_of_pairs (members_of pairs) ++ ScalarEvent (String key) ∷ [])
 
 abbrev pub events_round : (outer : List OpenCollection) → List PlainEvent
 events_round [] = []

@@ -10,7 +10,7 @@ use Rattle.plist.specs.declared.value.Value.{Value}
 use Rattle.plist.specs.Building.{Unfinished, IsNested, Built, events_so_far, refusal_at}
 use Rattle.plist.specs.LastWins.{with_pair, last_wins}
 use Rattle.plist.specs.inner.Steps.{carried_on}
-use Rattle.plist.specs.Views.{tree_of}
+use Rattle.plist.specs.ValueTrees.{tree_of}
 
 -- what contracts see of an item whose event is seen by `plain`
 abbrev pub item_by : {E : Type 0} → (plain : E → PlainEvent) → Result E Error → Item

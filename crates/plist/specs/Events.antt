@@ -6,7 +6,7 @@ use Rattle.plist_base.specs.declared.event.Event.{Event}
 use Rattle.plist_base.specs.declared.event.Event.TheVariants as event
 use Rattle.std.specs.declared.borrow.CowStr.TheVariants as text
 use Rattle.std.specs.declared.borrow.CowSlice.TheVariants as slice
-use Rattle.plist_base.specs.Events.{PlainEvent, StartArray, StartDictionary, EndCollection, Single, event_of}
+use Rattle.plist_base.specs.Events.{PlainEvent, StartArray, StartDictionary, EndCollection, ScalarEvent, event_of}
 use Rattle.plist_base.specs.Faults.{fault_of, fault_nowhere, OutOfMemory}
 use Rattle.plist_base.specs.Trees.{Tree, String, trees_of, members_of}
 use Rattle.plist_base.specs.Bracketing.{bracketing, bracketing_of_items, bracketing_of_pairs}
@@ -16,7 +16,7 @@ use Rattle.plist.specs.declared.stream.events.Level.{Level}
 use Rattle.plist.specs.declared.stream.events.Level.TheVariants as level
 use Rattle.plist.specs.declared.stream.events.Next.{Next}
 use Rattle.plist.specs.declared.stream.events.Next.TheVariants as next
-use Rattle.plist.specs.Views.{tree_of, tree_pairs}
+use Rattle.plist.specs.ValueTrees.{tree_of, tree_pairs}
 
 -- the events left of the value that comes next, if there is one
 abbrev pub left_of_value : Option (Bor Value) → List PlainEvent
@@ -64,7 +64,7 @@ abbrev pub ComesNext : Events → Next → Events → Type 0
 ComesNext before next.Nothing after = (remaining_events before ≡ []) × (remaining_events after ≡ [])
 ComesNext before next.End after = remaining_events before ≡ EndCollection ∷ remaining_events after
 ComesNext before (next.Key key) after =
-    remaining_events before ≡ Single (String (string_bytes key.now)) ∷ remaining_events after
+    remaining_events before ≡ ScalarEvent (String (string_bytes key.now)) ∷ remaining_events after
 ComesNext before (next.Value value) after =
     (remaining_events before
     ≡ bracketing (tree_of value.now) ++ left_of_levels (reverse after.levels.items))

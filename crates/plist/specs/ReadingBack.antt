@@ -6,8 +6,8 @@ use Rattle.plist_base.specs.Trees.{Tree}
 use Rattle.plist_binwrite.specs.Written.{IsWrittenAs}
 use Rattle.plist.specs.declared.value.Value.{Value}
 use Rattle.plist.specs.Collecting.{built_tree}
-use Rattle.plist.specs.Inputs.{IsReadBack}
-use Rattle.plist.specs.Views.{tree_of}
+use Rattle.plist.specs.ValueOfItems.{IsReadBack}
+use Rattle.plist.specs.ValueTrees.{tree_of}
 
 -- a file of a value gives that value
 abbrev pub ReadsBack : List ℕ → Result Tree Fault → Type 0

@@ -9,7 +9,7 @@ use Rattle.plist_binwrite.specs.Files.{IsFileOf}
 use Rattle.plist_base.specs.Prefixes.{AppendsPrefix}
 use Rattle.plist_binwrite.specs.Sizes.{file_size}
 use Rattle.plist.specs.declared.value.Value.{Value}
-use Rattle.plist.specs.Views.{tree_of}
+use Rattle.plist.specs.ValueTrees.{tree_of}
 
 -- why no file of the tree is made: its size, which is 2^64 or more, or want of memory
 abbrev pub StopsFile : FaultKind → Tree → Type 0

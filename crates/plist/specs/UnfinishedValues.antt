@@ -3,27 +3,27 @@ use Rattle.std.specs.Prelude.{◌≡◌, List, [], ◌∷◌, Option, Some, None
 use Rattle.std.specs.declared.alloc.Global.{Global}
 use Rattle.plist_base.specs.declared.error.ErrorKind.{ErrorKind}
 use Rattle.plist_base.specs.declared.event.Event.{Event}
-use Rattle.plist_base.specs.Events.{PlainEvent, Single, event_of}
+use Rattle.plist_base.specs.Events.{PlainEvent, ScalarEvent, event_of}
 use Rattle.plist_base.specs.Faults.{kind_of}
 use Rattle.plist_base.specs.Trees as scalar
-use Rattle.plist.specs.declared.unfinished.Unended.{Unended}
-use Rattle.plist.specs.declared.unfinished.Unended.TheVariants as run
+use Rattle.plist.specs.declared.unfinished.UnclosedCollection.{UnclosedCollection}
+use Rattle.plist.specs.declared.unfinished.UnclosedCollection.TheVariants as run
 use Rattle.plist.specs.declared.unfinished.UnfinishedValue.{UnfinishedValue}
 use Rattle.plist.specs.declared.value.Value.{Value}
 use Rattle.plist.specs.Building.{OpenCollection, InArray, InDictionary, AfterKey, Unfinished, NotBegun, Within, Complete, refusal_at}
 use Rattle.plist.specs.LastWins.{last_values, with_pair}
 use Rattle.plist.specs.inner.Steps.{and_tree, carried_on}
-use Rattle.plist.specs.Views.{tree_of, tree_pairs}
+use Rattle.plist.specs.ValueTrees.{tree_of, tree_pairs}
 
 -- an open collection with its trees; a dictionary's keys stand once each, so its last values are
 -- its pairs
-abbrev pub open_of : Unended → OpenCollection
+abbrev pub open_of : UnclosedCollection → OpenCollection
 open_of (run.Array items) = InArray (map tree_of items.items)
 open_of (run.Dictionary pairs) = InDictionary (last_values (tree_pairs pairs))
 open_of (run.AfterKey pairs key) = AfterKey (last_values (tree_pairs pairs)) (string_bytes key)
 
 -- what a root, if there is one, and the open collections, innermost first, hold
-abbrev pub held_in : Option Value → List Unended → Unfinished
+abbrev pub held_in : Option Value → List UnclosedCollection → Unfinished
 held_in (Some root) collections = Complete (tree_of root)
 held_in None [] = NotBegun
 held_in None (inner ∷ outer) = Within (open_of inner) (map open_of outer)
@@ -44,7 +44,7 @@ CarriesOn before event after =
 -- a text does
 abbrev pub TakesText : (before : UnfinishedValue) → String Global → (after : UnfinishedValue)
     → Type 0
-TakesText before text after = CarriesOn before (Single (scalar.String (string_bytes text))) after
+TakesText before text after = CarriesOn before (ScalarEvent (scalar.String (string_bytes text))) after
 
 -- a value stands where the next one belongs
 abbrev pub AddsValue : (before : UnfinishedValue) → Value → (after : UnfinishedValue) → Type 0
@@ -52,7 +52,7 @@ AddsValue before value after =
     unfinished_of after ≡ and_tree with_pair (tree_of value) (collections_of before)
 
 -- a collection was opened inside those that are open
-abbrev pub Opens : (before : UnfinishedValue) → Unended → (after : UnfinishedValue) → Type 0
+abbrev pub Opens : (before : UnfinishedValue) → UnclosedCollection → (after : UnfinishedValue) → Type 0
 Opens before collection after =
     unfinished_of after ≡ Within (open_of collection) (collections_of before)
 
@@ -62,6 +62,6 @@ IsRefusalOf unfinished event found =
     option_map kind_of found ≡ refusal_at (unfinished_of unfinished) (event_of event)
 
 -- nothing is held where the root was taken out, and else nothing changed
-abbrev pub IsLeft : (before : UnfinishedValue) → Option Value → (after : UnfinishedValue) → Type 0
-IsLeft before taken after =
+abbrev pub RootIsTaken : (before : UnfinishedValue) → Option Value → (after : UnfinishedValue) → Type 0
+RootIsTaken before taken after =
     MatchOption taken (after ≡ before) (λ _. unfinished_of after ≡ NotBegun)

@@ -6,9 +6,9 @@ ghost use Rattle.std.specs.Prelude.{◌≡◌, IfOk, true};
 ghost use Rattle.plist_base.specs.Trees.{Tree};
 ghost use Rattle.plist_format.specs.Unfolding.{items_of_file};
 ghost use Rattle.plist.specs.Collecting.{built_tree};
-ghost use Rattle.plist.specs.Inputs.{IsReadBack, ReadsItems};
-ghost use Rattle.plist.specs.Same.{same, IsTransitive, DecidesScalars, DecidesDictionaries, same_members};
-ghost use Rattle.plist.specs.Views.{pair_trees, tree_of};
+ghost use Rattle.plist.specs.ValueOfItems.{IsReadBack, ReadsItems};
+ghost use Rattle.plist.specs.Equal.{same, IsTransitive, DecidesScalars, DecidesDictionaries, same_members};
+ghost use Rattle.plist.specs.ValueTrees.{pair_trees, tree_of};
 ghost use Rattle.plist.specs.inner.PutOff.{same_values_at};
 
 use crate::{Dictionary, Value, write_value};

@@ -2,7 +2,7 @@
 
 ghost use Rattle.std.specs.Iterator.{IsFinite};
 ghost use Rattle.plist.specs.Collecting.{Collects, CollectsTo, built_tree};
-ghost use Rattle.plist.specs.Inputs.{AnswersAsForeseen};
+ghost use Rattle.plist.specs.ValueOfItems.{AnswersAsForeseen};
 
 use crate::Value;
 use crate::stream::{AnyEvent, Builder};

@@ -1,7 +1,7 @@
 //! Copies of values.
 
 ghost use Rattle.std.specs.Prelude.{◌≡◌, IfOk};
-ghost use Rattle.plist.specs.Views.{tree_of};
+ghost use Rattle.plist.specs.ValueTrees.{tree_of};
 
 use crate::Value;
 use crate::collect::collect;

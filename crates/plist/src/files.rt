@@ -7,10 +7,10 @@ ghost use Rattle.plist_base.specs.Outcomes.{IfFault, OnlyDevice};
 ghost use Rattle.plist.specs.Collecting.{built_tree};
 ghost use Rattle.plist.specs.Limiting.{IsWithinLimits};
 ghost use Rattle.plist.specs.Outputs.{WritesFirst, contents_of};
-ghost use Rattle.plist.specs.ReadBy.{ComesOfFile, ComesOfFileUnder, IsFileFault};
+ghost use Rattle.plist.specs.FromReader.{IsReadFromFile, IsReadFromFileWithin, IsFileFault};
 ghost use Rattle.plist.specs.SendingValues.{SendsValue};
 ghost use Rattle.plist.specs.Stored.{IsUnstored};
-ghost use Rattle.plist.specs.Views.{tree_of};
+ghost use Rattle.plist.specs.ValueTrees.{tree_of};
 
 use crate::Value;
 use plist_base::{Error, ErrorKind, Limits, Seeking};
@@ -114,7 +114,7 @@ impl Value {
     ///   which the fault's text leaves out.
     /// - Those of [`Value::from_reader`].
     pub fn from_file<R: Files>(rt: &R, alloc: Global, path: &str) -> Result<Value, Error>
-        ensures read { ComesOfFile R.File (built_tree result) }
+        ensures read { IsReadFromFile R.File (built_tree result) }
         ensures fault { IfFault result (IsFileFault false) }
     {
         match fs::open(rt, path) {
@@ -136,7 +136,7 @@ impl Value {
         path: &str,
         limits: Limits,
     ) -> Result<Value, Error>
-        ensures read { ComesOfFileUnder R.File limits (built_tree result) }
+        ensures read { IsReadFromFileWithin R.File limits (built_tree result) }
         ensures fault { IfFault result (IsFileFault true) }
         ensures within { IfOk (built_tree result) (IsWithinLimits limits) }
     {

@@ -11,7 +11,7 @@ pub use plist_base::{
 };
 pub use plist_binread::{BinaryReader, CompactEvent, CountedDecodings, DecodeCounter, Uncounted};
 pub use plist_binwrite::{
-    BinaryWriter, EqualScalars, EventTable, FileWriter, Sharing, classes, complete,
-    complete_by_class, forms, numbers, output_buffer, widths,
+    BinaryWriter, EqualScalars, EventTable, FileWriter, Sharing, classes, compact_numbers,
+    complete, complete_by_class, forms, output_buffer, widths,
 };
 pub use plist_reader::{Format, Reader, format_of};

@@ -5,8 +5,8 @@ ghost use Rattle.plist_base.specs.Events as events;
 ghost use Rattle.plist_base.specs.Events.{event_of};
 ghost use Rattle.plist_base.specs.Faults.{kind_of};
 ghost use Rattle.plist.specs.Building.{NotBegun, complete_tree, kind_expected, refusal_at, refusal_of};
-ghost use Rattle.plist.specs.UnfinishedValues.{AddsValue, CarriesOn, IsLeft, IsRefusalOf, Opens, TakesText, unfinished_of};
-ghost use Rattle.plist.specs.Views.{tree_of};
+ghost use Rattle.plist.specs.UnfinishedValues.{AddsValue, CarriesOn, RootIsTaken, IsRefusalOf, Opens, TakesText, unfinished_of};
+ghost use Rattle.plist.specs.ValueTrees.{tree_of};
 
 use crate::{Dictionary, Value};
 use plist_base::{Change, ErrorKind, Event, EventKind, Expect};
@@ -14,7 +14,7 @@ use std::alloc::{AllocError, Global};
 
 /// A collection that hasn't ended.
 #[derive(Drop)]
-pub(crate) enum Unended {
+pub(crate) enum UnclosedCollection {
     /// An array with its items so far.
     Array(Vec<Value>),
     /// A dictionary with its pairs so far.
@@ -26,7 +26,7 @@ pub(crate) enum Unended {
 /// The open collections, innermost last, and the root once it is complete.
 #[derive(Drop)]
 pub(crate) struct UnfinishedValue {
-    collections: Vec<Unended>,
+    collections: Vec<UnclosedCollection>,
     root: Option<Value>,
 }
 
@@ -82,14 +82,14 @@ impl UnfinishedValue {
             });
         }
         match self.collections.last() {
-            Some(Unended::Array(_)) => refusal_of(Expect::Items, event),
-            Some(Unended::Dictionary(_)) => refusal_of(Expect::Pairs, event),
-            Some(Unended::AfterKey(..)) | None => refusal_of(Expect::OneValue, event),
+            Some(UnclosedCollection::Array(_)) => refusal_of(Expect::Items, event),
+            Some(UnclosedCollection::Dictionary(_)) => refusal_of(Expect::Pairs, event),
+            Some(UnclosedCollection::AfterKey(..)) | None => refusal_of(Expect::OneValue, event),
         }
     }
 
     // Opens a collection.
-    fn begin(&mut self, collection: Unended) -> Result<(), AllocError>
+    fn begin(&mut self, collection: UnclosedCollection) -> Result<(), AllocError>
         requires { self.old.root ≡ None }
         ensures { OnOk result (Opens self.old collection self.new) }
     {
@@ -104,21 +104,23 @@ impl UnfinishedValue {
     {
         match self.collections.pop() {
             None => self.root = Some(value),
-            Some(Unended::Array(mut items)) => {
+            Some(UnclosedCollection::Array(mut items)) => {
                 items.push(value)?;
-                self.collections.push_reserved(Unended::Array(items));
+                self.collections
+                    .push_reserved(UnclosedCollection::Array(items));
             }
-            Some(Unended::Dictionary(pairs)) => self
+            Some(UnclosedCollection::Dictionary(pairs)) => self
                 .collections
-                .push_reserved(Unended::Dictionary(pairs)),
-            Some(Unended::AfterKey(mut pairs, key)) => {
+                .push_reserved(UnclosedCollection::Dictionary(pairs)),
+            Some(UnclosedCollection::AfterKey(mut pairs, key)) => {
                 match pairs.insert(key, value) {
                     Ok(_) => {}
                     Err(_) => return Err(AllocError),
                 }
                 // it tells that no key stands twice
                 let _ = pairs.pair_count();
-                self.collections.push_reserved(Unended::Dictionary(pairs));
+                self.collections
+                    .push_reserved(UnclosedCollection::Dictionary(pairs));
             }
         }
         Ok(())
@@ -131,9 +133,9 @@ impl UnfinishedValue {
         ensures { OnOk result (CarriesOn self.old events.EndCollection self.new) }
     {
         match self.collections.pop() {
-            Some(Unended::Array(items)) => self.add(Value::Array(items)),
-            Some(Unended::Dictionary(pairs)) => self.add(Value::Dictionary(pairs)),
-            Some(Unended::AfterKey(..)) | None => Ok(()),
+            Some(UnclosedCollection::Array(items)) => self.add(Value::Array(items)),
+            Some(UnclosedCollection::Dictionary(pairs)) => self.add(Value::Dictionary(pairs)),
+            Some(UnclosedCollection::AfterKey(..)) | None => Ok(()),
         }
     }
 
@@ -143,9 +145,9 @@ impl UnfinishedValue {
         ensures { OnOk result (TakesText self.old text self.new) }
     {
         match self.collections.pop() {
-            Some(Unended::Dictionary(pairs)) => {
+            Some(UnclosedCollection::Dictionary(pairs)) => {
                 self.collections
-                    .push_reserved(Unended::AfterKey(pairs, text));
+                    .push_reserved(UnclosedCollection::AfterKey(pairs, text));
                 Ok(())
             }
             Some(other) => {
@@ -164,8 +166,10 @@ impl UnfinishedValue {
         ensures { OnOk result (CarriesOn self.old (event_of event.entry) self.new) }
     {
         match event {
-            Event::StartArray(_) => self.begin(Unended::Array(Vec::new(alloc))),
-            Event::StartDictionary(_) => self.begin(Unended::Dictionary(Dictionary::new(alloc))),
+            Event::StartArray(_) => self.begin(UnclosedCollection::Array(Vec::new(alloc))),
+            Event::StartDictionary(_) => self.begin(UnclosedCollection::Dictionary(Dictionary::new(
+                alloc,
+            ))),
             Event::EndCollection => self.end(),
             Event::Boolean(value) => self.add(Value::Boolean(value)),
             Event::Data(bytes) => self.add(Value::Data(bytes.into_owned(alloc)?)),
@@ -180,7 +184,7 @@ impl UnfinishedValue {
     /// Takes the root out, if it is complete; nothing is held then.
     pub(crate) fn take_root(&mut self) -> Option<Value>
         ensures root { option_map tree_of result ≡ complete_tree (unfinished_of self.old) }
-        ensures left { IsLeft self.old result self.new }
+        ensures left { RootIsTaken self.old result self.new }
     {
         let root = self.root.take()?;
         self.collections.clear();

@@ -4,10 +4,10 @@ ghost use Rattle.std.specs.Prelude.{◌≡◌, ◌+◌, IfOk, IfSome, false, opt
 ghost use Rattle.plist_base.specs.Bracketing.{bracketing};
 ghost use Rattle.plist.specs.SendingValues.{SendsValue};
 ghost use Rattle.plist.specs.Collecting.{built_tree};
-ghost use Rattle.plist.specs.Contents.{array_in, data_in, dictionary_in, text_in};
-ghost use Rattle.plist.specs.Inputs.{AnswersOf, CollectsOf, ReadsItems, DetermineTrees};
-ghost use Rattle.plist_pairs.specs.Bulk.{Ends};
-ghost use Rattle.plist.specs.ReadBy.{ComesOfReader, ComesUnderLimits, IsReadAsAscii, IsReadingFault, items_of_text};
+ghost use Rattle.plist.specs.Accessors.{array_in, data_in, dictionary_in, text_in};
+ghost use Rattle.plist.specs.ValueOfItems.{AnswersIterable, CollectsIterable, ReadsItems, DetermineTrees};
+ghost use Rattle.plist_pairs.specs.Bulk.{IterableEnds};
+ghost use Rattle.plist.specs.FromReader.{IsReadByReader, IsReadWithin, IsReadAsAscii, IsReadingFault, items_of_text};
 ghost use Rattle.plist.specs.ReadingBack.{ReadsBackIn};
 ghost use Rattle.plist_ascii.specs.Texts.{ends_bare, lax};
 ghost use Rattle.plist_reader.specs.Reader.{items_of_input, limited_input};
@@ -17,10 +17,10 @@ ghost use Rattle.plist.specs.LastWins.{AreLastValues, TreePairs, last_values, la
 ghost use Rattle.plist.specs.Limiting.{IsWithinLimits};
 ghost use Rattle.plist.specs.Events.{remaining_events};
 ghost use Rattle.plist.specs.Variants.{value_with};
-ghost use Rattle.plist.specs.Views.{item_trees, kind_of_tree, pair_trees, tree_of};
+ghost use Rattle.plist.specs.ValueTrees.{item_trees, kind_of_tree, pair_trees, tree_of};
 ghost use Rattle.plist.specs.inner.Weights.{SplitsInto};
 
-mod contents;
+mod accessors;
 mod dropping;
 mod from;
 mod variant;
@@ -188,10 +188,13 @@ impl Value {
         alloc: Global,
         events: I,
     ) -> Result<Value, Error>
-        requires asked { Ends I.into_iter_gives I.IntoIter.can_next I.IntoIter.remaining events }
+        requires asked { IterableEnds I.into_iter_gives I.IntoIter.can_next I.IntoIter.remaining
+            events }
         // The answer.
-        ensures value { CollectsOf I.into_iter_gives E.plain I.IntoIter.next_gives events result }
-        ensures shown { AnswersOf I.into_iter_gives E.plain I.IntoIter.next_gives events result }
+        ensures value { CollectsIterable I.into_iter_gives E.plain I.IntoIter.next_gives events
+            result }
+        ensures shown { AnswersIterable I.into_iter_gives E.plain I.IntoIter.next_gives events
+            result }
         // The law.
         ensures one_tree { DetermineTrees }
         ensures last_values { (rows : TreePairs) → AreLastValues rows (last_values rows) }
@@ -221,7 +224,7 @@ impl Value {
     /// - `OutOfMemory`.
     pub fn from_reader<R: Source>(alloc: Global, source: R) -> Result<Value, Error>
         ensures value { ReadsItems items_of_input (R.known source) result }
-        ensures read { ComesOfReader R.known R.failures source (built_tree result) }
+        ensures read { IsReadByReader R.known R.failures source (built_tree result) }
         ensures fault { IfFault result (IsReadingFault false) }
         ensures reads_back { ReadsBackIn (R.known source) result }
     {
@@ -246,7 +249,7 @@ impl Value {
         limits: Limits,
     ) -> Result<Value, Error>
         ensures value { ReadsItems (limited_input limits) (R.known source) result }
-        ensures read { ComesUnderLimits limits R.known R.failures source (built_tree result) }
+        ensures read { IsReadWithin limits R.known R.failures source (built_tree result) }
         ensures fault { IfFault result (IsReadingFault true) }
         ensures within { IfOk (built_tree result) (IsWithinLimits limits) }
     {

@@ -6,8 +6,8 @@ ghost use Rattle.plist_base.specs.Events.{item_of};
 ghost use Rattle.plist_base.specs.Outcomes.{OnlyMemory};
 ghost use Rattle.plist_base.specs.Writing.{answer_of};
 ghost use Rattle.plist_binwrite.specs.EventTable.{plain_events};
-ghost use Rattle.plist.specs.Handing.{HandsItem, HandsValue};
-ghost use Rattle.plist.specs.Views.{tree_of};
+ghost use Rattle.plist.specs.WrittenEvents.{WritesItem, WritesValue};
+ghost use Rattle.plist.specs.ValueTrees.{tree_of};
 
 use crate::Value;
 use plist_base::{Error, Event, Writer};
@@ -16,7 +16,7 @@ use std::alloc::Global;
 
 // Hands an item's event to the writer, or passes its fault on.
 fn hand<W: Writer>(writer: &mut W, item: Result<Event<'_>, Error>) -> Result<(), Error>
-    ensures { HandsItem W.Step writer.old (item_of item.entry) (answer_of result) writer.new }
+    ensures { WritesItem W.Step writer.old (item_of item.entry) (answer_of result) writer.new }
 {
     let event = item?;
     writer.write(event)
@@ -29,7 +29,7 @@ fn hand<W: Writer>(writer: &mut W, item: Result<Event<'_>, Error>) -> Result<(),
 /// The writer's first refusal, after which it is handed nothing more; and `OutOfMemory` where the
 /// events of the value want memory, in the place of a start.
 pub fn write_value<W: Writer>(alloc: Global, value: &Value, writer: &mut W) -> Result<(), Error>
-    ensures handed { HandsValue W.Step writer.old value.now result writer.new }
+    ensures handed { WritesValue W.Step writer.old value.now result writer.new }
 {
     let mut events = value.events(alloc);
     while let Some(item) = events.next() {

@@ -6,7 +6,7 @@ use Rattle.std.proofs.lemmas.List.{drop-drop}
 use Rattle.plist_base.specs.declared.error.Error.{Error}
 use Rattle.plist_base.specs.Faults.{Fault, FaultKind, Io, OutOfMemory, MatchFault, fault_of, fault_at, fault_nowhere, kind_of, error_kind_of, UnclosedString}
 use Rattle.plist_ascii.specs.Kinds.{IsFaultOfBytes}
-use Rattle.plist_ascii.specs.Unread.{IsAt, is_from_outside, IfKnown, FirstIsTaken, TakesFront, Answers}
+use Rattle.plist_ascii.specs.Unread.{IsFaultAt, is_io_or_memory, IfKnown, FirstIsTaken, TakesFront, Answers}
 use Rattle.plist_ascii.specs.Taken.{Taken, taken, past_one, past_outcome, followed, front, front_gives, needs}
 
 -- what is so of a fault that is passed on is so of the answer
@@ -16,17 +16,17 @@ passed_on P (Ok x) f h k = tt
 passed_on P (Err e) f h k = subst P (sym h) k
 
 -- the fact that a fault in the bytes has
-pub inside_has : (kind : FaultKind) (A B C : Type 0) → is_from_outside kind ≡ false
+pub inside_has : (kind : FaultKind) (A B C : Type 0) → is_io_or_memory kind ≡ false
     → MatchFault kind A B C → C
 inside_has kind A B C e h = search rules
 
 -- and what is enough for it
-pub inside_gets : (kind : FaultKind) (A B C : Type 0) → is_from_outside kind ≡ false → C
+pub inside_gets : (kind : FaultKind) (A B C : Type 0) → is_io_or_memory kind ≡ false → C
     → MatchFault kind A B C
 inside_gets kind A B C e h = search rules
 
 -- what is enough for a fault from outside
-pub outside_gets : (kind : FaultKind) (A B C : Type 0) → is_from_outside kind ≡ true → A
+pub outside_gets : (kind : FaultKind) (A B C : Type 0) → is_io_or_memory kind ≡ true → A
     → (kind ≡ OutOfMemory → B) → MatchFault kind A B C
 outside_gets kind A B C e a b = search rules
 
@@ -34,21 +34,21 @@ pub kind_said : (f : Error) (kind : FaultKind) (place : ℕ) → fault_of f ≡ 
     → kind ≡ kind_of (error_kind_of f)
 kind_said f kind place e = sym (ap (λ fault. fault.kind) e)
 
-at_inside : (kind : FaultKind) (place : ℕ) → IsFaultOfBytes kind → IsAt (fault_at kind place) place
+at_inside : (kind : FaultKind) (place : ℕ) → IsFaultOfBytes kind → IsFaultAt (fault_at kind place) place
 at_inside kind place i = search rules
 
 pub is_at_inside : (f : Error) (kind : FaultKind) (place : ℕ) → fault_of f ≡ fault_at kind place
-    → IsFaultOfBytes kind → IsAt (fault_of f) place
+    → IsFaultOfBytes kind → IsFaultAt (fault_of f) place
 is_at_inside f kind place e i =
-    let P : Fault → Type 0 = λ fault. IsAt fault place in subst P (sym e) (at_inside kind _ i)
+    let P : Fault → Type 0 = λ fault. IsFaultAt fault place in subst P (sym e) (at_inside kind _ i)
 
 -- the place of a fault in the bytes
 fault_by : (fault : Fault) (place : ℕ) → fault.offset ≡ Some place
     → fault ≡ fault_at fault.kind place
 fault_by fault place e = ap (λ o. record { kind = fault.kind; offset = o }) e
 
-pub inside_is : (f : Error) (place : ℕ) → is_from_outside (kind_of (error_kind_of f)) ≡ false
-    → IsAt (fault_of f) place → fault_of f ≡ fault_at (kind_of (error_kind_of f)) place
+pub inside_is : (f : Error) (place : ℕ) → is_io_or_memory (kind_of (error_kind_of f)) ≡ false
+    → IsFaultAt (fault_of f) place → fault_of f ≡ fault_at (kind_of (error_kind_of f)) place
 inside_is f place i h =
     fault_by _ _ (inside_has _ _ _ _ i h).1
 
@@ -57,22 +57,22 @@ no_both b t f = cc
 
 -- a device's fault is one from outside, and so is want of memory
 pub io_outside : (f : Error) (place : ℕ) → fault_of f ≡ fault_at Io place
-    → IsAt (fault_of f) place × (is_from_outside (kind_of (error_kind_of f)) ≡ true)
+    → IsFaultAt (fault_of f) place × (is_io_or_memory (kind_of (error_kind_of f)) ≡ true)
 io_outside f place e = (
-  subst (λ (fault : Fault). IsAt fault place) (sym e) refl,
-  ap (λ (fault : Fault). is_from_outside fault.kind) e,
+  subst (λ (fault : Fault). IsFaultAt fault place) (sym e) refl,
+  ap (λ (fault : Fault). is_io_or_memory fault.kind) e,
 )
 
 pub memory_outside : (f : Error) (place : ℕ) → fault_of f ≡ fault_nowhere OutOfMemory
-    → IsAt (fault_of f) place × (is_from_outside (kind_of (error_kind_of f)) ≡ true)
+    → IsFaultAt (fault_of f) place × (is_io_or_memory (kind_of (error_kind_of f)) ≡ true)
 memory_outside f place e = (
-  subst (λ (fault : Fault). IsAt fault place) (sym e) refl,
-  ap (λ (fault : Fault). is_from_outside fault.kind) e,
+  subst (λ (fault : Fault). IsFaultAt fault place) (sym e) refl,
+  ap (λ (fault : Fault). is_io_or_memory fault.kind) e,
 )
 
 -- it doesn't say that the input ended where a byte had to be taken
 pub io_unclosed : (f : Error) (place : ℕ) → fault_of f ≡ fault_at Io place → {P : Type 0}
-    → IsAt (fault_of f) place × (is_from_outside (kind_of (error_kind_of f)) ≡ false → P)
+    → IsFaultAt (fault_of f) place × (is_io_or_memory (kind_of (error_kind_of f)) ≡ false → P)
 io_unclosed f place e =
     let o = io_outside f place e in (o.0, λ d. absurd (no_both _ o.1 d))
 
@@ -102,7 +102,7 @@ module _ {X A : Type 0} (view : X → A) where
   -- a fault from outside says nothing of the bytes
   pub answers_outside : (front : List ℕ → Taken A) (old : Option (List ℕ)) (p : ℕ)
       (new : Option (List ℕ)) (q : ℕ) (f : Error)
-      → IsAt (fault_of f) q × (is_from_outside (kind_of (error_kind_of f)) ≡ true) → p ≤ q
+      → IsFaultAt (fault_of f) q × (is_io_or_memory (kind_of (error_kind_of f)) ≡ true) → p ≤ q
       → Answers view front old p new q (Err f)
   answers_outside front old p new q f a le = (a.0, le, λ d xs e. absurd (no_both _ a.1 d))
 
@@ -174,7 +174,7 @@ module _ {X A : Type 0} (view : X → A) where
   -- the input ended where a byte had to be taken
   pub answers_unclosed : (front : List ℕ → Taken A) (old : Option (List ℕ)) (p : ℕ)
       (new : Option (List ℕ)) (q : ℕ) (f : Error)
-      → IsAt (fault_of f) q × (is_from_outside (kind_of (error_kind_of f)) ≡ false
+      → IsFaultAt (fault_of f) q × (is_io_or_memory (kind_of (error_kind_of f)) ≡ false
       → (fault_of f ≡ fault_at UnclosedString q)
       × IfKnown old (λ xs. (new ≡ Some xs) × (xs ≡ [])))
       → q ≡ p → front [] ≡ taken 0 (Err UnclosedString) → Answers view front old p new q (Err f)
@@ -201,7 +201,7 @@ module _ {X A : Type 0} (view : X → A) where
   -- and one wasn't there
   pub answers_none : (n : ℕ) (meaning : List ℕ → Result A FaultKind) (old : Option (List ℕ))
       (p : ℕ) (new : Option (List ℕ)) (q : ℕ) (f : Error)
-      → IsAt (fault_of f) q × (is_from_outside (kind_of (error_kind_of f)) ≡ false
+      → IsFaultAt (fault_of f) q × (is_io_or_memory (kind_of (error_kind_of f)) ≡ false
       → (fault_of f ≡ fault_at UnclosedString q)
       × IfKnown old (λ xs. (new ≡ Some xs) × (xs ≡ [])))
       → q ≡ p → Answers view (λ ys. needs (suc n) ys meaning) old p new q (Err f)

@@ -8,11 +8,11 @@ use Rattle.plist_ascii.specs.inner.Inputs.{IfCame}
 use Rattle.std.specs.Str.{is_utf8}
 use Rattle.plist_base.specs.declared.error.ErrorKind.{ErrorKind}
 use Rattle.plist_base.specs.Faults.{InvalidUtf8AsciiStream, kind_of, FaultKind, UnclosedString}
-use Rattle.plist_base.specs.Events.{PlainEvent, StartArray, StartDictionary, EndCollection, Single, event_of}
+use Rattle.plist_base.specs.Events.{PlainEvent, StartArray, StartDictionary, EndCollection, ScalarEvent, event_of}
 use Rattle.plist_base.specs.Trees.{Scalar, String}
 use Rattle.std.specs.Prelude.{ℤ, SomeIff, ⊤, ◌==◌, ◌||◌, length, encode_utf8}
 use Rattle.plist_ascii.specs.Texts.{Token, utf8_or_fault, number_or_text, bare, bare_event, quoted_event}
-use Rattle.plist_ascii.specs.Kinds.{IsFaultOfBytes, IsTextEvent, IsAsciiEvent, BehindBracket}
+use Rattle.plist_ascii.specs.Kinds.{IsFaultOfBytes, IsTextEvent, IsAsciiEvent, IfBracket}
 use lib.Utf8.{low_scalar}
 use Rattle.std.specs.Char.{IsScalar, is_digit}
 use Rattle.plist_ascii.specs.Taken.{Taken, taken, past_one, past_outcome, front, front_gives, run}
@@ -25,11 +25,11 @@ use Rattle.plist_ascii.specs.Unread.{IfKnown, first, TakesFront, Answers}
 use Rattle.std.proofs.lemmas.Bool.{ne_eqb}
 use Rattle.plist_ascii.proofs.Unread.{first_splits}
 
-pub text_gives : (xs : List ℕ) (e : Scalar) (f : PlainEvent) → is_utf8 xs ≡ true → f ≡ Single e
-    → IsTextEvent (Single e) → (utf8_or_fault xs e ≡ Ok (Some f)) × IsTextEvent f
+pub text_gives : (xs : List ℕ) (e : Scalar) (f : PlainEvent) → is_utf8 xs ≡ true → f ≡ ScalarEvent e
+    → IsTextEvent (ScalarEvent e) → (utf8_or_fault xs e ≡ Ok (Some f)) × IsTextEvent f
 text_gives xs e f t h is = rw (t, h) (refl, is)
 
-pub number_is_text : (text : List ℕ) (o : Option ℤ) → IsTextEvent (Single (number_or_text text o))
+pub number_is_text : (text : List ℕ) (o : Option ℤ) → IsTextEvent (ScalarEvent (number_or_text text o))
 number_is_text text None = tt
 number_is_text text (Some number) = tt
 
@@ -48,12 +48,12 @@ InText (Ok a) = ⊤
 InText (Err kind) = IsTextFault kind
 
 number_wants : (text : List ℕ) (o : Option ℤ)
-    → IsTextToken (Ok (Some (Single (number_or_text text o))))
+    → IsTextToken (Ok (Some (ScalarEvent (number_or_text text o))))
 number_wants text None = tt
 number_wants text (Some number) = tt
 
 utf8_wants : (b : Bool) (text : List ℕ) (scalar : Scalar) → is_utf8 text ≡ b
-    → IsTextToken (Ok (Some (Single scalar))) → IsTextToken (utf8_or_fault text scalar)
+    → IsTextToken (Ok (Some (ScalarEvent scalar))) → IsTextToken (utf8_or_fault text scalar)
 utf8_wants true text scalar e h = rw e h
 utf8_wants false text scalar e h = rw e tt
 
@@ -233,14 +233,14 @@ text_is_ascii : (event : PlainEvent) → IsTextEvent event → IsAsciiEvent even
 text_is_ascii (StartArray length) h = absurd h
 text_is_ascii (StartDictionary length) h = absurd h
 text_is_ascii EndCollection h = absurd h
-text_is_ascii (Single scalar) h = h
+text_is_ascii (ScalarEvent scalar) h = h
 
 pub text_no_bracket : (event : PlainEvent) (behind : Type 0) → IsTextEvent event
-    → BehindBracket event behind
+    → IfBracket event behind
 text_no_bracket (StartArray length) behind h = absurd h
 text_no_bracket (StartDictionary length) behind h = absurd h
 text_no_bracket EndCollection behind h = absurd h
-text_no_bracket (Single scalar) behind h = tt
+text_no_bracket (ScalarEvent scalar) behind h = tt
 
 pub text_came : (r : Result (Option Event) Error) → IfCame r (λ e. IsTextEvent (event_of e))
     → IfCame r (λ e. IsAsciiEvent (event_of e))
@@ -250,7 +250,7 @@ text_came (Err f) h = tt
 
 pub texts_no_bracket : (r : Result (Option Event) Error) (behind : Type 0)
     → IfCame r (λ e. IsTextEvent (event_of e))
-    → IfCame r (λ e. BehindBracket (event_of e) behind)
+    → IfCame r (λ e. IfBracket (event_of e) behind)
 texts_no_bracket (Ok (Some e)) behind h = text_no_bracket (event_of e) behind h
 texts_no_bracket (Ok None) behind h = tt
 texts_no_bracket (Err f) behind h = tt

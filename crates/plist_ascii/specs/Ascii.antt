@@ -2,7 +2,7 @@
 use Rattle.std.specs.Prelude.{◌≡◌, ◌⊎◌, ℕ, zero, suc, ◌+◌, Bool, cond, ◌||◌, ◌==◌, List, [], ◌∷◌, length, drop, map, Option, None, Some, Result, Ok, Err, ⊤}
 use Rattle.std.specs.List.{list_any}
 use Rattle.plist_base.specs.Faults.{FaultKind, UnclosedString, InvalidUtf8AsciiStream, InvalidOctalString, InvalidUtf16String, fault_at}
-use Rattle.plist_base.specs.Events.{PlainEvent, StartArray, StartDictionary, EndCollection, Single, Item}
+use Rattle.plist_base.specs.Events.{PlainEvent, StartArray, StartDictionary, EndCollection, ScalarEvent, Item}
 use Rattle.plist_base.specs.Trees.{Integer, String}
 use Rattle.plist_ascii.specs.declared.token.Lead.{Lead}
 use Rattle.plist_ascii.specs.declared.token.Lead.TheVariants as lead
@@ -89,15 +89,15 @@ IsTextFault kind = ⊥
 
 -- a token is a bare or a quoted text
 abbrev pub IsTextToken : Result (Option PlainEvent) FaultKind → Type 0
-IsTextToken (Ok (Some (Single (String text)))) = ⊤
-IsTextToken (Ok (Some (Single (Integer number)))) = ⊤
+IsTextToken (Ok (Some (ScalarEvent (String text)))) = ⊤
+IsTextToken (Ok (Some (ScalarEvent (Integer number)))) = ⊤
 IsTextToken (Err kind) = IsTextFault kind
 IsTextToken outcome = ⊥
 
 -- the first item is a text, a number or a text's fault
 abbrev pub BeginsWithText : List Item → Type 0
-BeginsWithText (Ok (Single (String text)) ∷ items) = ⊤
-BeginsWithText (Ok (Single (Integer number)) ∷ items) = ⊤
+BeginsWithText (Ok (ScalarEvent (String text)) ∷ items) = ⊤
+BeginsWithText (Ok (ScalarEvent (Integer number)) ∷ items) = ⊤
 BeginsWithText (Err fault ∷ items) = IsTextFault fault.kind
 BeginsWithText items = ⊥
 

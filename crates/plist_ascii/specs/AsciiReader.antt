@@ -11,9 +11,9 @@ use Rattle.plist_ascii.specs.declared.dialect.Dialect.{Dialect}
 use Rattle.plist_ascii.specs.Texts.{ends_bare}
 use Rattle.plist_ascii.specs.declared.token.Lead.{Lead}
 use Rattle.plist_ascii.specs.Ascii.{PlacedItem, placed, placed_items, items_of_ascii, BeginsWithText, FirstIsQuoted}
-use Rattle.plist_ascii.specs.Kinds.{IsAsciiItem, ItemBehindBracket}
+use Rattle.plist_ascii.specs.Kinds.{IsAsciiItem, IfBracketItem}
 use Rattle.plist_ascii.specs.Incoming.{ItemCountsIoIfCounted}
-use Rattle.plist_ascii.specs.Unread.{within, unread, IfKnown, IsAt}
+use Rattle.plist_ascii.specs.Unread.{within, unread, IfKnown, IsFaultAt}
 
 -- the reader inside
 abbrev pub device_of : {R : Type 0} → AsciiReader R → R
@@ -83,16 +83,16 @@ TakesBytes item p q = MatchOption item (p ≤ q) (λ answer. MatchResult answer
 abbrev pub FaultIsAt : Option (Result Event Error) → ℕ → Type 0
 FaultIsAt item place =
     MatchOption item ⊤ (λ answer. MatchResult answer (λ _. ⊤)
-    (λ error. IsAt (fault_of error) place))
+    (λ error. IsFaultAt (fault_of error) place))
 
 -- this holds, where the event is a quoted text, the first of these items
-abbrev pub BehindQuoted : List PlacedItem → Option (Result Event Error) → (behind : Type 0) → Type 0
-BehindQuoted items item behind =
+abbrev pub IfQuotedItem : List PlacedItem → Option (Result Event Error) → (behind : Type 0) → Type 0
+IfQuotedItem items item behind =
     MatchOption item ⊤ (λ answer. MatchResult answer (λ _. FirstIsQuoted items → behind) (λ _. ⊤))
 
 -- after a fault from outside, and where nothing comes, nothing comes for good
-abbrev pub EndsAfterOutside : Option (Result Event Error) → Type 0 → Type 0
-EndsAfterOutside item ended =
+abbrev pub EndsAfterIoOrMemory : Option (Result Event Error) → Type 0 → Type 0
+EndsAfterIoOrMemory item ended =
     MatchOption item ended (λ answer. MatchResult answer (λ _. ⊤)
     (λ error. MatchFault (kind_of (error_kind_of error)) ended ended ⊤))
 
@@ -108,14 +108,14 @@ pub record GivesAscii {R : Type 0} (known : R → Option (List ℕ)) (failed : R
   pub rises : TakesBytes item (place_of old) (place_of new)
   pub offset : FaultIsAt item (place_of new)
   pub kinds : IsAsciiItem item
-  pub brackets : ItemBehindBracket item (peeked_byte new ≡ None)
+  pub brackets : IfBracketItem item (peeked_byte new ≡ None)
   pub quotes : IfKnown (untaken_bytes known old)
-      (λ bytes. BehindQuoted (placed_items (stops_of old) bytes (place_of old)) item
+      (λ bytes. IfQuotedItem (placed_items (stops_of old) bytes (place_of old)) item
       (peeked_byte new ≡ None))
   pub failures : ItemCountsIoIfCounted item (failed (device_of old)) (failed (device_of new))
   pub ended : HasEndedAscii old → item ≡ None
   pub unasked : HasEndedAscii old → device_of new ≡ device_of old
-  pub ends : EndsAfterOutside item (HasEndedAscii new)
+  pub ends : EndsAfterIoOrMemory item (HasEndedAscii new)
 
 -- more than the items that are still to come
 abbrev pub bytes_to_come : (ended : Bool) → (taken : ℕ) → ℕ

@@ -4,7 +4,7 @@ use Prim.Native.String.{String}
 use Rattle.std.specs.Str.{is_utf8, chars}
 use lib.Utf8.{encode}
 use Rattle.plist_base.specs.Faults.{FaultKind, fault_at, UnclosedString, IncompleteComment, InvalidUtf8AsciiStream, InvalidOctalString, InvalidUtf16String}
-use Rattle.plist_base.specs.Events.{Item, StartArray, StartDictionary, EndCollection, Single}
+use Rattle.plist_base.specs.Events.{Item, StartArray, StartDictionary, EndCollection, ScalarEvent}
 use Rattle.plist_base.specs.Trees as trees
 use Rattle.plist_base.specs.IntegerText.{integer_of_text}
 use Rattle.plist_ascii.specs.Texts.{lax, tight, bare_event, quoted_event}
@@ -13,10 +13,10 @@ use Rattle.plist_ascii.specs.Quoted.{quoted_in}
 use Rattle.plist_ascii.specs.Ascii.{token, items_in, items_of_ascii}
 
 abbrev text : String → Item
-text s = Ok (Single (trees.String (codes s)))
+text s = Ok (ScalarEvent (trees.String (codes s)))
 
 abbrev number : ℕ → Item
-number n = Ok (Single (trees.Integer (pos n)))
+number n = Ok (ScalarEvent (trees.Integer (pos n)))
 
 abbrev array : Item
 array = Ok (StartArray None)

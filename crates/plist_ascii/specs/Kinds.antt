@@ -2,7 +2,7 @@
 use Rattle.std.specs.Prelude.{Option, None, Result, MatchOption, MatchResult, ⊤}
 use Rattle.plist_base.specs.declared.error.Error.{Error}
 use Rattle.plist_base.specs.declared.event.Event.{Event}
-use Rattle.plist_base.specs.Events.{PlainEvent, StartArray, StartDictionary, EndCollection, Single, event_of}
+use Rattle.plist_base.specs.Events.{PlainEvent, StartArray, StartDictionary, EndCollection, ScalarEvent, event_of}
 use Rattle.plist_base.specs.Trees.{Integer, String}
 use Rattle.plist_base.specs.Faults.{FaultKind, UnclosedString, IncompleteComment, InvalidUtf8AsciiStream, InvalidOctalString, InvalidUtf16String, MatchFault, kind_of, error_kind_of}
 
@@ -21,8 +21,8 @@ IsAsciiFault kind = MatchFault kind ⊤ ⊤ (IsFaultOfBytes kind)
 
 -- a text, or a number
 abbrev pub IsTextEvent : PlainEvent → Type 0
-IsTextEvent (Single (String text)) = ⊤
-IsTextEvent (Single (Integer number)) = ⊤
+IsTextEvent (ScalarEvent (String text)) = ⊤
+IsTextEvent (ScalarEvent (Integer number)) = ⊤
 IsTextEvent event = ⊥
 
 -- a text, a number, an end, or a start without a length
@@ -39,14 +39,14 @@ IsAsciiItem item =
     (λ error. IsAsciiFault (kind_of (error_kind_of error))))
 
 -- this holds, if the event is a start or an end
-abbrev pub BehindBracket : PlainEvent → (behind : Type 0) → Type 0
-BehindBracket (StartArray length) behind = behind
-BehindBracket (StartDictionary length) behind = behind
-BehindBracket EndCollection behind = behind
-BehindBracket (Single scalar) behind = ⊤
+abbrev pub IfBracket : PlainEvent → (behind : Type 0) → Type 0
+IfBracket (StartArray length) behind = behind
+IfBracket (StartDictionary length) behind = behind
+IfBracket EndCollection behind = behind
+IfBracket (ScalarEvent scalar) behind = ⊤
 
 -- the same of an item
-abbrev pub ItemBehindBracket : Option (Result Event Error) → (behind : Type 0) → Type 0
-ItemBehindBracket item behind =
+abbrev pub IfBracketItem : Option (Result Event Error) → (behind : Type 0) → Type 0
+IfBracketItem item behind =
     MatchOption item ⊤ (λ answer. MatchResult answer
-    (λ event. BehindBracket (event_of event) behind) (λ _. ⊤))
+    (λ event. IfBracket (event_of event) behind) (λ _. ⊤))

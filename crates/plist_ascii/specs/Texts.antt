@@ -3,7 +3,7 @@ use Rattle.std.specs.Prelude.{ℕ, ℤ, Bool, cond, ◌==◌, List, [], ◌∷�
 use Rattle.std.specs.List.{list_any}
 use Rattle.std.specs.Str.{is_utf8}
 use Rattle.plist_base.specs.Faults.{FaultKind, InvalidUtf8AsciiStream}
-use Rattle.plist_base.specs.Events.{PlainEvent, Single}
+use Rattle.plist_base.specs.Events.{PlainEvent, ScalarEvent}
 use Rattle.plist_base.specs.Trees.{Scalar, Integer, String}
 use Rattle.plist_base.specs.IntegerText.{integer_of_text}
 use Rattle.plist_ascii.specs.declared.dialect.Dialect.{Dialect}
@@ -39,7 +39,7 @@ scalar_of_text text = number_or_text text (integer_of_text text)
 -- what a text gives, which must be UTF-8
 abbrev pub utf8_or_fault : List ℕ → Scalar → Result (Option PlainEvent) FaultKind
 utf8_or_fault text scalar =
-    cond (is_utf8 text) (Ok (Some (Single scalar))) (Err InvalidUtf8AsciiStream)
+    cond (is_utf8 text) (Ok (Some (ScalarEvent scalar))) (Err InvalidUtf8AsciiStream)
 
 -- what a bare text means
 unfoldable pub bare_event : List ℕ → Result (Option PlainEvent) FaultKind

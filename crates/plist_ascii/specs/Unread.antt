@@ -44,15 +44,15 @@ stops stop.LineEnd c = c == 10
 stops (stop.Quoted quote) c = ends_run quote c
 
 -- a device's fault, or want of memory, which says nothing of the bytes
-abbrev pub is_from_outside : FaultKind → Bool
-is_from_outside Io = true
-is_from_outside OutOfMemory = true
-is_from_outside kind = false
+abbrev pub is_io_or_memory : FaultKind → Bool
+is_io_or_memory Io = true
+is_io_or_memory OutOfMemory = true
+is_io_or_memory kind = false
 
 -- a device's fault or one of the bytes stands where the bytes taken end; want of memory has no
 -- place
-abbrev pub IsAt : Fault → ℕ → Type 0
-IsAt fault place =
+abbrev pub IsFaultAt : Fault → ℕ → Type 0
+IsFaultAt fault place =
     MatchFault fault.kind (fault.offset ≡ Some place) (fault.offset ≡ None)
     (IsFaultOfBytes fault.kind × (fault.offset ≡ Some place))
 
@@ -82,7 +82,7 @@ abbrev pub Answers : {X A : Type 0} → (view : X → A) → (front : List ℕ �
     → Type 0
 Answers view front old p new q answer = MatchResult answer
     (λ x. (p ≤ q) × IfKnown old (λ bytes. TakesFront (front bytes) (Ok (view x)) new p q bytes))
-    (λ e. IsAt (fault_of e) q × (p ≤ q) × (is_from_outside (kind_of (error_kind_of e)) ≡ false
+    (λ e. IsFaultAt (fault_of e) q × (p ≤ q) × (is_io_or_memory (kind_of (error_kind_of e)) ≡ false
     → IfKnown old (λ bytes.
     TakesFront (front bytes) (Err (kind_of (error_kind_of e))) new p q bytes)))
 

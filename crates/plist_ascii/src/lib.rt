@@ -7,12 +7,12 @@
 mod bytes;
 mod comment;
 mod dialect;
-mod escape;
 mod input;
 mod quoted;
 mod reader;
 mod text;
 mod token;
+mod unescape;
 
 pub use bytes::Bytes;
 pub use dialect::Dialect;

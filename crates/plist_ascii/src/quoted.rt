@@ -9,9 +9,9 @@ ghost use Rattle.plist_ascii.specs.Kinds.{IsTextEvent};
 ghost use Rattle.plist_ascii.specs.inner.Inputs.{CountsFailed, IsFurther, TakesEnd, Quotes, FailsBehind, GivesOne, GivesText};
 
 use crate::bytes::Bytes;
-use crate::escape::Escaped;
 use crate::input::{Input, Stop};
 use crate::text::{push_byte, quoted_event};
+use crate::unescape::Escaped;
 use plist_base::{Error, OwnedEvent};
 use std::alloc::Global;
 

@@ -2,9 +2,9 @@
 
 ghost use Rattle.std.specs.Prelude.{◌≡◌, ◌-◌, ◌<◌, take, None, Some, true, IfSome};
 ghost use Rattle.plist_base.specs.Faults.{kind_of, error_kind_of};
-ghost use Rattle.plist_ascii.specs.Kinds.{IsAsciiItem, ItemBehindBracket};
-ghost use Rattle.plist_ascii.specs.Unread.{is_from_outside};
-ghost use Rattle.plist_ascii.specs.AsciiReader.{TakesBytes, FaultIsAt, EndsAfterOutside, readable, HoldsLeft};
+ghost use Rattle.plist_ascii.specs.Kinds.{IsAsciiItem, IfBracketItem};
+ghost use Rattle.plist_ascii.specs.Unread.{is_io_or_memory};
+ghost use Rattle.plist_ascii.specs.AsciiReader.{TakesBytes, FaultIsAt, EndsAfterIoOrMemory, readable, HoldsLeft};
 ghost use Rattle.plist_ascii.specs.inner.Inputs.{ItemCountsFailed, GivesToStop, StopsAtQuote, to_come_of};
 
 use crate::bytes::Bytes;
@@ -14,8 +14,8 @@ use plist_base::{Error, ErrorKind, OwnedEvent};
 use std::alloc::Global;
 
 // A device's fault, or want of memory?
-fn is_from_outside(error: &Error) -> bool
-    ensures { result ≡ is_from_outside (kind_of (error_kind_of error.now)) }
+fn is_io_or_memory(error: &Error) -> bool
+    ensures { result ≡ is_io_or_memory (kind_of (error_kind_of error.now)) }
 {
     matches!(error.kind(), ErrorKind::Io(_) | ErrorKind::OutOfMemory)
 }
@@ -26,7 +26,7 @@ impl<R: Bytes> Input<R> {
         // The answer.
         ensures items { GivesToStop R.remaining stop self.old result self.new }
         ensures kinds { IsAsciiItem result }
-        ensures brackets { ItemBehindBracket result (self.new.peeked ≡ None) }
+        ensures brackets { IfBracketItem result (self.new.peeked ≡ None) }
         ensures quotes { StopsAtQuote R.remaining stop self.old result self.new }
         // A refusal.
         ensures offset { FaultIsAt result self.new.taken }
@@ -34,7 +34,7 @@ impl<R: Bytes> Input<R> {
         ensures rises { TakesBytes result self.old.taken self.new.taken }
         ensures ended { self.old.ended ≡ true → result ≡ None }
         ensures unasked { self.old.ended ≡ true → self.new.inner ≡ self.old.inner }
-        ensures ends { EndsAfterOutside result (self.new.ended ≡ true) }
+        ensures ends { EndsAfterIoOrMemory result (self.new.ended ≡ true) }
         ensures falls { IfSome result (λ _. to_come_of self.new < to_come_of self.old) }
         ensures failures { ItemCountsFailed R.failures self.old result self.new }
     {
@@ -47,7 +47,7 @@ impl<R: Bytes> Input<R> {
                     Ok(Some(event)) => return Some(Ok(event)),
                     Ok(None) => {}
                     Err(error) => {
-                        if is_from_outside(&error) {
+                        if is_io_or_memory(&error) {
                             self.end();
                         }
                         return Some(Err(error));

@@ -3,11 +3,11 @@
 ghost use Rattle.std.specs.Prelude.{◌≡◌, ◌+◌, ◌≤◌, [], ◌∷◌, ◌++◌, Some, Ok, Err, IfOk, IfErr, OnOk, string_bytes};
 ghost use Rattle.plist_base.specs.Faults.{InvalidUtf8AsciiStream};
 ghost use Rattle.plist_base.specs.Outcomes.{OnlyMemory};
-ghost use Rattle.plist_base.specs.Events.{Single, event_of};
+ghost use Rattle.plist_base.specs.Events.{ScalarEvent, event_of};
 ghost use Rattle.plist_ascii.specs.Texts.{bare, bare_event, quoted_event, number_or_text, scalar_of_text};
 ghost use Rattle.plist_ascii.specs.Kinds.{IsTextEvent};
 ghost use Rattle.plist_ascii.specs.Unread.{Means};
-ghost use Rattle.plist_ascii.specs.inner.Inputs.{CountsFailed, OnlyFromOutside, AddsRun, bare_until, GivesOne};
+ghost use Rattle.plist_ascii.specs.inner.Inputs.{CountsFailed, OnlyIoOrMemory, AddsRun, bare_until, GivesOne};
 ghost use Rattle.plist_ascii.specs.inner.Parts.{IsTextOf, IsNoText};
 
 use crate::bytes::Bytes;
@@ -39,7 +39,7 @@ fn text_of(bytes: Vec<u8>) -> Result<String, ErrorKind>
 
 // The number that a text spells, or the text.
 fn number_or_text(text: String) -> OwnedEvent
-    ensures { event_of result ≡ Single (scalar_of_text (string_bytes text)) }
+    ensures { event_of result ≡ ScalarEvent (scalar_of_text (string_bytes text)) }
 {
     match Integer::from_str(text.as_str()) {
         Ok(number) => Event::Integer(number),
@@ -69,7 +69,7 @@ impl<R: Bytes> Input<R> {
     /// Takes the bytes up to a stop, and appends them.
     pub fn take_run(&mut self, stop: Stop, text: &mut Vec<u8>) -> Result<(), Error>
         ensures value { OnOk result (AddsRun R.remaining stop self.old text.old self.new text.new) }
-        ensures fault { OnlyFromOutside result self.new }
+        ensures fault { OnlyIoOrMemory result self.new }
         ensures place { self.old.taken ≤ self.new.taken }
         ensures failures { CountsFailed R.failures self.old result self.new }
     {

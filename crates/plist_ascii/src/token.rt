@@ -6,7 +6,7 @@ ghost use Rattle.plist_ascii.specs.Comments.{slash};
 ghost use Rattle.plist_ascii.specs.Ascii.{lead_of, token_by};
 ghost use Rattle.plist_ascii.specs.Kinds.{IsTextEvent, IsAsciiEvent};
 ghost use Rattle.plist_ascii.specs.Unread.{stops};
-ghost use Rattle.plist_ascii.specs.inner.Inputs.{CountsFailed, IfCame, token_until, GivesToken, WantsForText, StopsAtBracket};
+ghost use Rattle.plist_ascii.specs.inner.Inputs.{CountsFailed, IfCame, token_until, GivesToken, AllocatesForText, StopsAtBracket};
 
 use crate::bytes::Bytes;
 use crate::input::{Input, Stop};
@@ -51,7 +51,7 @@ impl<R: Bytes> Input<R> {
     // Takes what a slash begins.
     fn slash(&mut self, alloc: Global, stop: Stop) -> Result<Option<OwnedEvent>, Error>
         ensures answers { GivesToken R.remaining (slash (stops stop)) self.old result self.new }
-        ensures memory { IfErr result (WantsForText R.remaining (slash (stops stop)) self.old) }
+        ensures memory { IfErr result (AllocatesForText R.remaining (slash (stops stop)) self.old) }
         ensures kinds { IfCame result (λ event. IsTextEvent (event_of event)) }
         ensures failures { CountsFailed R.failures self.old result self.new }
     {
@@ -83,7 +83,8 @@ impl<R: Bytes> Input<R> {
         ensures answers { GivesToken R.remaining (token_until stop byte) self.old result self.new }
         ensures kinds { IfCame result (λ event. IsAsciiEvent (event_of event)) }
         // A refusal.
-        ensures memory { IfErr result (WantsForText R.remaining (token_until stop byte) self.old) }
+        ensures memory { IfErr result (AllocatesForText R.remaining (token_until stop byte)
+            self.old) }
         // The state after it.
         ensures brackets { self.old.peeked ≡ None → IfCame result (StopsAtBracket self.new) }
         ensures quotes { lead_of byte ≡ Lead.Quote → IfOk result (λ _. self.new.peeked ≡ None) }

@@ -6,7 +6,7 @@ use Rattle.jiff_core.specs.Date.{epoch_day}
 use Rattle.jiff_core.specs.declared.civil.date.Date.{Date}
 use Rattle.jiff_core.proofs.SignedLemmas.{signed_arith, int_div_euclid-parts}
 use Rattle.jiff_core.proofs.DateLemmas.{cases_date, epoch_day-lt, epoch_day_range, epoch_day_same, days_from_civil-max}
-use Rattle.plist_base.specs.UnixSeconds.{HasFourDigitYear, day_in, day_number, has_marks, second_of_day, time_in, two_digits, unix_second_of_text, zone_in, IsTextOfSecond}
+use Rattle.plist_base.specs.UnixSeconds.{HasFourDigitYear, day_in, day_number, has_separators, second_of_day, time_in, two_digits, unix_second_of_text, zone_in, IsTextOfSecond}
 use Rattle.std.proofs.DigitsParse.{digits_onto_last, digits_onto_step, digits_onto-nil}
 use Rattle.std.proofs.lemmas.Bool.{cases_lt}
 use Rattle.std.proofs.lemmas.Fmt.{decimal_digit}
@@ -209,7 +209,7 @@ printed date year second is small in_day =
     }
 
 -- the parts of a text are its second
-pub spelled : (text : List ℕ) (day zone : ℤ) (time : ℕ) → has_marks text ≡ true
+pub spelled : (text : List ℕ) (day zone : ℤ) (time : ℕ) → has_separators text ≡ true
     → day_in text ≡ Some day → time_in text ≡ Some time → zone_in text ≡ Some zone
     → unix_second_of_text text ≡ Some ((day *ℤ pos 86400 +ℤ pos time) -ℤ zone)
 unfolding unix_second_of_text

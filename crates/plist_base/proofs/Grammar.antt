@@ -4,7 +4,7 @@ use Rattle.std.proofs.lemmas.List.{map-append}
 use Rattle.std.proofs.lemmas.Option.{option_and_then_some}
 use Rattle.plist_base.specs.Events.{PlainEvent}
 use Rattle.plist_base.specs.Trees.{Tree}
-use Rattle.plist_base.specs.Bracketing.{bracketing, without_length, AreAlike, AreWhole, AreComplete, CanContinue, ContinueAlike}
+use Rattle.plist_base.specs.Bracketing.{bracketing, without_length, AreAlike, AreTreeEvents, AreComplete, CanContinue, ContinueAlike}
 use Rattle.plist_base.specs.declared.expects.Expect.TheVariants.{OneValue}
 use Rattle.plist_base.specs.Expects.{step, steps, expected_after}
 use Rattle.plist_base.proofs.Stacks.{Fills, Stack, all-without_length-twice, filling, run_back, lengthless-is, steps_tree}
@@ -28,7 +28,7 @@ wanted_alike left right p =
 -- ---- where the stack takes an event, it can go on to a tree
 
 -- what fills the first want are a tree's events
-filled : (es : List PlainEvent) → Fills (OneValue ∷ []) (map without_length es) → AreWhole es
+filled : (es : List PlainEvent) → Fills (OneValue ∷ []) (map without_length es) → AreTreeEvents es
 filled es (t, left, p, none) = (t, rw (p, none, append-nil, lengthless-is t) refl)
 
 pub can_continue : (held : List PlainEvent) (e : PlainEvent) (t : Stack)
@@ -40,7 +40,7 @@ can_continue held e t p =
     (g.0, f.0, simp append_assoc at f.1)
 
 -- the events are those of a tree exactly where nothing more is wanted after them
-pub bracketed : (held : List PlainEvent) → expected_after held ≡ Some [] → AreWhole held
+pub bracketed : (held : List PlainEvent) → expected_after held ≡ Some [] → AreTreeEvents held
 bracketed held p =
     rw append-nil at (filled (held ++ []) (run_back held [] (OneValue ∷ []) [] p refl))
 
@@ -82,14 +82,14 @@ steps_snoc es s e =
     steps_append es (e ∷ []) s ∙ (λ i. option_and_then (λ t. only (step t e) i) (steps s es))
 
 -- behind a tree's events none can come
-none_behind : (events : List PlainEvent) → AreWhole events → (e : PlainEvent) → CanContinue events e
+none_behind : (events : List PlainEvent) → AreTreeEvents events → (e : PlainEvent) → CanContinue events e
     → ⊥
 none_behind events (t, alike) e c =
     let g = continues _ e c in
     none_is (expected_after (events ++ e ∷ [])) g.0
     (rw (steps_snoc events, all_taken events t alike) refl) g.1
 
-pub complete_of_whole : (events : List PlainEvent) → AreWhole events → AreComplete events
+pub complete_of_whole : (events : List PlainEvent) → AreTreeEvents events → AreComplete events
 complete_of_whole events whole = (whole, none_behind _ whole)
 
 -- ---- lengths decide nothing
@@ -105,8 +105,8 @@ pub alike_behind : (front left right : List PlainEvent) → AreAlike left right
 alike_behind front left right p =
     rw (map-append, map-append, p) refl
 
-pub whole_alike : (left right : List PlainEvent) → AreAlike left right → AreWhole left
-    → AreWhole right
+pub whole_alike : (left right : List PlainEvent) → AreAlike left right → AreTreeEvents left
+    → AreTreeEvents right
 whole_alike left right p (t, alike) = (t, sym p ∙ alike)
 
 continue_with : (left right : List PlainEvent) → AreAlike left right → (e : PlainEvent)

@@ -8,7 +8,7 @@ use Rattle.jiff_core.specs.Date.{epoch_day}
 use Rattle.jiff_core.specs.declared.civil.date.Date.{Date}
 use Rattle.jiff_core.proofs.DateLemmas.{epoch_day_injective}
 use Rattle.jiff_core.proofs.SignedLemmas.{signed_arith}
-use Rattle.plist_base.specs.UnixSeconds.{day_number, has_marks, moment, of_both, of_three, second_of_day, two_at, two_digits, unix_second_of_text, zone_in, HasFourDigitYear, IsTextOfSecond}
+use Rattle.plist_base.specs.UnixSeconds.{day_number, has_separators, moment, of_both, of_three, second_of_day, two_digits_at, two_digits, unix_second_of_text, zone_in, HasFourDigitYear, IsTextOfSecond}
 use Rattle.plist_base.proofs.DatePrinting.{second_in_years, two_text, text_from}
 
 -- ---- what an answer was made of
@@ -130,7 +130,7 @@ record Marks (text : List ℕ) : Type 0 where
   hour : slice_index text 13 ≡ 58
   minute : slice_index text 16 ≡ 58
 
-marks : (text : List ℕ) → has_marks text ≡ true → Marks text
+marks : (text : List ℕ) → has_separators text ≡ true → Marks text
 marks text is = search rules
 
 -- with `Z` in its place, it ends there, in UTC
@@ -170,7 +170,7 @@ numbers second text is =
     let parts = moment_made _ _ _ _ test.1 in
     let z = zone_made _ _ is.utc parts.is_z in
     let d = three _ _ _ _ _ parts.is_d in
-    let y = both (two_at text 0) (two_at text 2) (λ high low. Some (high * 100 + low)) d.x d.is_x in
+    let y = both (two_digits_at text 0) (two_digits_at text 2) (λ high low. Some (high * 100 + low)) d.x d.is_x in
     let t = three _ _ _ _ _
     parts.is_t in
     let year_is : y.x * 100 + y.y ≡ d.x = cc in

@@ -1,7 +1,7 @@
 -- What fills a stack of wants, event by event.
 use Rattle.std.proofs.Common.{◌≡◌, ℕ, true, List, [], ◌∷◌, ◌++◌, Option, Some, None, map, refl, ap, ◌∙◌, append_assoc, subst, option_and_then, rules}
 use Rattle.std.proofs.lemmas.List.{map-append}
-use Rattle.plist_base.specs.Events.{PlainEvent, StartArray, StartDictionary, EndCollection, Single}
+use Rattle.plist_base.specs.Events.{PlainEvent, StartArray, StartDictionary, EndCollection, ScalarEvent}
 use Rattle.plist_base.specs.Trees as trees
 use Rattle.plist_base.specs.Trees.{Tree, Leaf, Array, Dictionary, Trees, NoTrees, TreeAnd, Members, NoMembers, MemberAnd}
 use Rattle.plist_base.specs.Bracketing.{lengthless, lengthless_items, lengthless_pairs, bracketing, bracketing_of_items, bracketing_of_pairs, without_length}
@@ -65,7 +65,7 @@ pub filling : (s : Stack) → (es : List PlainEvent) × Fills s (map without_len
 filling [] = ([], refl)
 filling (OneValue ∷ s) =
     let f = filling s in (
-      Single (trees.Boolean true) ∷ f.0,
+      ScalarEvent (trees.Boolean true) ∷ f.0,
       (
         Leaf _,
         map without_length f.0,
@@ -93,7 +93,7 @@ on_item s m f =
 
 -- a key and a value before the other pairs
 on_pair : (k : List ℕ) (s : Stack) (m : List PlainEvent) → Fills (OneValue ∷ Pairs ∷ s) m
-    → Fills (Pairs ∷ s) (Single (trees.String k) ∷ m)
+    → Fills (Pairs ∷ s) (ScalarEvent (trees.String k) ∷ m)
 on_pair k s m f =
     let g = f.3 in (MemberAnd k f.0 g.0, g.1, rw (f.2, g.2, append_assoc) refl, g.3)
 
@@ -102,7 +102,7 @@ on_value : (s : Stack) (e : PlainEvent) (t : Stack) (m : List PlainEvent)
 on_value s (StartArray n) t m p f = on_array s m (refill m p f)
 on_value s (StartDictionary n) t m p f = on_dictionary s m (refill m p f)
 on_value s EndCollection t m p f = no_stack t p
-on_value s (Single x) t m p f = (Leaf x, m, refl, refill m p f)
+on_value s (ScalarEvent x) t m p f = (Leaf x, m, refl, refill m p f)
 
 -- what fills the stack after a step fills, with the event in front, the stack before it
 fill_back : (s : Stack) (e : PlainEvent) (t : Stack) (m : List PlainEvent) → step s e ≡ Some t
@@ -112,7 +112,7 @@ fill_back (OneValue ∷ s) e t m p f = on_value s e t m p f
 fill_back (Items ∷ s) EndCollection t m p f = (NoTrees, m, refl, refill m p f)
 fill_back (Items ∷ s) e t m p f = on_item s _ (on_value (Items ∷ s) e t m p f)
 fill_back (Pairs ∷ s) EndCollection t m p f = (NoMembers, m, refl, refill m p f)
-fill_back (Pairs ∷ s) (Single (trees.String k)) t m p f = on_pair k s m (refill m p f)
+fill_back (Pairs ∷ s) (ScalarEvent (trees.String k)) t m p f = on_pair k s m (refill m p f)
 fill_back (Pairs ∷ s) e t m p f = no_stack t p
 
 run_along : (o : Option Stack) (s : Stack) (e : PlainEvent) (t : Stack) (es more : List PlainEvent)

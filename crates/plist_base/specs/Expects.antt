@@ -1,6 +1,6 @@
 -- What is still to come after some events: a stack by which an event is accepted or refused.
 use Rattle.std.specs.Prelude.{List, [], ◌∷◌, Option, Some, None, option_and_then}
-use Rattle.plist_base.specs.Events.{PlainEvent, StartArray, StartDictionary, EndCollection, Single}
+use Rattle.plist_base.specs.Events.{PlainEvent, StartArray, StartDictionary, EndCollection, ScalarEvent}
 use Rattle.plist_base.specs.Trees.{String}
 use Rattle.plist_base.specs.declared.expects.Expect.{Expect}
 use Rattle.plist_base.specs.declared.expects.Expect.TheVariants.{OneValue, Items, Pairs}
@@ -12,19 +12,19 @@ abbrev pub change_of_value : PlainEvent → Change
 change_of_value (StartArray length) = Replaced Items
 change_of_value (StartDictionary length) = Replaced Pairs
 change_of_value EndCollection = Refused
-change_of_value (Single scalar) = Popped
+change_of_value (ScalarEvent scalar) = Popped
 
 -- where the items of an array or its end are to come
 abbrev pub change_of_items : PlainEvent → Change
 change_of_items (StartArray length) = Pushed Items
 change_of_items (StartDictionary length) = Pushed Pairs
 change_of_items EndCollection = Popped
-change_of_items (Single scalar) = Kept
+change_of_items (ScalarEvent scalar) = Kept
 
 -- where the pairs of a dictionary or its end are to come
 abbrev pub change_of_pairs : PlainEvent → Change
 change_of_pairs EndCollection = Popped
-change_of_pairs (Single (String text)) = Pushed OneValue
+change_of_pairs (ScalarEvent (String text)) = Pushed OneValue
 change_of_pairs event = Refused
 
 -- what an event does to the topmost expectation

@@ -9,7 +9,7 @@ use Rattle.plist_base.specs.declared.limits.Limit.{Limit}
 use Rattle.plist_base.specs.declared.limits.Limit.TheVariants as limit
 use Rattle.plist_base.specs.declared.limits.Limiter.{Limiter}
 use Rattle.plist_base.specs.Faults.{Fault, LimitReached, fault_nowhere, fault_of}
-use Rattle.plist_base.specs.Events.{PlainEvent, Single, StartArray, StartDictionary, EndCollection, Item, event_of}
+use Rattle.plist_base.specs.Events.{PlainEvent, ScalarEvent, StartArray, StartDictionary, EndCollection, Item, event_of}
 use Rattle.plist_base.specs.Trees.{String, Data}
 
 -- is it the start of a collection?
@@ -19,16 +19,16 @@ opens (StartDictionary length) = true
 opens event = false
 
 -- how many collections are open behind an event, where so many were open before it
-abbrev pub level_behind : PlainEvent → (level : ℕ) → ℕ
-level_behind (StartArray length) level = level + 1
-level_behind (StartDictionary length) level = level + 1
-level_behind EndCollection level = level - 1
-level_behind event level = level
+abbrev pub level_after : PlainEvent → (level : ℕ) → ℕ
+level_after (StartArray length) level = level + 1
+level_after (StartDictionary length) level = level + 1
+level_after EndCollection level = level - 1
+level_after event level = level
 
 -- so many collections are open behind an event that isn't one collection too many
-abbrev pub IsLevelBehind : (depth level : ℕ) → PlainEvent → (behind : ℕ) → Type 0
-IsLevelBehind depth level event behind =
-    (behind ≡ level_behind event level) × ((opens event && nat_le depth level) ≡ false)
+abbrev pub IsLevelAfter : (depth level : ℕ) → PlainEvent → (behind : ℕ) → Type 0
+IsLevelAfter depth level event behind =
+    (behind ≡ level_after event level) × ((opens event && nat_le depth level) ≡ false)
 
 -- the event is one collection too many, which is the limit that it reaches
 abbrev pub IsTooDeep : (depth level : ℕ) → PlainEvent → Limit → Type 0
@@ -37,8 +37,8 @@ IsTooDeep depth level event reached =
 
 -- how many bytes an event's text or data has
 abbrev pub bytes_in : PlainEvent → ℕ
-bytes_in (Single (String text)) = length text
-bytes_in (Single (Data bytes)) = length bytes
+bytes_in (ScalarEvent (String text)) = length text
+bytes_in (ScalarEvent (Data bytes)) = length bytes
 bytes_in event = 0
 
 -- how many bytes the texts and data of these events have
@@ -65,13 +65,13 @@ left_after (Some left) bytes = Some (left - bytes)
 abbrev pub is_too_long : (left : Option ℕ) → PlainEvent → Bool
 is_too_long left event = is_more left (bytes_in event)
 
-abbrev pub left_behind : (left : Option ℕ) → PlainEvent → Option ℕ
-left_behind left event = left_after left (bytes_in event)
+abbrev pub left_after_event : (left : Option ℕ) → PlainEvent → Option ℕ
+left_after_event left event = left_after left (bytes_in event)
 
 -- so many may come behind an event that hasn't too many
-abbrev pub IsLeftBehind : (left : Option ℕ) → PlainEvent → (behind : Option ℕ) → Type 0
-IsLeftBehind left event behind =
-    (behind ≡ left_behind left event) × (is_too_long left event ≡ false)
+abbrev pub IsLeftAfter : (left : Option ℕ) → PlainEvent → (behind : Option ℕ) → Type 0
+IsLeftAfter left event behind =
+    (behind ≡ left_after_event left event) × (is_too_long left event ≡ false)
 
 -- the event has too many, which is the limit that it reaches
 abbrev pub IsTooLong : (left : Option ℕ) → PlainEvent → Limit → Type 0
@@ -95,7 +95,7 @@ abbrev pub limited_from : Limits → (came level : ℕ) → (left : Option ℕ) 
 limited_from limits came level left [] = []
 limited_from limits came level left (Ok event ∷ items) =
     event_or_limit (limit_at limits came level left event) event
-    (limited_from limits (came + 1) (level_behind event level) (left_behind left event) items)
+    (limited_from limits (came + 1) (level_after event level) (left_after_event left event) items)
 limited_from limits came level left (Err fault ∷ items) = Err fault ∷ []
 
 -- The items up to their first fault, in which the first event that has a byte too many, or else is
@@ -107,8 +107,8 @@ limited_items limits items = limited_from limits 0 0 limits.bytes items
 -- ---- what a limiter makes of the items
 
 -- the items that are still to come, of these
-abbrev pub under : Limiter → List Item → List Item
-under limiter = limited_from limiter.limits limiter.came limiter.level limiter.left
+abbrev pub limited_by : Limiter → List Item → List Item
+limited_by limiter = limited_from limiter.limits limiter.came limiter.level limiter.left
 
 -- how many bytes may come, or all that 64 bits can count
 abbrev pub left_or_all : (left : Option ℕ) → ℕ
@@ -121,13 +121,13 @@ bytes_left limiter = left_or_all limiter.left
 -- an event comes, and then the others
 abbrev pub Admits : (old : Limiter) → PlainEvent → (new : Limiter) → Type 0
 Admits old event new =
-    (items : List Item) → under old (Ok event ∷ items) ≡ Ok event ∷ under new items
+    (items : List Item) → limited_by old (Ok event ∷ items) ≡ Ok event ∷ limited_by new items
 
 -- a limit's fault comes in the place of an event, and nothing behind it
 abbrev pub Refuses : Limiter → PlainEvent → Fault → Type 0
 Refuses limiter event fault =
     (limit : Limit) × (fault ≡ fault_nowhere (LimitReached limit))
-    × ((items : List Item) → under limiter (Ok event ∷ items) ≡ Err fault ∷ [])
+    × ((items : List Item) → limited_by limiter (Ok event ∷ items) ≡ Err fault ∷ [])
 
 -- the same of the limit alone
 abbrev pub RefusesBy : Limiter → PlainEvent → Limit → Type 0
@@ -138,13 +138,13 @@ abbrev pub admits_more : Limiter → Bool
 admits_more limiter = not (nat_le limiter.limits.items limiter.came)
 
 -- the same three where there may be no limits, and with them no refusal
-abbrev pub under_any : Option Limiter → List Item → List Item
-under_any None items = items
-under_any (Some limiter) items = under limiter items
+abbrev pub limited_by_any : Option Limiter → List Item → List Item
+limited_by_any None items = items
+limited_by_any (Some limiter) items = limited_by limiter items
 
 abbrev pub AdmitsAny : (old : Option Limiter) → PlainEvent → (new : Option Limiter) → Type 0
 AdmitsAny old event new =
-    (items : List Item) → under_any old (Ok event ∷ items) ≡ Ok event ∷ under_any new items
+    (items : List Item) → limited_by_any old (Ok event ∷ items) ≡ Ok event ∷ limited_by_any new items
 
 abbrev pub RefusesAny : Option Limiter → PlainEvent → Fault → Type 0
 RefusesAny None event fault = ⊥
@@ -175,8 +175,8 @@ abbrev pub HasEndedLimited : {I : Type 0} → Limited I → Type 0
 HasEndedLimited limited = limited.ended ≡ true
 
 -- of the items that the iterator inside has to come, those that come
-abbrev pub come_of : {I : Type 0} → Limited I → List Item → List Item
-come_of limited items = cond limited.ended [] (under limited.limiter items)
+abbrev pub items_admitted : {I : Type 0} → Limited I → List Item → List Item
+items_admitted limited items = cond limited.ended [] (limited_by limited.limiter items)
 
 -- one call of `next`: what comes of the next item of the iterator inside, which is asked no more
 -- after a fault or `None`

@@ -42,15 +42,15 @@ IsReadFault UnexpectedEof = ⊤
 IsReadFault kind = ⊥
 
 -- the offset is a place from `start` on and before `end`
-abbrev pub IsPlaceWithin : (start end : ℕ) → Option ℕ → Type 0
-IsPlaceWithin start end None = ⊥
-IsPlaceWithin start end (Some place) = (start ≤ place) × (place < end)
+abbrev pub IsOffsetWithin : (start end : ℕ) → Option ℕ → Type 0
+IsOffsetWithin start end None = ⊥
+IsOffsetWithin start end (Some place) = (start ≤ place) × (place < end)
 
 -- one of the reads of `size` bytes from a place on failed or gave nothing, and the fault has the
 -- place of that read
 pub record FailsReading (place size : ℕ) (fault : Fault) : Type 0 where
   pub kind : IsReadFault fault.kind
-  pub at : IsPlaceWithin place (place + size) fault.offset
+  pub at : IsOffsetWithin place (place + size) fault.offset
 
 -- where the fault is that the bytes end too early, they end at its place, or before the first one
 -- that was asked for

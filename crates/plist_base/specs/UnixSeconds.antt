@@ -13,8 +13,8 @@ two_digits tens ones =
     cond (is_ascii_digit tens && is_ascii_digit ones) (Some ((tens - 48) * 10 + (ones - 48))) None
 
 -- the number of two digits at a place of a text
-abbrev pub two_at : (text : List ℕ) (place : ℕ) → Option ℕ
-two_at text place = two_digits (slice_index text place) (slice_index text (place + 1))
+abbrev pub two_digits_at : (text : List ℕ) (place : ℕ) → Option ℕ
+two_digits_at text place = two_digits (slice_index text place) (slice_index text (place + 1))
 
 -- what two numbers make, where both are there
 abbrev pub of_both : {A : Type 0} → Option ℕ → Option ℕ → (ℕ → ℕ → Option A) → Option A
@@ -29,9 +29,9 @@ of_three (Some a) b c make = of_both b c (make a)
 of_three None b c make = None
 
 -- the number of four digits at a place of a text
-abbrev pub four_at : (text : List ℕ) (place : ℕ) → Option ℕ
-four_at text place =
-    of_both (two_at text place) (two_at text (place + 2)) (λ high low. Some (high * 100 + low))
+abbrev pub four_digits_at : (text : List ℕ) (place : ℕ) → Option ℕ
+four_digits_at text place =
+    of_both (two_digits_at text place) (two_digits_at text (place + 2)) (λ high low. Some (high * 100 + low))
 
 -- ---- the parts
 
@@ -59,19 +59,19 @@ offset sign hours minutes =
 
 -- it isn't too short, with `-` in the day, `:` in the time, and one of `T`, `t` and the space
 -- between them
-abbrev pub has_marks : List ℕ → Bool
-has_marks text =
+abbrev pub has_separators : List ℕ → Bool
+has_separators text =
     nat_le 20 (length text) && (slice_index text 4 == 45) && (slice_index text 7 == 45)
     && ((slice_index text 10 == 84) || (slice_index text 10 == 116) || (slice_index text 10 == 32))
     && (slice_index text 13 == 58) && (slice_index text 16 == 58)
 
 -- YYYY-MM-DD
 abbrev pub day_in : List ℕ → Option ℤ
-day_in text = of_three (four_at text 0) (two_at text 5) (two_at text 8) day_number
+day_in text = of_three (four_digits_at text 0) (two_digits_at text 5) (two_digits_at text 8) day_number
 
 -- HH:MM:SS
 abbrev pub time_in : List ℕ → Option ℕ
-time_in text = of_three (two_at text 11) (two_at text 14) (two_at text 17) second_of_day
+time_in text = of_three (two_digits_at text 11) (two_digits_at text 14) (two_digits_at text 17) second_of_day
 
 -- at the end `Z` or `z`, or a sign with HH:MM
 abbrev pub zone_in : List ℕ → Option ℤ
@@ -79,7 +79,7 @@ zone_in text =
     cond (length text == 20) (cond ((slice_index text 19 == 90) || (slice_index text 19 == 122))
     (Some (pos 0)) None)
     (cond ((length text == 25) && (slice_index text 22 == 58))
-    (of_both (two_at text 20) (two_at text 23) (offset (slice_index text 19))) None)
+    (of_both (two_digits_at text 20) (two_digits_at text 23) (offset (slice_index text 19))) None)
 
 -- the moment that day, time and zone make, as a Unix second
 abbrev pub moment : Option ℤ → Option ℕ → Option ℤ → Option ℤ
@@ -91,7 +91,7 @@ moment None time offset = None
 -- the Unix second that a text spells, or none
 unfoldable pub unix_second_of_text : List ℕ → Option ℤ
 unix_second_of_text text =
-    cond (has_marks text) (moment (day_in text) (time_in text) (zone_in text)) None
+    cond (has_separators text) (moment (day_in text) (time_in text) (zone_in text)) None
 
 -- a text that is written: it spells this second, with `T` and `Z`
 pub record IsTextOfSecond (second : ℤ) (text : List ℕ) : Type 0 where

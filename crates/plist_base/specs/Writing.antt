@@ -1,7 +1,7 @@
 -- What a writer answers, and when it may.
 use Rattle.std.specs.Prelude.{◌≡◌, ◌⊎◌, ◌++◌, ◌∷◌, [], List, Bool, true, false, None, Result, Ok, Err}
 use Rattle.plist_base.specs.declared.error.Error.{Error}
-use Rattle.plist_base.specs.Bracketing.{AreWhole, CanContinue, ContinueAlike}
+use Rattle.plist_base.specs.Bracketing.{AreTreeEvents, CanContinue, ContinueAlike}
 use Rattle.plist_base.specs.Events.{PlainEvent}
 use Rattle.plist_base.specs.Faults.{FaultKind, Fault, fault_of, UnexpectedEventType, ExpectedEndOfEventStream, Io, OutOfMemory, PlistTooLarge}
 
@@ -31,9 +31,9 @@ MatchAnswer (Err fault) accepted refused failed other =
 
 -- what is held after an event that was accepted: the events were a tree's, or what can come next is
 -- what could come behind the events held before it and itself
-abbrev pub GoesOn : (before : List PlainEvent) → PlainEvent → (after : List PlainEvent) → Type 0
-GoesOn before event after =
-    AreWhole (before ++ event ∷ []) ⊎ ContinueAlike after (before ++ event ∷ [])
+abbrev pub IsHeldAfter : (before : List PlainEvent) → PlainEvent → (after : List PlainEvent) → Type 0
+IsHeldAfter before event after =
+    AreTreeEvents (before ++ event ∷ []) ⊎ ContinueAlike after (before ++ event ∷ [])
 
 -- While a writer hasn't failed, an event is accepted where what is held can go on with it, and one
 -- that is refused for the order can't, and changes nothing; any other refusal fails the writer, and
@@ -41,7 +41,7 @@ GoesOn before event after =
 abbrev pub AnswersByOrder : (before : List PlainEvent) → PlainEvent → Answer
     → (after : List PlainEvent) → (failed : Bool) → (unchanged : Type 0) → Type 0
 AnswersByOrder before event answer after failed unchanged = MatchAnswer answer
-    (CanContinue before event × (failed ≡ false) × GoesOn before event after)
+    (CanContinue before event × (failed ≡ false) × IsHeldAfter before event after)
     ((CanContinue before event → ⊥) × unchanged)
     (CanContinue before event × (failed ≡ true))
     ⊥

@@ -8,9 +8,9 @@ use jiff_core::civil::Date;
 
 // The number of two digits at a place.
 #[tactic(auto, unfolding(crate::specs::UnixSeconds::two_digits))]
-fn two_at(text: &[u8], place: usize) -> Option<u8>
+fn two_digits_at(text: &[u8], place: usize) -> Option<u8>
     requires { place + 1 < length text.now }
-    ensures is { result ≡ spec.two_at text.now place }
+    ensures is { result ≡ spec.two_digits_at text.now place }
     ensures small { IfSome result (λ n. n < 100) }
 {
     let (tens, ones) = (text[place], text[place + 1]);
@@ -22,13 +22,13 @@ fn two_at(text: &[u8], place: usize) -> Option<u8>
 }
 
 // The number of four digits at a place.
-fn four_at(text: &[u8], place: usize) -> Option<u16>
+fn four_digits_at(text: &[u8], place: usize) -> Option<u16>
     requires { place + 3 < length text.now }
-    ensures is { result ≡ spec.four_at text.now place }
+    ensures is { result ≡ spec.four_digits_at text.now place }
     ensures small { IfSome result (λ n. n < 10000) }
 {
-    let high = two_at(text, place)?;
-    let low = two_at(text, place + 2)?;
+    let high = two_digits_at(text, place)?;
+    let low = two_digits_at(text, place + 2)?;
     Some(u16::from(high) * 100 + u16::from(low))
 }
 
@@ -55,7 +55,11 @@ fn day_in(text: &[u8]) -> Option<i32>
     ensures is { result ≡ spec.day_in text.now }
     ensures bound { IfSome result (λ n. IsEpochDay n) }
 {
-    match (four_at(text, 0), two_at(text, 5), two_at(text, 8)) {
+    match (
+        four_digits_at(text, 0),
+        two_digits_at(text, 5),
+        two_digits_at(text, 8),
+    ) {
         (Some(year), Some(month), Some(day)) => day_number(year, month, day),
         _ => None,
     }
@@ -80,15 +84,19 @@ fn time_in(text: &[u8]) -> Option<u32>
     ensures is { result ≡ spec.time_in text.now }
     ensures bound { IfSome result (λ n. n < 86400) }
 {
-    match (two_at(text, 11), two_at(text, 14), two_at(text, 17)) {
+    match (
+        two_digits_at(text, 11),
+        two_digits_at(text, 14),
+        two_digits_at(text, 17),
+    ) {
         (Some(hour), Some(minute), Some(second)) => second_of_day(hour, minute, second),
         _ => None,
     }
 }
 
 // Whether the marks stand where a date has them.
-fn has_marks(text: &[u8]) -> bool
-    ensures is { result ≡ spec.has_marks text.now }
+fn has_separators(text: &[u8]) -> bool
+    ensures is { result ≡ spec.has_separators text.now }
     ensures long { IsTrue result → 20 ≤ length text.now }
 {
     text.len() >= 20
@@ -140,8 +148,8 @@ fn zone_in(text: &[u8]) -> Option<i32>
     if text.len() != 25 || text[22] != b':' {
         return None;
     }
-    let hours = two_at(text, 20)?;
-    let minutes = two_at(text, 23)?;
+    let hours = two_digits_at(text, 20)?;
+    let minutes = two_digits_at(text, 23)?;
     offset(text[19], hours, minutes)
 }
 
@@ -164,7 +172,7 @@ pub fn unix_second_of_text(text: &str) -> Option<i64>
     ensures is { result ≡ spec.unix_second_of_text text.now }
 {
     let text = text.as_bytes();
-    if !has_marks(text) {
+    if !has_separators(text) {
         return None;
     }
     let day = day_in(text)?;

@@ -1,7 +1,7 @@
 //! Items under limits.
 
 ghost use Rattle.std.specs.Prelude.{◌≡◌, false};
-ghost use Rattle.plist_base.specs.Limits.{Passes, come_of, iterator_of, limited_items};
+ghost use Rattle.plist_base.specs.Limits.{Passes, items_admitted, iterator_of, limited_items};
 
 use crate::{Error, Limiter, Limits, OwnedEvent};
 
@@ -22,7 +22,7 @@ pub struct Limited<I> {
 impl<I> Limited<I> {
     /// Nothing has come.
     pub fn new(inner: I, limits: Limits) -> Self
-        ensures items { come_of result ≡ limited_items limits }
+        ensures items { items_admitted result ≡ limited_items limits }
         ensures inner { iterator_of result ≡ inner }
     {
         Limited {

@@ -4,7 +4,7 @@ ghost use Rattle.std.specs.Prelude.{◌≡◌, IfOk, IfErr, OnOk};
 ghost use Rattle.plist_base.specs.Events.{event_of};
 ghost use Rattle.plist_base.specs.Outcomes.{IfFault};
 ghost use Rattle.plist_base.specs.Faults.{LimitReached, limit_name};
-ghost use Rattle.plist_base.specs.Limits.{Admits, Refuses, bytes_in, level_behind, limited_items, under, IsLeftBehind, IsLevelBehind, IsTooDeep, IsTooLong, RefusesBy, bytes_left};
+ghost use Rattle.plist_base.specs.Limits.{Admits, Refuses, bytes_in, level_after, limited_items, limited_by, IsLeftAfter, IsLevelAfter, IsTooDeep, IsTooLong, RefusesBy, bytes_left};
 
 use crate::{Error, ErrorKind, Event};
 
@@ -63,8 +63,8 @@ impl Limit {
 }
 
 // How many collections are open behind an event, where so many were open before it.
-fn level_behind(depth: u64, level: u64, event: &Event<'_>) -> Result<u64, Limit>
-    ensures value { IfOk result (IsLevelBehind depth level (event_of event.now)) }
+fn level_after(depth: u64, level: u64, event: &Event<'_>) -> Result<u64, Limit>
+    ensures value { IfOk result (IsLevelAfter depth level (event_of event.now)) }
     ensures refused { IfErr result (IsTooDeep depth level (event_of event.now)) }
 {
     match event {
@@ -104,8 +104,8 @@ fn bytes_in(event: &Event<'_>) -> u64
 }
 
 // How many bytes may come behind an event, where so many may come with it.
-fn left_behind(left: Option<u64>, event: &Event<'_>) -> Result<Option<u64>, Limit>
-    ensures value { IfOk result (IsLeftBehind left (event_of event.now)) }
+fn left_after_event(left: Option<u64>, event: &Event<'_>) -> Result<Option<u64>, Limit>
+    ensures value { IfOk result (IsLeftAfter left (event_of event.now)) }
     ensures refused { IfErr result (IsTooLong left (event_of event.now)) }
 {
     match left {
@@ -132,7 +132,7 @@ pub struct Limiter {
 impl Limiter {
     /// Nothing has come.
     pub fn new(limits: Limits) -> Limiter
-        ensures items { under result ≡ limited_items limits }
+        ensures items { limited_by result ≡ limited_items limits }
     {
         Limiter {
             limits,
@@ -156,11 +156,11 @@ impl Limiter {
         ensures admitted { OnOk result (Admits self.old (event_of event.now) self.new) }
         ensures refused { IfErr result (RefusesBy self.old (event_of event.now)) }
     {
-        let left = left_behind(self.left, event)?;
+        let left = left_after_event(self.left, event)?;
         if self.came >= self.limits.items {
             return Err(Limit::Items);
         }
-        self.level = level_behind(self.limits.depth, self.level, event)?;
+        self.level = level_after(self.limits.depth, self.level, event)?;
         self.left = left;
         self.came += 1;
         Ok(())

@@ -14,13 +14,13 @@ use Rattle.plist_format.specs.Container.{Head, head_of}
 use Rattle.plist_format.specs.Object.{Object}
 use Rattle.plist_format.specs.Unfolding.{table_of, items_of, unfolding_of, until_fault, items_with, items_of_file}
 use Rattle.plist_binread.specs.declared.head.Bounds.{Bounds}
-use Rattle.plist_binread.specs.Remaining.{path_of, remaining_items, entries_of, places_with, places_of, CountsObjects, IsHeld, IsKnown, SomeRemain, WantsMemory}
+use Rattle.plist_binread.specs.Remaining.{path_of, remaining_items, entries_of, places_with, places_of, CountsObjects, IsHeld, MatchesFile, SomeRemain, AllocatesFirst}
 use Rattle.plist_binread.specs.Beginning.{CountsRoot, RefusesFirst}
-use Rattle.plist_binread.specs.Lengths.{BeginsTooLong, RefusesLong}
-use Rattle.plist_binread.specs.declared.slot.EventSlot.{EventSlot}
-use Rattle.plist_binread.specs.declared.slot.Refused.{Refused}
-use Rattle.plist_binread.specs.declared.slot.Refused.TheVariants as refusal
-use Rattle.plist_binread.specs.Outcome.{YieldsAnswer}
+use Rattle.plist_binread.specs.TooLong.{BeginsTooLong, RefusesLong}
+use Rattle.plist_binread.specs.declared.event_slot.EventSlot.{EventSlot}
+use Rattle.plist_binread.specs.declared.event_slot.Refused.{Refused}
+use Rattle.plist_binread.specs.declared.event_slot.Refused.TheVariants as refusal
+use Rattle.plist_binread.specs.DecodeOutcome.{YieldsAnswer}
 use Rattle.plist_binread.specs.Walking.{walk_objects}
 use Rattle.plist_binread.specs.declared.walk.Walk.{Walk}
 use Rattle.plist_binread.specs.inner.Heads.{head_seen}
@@ -33,7 +33,7 @@ use Rattle.plist_binread.proofs.OverKnown.{IfSome-all, IfSome-both}
 use Rattle.std.proofs.lemmas.List.{nil_from_length}
 
 -- something is wanted only where something is owed
-remaining_if_wanted : (items : List Item) → WantsMemory items → SomeRemain items
+remaining_if_wanted : (items : List Item) → AllocatesFirst items → SomeRemain items
 remaining_if_wanted [] h = absurd h
 remaining_if_wanted (item ∷ items) h = omega arith
 
@@ -82,7 +82,7 @@ module _ (bytes : List ℕ) (head : code.Head) (bounds : Bounds)
 
   -- what is known once the head was read
   known_first : (tags : List ℕ) (n : ℕ) → tags ≡ replicate n 0 → n ≡ length head.places.items
-      → head.trailer ≤ length bytes → IsKnown bytes bounds tags head.places.items []
+      → head.trailer ≤ length bytes → MatchesFile bytes bounds tags head.places.items []
   known_first tags n zeros count within = record {
     head = rw is (trailer, width);
     within = rw trailer within;
@@ -132,7 +132,7 @@ pub known_opens : (known now : Option (List ℕ)) (head : code.Head) (bounds : B
     → IfSome known (λ bytes. head.trailer ≤ length bytes) → bounds.trailer ≡ head.trailer
     → bounds.reference_width ≡ head.reference_width
     → tags ≡ replicate n 0 → n ≡ length head.places.items → length fs ≡ 0
-    → IfSome now (λ bytes. IsKnown bytes bounds tags head.places.items (reverse fs))
+    → IfSome now (λ bytes. MatchesFile bytes bounds tags head.places.items (reverse fs))
 known_opens known now head bounds tags n fs same value within trailer width zeros count len =
     rw (same, nil_from_length fs len) (IfSome-both known value within (λ bytes value within.
     known_first bytes head bounds value trailer width tags n zeros count within))

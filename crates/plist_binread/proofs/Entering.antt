@@ -8,17 +8,17 @@ use Rattle.plist_binread.specs.declared.frames.Frame.{Frame}
 use Rattle.plist_binread.specs.declared.walk.NextChild.TheVariants.{Child}
 use Rattle.plist_binread.specs.declared.object_faults.Outcome.{Outcome}
 use Rattle.plist_binread.specs.declared.head.Bounds.{Bounds}
-use Rattle.plist_binread.specs.Remaining.{IsOpen, IsKnown, next_number, children_at, entries_of, remaining_items, path_of}
+use Rattle.plist_binread.specs.Remaining.{MarksOpenPath, MatchesFile, next_number, children_at, entries_of, remaining_items, path_of}
 use Rattle.plist_binread.specs.Turns.{IsCurrentCached, ReadsChild}
 use Rattle.plist_binread.specs.Decoding.{IsDecodedAs}
-use Rattle.plist_binread.specs.Outcome.{IsOutcomeOf, YieldsAnswer, YieldsCurrent}
+use Rattle.plist_binread.specs.DecodeOutcome.{IsOutcomeOf, YieldsAnswer, YieldsCurrent}
 use Rattle.plist_format.specs.Object.{Object, object_in}
-use Rattle.plist_binread.specs.Packed.{is_marked, unmarked, cached, single}
+use Rattle.plist_binread.specs.Packed.{is_marked, unmarked, cached, scalar_event}
 use Rattle.plist_format.specs.Unfolding.{TableEntry, unfolding_of}
 use Rattle.plist_binread.proofs.Known.{Entered, as_many, entry_of, entry_there, held_place, held_scalar, outcome_as, place_is}
 use Rattle.plist_binread.specs.Slot.{event_in}
 use Rattle.plist_binread.specs.Walking.{open_in, remaining_in}
-use Rattle.plist_binread.specs.declared.slot.EventSlot.{EventSlot}
+use Rattle.plist_binread.specs.declared.event_slot.EventSlot.{EventSlot}
 use Rattle.plist_binread.specs.declared.walk.Walk.{Walk}
 use Rattle.plist_binread.proofs.KnownTurns.{Turned, child_is}
 use Rattle.plist_binread.proofs.Steps.{yields_scalar}
@@ -48,7 +48,7 @@ OutcomeAt bytes bounds number current outcome =
 module _ (known : Option (List ℕ)) (bounds : Bounds) (tags contents : List ℕ)
     (fs : List Frame) where
   abbrev Knows : Type 0
-  Knows = IfSome known (λ bytes. IsKnown bytes bounds tags contents fs)
+  Knows = IfSome known (λ bytes. MatchesFile bytes bounds tags contents fs)
 
   -- the object isn't cached, and this is its place
   abbrev IsPlaceOf : (number place : ℕ) → Type 0
@@ -56,17 +56,17 @@ module _ (known : Option (List ℕ)) (bounds : Bounds) (tags contents : List ℕ
       (unmarked (get_or tags number 0) ≡ 0) × (place ≡ get_or contents number 0)
 
   -- a scalar that is cached
-  pub known_unpacked : (n number : ℕ) (current : PlainEvent) → n ≡ length fs → IsOpen tags fs
+  pub known_unpacked : (n number : ℕ) (current : PlainEvent) → n ≡ length fs → MarksOpenPath tags fs
       → Knows
       → number < length tags → is_marked (get_or tags number 0) ≡ false
       → 0 < unmarked (get_or tags number 0)
-      → single (cached (get_or tags number 0) (get_or contents number 0)) ≡ Some current
+      → scalar_event (cached (get_or tags number 0) (get_or contents number 0)) ≡ Some current
       → IfSome known (λ bytes. EnteredCurrent bytes bounds tags n fs number current fs)
   known_unpacked n number current depth o k h free some is = IfSome_then known k (λ bytes k at.
       yields_scalar _ _ (as_many _ _ _ _ fs k) n fs at
       number (entry_of _ bounds _) depth o h
       (entry_there _ _ _ _ fs k _ h) (sym (o.marks number h) ∙ free) _
-      (ap single (held_scalar bytes bounds tags contents fs k number h some) ∙ is))
+      (ap scalar_event (held_scalar bytes bounds tags contents fs k number h some) ∙ is))
 
   -- the object of a number is what is decoded at its place
   pub known_decoded : (number place : ℕ) (current : PlainEvent) (outcome : Outcome) → Knows
@@ -86,7 +86,7 @@ module _ (known : Option (List ℕ)) (bounds : Bounds) (tags contents : List ℕ
       (P Q : List ℕ → Bounds → Type 0) → Knows
       → IfSome known (λ bytes. OutcomeAt bytes bounds number current outcome)
       → ((bytes : List ℕ) (bounds : Bounds) (entry : TableEntry)
-      → IsKnown bytes bounds tags contents fs
+      → MatchesFile bytes bounds tags contents fs
       → slice_get (entries_of bytes bounds) number ≡ Some entry → IsOutcomeOf entry.object current outcome
       → P bytes bounds × Q bytes bounds)
       → IfSome known (λ bytes. P bytes bounds × Q bytes bounds)
@@ -115,7 +115,7 @@ EntersChild table object at index count old answer current tags new =
 pub known_goes : (known now : Option (List ℕ)) (bounds : Bounds) (tags contents new : List ℕ)
     (fs after : List Frame) (n place index number : ℕ) (answer : Result (Unit {0}) Error)
     (current : PlainEvent) → now ≡ known → n ≡ length fs
-    → IfSome known (λ bytes. IsKnown bytes bounds tags contents fs)
+    → IfSome known (λ bytes. MatchesFile bytes bounds tags contents fs)
     → ReadsChildAt (Ok number) known bounds place index
     → IfSome now (λ bytes. IsCurrentCached (Some number) (Some answer) current new)
     → IfSome now (λ bytes. Entered bytes bounds tags n fs place number answer current after)

@@ -3,12 +3,12 @@ use Rattle.std.proofs.Common.{◌≡◌, ℕ, ◌+◌, ◌≤◌, Option, None, 
 use Rattle.std.specs.Prelude.{⊤}
 use Rattle.plist_base.specs.declared.error.Error.{Error}
 use Rattle.plist_base.specs.Faults.{FaultKind, Fault, MatchFault, UnexpectedEof, Io, OutOfMemory, error_kind_of, fault_at, fault_of, kind_of}
-use Rattle.plist_base.specs.Sources.{CountsIo, FailsReading, IsPlaceWithin, IsReadFault}
+use Rattle.plist_base.specs.Sources.{CountsIo, FailsReading, IsOffsetWithin, IsReadFault}
 use Rattle.plist_base.proofs.Refusals.{MatchFault-at, MatchFault-weaker}
-use Rattle.plist_binread.specs.Failures.{MatchReader, FailsWithin, ErrWithin}
+use Rattle.plist_binread.specs.FaultOffsets.{MatchReader, FailsWithin, ErrWithin}
 
-place_wider : (offset : Option ℕ) (s e s' e' : ℕ) → s' ≤ s → e ≤ e' → IsPlaceWithin s e offset
-    → IsPlaceWithin s' e' offset
+place_wider : (offset : Option ℕ) (s e s' e' : ℕ) → s' ≤ s → e ≤ e' → IsOffsetWithin s e offset
+    → IsOffsetWithin s' e' offset
 place_wider None s e s' e' low high h = absurd h
 place_wider (Some place) s e s' e' low high h = (omega arith, omega arith)
 

@@ -6,19 +6,19 @@ use Rattle.std.proofs.lemmas.Bool.Decides.{eqb_tells, nat_tests}
 use Rattle.std.proofs.lemmas.List.{get_or-set_same, get_or-set_other}
 use Rattle.plist_base.specs.declared.error.Error.{Error}
 use Rattle.plist_base.specs.Faults.{Fault, FaultKind, OutOfMemory, ObjectReferenceTooLarge, RecursiveObject, MatchFault, fault_of, fault_at, fault_nowhere}
-use Rattle.plist_base.specs.Events.{PlainEvent, Single, Item}
+use Rattle.plist_base.specs.Events.{PlainEvent, ScalarEvent, Item}
 use Rattle.plist_base.specs.Trees.{Scalar}
 use Rattle.plist_base.proofs.Refusals.{MatchFault-at, MatchFault-weaker}
 use Rattle.plist_binread.specs.declared.frames.Frame.{Frame}
 use Rattle.plist_binread.specs.declared.object_faults.Outcome.{Outcome}
 use Rattle.plist_binread.specs.declared.object_faults.Outcome.TheVariants.{Scalar as ScalarOutcome, Collection}
-use Rattle.plist_binread.specs.Outcome.{IsOutcomeOf, YieldsAnswer}
-use Rattle.plist_binread.specs.Step.{WantsRoom}
+use Rattle.plist_binread.specs.DecodeOutcome.{IsOutcomeOf, YieldsAnswer}
+use Rattle.plist_binread.specs.Step.{AllocatesFor}
 use Rattle.plist_binread.specs.declared.head.Bounds.{Bounds}
 use Rattle.plist_format.specs.Object.{Object, object_in}
-use Rattle.plist_binread.specs.Packed.{is_marked, unmarked, scalar_of, cached, single, IsTextOrData, MayWantMemory, Retagged, Remarked}
+use Rattle.plist_binread.specs.Packed.{is_marked, unmarked, scalar_of, cached, scalar_event, IsTextOrData, MayAllocate, TagChanged, MarkChanged}
 use Rattle.plist_format.specs.Unfolding.{TableEntry, unfolding_of, until_fault}
-use Rattle.plist_binread.specs.Remaining.{place_at, scalar_at, path_of, IsOpen, HoldsPlaceOr, IsHeld, IsKnown, places_of, entries_of, remaining_items, Explains}
+use Rattle.plist_binread.specs.Remaining.{place_at, scalar_at, path_of, MarksOpenPath, HoldsPlaceOr, IsHeld, MatchesFile, places_of, entries_of, remaining_items, Explains}
 use Rattle.plist_binread.specs.Decoding.{IsCollection, IsDecodedAs, IsRefusedAs, scalar_in}
 use Rattle.plist_binread.proofs.Steps.{collection_count, items_beyond, items_open, yields_refused, refused_cached, refused_memory}
 use Rattle.plist_format.proofs.Tables.{slice_get-within, slice_get-beyond, length-table_of}
@@ -39,23 +39,23 @@ to_scalar false (Some s) content entry b h = h
 -- memory is wanted for it, since something is held
 to_wanted : (b : Bool) (scalar : Option Scalar) (content : ℕ) (entry : Option TableEntry)
     → b ≡ false
-    → HoldsPlaceOr b scalar content entry → MayWantMemory scalar → IsTextOrData scalar
+    → HoldsPlaceOr b scalar content entry → MayAllocate scalar → IsTextOrData scalar
 to_wanted true scalar content entry b h wanted = absurd (cc)
 to_wanted false None content entry b h wanted = absurd h
 to_wanted false (Some s) content entry b h wanted = wanted
 
 -- the scalar of this event
 abbrev unsingle : Option PlainEvent → Option Scalar
-unsingle (Some (Single scalar)) = Some scalar
+unsingle (Some (ScalarEvent scalar)) = Some scalar
 unsingle event = None
 
-unsingle-single : (scalar : Option Scalar) → unsingle (single scalar) ≡ scalar
+unsingle-single : (scalar : Option Scalar) → unsingle (scalar_event scalar) ≡ scalar
 unsingle-single None = refl
 unsingle-single (Some scalar) = refl
 
 from_scalar : (b : Bool) (scalar : Option Scalar) (content : ℕ) (entry : Option TableEntry)
-    (event : PlainEvent) → b ≡ false → single scalar ≡ Some event
-    → single (scalar_at entry) ≡ Some event → HoldsPlaceOr b scalar content entry
+    (event : PlainEvent) → b ≡ false → scalar_event scalar ≡ Some event
+    → scalar_event (scalar_at entry) ≡ Some event → HoldsPlaceOr b scalar content entry
 from_scalar true scalar content entry event b is h = absurd (cc)
 from_scalar false None content entry event b is h = absurd (cc)
 from_scalar false (Some s) content entry event b is h =
@@ -83,7 +83,7 @@ module _ (bytes : List ℕ) (bounds : Bounds) where
   found number h =
       slice_get-within _ _ _ _ h
 
-  module _ (tags contents : List ℕ) (fs : List Frame) (k : IsKnown bytes bounds tags contents fs)
+  module _ (tags contents : List ℕ) (fs : List Frame) (k : MatchesFile bytes bounds tags contents fs)
     where
       pub as_many : length table ≡ length tags
       as_many = length-entries ∙ k.size
@@ -108,8 +108,8 @@ module _ (bytes : List ℕ) (bounds : Bounds) where
 
       -- one more object is open
       pub known_opened : (new : List ℕ) (f : Frame) (start : PlainEvent) (entry : TableEntry)
-          → Remarked f.object true tags new → slice_get table f.object ≡ Some entry
-          → IsCollection entry.object start f.count → IsKnown bytes bounds new contents (f ∷ fs)
+          → MarkChanged f.object true tags new → slice_get table f.object ≡ Some entry
+          → IsCollection entry.object start f.count → MatchesFile bytes bounds new contents (f ∷ fs)
       known_opened new f start entry m is collection = record {
         head = k.head;
         within = k.within;
@@ -121,9 +121,9 @@ module _ (bytes : List ℕ) (bounds : Bounds) where
       -- one more object is cached
       pub known_kept : (number tag content : ℕ) (new : List ℕ) (event : PlainEvent)
           → number < length tags → length contents ≡ length tags → 0 < tag
-          → Retagged number tag tags new → single (scalar_of tag content) ≡ Some event
-          → single (scalar_at (slice_get table number)) ≡ Some event
-          → IsKnown bytes bounds new (slice_set contents number content) fs
+          → TagChanged number tag tags new → scalar_event (scalar_of tag content) ≡ Some event
+          → scalar_event (scalar_at (slice_get table number)) ≡ Some event
+          → MatchesFile bytes bounds new (slice_set contents number content) fs
       known_kept number tag content new event h same some m packs is = record {
         head = k.head;
         within = k.within;
@@ -154,7 +154,7 @@ module _ (bytes : List ℕ) (bounds : Bounds) where
 
       -- ---- a number that isn't entered
 
-      module _ (o : IsOpen tags fs) (at number : ℕ) where
+      module _ (o : MarksOpenPath tags fs) (at number : ℕ) where
         abbrev before : List Item
         before = unfolding_of table (length tags - length fs) (path_of fs) at number
             ++ remaining_items table fs
@@ -195,7 +195,7 @@ module _ (bytes : List ℕ) (bounds : Bounds) where
         pub unfound_memory : (e : Error) → number < length tags
             → is_marked (get_or tags number 0) ≡ false → 0 < unmarked (get_or tags number 0)
             → fault_of e ≡ fault_nowhere OutOfMemory
-            → MayWantMemory (cached (get_or tags number 0) (get_or contents number 0))
+            → MayAllocate (cached (get_or tags number 0) (get_or contents number 0))
             → Explains (until_fault before) e
         unfound_memory e h free some memory wanted =
             yields_refused _ _ as_many _ fs at number _ refl o h
@@ -224,7 +224,7 @@ Entered bytes bounds tags n fs at number answer current after =
 
 -- the place of an object that isn't cached
 pub place_is : (bytes : List ℕ) (bounds : Bounds) (tags contents : List ℕ) (fs : List Frame)
-    (k : IsKnown bytes bounds tags contents fs) (number place : ℕ) → number < length tags
+    (k : MatchesFile bytes bounds tags contents fs) (number place : ℕ) → number < length tags
     → (unmarked (get_or tags number 0) ≡ 0) × (place ≡ get_or contents number 0)
     → place ≡ (entry_of bytes bounds number).place
 place_is bytes bounds tags contents fs k number place h is =
@@ -235,8 +235,8 @@ place_is bytes bounds tags contents fs k number place h is =
     )
 
 pub known_refused : (known : Option (List ℕ)) (bounds : Bounds) (tags contents : List ℕ)
-    (fs : List Frame) (n at number place : ℕ) (e : Error) → n ≡ length fs → IsOpen tags fs
-    → IfSome known (λ bytes. IsKnown bytes bounds tags contents fs) → number < length tags
+    (fs : List Frame) (n at number place : ℕ) (e : Error) → n ≡ length fs → MarksOpenPath tags fs
+    → IfSome known (λ bytes. MatchesFile bytes bounds tags contents fs) → number < length tags
     → is_marked (get_or tags number 0) ≡ false
     → (unmarked (get_or tags number 0) ≡ 0) × (place ≡ get_or contents number 0)
     → IfSome known (λ bytes. bounds.trailer ≤ length bytes
@@ -260,13 +260,13 @@ outcome_as object current outcome h = absurd h
 -- a collection for which room is wanted
 pub known_full : (known : Option (List ℕ)) (t place : ℕ) (object : List ℕ → Object)
     (current : PlainEvent) (outcome : Outcome) (e : Error) → fault_of e ≡ fault_nowhere OutOfMemory
-    → WantsRoom outcome
+    → AllocatesFor outcome
     → IfSome known (λ bytes. t ≤ length bytes → IsDecodedAs (object bytes) current outcome)
     → IfSome known (λ bytes. t ≤ length bytes → IsRefusedAs (object bytes) place e)
 known_full known t place object current outcome e memory wanted decoded =
     IfSome_then known decoded (λ bytes decoded fits. by (object bytes) outcome wanted (decoded fits))
   where
-    by : (object : Object) (outcome : Outcome) → WantsRoom outcome
+    by : (object : Object) (outcome : Outcome) → AllocatesFor outcome
         → IsDecodedAs object current outcome
         → IsRefusedAs object place e
     by object ScalarOutcome wanted h = absurd wanted

@@ -11,8 +11,8 @@ use Rattle.plist_binread.specs.declared.head.Bounds.{Bounds}
 use Rattle.plist_format.specs.Object.{object_in}
 use Rattle.plist_binread.specs.Packed.{unmarked}
 use Rattle.plist_format.specs.Unfolding.{until_fault}
-use Rattle.plist_binread.specs.Remaining.{place_at, children_at, IsKnown, entries_of, remaining_items, Explains}
-use Rattle.plist_binread.specs.Turns.{ReadsChild, Turns}
+use Rattle.plist_binread.specs.Remaining.{place_at, children_at, MatchesFile, entries_of, remaining_items, Explains}
+use Rattle.plist_binread.specs.Turns.{ReadsChild, IsTurn}
 use Rattle.plist_binread.proofs.Known.{entry_there, held_place}
 use Rattle.std.proofs.lemmas.Option.{IfSome_then}
 use Rattle.plist_binread.proofs.OverKnown.{IfSome-both}
@@ -22,12 +22,12 @@ use Rattle.plist_binread.proofs.OverKnown.{IfSome-both}
 abbrev pub Turned : (bytes : List ℕ) (bounds : Bounds) (tags contents : List ℕ) (old : List Frame)
     → NextChild → (new : List Frame) → Type 0
 Turned bytes bounds tags contents old turn new =
-    Turns (entries_of bytes bounds) old turn new × IsKnown bytes bounds tags contents new
+    IsTurn (entries_of bytes bounds) old turn new × MatchesFile bytes bounds tags contents new
 
 pub known_turned : (known : Option (List ℕ)) (bounds : Bounds) (tags new contents others : List ℕ)
     (fs gs : List Frame) (turn : NextChild)
-    → IfSome known (λ bytes. IsKnown bytes bounds tags contents fs)
-    → ((bytes : List ℕ) (bounds : Bounds) → IsKnown bytes bounds tags contents fs
+    → IfSome known (λ bytes. MatchesFile bytes bounds tags contents fs)
+    → ((bytes : List ℕ) (bounds : Bounds) → MatchesFile bytes bounds tags contents fs
     → Turned bytes bounds new others fs turn gs)
     → IfSome known (λ bytes. Turned bytes bounds new others fs turn gs)
 known_turned known bounds tags new contents others fs gs turn k turns =
@@ -56,7 +56,7 @@ module _ (known : Option (List ℕ)) (bounds : Bounds) (tags contents : List ℕ
   HasTurned turn = IfSome known (λ bytes. Turned bytes bounds tags contents fs turn gs)
 
   pub known_after : (turn : NextChild) → HasTurned turn
-      → IfSome known (λ bytes. IsKnown bytes bounds tags contents gs)
+      → IfSome known (λ bytes. MatchesFile bytes bounds tags contents gs)
   known_after turn turned = IfSome_then known turned (λ bytes turned. turned.1)
 
   -- a read of the reference failed

@@ -11,14 +11,14 @@ use Rattle.plist_binread.specs.declared.frames.Frame.{Frame}
 use Rattle.plist_binread.specs.declared.front.Content.{Content}
 use Rattle.plist_binread.specs.declared.object_faults.Outcome.{Outcome}
 use Rattle.plist_binread.specs.declared.head.Bounds.{Bounds}
-use Rattle.plist_binread.specs.declared.slot.EventSlot.{EventSlot}
-use Rattle.plist_binread.specs.declared.slot.Refused.{Refused}
-use Rattle.plist_binread.specs.declared.slot.Refused.TheVariants.{Fault, TooLong}
+use Rattle.plist_binread.specs.declared.event_slot.EventSlot.{EventSlot}
+use Rattle.plist_binread.specs.declared.event_slot.Refused.{Refused}
+use Rattle.plist_binread.specs.declared.event_slot.Refused.TheVariants.{Fault, TooLong}
 use Rattle.plist_binread.specs.declared.walk.NextChild.TheVariants.{Child}
-use Rattle.plist_binread.specs.Remaining.{IsKnown, IsOpen, children_at, entries_of, remaining_items, path_of}
-use Rattle.plist_binread.specs.Decoding.{IsRefusedAs, single_in}
+use Rattle.plist_binread.specs.Remaining.{MatchesFile, MarksOpenPath, children_at, entries_of, remaining_items, path_of}
+use Rattle.plist_binread.specs.Decoding.{IsRefusedAs, scalar_event_in}
 use Rattle.plist_binread.specs.Front.{content_means, unit_size}
-use Rattle.plist_binread.specs.Lengths.{BeginsTooLong, IsLongerThan, LimitsContent, LimitsObject, RefusesLong, object_of_content}
+use Rattle.plist_binread.specs.TooLong.{BeginsTooLong, IsLongerThan, LimitsContent, LimitsObject, RefusesLong, object_of_content}
 use Rattle.plist_binread.specs.Measuring.{Measures, MeasuresContent}
 use Rattle.plist_binread.specs.Packed.{is_marked, unmarked}
 use Rattle.plist_binread.specs.Reading.{ReadsChildAt, object_at}
@@ -47,12 +47,12 @@ long_limits (Err TooLong) left slot known now bounds place content same long h =
 
 -- the event of a text or data that is too long
 too-long-event : (left : ℕ) (object : Object) → IsLongerThan left object
-    → (event : PlainEvent) × (single_in object ≡ Some event) × (left < bytes_in event)
-too-long-event left object h = by (single_in object) refl h
+    → (event : PlainEvent) × (scalar_event_in object ≡ Some event) × (left < bytes_in event)
+too-long-event left object h = by (scalar_event_in object) refl h
   where
-    by : (found : Option PlainEvent) → single_in object ≡ found
+    by : (found : Option PlainEvent) → scalar_event_in object ≡ found
         → MatchOption found ⊥ (λ event. left < bytes_in event)
-        → (event : PlainEvent) × (single_in object ≡ Some event) × (left < bytes_in event)
+        → (event : PlainEvent) × (scalar_event_in object ≡ Some event) × (left < bytes_in event)
     by None is h = absurd h
     by (Some event) is h = (event, is, h)
 
@@ -63,8 +63,8 @@ begins left event items others is h = rw is h
 -- its number is entered
 pub entered_limits : (refused : Refused) (left : ℕ) (slot : EventSlot) (known : Option (List ℕ))
     (bounds : Bounds) (tags contents : List ℕ) (fs : List Frame) (n number place : ℕ)
-    → n ≡ length fs → IsOpen tags fs
-    → IfSome known (λ bytes. IsKnown bytes bounds tags contents fs) → number < length tags
+    → n ≡ length fs → MarksOpenPath tags fs
+    → IfSome known (λ bytes. MatchesFile bytes bounds tags contents fs) → number < length tags
     → is_marked (get_or tags number 0) ≡ false
     → (unmarked (get_or tags number 0) ≡ 0) × (place ≡ get_or contents number 0)
     → LimitsObject {A = Outcome} (Err refused) left slot known bounds place

@@ -8,16 +8,16 @@ use Rattle.plist_base.specs.declared.limits.Limit.{Limit}
 use Rattle.plist_base.specs.declared.limits.Limit.TheVariants as limit
 use Rattle.plist_base.specs.declared.limits.Limiter.{Limiter}
 use Rattle.plist_base.specs.declared.limits.Limits.{Limits}
-use Rattle.plist_base.specs.Events.{PlainEvent, Item, StartArray, StartDictionary, Single}
+use Rattle.plist_base.specs.Events.{PlainEvent, Item, StartArray, StartDictionary, ScalarEvent}
 use Rattle.plist_base.specs.Trees.{Data, String}
 use Rattle.plist_base.specs.Faults.{FaultKind, Fault, LimitReached, MatchFault, OutOfMemory, fault_of, fault_nowhere, kind_of, error_kind_of}
-use Rattle.plist_base.specs.Limits.{AdmitsAny, RefusesAny, bytes_in, event_or_limit, left_or_all, limit_at, under_any}
-use Rattle.plist_base.specs.Sources.{CountsIo, IsPlaceWithin}
-use Rattle.plist_binread.specs.Lengths.{BeginsTooLong, left_under}
+use Rattle.plist_base.specs.Limits.{AdmitsAny, RefusesAny, bytes_in, event_or_limit, left_or_all, limit_at, limited_by_any}
+use Rattle.plist_base.specs.Sources.{CountsIo, IsOffsetWithin}
+use Rattle.plist_binread.specs.TooLong.{BeginsTooLong, left_under}
 use Rattle.plist_binread.specs.Advancing.{GivesCurrent}
 use Rattle.plist_binread.proofs.OverKnown.{IfSome-both}
-use Rattle.plist_binread.specs.Remaining.{SomeRemain, WantsMemory}
-use Rattle.plist_binread.specs.Failures.{FailsWithin, HasPlace, IsGivenWithin, MatchGiven, MatchReader}
+use Rattle.plist_binread.specs.Remaining.{SomeRemain, AllocatesFirst}
+use Rattle.plist_binread.specs.FaultOffsets.{FailsWithin, HasOffset, IsGivenWithin, MatchGiven, MatchReader}
 use Rattle.plist_base.proofs.Refusals.{MatchFault-weaker}
 use Rattle.std.proofs.lemmas.Option.{IfSome_then}
 
@@ -27,10 +27,10 @@ pub given-within : (start end : ℕ) (limited : Bool) (fault : Fault) → FailsW
     → IsGivenWithin start end limited fault
 given-within start end limited fault h = record { placed = by fault.kind h.placed }
   where
-    by : (kind : FaultKind) → MatchReader kind (IsPlaceWithin start end fault.offset)
-        (fault.offset ≡ None) (HasPlace fault.offset)
-        → MatchGiven kind (IsPlaceWithin start end fault.offset) (fault.offset ≡ None)
-        (HasPlace fault.offset) ((limited ≡ true) × (fault.offset ≡ None))
+    by : (kind : FaultKind) → MatchReader kind (IsOffsetWithin start end fault.offset)
+        (fault.offset ≡ None) (HasOffset fault.offset)
+        → MatchGiven kind (IsOffsetWithin start end fault.offset) (fault.offset ≡ None)
+        (HasOffset fault.offset) ((limited ≡ true) × (fault.offset ≡ None))
     by (LimitReached limit) h = absurd h
     by kind h = h
 
@@ -55,21 +55,21 @@ pub still-given : (start end : ℕ) (limited : Bool) (fault : Fault)
     → IsGivenWithin start end false fault → IsGivenWithin start end limited fault
 still-given start end limited fault h = record { placed = by fault.kind h.placed }
   where
-    by : (kind : FaultKind) → MatchGiven kind (IsPlaceWithin start end fault.offset)
-        (fault.offset ≡ None) (HasPlace fault.offset) ((false ≡ true) × (fault.offset ≡ None))
-        → MatchGiven kind (IsPlaceWithin start end fault.offset) (fault.offset ≡ None)
-        (HasPlace fault.offset) ((limited ≡ true) × (fault.offset ≡ None))
+    by : (kind : FaultKind) → MatchGiven kind (IsOffsetWithin start end fault.offset)
+        (fault.offset ≡ None) (HasOffset fault.offset) ((false ≡ true) × (fault.offset ≡ None))
+        → MatchGiven kind (IsOffsetWithin start end fault.offset) (fault.offset ≡ None)
+        (HasOffset fault.offset) ((limited ≡ true) × (fault.offset ≡ None))
     by (LimitReached limit) h = let no : false ≡ true → ⊥ = λ q. cc in absurd (no h.0)
     by kind h = h
 
 -- ---- what is to come
 
-none-under : (limiter : Option Limiter) → under_any limiter [] ≡ []
+none-under : (limiter : Option Limiter) → limited_by_any limiter [] ≡ []
 none-under None = refl
 none-under (Some limiter) = refl
 
 fault-under : (limiter : Option Limiter) (fault : Fault)
-    → under_any limiter (Err fault ∷ []) ≡ Err fault ∷ []
+    → limited_by_any limiter (Err fault ∷ []) ≡ Err fault ∷ []
 fault-under None fault = refl
 fault-under (Some limiter) fault = refl
 
@@ -88,33 +88,33 @@ module _ (P : List Item → Type 0)
   choice-of (Some limit) event items behind h = limits limit
 
   under-of : (limiter : Option Limiter) (items : List Item) → P items
-      → P (under_any limiter items)
+      → P (limited_by_any limiter items)
   under-of None items h = h
   under-of (Some limiter) [] h = h
   under-of (Some limiter) (Ok event ∷ items) h = choice-of _ event items _ h
   under-of (Some limiter) (Err fault ∷ items) h = cut fault items h
 
-event-wants : (event : PlainEvent) (items others : List Item) → WantsMemory (Ok event ∷ items)
-    → WantsMemory (Ok event ∷ others)
+event-wants : (event : PlainEvent) (items others : List Item) → AllocatesFirst (Ok event ∷ items)
+    → AllocatesFirst (Ok event ∷ others)
 event-wants (StartArray length) items others h = tt
 event-wants (StartDictionary length) items others h = tt
-event-wants (Single (Data bytes)) items others h = tt
-event-wants (Single (String text)) items others h = tt
+event-wants (ScalarEvent (Data bytes)) items others h = tt
+event-wants (ScalarEvent (String text)) items others h = tt
 event-wants event items others h = h
 
 remaining-under : (limiter : Option Limiter) (items : List Item) → SomeRemain items
-    → SomeRemain (under_any limiter items)
+    → SomeRemain (limited_by_any limiter items)
 remaining-under =
     under-of SomeRemain (λ event items others _. one-remaining (Ok event) others)
     (λ fault items _. one-remaining (Err fault) [])
     (λ limit. one-remaining (Err (fault_nowhere (LimitReached limit))) [])
 
 either-under : (new : Bool) (limiter : Option Limiter) (items : List Item)
-    → MatchBool new (SomeRemain items) (WantsMemory items)
-    → MatchBool new (SomeRemain (under_any limiter items)) (WantsMemory (under_any limiter items))
+    → MatchBool new (SomeRemain items) (AllocatesFirst items)
+    → MatchBool new (SomeRemain (limited_by_any limiter items)) (AllocatesFirst (limited_by_any limiter items))
 either-under true limiter items h = remaining-under limiter items h
 either-under false limiter items h =
-    under-of WantsMemory event-wants (λ fault items h. h) (λ limit. tt) limiter items h
+    under-of AllocatesFirst event-wants (λ fault items h. h) (λ limit. tt) limiter items h
 
 limit-refused : (kind : FaultKind) (limit : Limit) (X Y Z : Type 0) → kind ≡ LimitReached limit
     → Z → MatchFault kind X Y Z
@@ -125,9 +125,9 @@ module _ (new : Bool) (current : PlainEvent) where
       (before after : List ℕ → List Item)
       → IfSome known (λ bytes. GivesCurrent {A = Unit {0}} new (before bytes) None current
       (after bytes))
-      → IfSome known (λ bytes. GivesCurrent {A = Unit {0}} new (under_any old
+      → IfSome known (λ bytes. GivesCurrent {A = Unit {0}} new (limited_by_any old
       (before bytes)) None current
-      (under_any now (after bytes)))
+      (limited_by_any now (after bytes)))
   none-current known old now before after h = IfSome_then known h (λ bytes h.
       (cc (none-under old), cc (none-under now)))
 
@@ -136,28 +136,28 @@ module _ (new : Bool) (current : PlainEvent) where
       → IfSome known (λ bytes. GivesCurrent {A = Unit {0}} new (before bytes) (Some
       (Err error)) current
       (after bytes))
-      → IfSome known (λ bytes. GivesCurrent {A = Unit {0}} new (under_any old (before bytes))
-      (Some (Err error)) current (under_any now (after bytes)))
+      → IfSome known (λ bytes. GivesCurrent {A = Unit {0}} new (limited_by_any old (before bytes))
+      (Some (Err error)) current (limited_by_any now (after bytes)))
   fault-current known old now before after error h = IfSome_then known h (λ bytes h. (
     cc (none-under now),
     MatchFault-weaker (kind_of (error_kind_of error))
         (remaining-under old (before bytes)) (either-under new old (before bytes))
-        (λ b. ap (under_any old) b ∙ fault-under old _) h.1,
+        (λ b. ap (limited_by_any old) b ∙ fault-under old _) h.1,
   ))
 
   pub event-current : (known : Option (List ℕ)) (old now : Option Limiter)
       (before after : List ℕ → List Item) (x : Unit {0}) → AdmitsAny old current now
       → IfSome known (λ bytes. GivesCurrent {A = Unit {0}} new (before bytes) (Some (Ok x)) current
       (after bytes))
-      → IfSome known (λ bytes. GivesCurrent {A = Unit {0}} new (under_any old (before bytes))
-      (Some (Ok x)) current (under_any now (after bytes)))
+      → IfSome known (λ bytes. GivesCurrent {A = Unit {0}} new (limited_by_any old (before bytes))
+      (Some (Ok x)) current (limited_by_any now (after bytes)))
   event-current known old now before after x a h =
       IfSome_then known h (λ bytes h. cc (a (after bytes)))
 
   limit-item : (old now : Option Limiter) (before after : List Item) (error : Error)
       → RefusesAny old current (fault_of error) → before ≡ Ok current ∷ after
-      → GivesCurrent {A = Unit {0}} new (under_any old before) (Some (Err error)) current
-      (under_any now [])
+      → GivesCurrent {A = Unit {0}} new (limited_by_any old before) (Some (Err error)) current
+      (limited_by_any now [])
   limit-item None now before after error r h = absurd r
   limit-item (Some limiter) now before after error r h = (
     none-under now,
@@ -170,8 +170,8 @@ module _ (new : Bool) (current : PlainEvent) where
       → RefusesAny old current (fault_of error)
       → IfSome known (λ bytes. GivesCurrent {A = Unit {0}} new (before bytes) (Some (Ok x)) current
       (after bytes))
-      → IfSome known (λ bytes. GivesCurrent {A = Unit {0}} new (under_any old (before bytes))
-      (Some (Err error)) current (under_any now []))
+      → IfSome known (λ bytes. GivesCurrent {A = Unit {0}} new (limited_by_any old (before bytes))
+      (Some (Err error)) current (limited_by_any now []))
   limit-current known old now before after x error r h =
       IfSome_then _ h (λ bytes h. limit-item old now (before bytes) _ _ r h)
 
@@ -193,7 +193,7 @@ long-at (Some left) limits came level event behind small long =
 
 long-under : (limiter : Option Limiter) (items : List Item) → left_under limiter < 2 ^ 64 - 1
     → BeginsTooLong (left_under limiter) items
-    → under_any limiter items ≡ Err (fault_nowhere (LimitReached limit.Bytes)) ∷ []
+    → limited_by_any limiter items ≡ Err (fault_nowhere (LimitReached limit.Bytes)) ∷ []
 long-under None items small long = absurd (omega arith)
 long-under (Some limiter) [] small long = absurd long
 long-under (Some limiter) (Ok event ∷ items) small long =
@@ -208,11 +208,11 @@ pub long-current : (new : Bool) (current mid : PlainEvent) (known : Option (List
     → IfSome known (λ bytes. GivesCurrent {A = Unit {0}} new (before bytes) (Some (Err held)) mid
     (after bytes))
     → IfSome known (λ bytes. BeginsTooLong (left_under old) (before bytes))
-    → IfSome known (λ bytes. GivesCurrent {A = Unit {0}} new (under_any old (before bytes))
-    (Some (Err error)) current (under_any now (after bytes)))
+    → IfSome known (λ bytes. GivesCurrent {A = Unit {0}} new (limited_by_any old (before bytes))
+    (Some (Err error)) current (limited_by_any now (after bytes)))
 long-current new current mid known old now before after error held is small h long =
     IfSome-both known h long (λ bytes h long. (
-      ap (under_any now) h.0 ∙ none-under now,
+      ap (limited_by_any now) h.0 ∙ none-under now,
       limit-refused _ limit.Bytes _ _ _ (ap (λ (f : Fault). f.kind) is)
           (long-under old (before bytes) small long ∙ ap (λ f. Err f ∷ []) (sym is)),
     ))

@@ -14,9 +14,9 @@ use Rattle.std.proofs.lemmas.Str.{IsCharBoundary-from_take, IsCharBoundary-past_
 use Rattle.std.proofs.Math.Utf8.{encode}
 use Rattle.plist_base.specs.Sources.{LiesAt}
 use Rattle.plist_base.specs.Trees.{Data, String}
-use Rattle.plist_base.specs.Events.{Single}
+use Rattle.plist_base.specs.Events.{ScalarEvent}
 use Rattle.plist_base.specs.Faults.{InvalidUtf16String}
-use Rattle.plist_binread.specs.Decoding.{single_in}
+use Rattle.plist_binread.specs.Decoding.{scalar_event_in}
 use Rattle.plist_binread.specs.declared.front.ContentKind.TheVariants.{Data as DataKind, Text, WideText}
 use Rattle.plist_binread.specs.Reading.{data_of_content}
 use Rattle.plist_binread.specs.Measuring.{IsHigh, IsTextFront, IsTextPart, Measures, TakesUnit, counted, longer, waiting_units, wide_size}
@@ -176,8 +176,8 @@ text_done known start size done end small passed =
     IfSome_then known passed' (λ bytes passed fits.
     let e : size ≡ counted (length (take size (drop start bytes))) =
     omega (arith, length-take size (drop start bytes), length-drop start bytes) in (
-      Single (String (take size (drop start bytes))),
-      ap single_in (text-utf8 (take size (drop start bytes)) passed),
+      ScalarEvent (String (take size (drop start bytes))),
+      ap scalar_event_in (text-utf8 (take size (drop start bytes)) passed),
       e,
     ))
 
@@ -194,7 +194,7 @@ current_data known place start count small = IfSome-all known (λ bytes fits.
       length-take (count * 1) (drop (place + start) bytes),
       length-drop (place + start) bytes,
     ) in
-    (Single (Data (take (count * 1) (drop (place + start) bytes))), refl, e))
+    (ScalarEvent (Data (take (count * 1) (drop (place + start) bytes))), refl, e))
 
 -- ---- units of a text
 
@@ -382,7 +382,7 @@ measures_units units =
         (if test then Faulty InvalidUtf16String else Scalar (String bytes))
         (if test then None else Some (counted (length bytes)))
     by true bytes = refl
-    by false bytes = (Single (String bytes), refl, refl)
+    by false bytes = (ScalarEvent (String bytes), refl, refl)
 
 whole : (bytes : List ℕ) (start count : ℕ) (answer : Option ℕ)
     → start + count * 2 ≤ length bytes

@@ -4,14 +4,14 @@ use Rattle.std.proofs.lemmas.List.{take-take, length-append, drop-append-le, dro
 use Rattle.std.proofs.Math.Seq.{take-length}
 use Rattle.plist_base.specs.Sources.{LiesAt}
 use Rattle.plist_binread.specs.Reading.{HasPairs, object_at, object_with}
-use Rattle.plist_binread.specs.Front.{IfLong, LeavesLong, DecodesWhole, LongBehind, content_means, is_fault, unit_size}
+use Rattle.plist_binread.specs.Front.{IfUnseen, LeavesUnseen, DecodesWhole, LongBehind, content_means, is_fault, unit_size}
 use Rattle.plist_base.specs.declared.error.Error.{Error}
-use Rattle.plist_binread.specs.declared.slot.EventSlot.{EventSlot}
+use Rattle.plist_binread.specs.declared.event_slot.EventSlot.{EventSlot}
 use Rattle.plist_binread.specs.Slot.{event_in}
 use Rattle.plist_binread.specs.declared.object_faults.Outcome.{Outcome}
 use Rattle.plist_binread.specs.declared.head.Bounds.{Bounds}
 use Rattle.plist_base.specs.Events.{PlainEvent}
-use Rattle.plist_binread.specs.Outcome.{IsOutcomeOf, IsSlots, small_outcome}
+use Rattle.plist_binread.specs.DecodeOutcome.{IsOutcomeOf, AreReferencesAt, small_outcome}
 use Rattle.plist_binread.specs.declared.object_faults.Outcome.TheVariants as tag
 use Rattle.plist_format.specs.Object.{Object, layout_of, length_in, object_behind, object_in}
 use Rattle.plist_binread.proofs.Columns.{take-drop-take}
@@ -60,8 +60,8 @@ known_seen known t w p seen P buffered is means = IfSome_then known is (λ bytes
 -- what its marker and what lies behind it tell of an object whose content isn't all seen
 pub long_behind : (w m extent : ℕ) (seen rest : List ℕ) (slot : EventSlot) (outcome : Outcome) → seen ≡ m ∷ rest
     → 0 < extent → LongBehind m (extent - 1) (object_with w m) rest slot outcome
-    → LeavesLong extent (object_in w) seen slot outcome
-long_behind w m extent seen rest slot tag.Long is some h =
+    → LeavesUnseen extent (object_in w) seen slot outcome
+long_behind w m extent seen rest slot tag.Unseen is some h =
     let sum : extent - 1 + 1 ≡ extent = omega arith in (
       omega (arith, h.0),
       λ more whole.
@@ -97,8 +97,8 @@ module _ (known : Option (List ℕ)) (bounds : Bounds) (place : ℕ) (seen : Lis
       (λ object. IsOutcomeOf object (event_in slot) outcome) buffered is means
 
   pub seen_long : (slot : EventSlot)
-      → LeavesLong (bounds.trailer - place) (object_in bounds.reference_width) seen slot outcome
-      → IfLong outcome slot (λ content.
+      → LeavesUnseen (bounds.trailer - place) (object_in bounds.reference_width) seen slot outcome
+      → IfUnseen outcome slot (λ content.
       (place + content.start + content.count * unit_size content.kind ≤ bounds.trailer)
       × IfSome known (λ bytes. bounds.trailer ≤ length bytes → object_at bounds place bytes
       ≡ content_means content.kind (take (content.count * unit_size content.kind)
@@ -106,13 +106,13 @@ module _ (known : Option (List ℕ)) (bounds : Bounds) (place : ℕ) (seen : Lis
   seen_long slot h = by outcome h
     where
       by : (outcome : Outcome)
-          → LeavesLong (bounds.trailer - place) (object_in bounds.reference_width) seen slot outcome
-          → IfLong outcome slot (λ content.
+          → LeavesUnseen (bounds.trailer - place) (object_in bounds.reference_width) seen slot outcome
+          → IfUnseen outcome slot (λ content.
           (place + content.start + content.count * unit_size content.kind ≤ bounds.trailer)
           × IfSome known (λ bytes. bounds.trailer ≤ length bytes → object_at bounds place bytes
           ≡ content_means content.kind (take (content.count * unit_size content.kind)
           (drop (place + content.start) bytes))))
-      by tag.Long h = (
+      by tag.Unseen h = (
         omega (arith, h.0, buffered),
         IfSome_then known is (λ bytes is fits.
             let content = slot.content in
@@ -167,7 +167,7 @@ pub front_slots : (w m count pairs start : ℕ) (seen rest behind more : List �
     → HasPairs m count pairs → 0 < w → seen ≡ m ∷ rest → length behind ≤ length rest
     → start ≡ length seen - length behind
     → length_in m (rest ++ more) ≡ Some (count, behind ++ more)
-    → drop (length rest - length behind) rest ≡ behind → IsSlots w (seen ++ more) start pairs
+    → drop (length rest - length behind) rest ≡ behind → AreReferencesAt w (seen ++ more) start pairs
 front_slots w m count pairs start seen rest behind more has some is short at counted lies =
     let whole = ap length is in
     let next : start ≡ suc (length rest - length behind) = omega arith in

@@ -16,16 +16,16 @@ use Rattle.plist_binread.specs.declared.reader.WalkState.{WalkState}
 use Rattle.plist_binread.specs.declared.reader.WalkState.TheVariants.{Fresh, Walking, Ended}
 use Rattle.plist_binread.specs.Beginning.{CountsRoot, CountsStep, GivesRoot, IsBounded, IsKnownWalk, KeepsRoot, RefusesFirst}
 use Rattle.plist_binread.specs.BinaryReader.{objects_in_head}
-use Rattle.plist_binread.specs.Remaining.{AreBoundsOf, CountsObjects, IsKnown, entries_of, next_number, remaining_items, steps_left, remaining_now, walk_steps, walk_weight}
-use Rattle.plist_binread.specs.Failures.{ErrWithin, ItemGivenWithin, ItemWithin}
-use Rattle.plist_binread.specs.Outcome.{YieldsNext}
+use Rattle.plist_binread.specs.Remaining.{AreBoundsOf, CountsObjects, MatchesFile, entries_of, next_number, remaining_items, steps_left, remaining_now, walk_steps, walk_weight}
+use Rattle.plist_binread.specs.FaultOffsets.{ErrWithin, ItemGivenWithin, ItemWithin}
+use Rattle.plist_binread.specs.DecodeOutcome.{YieldsNext}
 use Rattle.plist_binread.specs.Step.{KeepsItem, LightensNext}
-use Rattle.plist_binread.specs.Advancing.{GivesCurrent, WalksIn}
-use Rattle.plist_binread.specs.declared.slot.EventSlot.{EventSlot}
-use Rattle.plist_binread.specs.declared.slot.Refused.{Refused}
-use Rattle.plist_binread.specs.declared.slot.Refused.TheVariants as refusal
+use Rattle.plist_binread.specs.Advancing.{GivesCurrent, WalksInSlot}
+use Rattle.plist_binread.specs.declared.event_slot.EventSlot.{EventSlot}
+use Rattle.plist_binread.specs.declared.event_slot.Refused.{Refused}
+use Rattle.plist_binread.specs.declared.event_slot.Refused.TheVariants as refusal
 use Rattle.plist_binread.specs.declared.walk.Walk.{Walk}
-use Rattle.plist_binread.specs.Slot.{AnswersIn, ItemAnswersIn, answer_in, event_in, item_in}
+use Rattle.plist_binread.specs.Slot.{AnswersInSlot, ItemAnswersInSlot, answer_in, event_in, item_in}
 use Rattle.plist_binread.specs.Turns.{IsCurrentCached, is_fresh, is_walking, upcoming_number, root_with, state_after}
 use Rattle.plist_binread.specs.Walking.{cached_in, remaining_in, walk_objects, weight_in}
 use Rattle.plist_base.proofs.Refusals.{MatchFault-all}
@@ -172,7 +172,7 @@ module _ (state : WalkState) (tags : List ℕ) (current : PlainEvent) (known : O
 -- what is known of a file that is walked is known with its head
 holds_walking : (known : Option (List ℕ)) (bounds : Bounds) (tags contents : List ℕ)
     (fs : List Frame) (walking : Type 0)
-    → (walking → IfSome known (λ bytes. IsKnown bytes bounds tags contents fs))
+    → (walking → IfSome known (λ bytes. MatchesFile bytes bounds tags contents fs))
     → IfSome known (λ bytes. walking → AreBoundsOf (head_of bytes) bounds
     × (length tags ≡ objects_in_head bytes))
 holds_walking None bounds tags contents fs walking k = tt
@@ -250,8 +250,8 @@ module _ {R C : Type 0} {g : Ghosts R} {h : CounterGhosts C} (known : R → Opti
       → OnOk noted (IsKnownWalk (known old.source) new.bounds new.walk)
       → IfSome (known old.source) (KeepsRoot noted new.slot new.walk)
       → OnOk noted (weight_in new.walk < walk_steps (walk_objects new.walk))
-      → AnswersIn failed noted new.slot old.source new.source
-      → WalksIn known failed counts count old (Some noted) new
+      → AnswersInSlot failed noted new.slot old.source new.source
+      → WalksInSlot known failed counts count old (Some noted) new
   first_walks noted fresh is yields within bounded objects held kept falls failures =
       let answer = answer_in noted new.slot in
       let after = after_in (Some noted) new.slot new.state is in
@@ -290,8 +290,8 @@ module _ {R C : Type 0} {g : Ghosts R} {h : CounterGhosts C} (known : R → Opti
       → IsKnownWalk (known old.source) new.bounds new.walk
       → KeepsItem (known old.source) old.bounds old.walk noted new.slot new.walk
       → LightensNext old.walk noted new.walk
-      → ItemAnswersIn failed noted new.slot old.source new.source
-      → WalksIn known failed counts count old noted new
+      → ItemAnswersInSlot failed noted new.slot old.source new.source
+      → WalksInSlot known failed counts count old noted new
   item_walks noted walking is yields within size bounded held kept falls failures =
       let item = item_in noted new.slot in
       let after = after_in noted new.slot new.state is in

@@ -11,19 +11,19 @@ use Rattle.plist_binread.specs.declared.reader.WalkState.{WalkState}
 use Rattle.plist_binread.specs.declared.reader.WalkState.TheVariants.{Ended}
 use Rattle.plist_binread.specs.declared.head.Bounds.{Bounds}
 use Rattle.plist_format.specs.Container.{head_of}
-use Rattle.plist_binread.specs.BinaryReader.{GivesBinaryItem, AreListsWithin, Leaves}
-use Rattle.plist_binread.specs.Remaining.{IsOpen, IsKnown, cached_count, AreBoundsOf, places_of, remaining_now}
+use Rattle.plist_binread.specs.BinaryReader.{GivesBinaryItem, AreListsWithin, KeepsInvariant}
+use Rattle.plist_binread.specs.Remaining.{MarksOpenPath, MatchesFile, cached_count, AreBoundsOf, places_of, remaining_now}
 use Rattle.plist_binread.specs.Turns.{IsCurrentCached, is_fresh, is_walking}
 use Rattle.plist_binread.proofs.Opened.{IsOpen-length}
 use Rattle.std.proofs.lemmas.Option.{IfSome_then}
 use Rattle.plist_binread.proofs.OverKnown.{IfSome-all}
 
 -- no more collections are open than there are objects
-open_below : (tags : List ℕ) (fs : List Frame) → IsOpen tags (reverse fs) → length fs ≤ length tags
+open_below : (tags : List ℕ) (fs : List Frame) → MarksOpenPath tags (reverse fs) → length fs ≤ length tags
 open_below tags fs path = rw (← length-reverse fs) (IsOpen-length _ _ path)
 
 -- nor than the head of the file tells
-nested : (known : Option (List ℕ)) (tags : List ℕ) (fs : List Frame) → IsOpen tags (reverse fs)
+nested : (known : Option (List ℕ)) (tags : List ℕ) (fs : List Frame) → MarksOpenPath tags (reverse fs)
     → IfSome known (λ bytes. length tags ≤ length (places_of bytes))
     → MatchOption known (length fs ≤ length tags) (λ bytes. length fs ≤ length (places_of bytes))
 nested None tags fs path bounded = open_below _ fs path
@@ -32,7 +32,7 @@ nested (Some bytes) tags fs path bounded = omega (arith, open_below _ fs path)
 -- what is known of a file is known with its head
 pub holds_head : (known : Option (List ℕ)) (bounds : Bounds) (tags contents : List ℕ)
     (fs : List Frame) (walking : Type 0)
-    → IfSome known (λ bytes. IsKnown bytes bounds tags contents fs)
+    → IfSome known (λ bytes. MatchesFile bytes bounds tags contents fs)
     → IfSome known (λ bytes. walking → AreBoundsOf (head_of bytes) bounds
     × (length tags ≡ length (places_of bytes)))
 holds_head known bounds tags contents fs walking k =
@@ -47,7 +47,7 @@ holds_none known bounds tags walking never = IfSome-all known (λ bytes w. absur
 
 -- and none of the lists is longer
 lists : (known : Option (List ℕ)) (tags contents : List ℕ) (fs : List Frame)
-    → IsOpen tags (reverse fs) → length contents ≡ length tags
+    → MarksOpenPath tags (reverse fs) → length contents ≡ length tags
     → IfSome known (λ bytes. length tags ≤ length (places_of bytes))
     → IfSome known (λ bytes. AreListsWithin (length (places_of bytes)) tags contents fs)
 lists known tags contents fs path same bounded = IfSome_then known bounded (λ bytes bounded.
@@ -56,12 +56,12 @@ lists known tags contents fs path same bounded = IfSome_then known bounded (λ b
 -- what a call leaves behind
 pub left_behind : {R C : Type 0} {g : Ghosts R} {h : CounterGhosts C}
     (known : R → Option (List ℕ)) (counts : Type 0) (count : C → ℕ) (old new : BinaryReader R C g h)
-    → IsOpen new.walk.tags.items (reverse new.walk.frames)
+    → MarksOpenPath new.walk.tags.items (reverse new.walk.frames)
     → length new.walk.contents.items ≡ length new.walk.tags.items
     → (counts → count new.counter ≡ cached_count new.walk.tags.items)
     → IfSome (known old.source)
     (λ bytes. length new.walk.tags.items ≤ length (places_of bytes))
-    → Leaves known counts count old new
+    → KeepsInvariant known counts count old new
 left_behind known counts count old new path same counted bounded = record {
   nested = nested (known old.source) new.walk.tags.items new.walk.frames path bounded;
   marked = path;

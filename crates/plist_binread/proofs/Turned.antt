@@ -5,10 +5,10 @@ use Rattle.std.proofs.lemmas.Bool.{lt-ltb}
 use Rattle.std.proofs.Math.Seq.{drop-cons}
 use Rattle.plist_base.specs.Events.{PlainEvent, EndCollection, Item}
 use Rattle.plist_binread.specs.declared.frames.Frame.{Frame}
-use Rattle.plist_binread.specs.Packed.{Remarked}
+use Rattle.plist_binread.specs.Packed.{MarkChanged}
 use Rattle.plist_format.specs.Unfolding.{TableEntry, unfolding_of, until_fault}
 use Rattle.plist_binread.specs.declared.head.Bounds.{Bounds}
-use Rattle.plist_binread.specs.Remaining.{path_of, IsOpen, IsKnown, children_at, place_at, entries_of, remaining_items, SomeRemain, next_number, walk_steps, walk_weight}
+use Rattle.plist_binread.specs.Remaining.{path_of, MarksOpenPath, MatchesFile, children_at, place_at, entries_of, remaining_items, SomeRemain, next_number, walk_steps, walk_weight}
 use Rattle.plist_binread.specs.Turns.{closes}
 use Rattle.std.proofs.lemmas.List.{drop_all, get_or_default}
 
@@ -20,8 +20,8 @@ with_next f n = record { object = f.object; next = n; count = f.count }
 abbrev pub after : Frame → Frame
 after f = with_next f (f.next + 1)
 
-pub next_path : (tags : List ℕ) (f : Frame) (n : ℕ) (fs : List Frame) → IsOpen tags (f ∷ fs)
-    → IsOpen tags (with_next f n ∷ fs)
+pub next_path : (tags : List ℕ) (f : Frame) (n : ℕ) (fs : List Frame) → MarksOpenPath tags (f ∷ fs)
+    → MarksOpenPath tags (with_next f n ∷ fs)
 next_path tags f n fs o =
     record { distinct = o.distinct; below = o.below; marks = o.marks; uncached = o.uncached }
 
@@ -40,7 +40,7 @@ until_some (Ok e ∷ items) event more = omega arith
 until_some (Err f ∷ items) event more = omega arith
 
 module _ (bytes tags contents : List ℕ) (bounds : Bounds) (f : Frame) (fs : List Frame)
-    (k : IsKnown bytes bounds tags contents (f ∷ fs)) where
+    (k : MatchesFile bytes bounds tags contents (f ∷ fs)) where
   abbrev table : List TableEntry
   table = entries_of bytes bounds
 
@@ -55,7 +55,7 @@ module _ (bytes tags contents : List ℕ) (bounds : Bounds) (f : Frame) (fs : Li
       × (f.next < length children)
       × SomeRemain (until_fault (remaining_items table (f ∷ fs)))
       × (next_number table (f ∷ fs) ≡ Some (get_or children f.next 0)))
-      × IsKnown bytes bounds tags contents (after f ∷ fs)
+      × MatchesFile bytes bounds tags contents (after f ∷ fs)
   child_remaining h = (
     (
       child_flat (λ c. unfolding_of table (length table - suc (length fs)) (f.object ∷ path_of fs)
@@ -77,9 +77,9 @@ module _ (bytes tags contents : List ℕ) (bounds : Bounds) (f : Frame) (fs : Li
   )
 
   -- or its end
-  pub closed_remaining : (new : List ℕ) → f.count ≤ f.next → Remarked f.object false tags new
+  pub closed_remaining : (new : List ℕ) → f.count ≤ f.next → MarkChanged f.object false tags new
       → (remaining_items table (f ∷ fs) ≡ Ok EndCollection ∷ remaining_items table fs)
-      × IsKnown bytes bounds new contents fs
+      × MatchesFile bytes bounds new contents fs
   closed_remaining new h m = (
     rw (drop_all f.next children (rw k.counts.0 h)) refl,
     record {

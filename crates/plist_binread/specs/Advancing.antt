@@ -5,10 +5,10 @@ use Rattle.plist_base.specs.declared.source.Source.{Ghosts}
 use Rattle.plist_base.specs.Events.{PlainEvent, Item}
 use Rattle.plist_binread.specs.declared.reader.BinaryReader.{BinaryReader}
 use Rattle.plist_binread.specs.declared.counter.DecodeCounter.{Ghosts as CounterGhosts}
-use Rattle.plist_binread.specs.Lengths.{BeginsTooLong, RefusesLong, left_under}
+use Rattle.plist_binread.specs.TooLong.{BeginsTooLong, RefusesLong, left_under}
 use Rattle.plist_binread.specs.Slot.{event_in, compact_event_of, item_in}
-use Rattle.plist_binread.specs.declared.slot.Refused.{Refused}
-use Rattle.plist_binread.specs.declared.slot.CompactEvent.{CompactEvent}
+use Rattle.plist_binread.specs.declared.event_slot.Refused.{Refused}
+use Rattle.plist_binread.specs.declared.event_slot.CompactEvent.{CompactEvent}
 use Rattle.std.specs.String.{string_bytes}
 use Rattle.plist_binread.specs.BinaryReader.{GivesAs, GivesBinaryBy, has_limits, binary_source, binary_steps, items_to_come, walk_to_come}
 
@@ -61,10 +61,10 @@ module _ {R C : Type 0} {g : Ghosts R} {h : CounterGhosts C} (known : R → Opti
   Walks item new = AdvancesBy walk_to_come (λ _. false) item new
 
   -- the same where the error is held
-  abbrev pub AdvancesIn : {A : Type 0} → Option (Result A Refused) → (new : BinaryReader R C g h)
+  abbrev pub AdvancesInSlot : {A : Type 0} → Option (Result A Refused) → (new : BinaryReader R C g h)
       → Type 0
-  AdvancesIn item new = Advances (item_in item new.slot) new
+  AdvancesInSlot item new = Advances (item_in item new.slot) new
 
-  abbrev pub WalksIn : {A : Type 0} → Option (Result A Refused) → (new : BinaryReader R C g h)
+  abbrev pub WalksInSlot : {A : Type 0} → Option (Result A Refused) → (new : BinaryReader R C g h)
       → Type 0
-  WalksIn item new = Walks (item_in item new.slot) new
+  WalksInSlot item new = Walks (item_in item new.slot) new

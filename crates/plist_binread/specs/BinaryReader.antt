@@ -9,15 +9,15 @@ use Rattle.plist_base.specs.Sources.{ItemCountsIo}
 use Rattle.plist_format.specs.Container.{head_of}
 use Rattle.std.specs.Option.{is_some}
 use Rattle.plist_base.specs.declared.limits.Limiter.{Limiter}
-use Rattle.plist_base.specs.Limits.{limited_items, under_any}
+use Rattle.plist_base.specs.Limits.{limited_items, limited_by_any}
 use Rattle.plist_base.specs.declared.limits.Limits.{Limits}
 use Rattle.plist_format.specs.Unfolding.{items_of_file}
-use Rattle.plist_binread.specs.Failures.{ItemGivenWithin}
+use Rattle.plist_binread.specs.FaultOffsets.{ItemGivenWithin}
 use Rattle.plist_binread.specs.declared.reader.BinaryReader.{BinaryReader}
 use Rattle.plist_binread.specs.declared.reader.WalkState.TheVariants.{Ended}
 use Rattle.plist_binread.specs.declared.frames.Frame.{Frame}
 use Rattle.plist_binread.specs.declared.counter.DecodeCounter.{Ghosts as CounterGhosts}
-use Rattle.plist_binread.specs.Remaining.{IsOpen, remaining_now, cached_count, places_of, AreBoundsOf, CountsObjects, SomeRemain, WantsMemory, steps_left}
+use Rattle.plist_binread.specs.Remaining.{MarksOpenPath, remaining_now, cached_count, places_of, AreBoundsOf, CountsObjects, SomeRemain, AllocatesFirst, steps_left}
 use Rattle.plist_binread.specs.Turns.{upcoming_number, IsCachedIfSmall, is_fresh, is_walking}
 
 -- how many objects the head of these bytes counts
@@ -34,7 +34,7 @@ GivesAs shown new before item after =
     MatchOption item ((before ≡ []) × (after ≡ [])) (λ answer. MatchResult answer
     (λ event. before ≡ Ok (shown event) ∷ after)
     (λ error. (after ≡ []) × MatchFault (kind_of (error_kind_of error)) (SomeRemain before)
-    (MatchBool new (SomeRemain before) (WantsMemory before)) (before ≡ Err (fault_of error) ∷ [])))
+    (MatchBool new (SomeRemain before) (AllocatesFirst before)) (before ≡ Err (fault_of error) ∷ [])))
 
 abbrev pub GivesBinaryItem : (new : Bool) (before : List Item) → Option (Result Event Error)
     → (after : List Item) → Type 0
@@ -50,7 +50,7 @@ abbrev pub limited_file : Limits → List ℕ → List Item
 limited_file limits bytes = limited_items limits (items_of_file bytes)
 
 abbrev pub file_under : Option Limiter → List ℕ → List Item
-file_under limiter bytes = under_any limiter (items_of_file bytes)
+file_under limiter bytes = limited_by_any limiter (items_of_file bytes)
 
 module _ {R C : Type 0} {g : Ghosts R} {h : CounterGhosts C} where
   -- the source inside
@@ -63,7 +63,7 @@ module _ {R C : Type 0} {g : Ghosts R} {h : CounterGhosts C} where
 
   -- the items still to come, where these are the file's bytes
   abbrev pub items_to_come : List ℕ → BinaryReader R C g h → List Item
-  items_to_come bytes reader = under_any reader.limiter (walk_to_come bytes reader)
+  items_to_come bytes reader = limited_by_any reader.limiter (walk_to_come bytes reader)
 
   -- are there limits?
   abbrev pub has_limits : BinaryReader R C g h → Bool
@@ -110,7 +110,7 @@ module _ {R C : Type 0} {g : Ghosts R} {h : CounterGhosts C} where
 
   -- the marks stand exactly on the objects that are open, none of which is cached
   abbrev pub MarksItsPath : BinaryReader R C g h → Type 0
-  MarksItsPath reader = IsOpen reader.walk.tags.items (reverse reader.walk.frames)
+  MarksItsPath reader = MarksOpenPath reader.walk.tags.items (reverse reader.walk.frames)
 
   -- the object of this number is cached in a reader that gave this item, if that is small
   abbrev pub CachesItem : {A : Type 0} → (shown : A → PlainEvent) → Option ℕ
@@ -129,14 +129,14 @@ module _ {R C : Type 0} {g : Ghosts R} {h : CounterGhosts C} where
       steps_left reader.state (length reader.walk.tags.items) reader.walk.frames
 
   -- where the bytes are known, all their items are still to come
-  abbrev pub HasToCome : (known : Option (List ℕ)) → (items : List ℕ → List Item)
+  abbrev pub WillGive : (known : Option (List ℕ)) → (items : List ℕ → List Item)
       → BinaryReader R C g h → Type 0
-  HasToCome known items reader = IfSome known (λ bytes. items_to_come bytes reader ≡ items bytes)
+  WillGive known items reader = IfSome known (λ bytes. items_to_come bytes reader ≡ items bytes)
 
   -- a reader that gave this item tells as many objects as the head of known bytes counts
-  abbrev pub TellsObjects : {A : Type 0} → (known : Option (List ℕ)) → Option (Result A Error)
+  abbrev pub ObjectsMatchHead : {A : Type 0} → (known : Option (List ℕ)) → Option (Result A Error)
       → BinaryReader R C g h → Type 0
-  TellsObjects known item reader = IfSome known (λ bytes. MatchOption item ⊤ (λ answer.
+  ObjectsMatchHead known item reader = IfSome known (λ bytes. MatchOption item ⊤ (λ answer.
       CountsObjects bytes answer (objects_in_file reader)))
 
   -- limits stay, and so does the number of objects once the first item came
@@ -146,7 +146,7 @@ module _ {R C : Type 0} {g : Ghosts R} {h : CounterGhosts C} where
       ≡ objects_in_file old)
 
   -- what a call leaves behind, whatever came of it
-  pub record Leaves (known : R → Option (List ℕ)) (counts : Type 0) (count : C → ℕ)
+  pub record KeepsInvariant (known : R → Option (List ℕ)) (counts : Type 0) (count : C → ℕ)
       (old new : BinaryReader R C g h) : Type 0 where
     pub nested : MatchOption (known (binary_source old)) (open_collections new
         ≤ objects_in_file new)
@@ -174,8 +174,8 @@ module _ {R C : Type 0} {g : Ghosts R} {h : CounterGhosts C} (known : R → Opti
     pub head : IfSome (known (binary_source old)) (λ bytes. HoldsHead bytes new)
     pub cached : IfSome (known (binary_source old))
         (λ bytes. CachesItem shown (number_to_come bytes old) item new)
-    pub leaves : Leaves known counts count old new
-    pub objects : TellsObjects (known (binary_source old)) item new
+    pub leaves : KeepsInvariant known counts count old new
+    pub objects : ObjectsMatchHead (known (binary_source old)) item new
     pub kept : KeepsCounts old new
 
   -- one call of `next`

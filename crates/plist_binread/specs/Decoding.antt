@@ -8,7 +8,7 @@ use Rattle.plist_base.specs.Trees.{Data, String}
 use Rattle.plist_base.specs.declared.event.Event.{Event}
 use Rattle.plist_binread.specs.declared.object_faults.Outcome.{Outcome}
 use Rattle.plist_binread.specs.declared.object_faults.Outcome.TheVariants as outcome
-use Rattle.plist_binread.specs.Packed.{is_small_event, single}
+use Rattle.plist_binread.specs.Packed.{is_small_event, scalar_event}
 use Rattle.plist_format.specs.Object.{Object, Scalar, Array, Dictionary, Faulty, children_of}
 
 -- ---- what was decoded
@@ -37,13 +37,13 @@ scalar_in (Dictionary pairs) = None
 scalar_in (Faulty kind) = None
 
 -- its event
-abbrev pub single_in : Object → Option PlainEvent
-single_in object = single (scalar_in object)
+abbrev pub scalar_event_in : Object → Option PlainEvent
+scalar_event_in object = scalar_event (scalar_in object)
 
 -- what was decoded is this object: a scalar or a collection, whose event is the current one
 abbrev pub IsDecodedAs : Object → (current : PlainEvent) → Outcome → Type 0
-IsDecodedAs object current outcome.Long = ⊥
-IsDecodedAs object current outcome.TooLarge = ⊥
+IsDecodedAs object current outcome.Unseen = ⊥
+IsDecodedAs object current outcome.Overrun = ⊥
 IsDecodedAs object current outcome.Null = ⊥
 IsDecodedAs object current outcome.Fill = ⊥
 IsDecodedAs object current (outcome.Unknown marker) = ⊥
@@ -52,7 +52,7 @@ IsDecodedAs object current outcome.NoDate = ⊥
 IsDecodedAs object current outcome.NotUtf8 = ⊥
 IsDecodedAs object current outcome.NotUtf16 = ⊥
 IsDecodedAs object current outcome.NoMemory = ⊥
-IsDecodedAs object current outcome.Scalar = single_in object ≡ Some current
+IsDecodedAs object current outcome.Scalar = scalar_event_in object ≡ Some current
 IsDecodedAs object current (outcome.Collection count) = IsCollection object current count
 
 -- the event isn't one of a small scalar
@@ -60,27 +60,27 @@ abbrev pub IsLarge : Result Event Error → Type 0
 IsLarge answer = IfOk answer (λ event. is_small_event (event_of event) ≡ false)
 
 -- an object for which memory is wanted: a text, data, or a collection
-abbrev pub GrowsAt : Object → Type 0
-GrowsAt (Scalar (String text)) = ⊤
-GrowsAt (Scalar (Data bytes)) = ⊤
-GrowsAt (Scalar scalar) = ⊥
-GrowsAt (Array items) = ⊤
-GrowsAt (Dictionary pairs) = ⊤
-GrowsAt (Faulty InvalidUtf8String) = ⊤
-GrowsAt (Faulty InvalidUtf16String) = ⊤
-GrowsAt (Faulty kind) = ⊥
+abbrev pub Allocates : Object → Type 0
+Allocates (Scalar (String text)) = ⊤
+Allocates (Scalar (Data bytes)) = ⊤
+Allocates (Scalar scalar) = ⊥
+Allocates (Array items) = ⊤
+Allocates (Dictionary pairs) = ⊤
+Allocates (Faulty InvalidUtf8String) = ⊤
+Allocates (Faulty InvalidUtf16String) = ⊤
+Allocates (Faulty kind) = ⊥
 
 -- the object at a place was refused: it is this fault, or a device failed, or memory was wanted for
 -- it
 abbrev pub IsRefusedAs : Object → (place : ℕ) → Error → Type 0
 IsRefusedAs object place error =
-    MatchFault (kind_of (error_kind_of error)) ⊤ (GrowsAt object)
+    MatchFault (kind_of (error_kind_of error)) ⊤ (Allocates object)
     ((object ≡ Faulty (kind_of (error_kind_of error))) × (offset_of error ≡ Some place))
 
 -- the event of a scalar is given, or its object refused
 abbrev pub Decodes : Object → (place : ℕ) → Result Event Error → Type 0
 Decodes object place answer =
-    MatchResult answer (λ event. single_in object ≡ Some (event_of event))
+    MatchResult answer (λ event. scalar_event_in object ≡ Some (event_of event))
     (λ e. IsRefusedAs object place e)
 
 -- an object is decoded into the current event, or refused
@@ -92,5 +92,5 @@ DecodesCurrent object place current answer =
 
 -- a text or data of this event is decoded, or memory was wanted for it
 abbrev pub DecodesEvent : (current : PlainEvent) → Result Event Error → Type 0
-DecodesEvent current answer = (object : Object) (place : ℕ) → GrowsAt object
-    → single_in object ≡ Some current → Decodes object place answer
+DecodesEvent current answer = (object : Object) (place : ℕ) → Allocates object
+    → scalar_event_in object ≡ Some current → Decodes object place answer

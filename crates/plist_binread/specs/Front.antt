@@ -6,21 +6,21 @@ use Rattle.plist_base.specs.Events.{PlainEvent}
 use Rattle.plist_base.specs.Trees.{String}
 use Rattle.plist_format.specs.Container.{number_of, numbers_spelled}
 use Rattle.plist_binread.specs.Decoding.{Decodes, DecodesCurrent, IsRefusedAs}
-use Rattle.plist_binread.specs.Failures.{ErrWithin}
+use Rattle.plist_binread.specs.FaultOffsets.{ErrWithin}
 use Rattle.plist_base.specs.declared.event.Event.{Event}
 use Rattle.plist_binread.specs.Reading.{data_of_content, object_at}
 use Rattle.plist_binread.specs.declared.head.Bounds.{Bounds}
-use Rattle.plist_binread.specs.Outcome.{IsOutcomeOf, small_outcome}
+use Rattle.plist_binread.specs.DecodeOutcome.{IsOutcomeOf, small_outcome}
 use Rattle.plist_format.specs.Object.{Array, Object, dictionary, length_in, meaning_counted, meaning_of_front, text, text_of_units, wide_text}
-use Rattle.plist_binread.specs.Packed.{content_bytes, is_small_event, scalar_of, single}
+use Rattle.plist_binread.specs.Packed.{content_bytes, is_small_event, scalar_of, scalar_event}
 use Rattle.plist_binread.specs.Slot.{answer_in, event_in}
-use Rattle.plist_binread.specs.declared.slot.Refused.{Refused}
+use Rattle.plist_binread.specs.declared.event_slot.Refused.{Refused}
 use Rattle.plist_binread.specs.declared.object_faults.Outcome.{Outcome}
 use Rattle.plist_binread.specs.declared.object_faults.Outcome.TheVariants as outcome
 use Rattle.plist_binread.specs.declared.front.ContentKind.{ContentKind}
 use Rattle.plist_binread.specs.declared.front.ContentKind.TheVariants as kind
 use Rattle.plist_binread.specs.declared.front.Content.{Content}
-use Rattle.plist_binread.specs.declared.slot.EventSlot.{EventSlot}
+use Rattle.plist_binread.specs.declared.event_slot.EventSlot.{EventSlot}
 
 -- ---- what stands at the front of bytes
 
@@ -124,18 +124,18 @@ RefusesCounted marker size extent rest outcome =
 
 -- it isn't a text or data whose content isn't all seen
 abbrev pub IsAllSeen : Outcome → Type 0
-IsAllSeen outcome.Long = ⊥
+IsAllSeen outcome.Unseen = ⊥
 IsAllSeen outcome = ⊤
 
 -- or this is so of its content, which is held
-abbrev pub IfLong : Outcome → EventSlot → (Content → Type 0) → Type 0
-IfLong outcome.Long slot P = P slot.content
-IfLong outcome slot P = ⊤
+abbrev pub IfUnseen : Outcome → EventSlot → (Content → Type 0) → Type 0
+IfUnseen outcome.Unseen slot P = P slot.content
+IfUnseen outcome slot P = ⊤
 
 -- its content lies before the trailer, and this is its meaning
-abbrev pub LeavesLong : (extent : ℕ) → (List ℕ → Object) → (seen : List ℕ) → EventSlot → Outcome
+abbrev pub LeavesUnseen : (extent : ℕ) → (List ℕ → Object) → (seen : List ℕ) → EventSlot → Outcome
     → Type 0
-LeavesLong extent object seen slot outcome = IfLong outcome slot (λ content.
+LeavesUnseen extent object seen slot outcome = IfUnseen outcome slot (λ content.
     (content.start + content.count * unit_size content.kind ≤ extent)
     × ((more : List ℕ) → length (seen ++ more) ≡ extent → object (seen ++ more)
     ≡ content_means content.kind (take (content.count * unit_size content.kind)
@@ -146,7 +146,7 @@ abbrev pub LongBehind : (marker extent : ℕ) → (List ℕ → Object) → (res
     → Outcome
     → Type 0
 LongBehind marker extent object rest slot outcome =
-    LeavesLong (extent + 1) (λ bytes. object (drop 1 bytes)) (marker ∷ rest) slot outcome
+    LeavesUnseen (extent + 1) (λ bytes. object (drop 1 bytes)) (marker ∷ rest) slot outcome
 
 -- the same of a text or data
 abbrev pub LongCounted : ContentKind → (marker extent : ℕ) → (rest : List ℕ) → EventSlot → Outcome
@@ -182,10 +182,10 @@ DecodesAt known source bounds place slot answer = IfSome (known source) (λ byte
     (λ error. IsRefusedAs (object_at bounds place bytes) place error))
 
 -- a text or data whose content isn't all seen there lies before the trailer, and this is its object
-abbrev pub LongAt : {E S : Type 0} → (S → Option (List ℕ)) → S → Bounds → (place : ℕ) → EventSlot
+abbrev pub UnseenAt : {E S : Type 0} → (S → Option (List ℕ)) → S → Bounds → (place : ℕ) → EventSlot
     → Result Outcome E → Type 0
-LongAt known source bounds place slot answer = IfOk answer (λ outcome.
-    IfLong outcome slot (λ content.
+UnseenAt known source bounds place slot answer = IfOk answer (λ outcome.
+    IfUnseen outcome slot (λ content.
     (place + content.start + content.count * unit_size content.kind ≤ bounds.trailer)
     × IfSome (known source) (λ bytes. bounds.trailer ≤ length bytes → object_at bounds place bytes
     ≡ content_means content.kind (take (content.count * unit_size content.kind)
@@ -193,7 +193,7 @@ LongAt known source bounds place slot answer = IfOk answer (λ outcome.
 
 -- something is wrong with the object, or memory was wanted for it
 abbrev pub is_fault : Outcome → Bool
-is_fault outcome.Long = false
+is_fault outcome.Unseen = false
 is_fault outcome.Scalar = false
 is_fault (outcome.Collection count) = false
 is_fault outcome = true
@@ -258,7 +258,7 @@ PacksText text packed = MatchOption packed (8 < length text)
 -- a scalar's event, if it is small
 abbrev pub PacksEvent : PlainEvent → Option (ℕ × ℕ) → Type 0
 PacksEvent event packed = MatchOption packed (is_small_event event ≡ false)
-    (λ p. single (scalar_of p.0 p.1) ≡ Some event)
+    (λ p. scalar_event (scalar_of p.0 p.1) ≡ Some event)
 
 -- ---- what is decoded
 

@@ -3,11 +3,11 @@ pub mod Reading
 pub mod BinaryReader
 pub mod Remaining
 pub mod Decoding
-pub mod Failures
+pub mod FaultOffsets
 pub mod Frames
-pub mod Outcome
+pub mod DecodeOutcome
 pub mod Front
-pub mod Lengths
+pub mod TooLong
 pub mod Measuring
 pub mod Packed
 pub mod Step

@@ -6,7 +6,7 @@ use Rattle.plist_base.specs.declared.error.Error.{Error}
 use Rattle.plist_base.specs.Events.{PlainEvent}
 use Rattle.plist_base.specs.Faults.{InvalidUtf8String, InvalidUtf16String, IsIo, error_kind_of, kind_of}
 use Rattle.plist_base.specs.Limits.{bytes_in}
-use Rattle.plist_binread.specs.Decoding.{single_in}
+use Rattle.plist_binread.specs.Decoding.{scalar_event_in}
 use Rattle.plist_binread.specs.Front.{content_means, unit_size}
 use Rattle.plist_binread.specs.declared.front.Content.{Content}
 use Rattle.plist_binread.specs.declared.front.ContentKind.{ContentKind}
@@ -27,7 +27,7 @@ IsContentFault kind.WideText object = object ≡ Faulty InvalidUtf16String
 abbrev pub Measures : ContentKind → Object → (size : Option ℕ) → Type 0
 Measures kind object None = IsContentFault kind object
 Measures kind object (Some size) =
-    (event : PlainEvent) × (single_in object ≡ Some event) × (size ≡ counted (bytes_in event))
+    (event : PlainEvent) × (scalar_event_in object ≡ Some event) × (size ≡ counted (bytes_in event))
 
 -- the size of so many bytes from a place on is found where they are there, or the device failed
 abbrev pub MeasuresAt : (known : Option (List ℕ)) → (start : ℕ) → ContentKind → (size : ℕ)

@@ -5,15 +5,15 @@ use Rattle.std.specs.List.{range_with_len}
 use Rattle.plist_base.specs.declared.error.Error.{Error}
 use Rattle.plist_base.specs.Outcomes.{DecodesBy, IfRefused}
 use Rattle.plist_base.specs.Sources.{IsIoWithin}
-use Rattle.plist_base.specs.Faults.{Fault, IsFromOutside}
+use Rattle.plist_base.specs.Faults.{Fault, IsIoOrMemory}
 use Rattle.plist_base.specs.declared.real.RealBits.TheVariants.{Four, Eight}
 use Rattle.plist_base.specs.Trees.{Data, Real, Uid}
 use Rattle.plist_format.specs.Container.{number_at, number_of, numbers_spelled}
 use Rattle.plist_binread.specs.Decoding.{children_in}
-use Rattle.plist_binread.specs.Outcome.{AreReferences, IsSlots}
+use Rattle.plist_binread.specs.DecodeOutcome.{AreReferences, AreReferencesAt}
 use Rattle.plist_format.specs.Object.{Object, Scalar, layout_of, length_in, object_behind, object_in}
 use Rattle.plist_binread.specs.Turns.{ReadsChild}
-use Rattle.plist_binread.specs.declared.child.References.{References}
+use Rattle.plist_binread.specs.declared.references.References.{References}
 use Rattle.std.specs.declared.alloc.Global.{Global}
 use Rattle.std.specs.declared.vec.Vec.{Vec}
 use Rattle.plist_binread.specs.declared.head.Bounds.{Bounds}
@@ -28,7 +28,7 @@ IfFound found known P = IfSome found (λ value. IfSome known (λ bytes. P bytes 
 -- where all of them are there, a read of `size` bytes from a place on fails by the device, or for
 -- want of memory
 abbrev pub FailsOutside : (place size : ℕ) → List ℕ → Fault → Type 0
-FailsOutside place size bytes fault = place + size ≤ length bytes → IsFromOutside fault.kind
+FailsOutside place size bytes fault = place + size ≤ length bytes → IsIoOrMemory fault.kind
 
 -- this is the number of this width at a place
 abbrev pub IsNumberAt : (place width : ℕ) → List ℕ → ℕ → Type 0
@@ -98,22 +98,22 @@ AreReferencesOf known bounds references =
     IfSome known (λ bytes. bounds.trailer ≤ length bytes → AreReferences bytes bounds references)
 
 -- the same of the object at a place that is read, or no child of it can be
-abbrev pub FindsSlots : Result References Error → (known : Option (List ℕ)) → Bounds → (place : ℕ)
+abbrev pub FindsReferences : Result References Error → (known : Option (List ℕ)) → Bounds → (place : ℕ)
     → Type 0
-FindsSlots answer known bounds place = MatchResult answer (AreReferencesOf known bounds)
+FindsReferences answer known bounds place = MatchResult answer (AreReferencesOf known bounds)
     (λ error. (index : ℕ) → ReadsChildAt (Err error) known bounds place index)
 
 -- the same whatever lies behind the bytes that were seen
 abbrev pub AreReferencesBehind : (width : ℕ) → (seen : List ℕ) → References → Type 0
 AreReferencesBehind width seen references =
-    (more : List ℕ) → IsSlots width (seen ++ more) references.start references.pairs
+    (more : List ℕ) → AreReferencesAt width (seen ++ more) references.start references.pairs
 
 -- an object with this marker and length is a collection of so many pairs, or none since it is an
 -- array, and the references of its children stand behind the length
 abbrev pub HasPairs : (marker count pairs : ℕ) → Type 0
 HasPairs marker count pairs = (width start : ℕ) (object rest : List ℕ) → 0 < width
     → start ≤ length object → object_in width object ≡ object_with width marker rest
-    → length_in marker rest ≡ Some (count, drop start object) → IsSlots width object start pairs
+    → length_in marker rest ≡ Some (count, drop start object) → AreReferencesAt width object start pairs
 
 -- no object with this marker has children
 abbrev pub HasNoChildren : (marker : ℕ) → Type 0

@@ -3,7 +3,7 @@ use Rattle.std.specs.Prelude.{◌≡◌, ℕ, zero, suc, ◌+◌, ◌-◌, ◌*�
 use Rattle.std.specs.List.{list_any, flat_map, IsDistinct, AllByRecursion, slice_get}
 use Rattle.plist_base.specs.declared.error.Error.{Error}
 use Rattle.plist_base.specs.Faults.{Fault, FaultKind, InvalidUtf8String, InvalidUtf16String, LimitReached, MatchFault, kind_of, error_kind_of, fault_of}
-use Rattle.plist_base.specs.Events.{StartArray, StartDictionary, EndCollection, Single, Item}
+use Rattle.plist_base.specs.Events.{StartArray, StartDictionary, EndCollection, ScalarEvent, Item}
 use Rattle.plist_base.specs.Trees as trees
 use Rattle.plist_base.specs.Trees.{Data, String}
 use Rattle.plist_binread.specs.declared.frames.Frame.{Frame}
@@ -24,7 +24,7 @@ path_of (frame ∷ below) = frame.object ∷ path_of below
 
 -- No object is open twice, each has a tag, the marks stand exactly on those that are open, and no
 -- open object is cached.
-pub record IsOpen (tags : List ℕ) (frames : List Frame) : Type 0 where
+pub record MarksOpenPath (tags : List ℕ) (frames : List Frame) : Type 0 where
   pub distinct : IsDistinct nat_eq (path_of frames)
   pub below : (number : ℕ) → list_any (nat_eq number) (path_of frames) ≡ true → number < length tags
   pub marks : (number : ℕ) → number < length tags
@@ -106,7 +106,7 @@ abbrev pub IsHeld : Option TableEntry → (tag content : ℕ) → Type 0
 IsHeld entry tag content = HoldsPlaceOr (nat_eq (unmarked tag) 0) (cached tag content) content entry
 
 -- what a reader knows of a file of these bytes once it has read its table
-pub record IsKnown (bytes : List ℕ) (bounds : Bounds) (tags contents : List ℕ)
+pub record MatchesFile (bytes : List ℕ) (bounds : Bounds) (tags contents : List ℕ)
     (frames : List Frame) : Type 0 where
   pub head : AreBoundsOf (head_of bytes) bounds
   pub within : bounds.trailer ≤ length bytes
@@ -132,14 +132,14 @@ SomeRemain items = 0 < length items
 
 -- memory is wanted for the first item that remains: a start, a text, or the fault of a text or
 -- of a limit
-abbrev pub WantsMemory : List Item → Type 0
-WantsMemory [] = ⊥
-WantsMemory (Ok (StartArray length) ∷ items) = ⊤
-WantsMemory (Ok (StartDictionary length) ∷ items) = ⊤
-WantsMemory (Ok (Single (Data bytes)) ∷ items) = ⊤
-WantsMemory (Ok (Single (String text)) ∷ items) = ⊤
-WantsMemory (Ok event ∷ items) = ⊥
-WantsMemory (Err fault ∷ items) = IsTextOrLimitFault fault.kind
+abbrev pub AllocatesFirst : List Item → Type 0
+AllocatesFirst [] = ⊥
+AllocatesFirst (Ok (StartArray length) ∷ items) = ⊤
+AllocatesFirst (Ok (StartDictionary length) ∷ items) = ⊤
+AllocatesFirst (Ok (ScalarEvent (Data bytes)) ∷ items) = ⊤
+AllocatesFirst (Ok (ScalarEvent (String text)) ∷ items) = ⊤
+AllocatesFirst (Ok event ∷ items) = ⊥
+AllocatesFirst (Err fault ∷ items) = IsTextOrLimitFault fault.kind
   where
     IsTextOrLimitFault : FaultKind → Type 0
     IsTextOrLimitFault InvalidUtf8String = ⊤
@@ -151,7 +151,7 @@ WantsMemory (Err fault ∷ items) = IsTextOrLimitFault fault.kind
 -- wanted, every other fault where that is the one item that remains
 abbrev pub Explains : List Item → Error → Type 0
 Explains before error =
-    MatchFault (kind_of (error_kind_of error)) (SomeRemain before) (WantsMemory before)
+    MatchFault (kind_of (error_kind_of error)) (SomeRemain before) (AllocatesFirst before)
     (before ≡ Err (fault_of error) ∷ [])
 
 -- ---- the falling number

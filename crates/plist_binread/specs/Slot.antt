@@ -1,26 +1,26 @@
 -- The current event of a reader, in a slot that holds its text or data.
 use Rattle.std.specs.Prelude.{ℕ, Bool, true, false, pos, Option, None, Some, Result, Ok, Err}
 use Rattle.std.specs.String.{string_bytes}
-use Rattle.plist_base.specs.Events.{PlainEvent, StartArray, StartDictionary, EndCollection, Single, event_of}
+use Rattle.plist_base.specs.Events.{PlainEvent, StartArray, StartDictionary, EndCollection, ScalarEvent, event_of}
 use Rattle.plist_base.specs.Sources.{AnswersIo, ItemCountsIo}
 use Rattle.plist_base.specs.Trees as trees
 use Rattle.plist_base.specs.declared.error.Error.{Error}
-use Rattle.plist_binread.specs.declared.slot.EventSlot.{EventSlot}
-use Rattle.plist_binread.specs.declared.slot.Refused.{Refused}
-use Rattle.plist_binread.specs.declared.slot.CompactEvent.{CompactEvent}
-use Rattle.plist_binread.specs.declared.slot.CompactEvent.TheVariants as current
+use Rattle.plist_binread.specs.declared.event_slot.EventSlot.{EventSlot}
+use Rattle.plist_binread.specs.declared.event_slot.Refused.{Refused}
+use Rattle.plist_binread.specs.declared.event_slot.CompactEvent.{CompactEvent}
+use Rattle.plist_binread.specs.declared.event_slot.CompactEvent.TheVariants as current
 
 -- what contracts see of a compact event, where others, texts and data are those of the slot
 abbrev pub compact_event_of : EventSlot → CompactEvent → PlainEvent
 compact_event_of slot current.Other = event_of slot.held
-compact_event_of slot current.Text = Single (trees.String (string_bytes slot.text))
-compact_event_of slot current.Data = Single (trees.Data slot.data.items)
+compact_event_of slot current.Text = ScalarEvent (trees.String (string_bytes slot.text))
+compact_event_of slot current.Data = ScalarEvent (trees.Data slot.data.items)
 compact_event_of slot (current.Array length) = StartArray (Some length)
 compact_event_of slot (current.Dictionary length) = StartDictionary (Some length)
 compact_event_of slot current.End = EndCollection
-compact_event_of slot (current.Boolean value) = Single (trees.Boolean value)
-compact_event_of slot (current.Unsigned number) = Single (trees.Integer (pos number))
-compact_event_of slot (current.Uid number) = Single (trees.Uid number)
+compact_event_of slot (current.Boolean value) = ScalarEvent (trees.Boolean value)
+compact_event_of slot (current.Unsigned number) = ScalarEvent (trees.Integer (pos number))
+compact_event_of slot (current.Uid number) = ScalarEvent (trees.Uid number)
 
 -- its content lies in the slot
 abbrev pub is_in_slot : CompactEvent → Bool
@@ -46,14 +46,14 @@ item_in None slot = None
 item_in (Some answer) slot = Some (answer_in answer slot)
 
 -- only a failure of a read rises the count of failures
-abbrev pub AnswersIn : {A S : Type 0} → (failures : S → ℕ) → Result A Refused → EventSlot
+abbrev pub AnswersInSlot : {A S : Type 0} → (failures : S → ℕ) → Result A Refused → EventSlot
     → (old new : S)
     → Type 0
-AnswersIn failures answer slot old new =
+AnswersInSlot failures answer slot old new =
     AnswersIo (answer_in answer slot) (failures old) (failures new)
 
-abbrev pub ItemAnswersIn : {A S : Type 0} → (failures : S → ℕ) → Option (Result A Refused)
+abbrev pub ItemAnswersInSlot : {A S : Type 0} → (failures : S → ℕ) → Option (Result A Refused)
     → EventSlot
     → (old new : S) → Type 0
-ItemAnswersIn failures item slot old new =
+ItemAnswersInSlot failures item slot old new =
     ItemCountsIo (item_in item slot) (failures old) (failures new)

@@ -4,22 +4,22 @@ use Rattle.std.specs.List.{slice_get}
 use Rattle.plist_base.specs.declared.error.Error.{Error}
 use Rattle.plist_base.specs.Events.{PlainEvent}
 use Rattle.plist_binread.specs.Reading.{ReadsChildAt}
-use Rattle.plist_binread.specs.Remaining.{Explains, IsKnown, IsOpen, entries_of, next_number, remaining_items, path_of, walk_weight}
-use Rattle.plist_binread.specs.Outcome.{IsOutcomeOf, YieldsAnswer, YieldsNext, YieldsCurrent}
+use Rattle.plist_binread.specs.Remaining.{Explains, MatchesFile, MarksOpenPath, entries_of, next_number, remaining_items, path_of, walk_weight}
+use Rattle.plist_binread.specs.DecodeOutcome.{IsOutcomeOf, YieldsAnswer, YieldsNext, YieldsCurrent}
 use Rattle.plist_binread.specs.Packed.{is_small_event, unmarked}
-use Rattle.plist_binread.specs.declared.slot.Refused.{Refused}
+use Rattle.plist_binread.specs.declared.event_slot.Refused.{Refused}
 use Rattle.plist_base.specs.Faults.{MatchFault, kind_of, error_kind_of, fault_of}
 use Rattle.plist_base.specs.Limits.{RefusesAny}
 use Rattle.plist_base.specs.declared.limits.Limiter.{Limiter}
 use Rattle.plist_binread.specs.Slot.{answer_in, event_in, item_in}
-use Rattle.plist_binread.specs.Turns.{IsFound, IsCurrentCached, Falls, Turns}
+use Rattle.plist_binread.specs.Turns.{IsFound, IsCurrentCached, WeightFalls, IsTurn}
 use Rattle.plist_format.specs.Unfolding.{TableEntry, unfolding_of, until_fault}
 use Rattle.plist_binread.specs.Walking.{IsWalkOf, walk_objects, open_in, remaining_entering, remaining_in, weight_entering, weight_in}
 use Rattle.plist_binread.specs.declared.frames.Frame.{Frame}
 use Rattle.plist_binread.specs.declared.object_faults.Outcome.{Outcome}
 use Rattle.plist_binread.specs.declared.object_faults.Outcome.TheVariants as outcome
 use Rattle.plist_binread.specs.declared.head.Bounds.{Bounds}
-use Rattle.plist_binread.specs.declared.slot.EventSlot.{EventSlot}
+use Rattle.plist_binread.specs.declared.event_slot.EventSlot.{EventSlot}
 use Rattle.plist_binread.specs.declared.walk.NextChild.{NextChild}
 use Rattle.plist_binread.specs.declared.walk.Walk.{Walk}
 use Rattle.plist_format.specs.Object.{Object}
@@ -46,12 +46,12 @@ IsUnchanged old new =
     × (new.frames ≡ old.frames)
 
 -- what a turn takes of what remains
-abbrev pub TurnsWalk : (old : Walk) → NextChild → (new : Walk) → Type 0
-TurnsWalk old turn new = (bytes : List ℕ) (bounds : Bounds) → IsWalkOf bytes bounds old →
-    Turns (entries_of bytes bounds) (open_in old) turn (open_in new) × IsWalkOf bytes bounds new
+abbrev pub IsTurnOfWalk : (old : Walk) → NextChild → (new : Walk) → Type 0
+IsTurnOfWalk old turn new = (bytes : List ℕ) (bounds : Bounds) → IsWalkOf bytes bounds old →
+    IsTurn (entries_of bytes bounds) (open_in old) turn (open_in new) × IsWalkOf bytes bounds new
 
-abbrev pub FallsBy : (old : Walk) → NextChild → (new : Walk) → Type 0
-FallsBy old turn new = (count : ℕ) → Falls count (open_in old) turn (open_in new)
+abbrev pub WalkWeightFalls : (old : Walk) → NextChild → (new : Walk) → Type 0
+WalkWeightFalls old turn new = (count : ℕ) → WeightFalls count (open_in old) turn (open_in new)
 
 -- ---- what is looked up
 
@@ -63,7 +63,7 @@ IsFoundAt number tags contents slot found =
 abbrev pub ExplainsEntering : (tags contents : List ℕ) (at number : ℕ) → Error → Type 0
 ExplainsEntering tags contents at number error =
     (bytes : List ℕ) (bounds : Bounds) (frames : List Frame) →
-    IsOpen tags frames → IsKnown bytes bounds tags contents frames →
+    MarksOpenPath tags frames → MatchesFile bytes bounds tags contents frames →
     Explains (until_fault
     (unfolding_of (entries_of bytes bounds) (length tags - length frames) (path_of frames)
     at number ++ remaining_items (entries_of bytes bounds) frames)) error
@@ -106,9 +106,9 @@ OpensObject number current outcome old new = (bytes : List ℕ) (bounds : Bounds
     × IsWalkOf bytes bounds new
 
 -- only a collection needs memory
-abbrev pub WantsRoom : Outcome → Type 0
-WantsRoom outcome.Scalar = ⊥
-WantsRoom outcome = ⊤
+abbrev pub AllocatesFor : Outcome → Type 0
+AllocatesFor outcome.Scalar = ⊥
+AllocatesFor outcome = ⊤
 
 -- ---- over known bytes
 

@@ -9,7 +9,7 @@ use Rattle.plist_binread.specs.declared.walk.NextChild.{NextChild}
 use Rattle.plist_binread.specs.declared.walk.NextChild.TheVariants as turn
 use Rattle.plist_binread.specs.declared.head.Bounds.{Bounds}
 use Rattle.plist_format.specs.Container.{Head, head_of}
-use Rattle.plist_binread.specs.Packed.{is_small_event, unmarked, cached, single}
+use Rattle.plist_binread.specs.Packed.{is_small_event, unmarked, cached, scalar_event}
 use Rattle.plist_binread.specs.declared.reader.WalkState.{WalkState}
 use Rattle.plist_binread.specs.declared.reader.WalkState.TheVariants.{Fresh, Walking, Ended}
 use Rattle.plist_format.specs.Object.{Object}
@@ -19,11 +19,11 @@ use Rattle.plist_binread.specs.Remaining.{SomeRemain, children_at, entries_of, n
 
 -- ---- the next child of the innermost frame
 
-abbrev pub Turns : List TableEntry → List Frame → NextChild → List Frame → Type 0
-Turns table old turn.Done new = (old ≡ []) × (new ≡ [])
-Turns table old turn.Closed new = remaining_items table old ≡ Ok EndCollection
+abbrev pub IsTurn : List TableEntry → List Frame → NextChild → List Frame → Type 0
+IsTurn table old turn.Done new = (old ≡ []) × (new ≡ [])
+IsTurn table old turn.Closed new = remaining_items table old ≡ Ok EndCollection
     ∷ remaining_items table new
-Turns table old (turn.Child object index) new =
+IsTurn table old (turn.Child object index) new =
     (remaining_items table old ≡ unfolding_of table (length table - length new) (path_of new)
     (place_at (slice_get table object)) (get_or (children_at (slice_get table object)) index 0)
     ++ remaining_items table new)
@@ -31,10 +31,10 @@ Turns table old (turn.Child object index) new =
     × SomeRemain (until_fault (remaining_items table old))
     × (next_number table old ≡ Some (get_or (children_at (slice_get table object)) index 0))
 
-abbrev pub Falls : (count : ℕ) → List Frame → NextChild → List Frame → Type 0
-Falls count old turn.Done new = Unit {0}
-Falls count old turn.Closed new = walk_weight count old ≡ walk_weight count new + 1
-Falls count old (turn.Child object index) new =
+abbrev pub WeightFalls : (count : ℕ) → List Frame → NextChild → List Frame → Type 0
+WeightFalls count old turn.Done new = Unit {0}
+WeightFalls count old turn.Closed new = walk_weight count old ≡ walk_weight count new + 1
+WeightFalls count old (turn.Child object index) new =
     walk_weight count old ≡ walk_weight count new + walk_steps (count - length new)
 
 abbrev pub is_fresh : WalkState → Bool
@@ -66,7 +66,7 @@ closes (frame ∷ below) = not (nat_lt frame.next frame.count)
 -- then a scalar is the current event
 abbrev pub IsFound : (tag content : ℕ) (current : PlainEvent) → Option ℕ → Type 0
 IsFound tag content current found = MatchOption found
-    ((0 < unmarked tag) × (single (cached tag content) ≡ Some current))
+    ((0 < unmarked tag) × (scalar_event (cached tag content) ≡ Some current))
     (λ place. (unmarked tag ≡ 0) × (place ≡ content))
 
 -- a child's number, where the object has so many

@@ -5,7 +5,7 @@ use Rattle.plist_base.specs.Events.{Item}
 use Rattle.plist_binread.specs.declared.head.Bounds.{Bounds}
 use Rattle.plist_binread.specs.declared.frames.Frame.{Frame}
 use Rattle.plist_binread.specs.declared.walk.Walk.{Walk}
-use Rattle.plist_binread.specs.Remaining.{IsKnown, cached_count, entries_of, remaining_items, path_of, walk_steps, walk_weight}
+use Rattle.plist_binread.specs.Remaining.{MatchesFile, cached_count, entries_of, remaining_items, path_of, walk_steps, walk_weight}
 use Rattle.plist_format.specs.Unfolding.{unfolding_of}
 
 -- how many objects there are
@@ -26,7 +26,7 @@ fuel_in walk = length walk.tags.items - length walk.frames
 
 -- it is a walk over a file of these bytes
 abbrev pub IsWalkOf : (bytes : List ℕ) → Bounds → Walk → Type 0
-IsWalkOf bytes bounds walk = IsKnown bytes bounds walk.tags.items walk.contents.items (open_in walk)
+IsWalkOf bytes bounds walk = MatchesFile bytes bounds walk.tags.items walk.contents.items (open_in walk)
 
 -- the items that remain of the open collections
 abbrev pub remaining_in : (bytes : List ℕ) → Bounds → Walk → List Item

@@ -2,19 +2,19 @@
 
 ghost use Rattle.std.specs.Prelude.{◌≡◌, true, IfSome};
 ghost use Rattle.plist_binread.specs.Turns.{closes};
-ghost use Rattle.plist_binread.specs.Outcome.{IsCurrentEnd};
-ghost use Rattle.plist_binread.specs.Slot.{ItemAnswersIn, event_in, item_in};
+ghost use Rattle.plist_binread.specs.DecodeOutcome.{IsCurrentEnd};
+ghost use Rattle.plist_binread.specs.Slot.{ItemAnswersInSlot, event_in, item_in};
 ghost use Rattle.plist_binread.specs.Walking.{IsWalkOf, cached_in, walk_objects, open_in};
-ghost use Rattle.plist_binread.specs.Failures.{ItemWithin};
-ghost use Rattle.plist_binread.specs.Lengths.{LimitsItem};
+ghost use Rattle.plist_binread.specs.FaultOffsets.{ItemWithin};
+ghost use Rattle.plist_binread.specs.TooLong.{LimitsItem};
 ghost use Rattle.plist_binread.specs.Reading.{AreReferencesOf};
 ghost use Rattle.plist_binread.specs.Step.{KeepsItem, LightensNext, YieldsItem};
 
-use crate::child::{References, read_child};
 use crate::counter::DecodeCounter;
 use crate::enter::enter;
+use crate::event_slot::{CompactEvent, EventSlot, Refused};
 use crate::head::Bounds;
-use crate::slot::{CompactEvent, EventSlot, Refused};
+use crate::references::{References, read_child};
 use crate::walk::{NextChild, Walk};
 use plist_base::Source;
 use std::alloc::Global;
@@ -49,7 +49,7 @@ pub fn advance<S: Source, C: DecodeCounter>(
     ensures kept { KeepsItem (S.known source.old) bounds.now walk.old result slot.new walk.new }
     ensures falls { LightensNext walk.old result walk.new }
     ensures unchanged { S.known source.new ≡ S.known source.old }
-    ensures failures { ItemAnswersIn S.failures result slot.new source.old source.new }
+    ensures failures { ItemAnswersInSlot S.failures result slot.new source.old source.new }
 {
     match walk.next_child() {
         NextChild::Done => None,

@@ -3,16 +3,16 @@
 ghost use Rattle.std.specs.Prelude.{◌≡◌, ◌^◌, ◌<◌, Ok, replicate, IfOk, IfSome, OnOk};
 ghost use Rattle.plist_base.specs.Outcomes.{OnlyMemory};
 ghost use Rattle.plist_binread.specs.Remaining.{walk_steps};
-ghost use Rattle.plist_binread.specs.Failures.{ErrWithin};
-ghost use Rattle.plist_binread.specs.Slot.{AnswersIn, answer_in};
+ghost use Rattle.plist_binread.specs.FaultOffsets.{ErrWithin};
+ghost use Rattle.plist_binread.specs.Slot.{AnswersInSlot, answer_in};
 ghost use Rattle.plist_binread.specs.Walking.{IsEmptyWalk, cached_in, walk_objects, weight_in};
-ghost use Rattle.plist_binread.specs.Lengths.{LimitsFirst};
+ghost use Rattle.plist_binread.specs.TooLong.{LimitsFirst};
 ghost use Rattle.plist_binread.specs.Beginning.{CountsRoot, GivesRoot, IsBounded, IsKnownWalk, KeepsRoot};
 
 use crate::counter::DecodeCounter;
 use crate::enter::enter;
+use crate::event_slot::{EventSlot, Refused};
 use crate::head::{Bounds, Head};
-use crate::slot::{EventSlot, Refused};
 use crate::walk::Walk;
 use plist_base::{Error, Source};
 use std::alloc::Global;
@@ -54,7 +54,7 @@ pub fn begin<S: Source, C: DecodeCounter>(
     ensures kept { IfSome (S.known source.old) (KeepsRoot result slot.new walk.new) }
     ensures falls { OnOk result (weight_in walk.new < walk_steps (walk_objects walk.new)) }
     ensures unchanged { S.known source.new ≡ S.known source.old }
-    ensures failures { AnswersIn S.failures result slot.new source.old source.new }
+    ensures failures { AnswersInSlot S.failures result slot.new source.old source.new }
 {
     let head = slot.keep_error(Head::read(alloc, source))?;
     let none = slot.keep_error(no_tags(alloc, head.places.len()))?;

@@ -5,20 +5,20 @@ ghost use Rattle.plist_base.specs.Faults.{ObjectReferenceTooLarge, RecursiveObje
 ghost use Rattle.plist_binread.specs.Frames.{frame_of};
 ghost use Rattle.plist_binread.specs.Packed.{is_marked};
 ghost use Rattle.plist_binread.specs.Walking.{IsWalkOf, cached_in, walk_objects};
-ghost use Rattle.plist_binread.specs.Failures.{ErrWithin};
+ghost use Rattle.plist_binread.specs.FaultOffsets.{ErrWithin};
 ghost use Rattle.plist_binread.specs.Front.{small_decoded};
-ghost use Rattle.plist_binread.specs.Lengths.{LimitsEntered};
-ghost use Rattle.plist_binread.specs.Step.{IsFoundAt, IsLighterEntered, IsUnchanged, KeepsEntered, KeepsOutcome, EntersObject, OpensObject, RefusesEntering, RefusesInside, WantsRoom};
-ghost use Rattle.plist_binread.specs.Slot.{AnswersIn, answer_in, event_in};
-ghost use Rattle.plist_binread.specs.declared.slot.Refused.TheVariants.{Fault};
+ghost use Rattle.plist_binread.specs.TooLong.{LimitsEntered};
+ghost use Rattle.plist_binread.specs.Step.{IsFoundAt, IsLighterEntered, IsUnchanged, KeepsEntered, KeepsOutcome, EntersObject, OpensObject, RefusesEntering, RefusesInside, AllocatesFor};
+ghost use Rattle.plist_binread.specs.Slot.{AnswersInSlot, answer_in, event_in};
+ghost use Rattle.plist_binread.specs.declared.event_slot.Refused.TheVariants.{Fault};
 
 use crate::counter::DecodeCounter;
+use crate::event_slot::{EventSlot, Refused};
 use crate::frames::Frames;
 use crate::head::Bounds;
 use crate::object::decode;
 use crate::object_faults::Outcome;
 use crate::packed::{cache, mark_open};
-use crate::slot::{EventSlot, Refused};
 use crate::walk::Walk;
 use plist_base::{ErrorKind, Source};
 use std::alloc::Global;
@@ -100,7 +100,7 @@ fn keep_or_open(walk: &mut Walk, number: u64, outcome: Outcome, slot: &EventSlot
     // The answer.
     ensures yields { result ≡ true → OpensObject number (event_in slot.now) outcome walk.old
         walk.new }
-    ensures wanted { result ≡ false → WantsRoom outcome }
+    ensures wanted { result ≡ false → AllocatesFor outcome }
     // The state after it.
     ensures size { walk_objects walk.new ≡ walk_objects walk.old }
     ensures counted { cached_in walk.new ≡ cached_in walk.old + small_decoded outcome slot.now }
@@ -109,8 +109,8 @@ fn keep_or_open(walk: &mut Walk, number: u64, outcome: Outcome, slot: &EventSlot
     ensures unchanged { result ≡ false → IsUnchanged walk.old walk.new }
 {
     match outcome {
-        Outcome::Long
-        | Outcome::TooLarge
+        Outcome::Unseen
+        | Outcome::Overrun
         | Outcome::Null
         | Outcome::Fill
         | Outcome::Unknown(_)
@@ -171,7 +171,7 @@ pub fn enter<S: Source, C: DecodeCounter>(
     ensures kept { KeepsEntered (S.known source.old) number result slot.new walk.new }
     ensures falls { OnOk result (IsLighterEntered walk.old walk.new) }
     ensures unchanged { S.known source.new ≡ S.known source.old }
-    ensures failures { AnswersIn S.failures result slot.new source.old source.new }
+    ensures failures { AnswersInSlot S.failures result slot.new source.old source.new }
 {
     let found = look_up(
         walk.tags.as_slice(),

@@ -4,17 +4,17 @@
 ghost use Rattle.std.specs.Prelude.{◌≡◌, ◌-◌, ◌*◌, ◌%◌, ◌^◌, ◌<◌, ◌≤◌, length, Some, IfSome, IfNone, IfOk, IfErr, cond};
 ghost use Rattle.plist_base.specs.declared.real.RealBits.TheVariants.{Eight};
 ghost use Rattle.plist_base.specs.Trees.{Real};
-ghost use Rattle.plist_binread.specs.Outcome.{small_outcome};
+ghost use Rattle.plist_binread.specs.DecodeOutcome.{small_outcome};
 ghost use Rattle.plist_format.specs.Object.{Scalar, Array, date, unsigned_integer, signed_integer, wide_integer, object_in};
 ghost use Rattle.plist_binread.specs.Slot.{event_in};
-ghost use Rattle.plist_binread.specs.Front.{CountsOutcome, EndsBefore, HasUnits, IsContent, IsCount, IsCounted, IsLength, IsLengthCut, IsNumber, IsAllSeen, LeavesLong, DecodesFront, DecodesWhole, LiesBehind, LongCounted, ReachesFar, RefusesCounted, ShowsFront, array_with, counted_with, pairs_with, unit_size};
+ghost use Rattle.plist_binread.specs.Front.{CountsOutcome, EndsBefore, HasUnits, IsContent, IsCount, IsCounted, IsLength, IsLengthCut, IsNumber, IsAllSeen, LeavesUnseen, DecodesFront, DecodesWhole, LiesBehind, LongCounted, ReachesFar, RefusesCounted, ShowsFront, array_with, counted_with, pairs_with, unit_size};
 ghost use Rattle.plist_binread.specs.declared.front.ContentKind.TheVariants.{Data as KindData, Text as KindText, WideText as KindWideText};
 ghost use Rattle.plist_binread.specs.Reading.{short_real, long_real, uid_of_content};
 
 use crate::counter::DecodeCounter;
+use crate::event_slot::{CompactEvent, EventSlot};
 use crate::numbers::{number_from, write_units};
 use crate::object_faults::{Outcome, front_behind};
-use crate::slot::{CompactEvent, EventSlot};
 use plist_base::{Date, Event, RealBits};
 
 /// What the content of a text or data means.
@@ -125,10 +125,10 @@ fn front_count(marker: u8, rest: &[u8], extent: u64, size: u64) -> Result<(u64, 
             let left = extent - (rest.len() - behind.len()) as u64;
             match count.checked_mul(size) {
                 Some(all) if all <= left => Ok((count, behind)),
-                _ => Err(Outcome::TooLarge),
+                _ => Err(Outcome::Overrun),
             }
         }
-        None => Err(Outcome::TooLarge),
+        None => Err(Outcome::Overrun),
     }
 }
 
@@ -155,7 +155,7 @@ fn front_content_of<'a>(
     if all > (behind.len() as u64).min(most) {
         let start = 1 + (rest.len() - behind.len()) as u64;
         slot.content = Content { kind, start, count };
-        return Err(Outcome::Long);
+        return Err(Outcome::Unseen);
     }
     Ok(&behind[..all as usize])
 }
@@ -173,7 +173,7 @@ pub fn front_unsigned(rest: &[u8], extent: u64, width: usize, slot: &mut EventSl
             slot.set(CompactEvent::Unsigned(number));
             Outcome::Scalar
         }
-        None => Outcome::TooLarge,
+        None => Outcome::Overrun,
     }
 }
 
@@ -186,7 +186,7 @@ pub fn front_signed(rest: &[u8], extent: u64, slot: &mut EventSlot) -> Outcome
 {
     match front_number(rest, 8) {
         Some(number) => slot.set_signed(number),
-        None => Outcome::TooLarge,
+        None => Outcome::Overrun,
     }
 }
 
@@ -198,7 +198,7 @@ pub fn front_wide(rest: &[u8], extent: u64, slot: &mut EventSlot) -> Outcome
     ensures whole { IsAllSeen result }
 {
     if rest.len() < 16 {
-        return Outcome::TooLarge;
+        return Outcome::Overrun;
     }
     let high = number_from(&rest[..8]);
     let low = number_from(&rest[8..16]);
@@ -222,7 +222,7 @@ pub fn front_uid(rest: &[u8], extent: u64, width: usize, slot: &mut EventSlot) -
             slot.set(CompactEvent::Uid(number));
             Outcome::Scalar
         }
-        None => Outcome::TooLarge,
+        None => Outcome::Overrun,
     }
 }
 
@@ -238,7 +238,7 @@ pub fn front_real(rest: &[u8], extent: u64, slot: &mut EventSlot) -> Outcome
             slot.hold(Event::Real(RealBits::Eight(bytes)));
             Outcome::Scalar
         }
-        None => Outcome::TooLarge,
+        None => Outcome::Overrun,
     }
 }
 
@@ -254,7 +254,7 @@ pub fn front_short_real(rest: &[u8], extent: u64, slot: &mut EventSlot) -> Outco
             slot.hold(Event::Real(RealBits::Four(bytes)));
             Outcome::Scalar
         }
-        None => Outcome::TooLarge,
+        None => Outcome::Overrun,
     }
 }
 
@@ -273,7 +273,7 @@ pub fn front_date(rest: &[u8], extent: u64, slot: &mut EventSlot) -> Outcome
             }
             Err(_) => Outcome::NoDate,
         },
-        None => Outcome::TooLarge,
+        None => Outcome::Overrun,
     }
 }
 
@@ -401,8 +401,8 @@ fn is_small_outcome(outcome: Outcome, slot: &EventSlot) -> bool
 {
     match outcome {
         Outcome::Scalar => slot.is_small(),
-        Outcome::Long
-        | Outcome::TooLarge
+        Outcome::Unseen
+        | Outcome::Overrun
         | Outcome::Null
         | Outcome::Fill
         | Outcome::Unknown(_)
@@ -431,7 +431,7 @@ pub fn decode_seen<C: DecodeCounter>(
     requires some { 0 < extent }
     requires width { (0 < width) × (width ≤ 8) }
     ensures outcome { DecodesWhole extent (object_in width) seen.now slot.new result }
-    ensures long { LeavesLong extent (object_in width) seen.now slot.new result }
+    ensures long { LeavesUnseen extent (object_in width) seen.now slot.new result }
     ensures counted { CountsOutcome C.counts C.count counter.old counter.new result slot.new }
 {
     match seen.split_first() {
@@ -442,6 +442,6 @@ pub fn decode_seen<C: DecodeCounter>(
             }
             outcome
         }
-        None => Outcome::TooLarge,
+        None => Outcome::Overrun,
     }
 }

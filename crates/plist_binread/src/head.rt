@@ -70,7 +70,7 @@ impl Head {
     ghost use Rattle.std.specs.Prelude.{◌≡◌, ◌+◌, ◌^◌, ◌<◌, IfOk};
     ghost use Rattle.plist_base.specs.Sources.{AnswersIo};
     ghost use Rattle.plist_base.specs.Outcomes.{IfRead, IfRefused};
-    ghost use Rattle.plist_binread.specs.Failures.{ErrWithin};
+    ghost use Rattle.plist_binread.specs.FaultOffsets.{ErrWithin};
     ghost use Rattle.plist_binread.specs.inner.Heads.{IsHeadOf, LiesWithin, IsFaultOfHead, IsHeadBefore, IsFaultBefore};
 
     /// Reads the head of a file.

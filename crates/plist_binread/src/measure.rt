@@ -4,7 +4,7 @@ ghost use Rattle.std.specs.Prelude.{◌≡◌, ◌+◌, ◌*◌, ◌^◌, ◌<�
 ghost use Rattle.plist_base.specs.Outcomes.{IfRead, IfRefused};
 ghost use Rattle.plist_base.specs.Sources.{AnswersIo, IsIoWithin};
 ghost use Rattle.plist_binread.specs.declared.front.ContentKind.TheVariants.{Text as KindText, WideText as KindWideText};
-ghost use Rattle.plist_binread.specs.Failures.{ErrWithin};
+ghost use Rattle.plist_binread.specs.FaultOffsets.{ErrWithin};
 ghost use Rattle.plist_binread.specs.Front.{EndsIn64Bits, FailsInContent};
 ghost use Rattle.plist_binread.specs.Measuring.{IsHigh, IsTextFront, IsTextPart, MeasuresAt, MeasuresContent, TakesUnit};
 

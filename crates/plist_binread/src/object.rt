@@ -1,18 +1,18 @@
 //! One object, decoded by its bytes.
 
 ghost use Rattle.std.specs.Prelude.{◌≡◌, ◌-◌, ◌<◌, IfOk, OnOk};
-ghost use Rattle.plist_binread.specs.Failures.{ErrWithin};
-ghost use Rattle.plist_binread.specs.Front.{CountsFound, EndsIn64Bits, FailsInContent, IsLargeScalar, DecodesAt, LongAt, DecodesContentAt, DecodesObject};
-ghost use Rattle.plist_binread.specs.Lengths.{LimitsContent, LimitsObject, RefusesContent};
-ghost use Rattle.plist_binread.specs.Slot.{AnswersIn, answer_in};
+ghost use Rattle.plist_binread.specs.FaultOffsets.{ErrWithin};
+ghost use Rattle.plist_binread.specs.Front.{CountsFound, EndsIn64Bits, FailsInContent, IsLargeScalar, DecodesAt, UnseenAt, DecodesContentAt, DecodesObject};
+ghost use Rattle.plist_binread.specs.TooLong.{LimitsContent, LimitsObject, RefusesContent};
+ghost use Rattle.plist_binread.specs.Slot.{AnswersInSlot, answer_in};
 
 use crate::counter::DecodeCounter;
+use crate::event_slot::{EventSlot, Refused};
 use crate::front::decode_seen;
 use crate::head::Bounds;
+use crate::long_content::read_long;
 use crate::measure::measure;
 use crate::object_faults::{Outcome, no_text, refuse_object};
-use crate::slot::{EventSlot, Refused};
-use crate::text::read_long;
 use plist_base::{Event, Source, read_exact_at};
 use std::alloc::Global;
 
@@ -36,13 +36,13 @@ fn read_front<S: Source, C: DecodeCounter>(
     requires extent { extent ≡ bounds.now.trailer - place }
     // The answer.
     ensures outcome { DecodesAt S.known source.old bounds.now place slot.new result }
-    ensures long { LongAt S.known source.old bounds.now place slot.new result }
+    ensures long { UnseenAt S.known source.old bounds.now place slot.new result }
     // A refusal.
     ensures fault { ErrWithin place bounds.now.trailer (answer_in result slot.new) }
     // The state after it.
     ensures counted { CountsFound C.counts C.count counter.old counter.new result slot.new }
     ensures unchanged { S.known source.new ≡ S.known source.old }
-    ensures failures { AnswersIn S.failures result slot.new source.old source.new }
+    ensures failures { AnswersInSlot S.failures result slot.new source.old source.new }
 {
     let mut front = [0; FRONT];
     let seen = &mut front[..extent.min(FRONT as u64) as usize];
@@ -65,13 +65,13 @@ fn decode_front<S: Source, C: DecodeCounter>(
     requires place { place < bounds.now.trailer }
     // The answer.
     ensures outcome { DecodesAt S.known source.old bounds.now place slot.new result }
-    ensures long { LongAt S.known source.old bounds.now place slot.new result }
+    ensures long { UnseenAt S.known source.old bounds.now place slot.new result }
     // A refusal.
     ensures fault { ErrWithin place bounds.now.trailer (answer_in result slot.new) }
     // The state after it.
     ensures counted { CountsFound C.counts C.count counter.old counter.new result slot.new }
     ensures unchanged { S.known source.new ≡ S.known source.old }
-    ensures failures { AnswersIn S.failures result slot.new source.old source.new }
+    ensures failures { AnswersInSlot S.failures result slot.new source.old source.new }
 {
     let extent = bounds.trailer - place;
     let buffered = source.buffered(place);
@@ -98,7 +98,7 @@ fn weigh<S: Source>(
     // The state after it.
     ensures content { OnOk result (slot.new.content ≡ slot.old.content) }
     ensures unchanged { S.known source.new ≡ S.known source.old }
-    ensures failures { AnswersIn S.failures result slot.new source.old source.new }
+    ensures failures { AnswersInSlot S.failures result slot.new source.old source.new }
 {
     // No element has more than three bytes in UTF-8.
     if slot.content.count.saturating_mul(3) <= left {
@@ -137,7 +137,7 @@ fn decode_long<S: Source>(
     ensures fault { FailsInContent place slot.old.content (answer_in result slot.new) }
     // The state after it.
     ensures unchanged { S.known source.new ≡ S.known source.old }
-    ensures failures { AnswersIn S.failures result slot.new source.old source.new }
+    ensures failures { AnswersInSlot S.failures result slot.new source.old source.new }
 {
     let content = slot.content;
     weigh(source, place, left, slot)?;
@@ -172,7 +172,7 @@ pub fn decode<S: Source, C: DecodeCounter>(
     // The state after it.
     ensures counted { CountsFound C.counts C.count counter.old counter.new result slot.new }
     ensures unchanged { S.known source.new ≡ S.known source.old }
-    ensures failures { AnswersIn S.failures result slot.new source.old source.new }
+    ensures failures { AnswersInSlot S.failures result slot.new source.old source.new }
 {
     if place >= bounds.trailer {
         return Err(slot.refuse_overrun(place));
@@ -180,8 +180,8 @@ pub fn decode<S: Source, C: DecodeCounter>(
     match decode_front(source, counter, bounds, place, left, slot) {
         Ok(outcome) => match outcome {
             Outcome::Scalar | Outcome::Collection(_) => Ok(outcome),
-            Outcome::Long => decode_long(alloc, source, place, left, slot),
-            Outcome::TooLarge
+            Outcome::Unseen => decode_long(alloc, source, place, left, slot),
+            Outcome::Overrun
             | Outcome::Null
             | Outcome::Fill
             | Outcome::Unknown(_)

@@ -8,20 +8,20 @@ ghost use Rattle.plist_base.specs.Faults.{MatchFault, fault_of, kind_of};
 ghost use Rattle.plist_base.specs.Sources.{CountsIo};
 ghost use Rattle.plist_format.specs.Object.{Faulty, Object};
 ghost use Rattle.plist_binread.specs.Decoding.{IsRefusedAs};
-ghost use Rattle.plist_binread.specs.Failures.{FailsWithin, MatchReader};
+ghost use Rattle.plist_binread.specs.FaultOffsets.{FailsWithin, MatchReader};
 ghost use Rattle.plist_binread.specs.Front.{DecodesWhole, LongBehind, ReachesFar, is_fault, is_wrong};
 ghost use Rattle.plist_binread.specs.Measuring.{Measures};
-ghost use Rattle.plist_binread.specs.Outcome.{IsOutcomeOf, small_outcome};
+ghost use Rattle.plist_binread.specs.DecodeOutcome.{IsOutcomeOf, small_outcome};
 ghost use Rattle.plist_binread.specs.Reading.{object_with};
 ghost use Rattle.plist_binread.specs.declared.object_faults.Outcome.TheVariants.{Scalar as ScalarOutcome};
-ghost use Rattle.plist_binread.specs.declared.slot.Refused.TheVariants.{Fault};
+ghost use Rattle.plist_binread.specs.declared.event_slot.Refused.TheVariants.{Fault};
 
+use crate::event_slot::{EventSlot, Refused};
 use crate::front::{
     ContentKind, front_array, front_data, front_date, front_dictionary, front_real,
     front_short_real, front_signed, front_text, front_uid, front_unsigned, front_wide,
     front_wide_text,
 };
-use crate::slot::{EventSlot, Refused};
 use plist_base::{Error, ErrorKind};
 
 /// What was decoded of the bytes at an object's front, or what is wrong with it.
@@ -30,9 +30,9 @@ use plist_base::{Error, ErrorKind};
 #[derive(Clone, Copy)]
 pub enum Outcome {
     /// A text or data whose content isn't all seen there, and is held.
-    Long,
+    Unseen,
     /// It doesn't end before the trailer.
-    TooLarge,
+    Overrun,
     /// It is a null.
     Null,
     /// It is a fill byte.
@@ -113,7 +113,7 @@ fn fault_kind(outcome: Outcome) -> ErrorKind
     ensures reader { MatchReader (kind_of result) ⊥ ⊥ ⊤ }
 {
     match outcome {
-        Outcome::TooLarge => ErrorKind::ObjectOffsetTooLarge,
+        Outcome::Overrun => ErrorKind::ObjectOffsetTooLarge,
         Outcome::Null => ErrorKind::NullObjectUnimplemented,
         Outcome::Fill => ErrorKind::FillObjectUnimplemented,
         Outcome::Unknown(marker) => ErrorKind::UnknownObjectType(marker),
@@ -121,7 +121,7 @@ fn fault_kind(outcome: Outcome) -> ErrorKind
         Outcome::NoDate => ErrorKind::OverflowOrNanDate,
         Outcome::NotUtf8 => ErrorKind::InvalidUtf8String,
         Outcome::NotUtf16 => ErrorKind::InvalidUtf16String,
-        Outcome::Long | Outcome::NoMemory | Outcome::Scalar | Outcome::Collection(_) =>
+        Outcome::Unseen | Outcome::NoMemory | Outcome::Scalar | Outcome::Collection(_) =>
             unreachable!(),
     }
 }

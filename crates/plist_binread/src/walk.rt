@@ -3,7 +3,7 @@
 ghost use Rattle.std.specs.Prelude.{◌≡◌, ◌<◌, length, reverse, true};
 ghost use Rattle.std.proofs.Props.{props};
 ghost use Rattle.plist_binread.specs.declared.walk.NextChild.TheVariants.{Closed};
-ghost use Rattle.plist_binread.specs.Remaining.{IsOpen};
+ghost use Rattle.plist_binread.specs.Remaining.{MarksOpenPath};
 ghost use Rattle.plist_binread.specs.Turns.{IsTurnWithin, closes};
 
 use crate::frames::{Frames, Upcoming};
@@ -31,11 +31,11 @@ pub struct Walk {
     /// The open collections, the innermost one last.
     pub frames: Frames,
     ghost same: { length contents.items ≡ length tags.items } by { Prim.hlevel props },
-    ghost path: { IsOpen tags.items (reverse frames) } by { Prim.hlevel props },
+    ghost path: { MarksOpenPath tags.items (reverse frames) } by { Prim.hlevel props },
 }
 
 impl Walk {
-    ghost use Rattle.plist_binread.specs.Step.{FallsBy, TurnsWalk};
+    ghost use Rattle.plist_binread.specs.Step.{WalkWeightFalls, IsTurnOfWalk};
     ghost use Rattle.plist_binread.specs.Walking.{IsEmptyWalk, cached_in, walk_objects, open_in};
 
     /// No object is held.
@@ -52,13 +52,13 @@ impl Walk {
     /// Takes the next child of the innermost collection, or closes it where it has no more.
     pub fn next_child(&mut self) -> NextChild
         // The answer.
-        ensures remaining { TurnsWalk self.old result self.new }
+        ensures remaining { IsTurnOfWalk self.old result self.new }
         ensures within { IsTurnWithin self.new.tags.items result }
         ensures closes { closes (open_in self.old) ≡ true → result ≡ Closed }
         // The state after it.
         ensures size { walk_objects self.new ≡ walk_objects self.old }
         ensures counted { cached_in self.new ≡ cached_in self.old }
-        ensures weight { FallsBy self.old result self.new }
+        ensures weight { WalkWeightFalls self.old result self.new }
         ensures contents { self.new.contents.items ≡ self.old.contents.items }
     {
         match self.frames.next_child() {

@@ -12,9 +12,9 @@ use Rattle.plist_base.proofs.Grammar.{alike_last}
 use Rattle.plist_binwrite.specs.SendingAs.{SendsAs, FailsAs}
 use Rattle.plist_binwrite.specs.declared.event_buffer.EventBuffer.{EventBuffer}
 use Rattle.plist_binwrite.specs.EventBuffers.{is_whole, misplaced_fault}
-use Rattle.plist_binwrite.specs.declared.shared.Sharing.{Ghosts as SharingGhosts}
+use Rattle.plist_binwrite.specs.declared.sharing.Sharing.{Ghosts as SharingGhosts}
 use Rattle.plist_binwrite.specs.declared.writer.FileWriter.{FileWriter}
-use Rattle.plist_binwrite.specs.FileWriter.{Takes, open_events, failed_of, sink_of}
+use Rattle.plist_binwrite.specs.FileWriter.{IsWriterStep, open_events, failed_of, sink_of}
 use Rattle.plist_binwrite.proofs.SendingFiles.{sends_as}
 
 still : (b : Bool) (x y : Type 0) → b ≡ false → y → MatchBool b x y
@@ -39,7 +39,7 @@ module _ {W : Type 0} (IsFile : Tree → List ℕ → Type 0) (size : Tree → �
   module _ {S : Type 0} {g : Ghosts W} {h : SharingGhosts S} (before after : FileWriter W S g h)
       (event : PlainEvent) (up : failed_of before ≡ false) where
     abbrev Does : Answer → Type 0
-    Does answer = Takes IsFile size contents before event answer after
+    Does answer = IsWriterStep IsFile size contents before event answer after
 
     pub takes_refused : (fault : Fault) → (CanContinue (open_events before) event → ⊥)
         → fault ≡ misplaced_fault (open_events before) event → after ≡ before → Does (Err fault)

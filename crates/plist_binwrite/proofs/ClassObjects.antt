@@ -10,9 +10,9 @@ use Rattle.plist_binwrite.specs.Classes.{AreClasses}
 use Rattle.plist_binwrite.specs.EventTable.{nth_number, Describes}
 use Rattle.plist_binwrite.specs.Numberings.{references, pairs, object_of}
 use Rattle.plist_binwrite.specs.declared.plan.Plan.{Plan}
-use Rattle.plist_binwrite.specs.inner.Planning.{IsPlanned, GoesBy, numbers_of, firsts_of, count_of}
+use Rattle.plist_binwrite.specs.inner.Planning.{IsPlanned, IsPlanByClass, numbers_of, firsts_of, count_of}
 use Rattle.plist_binwrite.proofs.TreeObjects.{occurs_at}
-use Rattle.plist_binwrite.specs.Occurrences.{size, OccursAt, ItemsOccurAt, PairsOccurAt}
+use Rattle.plist_binwrite.specs.Occurrences.{event_count, OccursAt, ItemsOccurAt, PairsOccurAt}
 use Rattle.plist_binwrite.proofs.Sitting.{occurs_items, occurs_pairs, occurs_item, occurs_next, occurs_key, occurs_value, occurs_next_pair}
 use Rattle.plist_binwrite.proofs.Skipping.{begins, occurs_in}
 
@@ -62,7 +62,7 @@ module _ {es : List PlainEvent} {class : ℕ → ℕ} (c : AreClasses es class) 
           let h = cons_is _ _ _ _ e in
           let k = one_object t u p q (occurs_item s) (occurs_item r) h.0 in
           let n = same t u p q (occurs_item s) (occurs_item r) h.0 in
-          let more = one_items ts us (p + size t) (q + size u) (occurs_next s)
+          let more = one_items ts us (p + event_count t) (q + event_count u) (occurs_next s)
           (occurs_next r) h.1 in
           ((λ i. TreeAnd (k.0 i) (more.0 i)), λ i. n i ∷ more.1 i)
 
@@ -81,7 +81,7 @@ module _ {es : List PlainEvent} {class : ℕ → ℕ} (c : AreClasses es class) 
           let m = same _ _ p q (occurs_key s) (occurs_key r) first in
           let j = one_object t u (p + 1) (q + 1) (occurs_value s) (occurs_value r) second in
           let n = same t u (p + 1) (q + 1) (occurs_value s) (occurs_value r) second in
-          let more = one_pairs ms ns (p + 1 + size t) (q + 1 + size u) (occurs_next_pair s)
+          let more = one_pairs ms ns (p + 1 + event_count t) (q + 1 + event_count u) (occurs_next_pair s)
           (occurs_next_pair r) h.1 in
           ((λ i. MemberAnd (key i) (j.0 i) (more.0 i)), λ i. (m i, n i) ∷ more.1 i)
 
@@ -91,7 +91,7 @@ module _ {es : List PlainEvent} {class : ℕ → ℕ} (c : AreClasses es class) 
 -- what a plan says of the numbers: the objects, and the sizes of their trees
 pub record Numbered (es : List PlainEvent) (numbers : List ℕ) : Type 0 where
   pub rank : ℕ → ℕ
-  pub ranked : (t : Tree) (p : ℕ) → OccursAt es t p → rank (nth_number numbers p) ≡ size t
+  pub ranked : (t : Tree) (p : ℕ) → OccursAt es t p → rank (nth_number numbers p) ≡ event_count t
   pub objects : ℕ → Object
   pub describes : Describes es numbers objects
 
@@ -105,7 +105,7 @@ module _ {es : List PlainEvent} {plan : Plan} (planned : IsPlanned es plan) wher
   pub number_below : (t : Tree) (p : ℕ) → OccursAt es t p → num p < count_of plan
   number_below t p s = planned.all p (occurs_in s) (begins t p s)
 
-  module _ {class : ℕ → ℕ} (goes : GoesBy es class plan) where
+  module _ {class : ℕ → ℕ} (goes : IsPlanByClass es class plan) where
     first_class : (t : Tree) (p : ℕ) → OccursAt es t p → class (first (num p)) ≡ class p
     first_class t p s = goes.same p (occurs_in s) (number_below t p s)
 
@@ -126,18 +126,18 @@ module _ {es : List PlainEvent} {plan : Plan} (planned : IsPlanned es plan) wher
 
   -- the object of a number, and its rank
   made_of : (k : ℕ) → (k < count_of plan) ⊎ (count_of plan ≤ k) → Object × ℕ
-  made_of k (inl h) = let u = (tree_of k h).0 in (object_of num u (first k), size u)
+  made_of k (inl h) = let u = (tree_of k h).0 in (object_of num u (first k), event_count u)
   made_of k (inr h) = (obj.Array [], 0)
 
   made_is : (t : Tree) (p : ℕ) → OccursAt es t p
       → (d : (num p < count_of plan) ⊎ (count_of plan ≤ num p))
-      → made_of (num p) d ≡ (object_of num t p, size t)
+      → made_of (num p) d ≡ (object_of num t p, event_count t)
   unfolding made_of
   made_is t p s (inl h) =
       let f = tree_of (num p) h in
       let e = first_class planned.numbered t p s in
       let k = one_object planned.classes num (number_same planned.numbered) f.0 t _ p f.1 s e in
-      λ i. (k.1 i, size (k.0 i))
+      λ i. (k.1 i, event_count (k.0 i))
   made_is t p s (inr h) = absurd (omega (arith, number_below t p s))
 
   pub numbered : Numbered es (numbers_of plan)

@@ -10,12 +10,12 @@ use Rattle.std.proofs.lemmas.Option.{get_or_from_slice_get, slice_get-get_or}
 use Rattle.std.specs.List.{list_any}
 use Rattle.std.specs.Prelude.{◌||◌}
 use Rattle.plist_base.specs.Bracketing.{without_length}
-use Rattle.plist_base.specs.Events.{PlainEvent, EndCollection, Single}
+use Rattle.plist_base.specs.Events.{PlainEvent, EndCollection, ScalarEvent}
 use Rattle.plist_base.specs.Trees.{Scalar, Tree}
 use Rattle.plist_binwrite.specs.declared.entries.EventEntry.{EventEntry}
 use Rattle.plist_binwrite.specs.declared.entries.EventEntry.TheVariants as entry
 use Rattle.plist_binwrite.specs.EventTable.{event_at, entry_kind_of}
-use Rattle.plist_binwrite.specs.Occurrences.{size, OccursAt}
+use Rattle.plist_binwrite.specs.Occurrences.{event_count, OccursAt}
 use Rattle.plist_binwrite.specs.inner.Columns.{kind_in, scalar_named}
 use Rattle.plist_binwrite.specs.inner.Entries.{AreApart, is_leaf, entry_at, shown, all_shown, is_sound, is_start, behind_of, behind_at, closed_at, ended_at, names, AreEntriesOf, IsKept}
 use Rattle.plist_binwrite.specs.inner.Opening.{open_behind, open_after, skip_behind, skip_after, without_innermost}
@@ -55,8 +55,8 @@ below f es i none h = elim (leb_tells (length es) i) [
   | inr b ↦ b.1
 ]
 
-leaf_is : (e : PlainEvent) → is_leaf e ≡ true → (x : Scalar) × (e ≡ Single x)
-leaf_is (Single x) h = (x, refl)
+leaf_is : (e : PlainEvent) → is_leaf e ≡ true → (x : Scalar) × (e ≡ ScalarEvent x)
+leaf_is (ScalarEvent x) h = (x, refl)
 leaf_is e h = cc
 
 -- a scalar that stands at an index is one of the list
@@ -392,5 +392,5 @@ module _ {scalars : List PlainEvent} {es : List EventEntry} {begun : List ℕ}
     behind_forward = rw (kept.told.skips index lt) (skip_forward (all_shown scalars es) index here)
 
     pub behind_ends : (t : Tree) → OccursAt (all_shown scalars es) t index
-        → behind_at es index ≡ index + size t
+        → behind_at es index ≡ index + event_count t
     behind_ends t s = kept.told.skips index lt ∙ skip_ends (all_shown scalars es) t index s

@@ -13,10 +13,10 @@ use Rattle.plist_binwrite.specs.Forms.{form}
 use Rattle.plist_binwrite.specs.EventTable.{nth_number, Describes}
 use Rattle.plist_binwrite.specs.declared.plan.Plan.{Plan}
 use Rattle.plist_binwrite.specs.inner.Laying.{AllOnce}
-use Rattle.plist_binwrite.specs.inner.Planning.{IsPlanned, GoesBy, numbers_of, firsts_of, count_of}
+use Rattle.plist_binwrite.specs.inner.Planning.{IsPlanned, IsPlanByClass, numbers_of, firsts_of, count_of}
 use Rattle.plist_binwrite.specs.Sizes.{total, object_size}
 use Rattle.plist_binwrite.specs.Occurrences.{positions}
-use Rattle.plist_binwrite.specs.Written.{bodies}
+use Rattle.plist_binwrite.specs.Written.{object_table}
 use Rattle.plist_binwrite.proofs.ClassObjects.{number_below, number_apart, number_same}
 use Rattle.plist_binwrite.proofs.Inside.{Stands, positions_stand, positions_all}
 use Rattle.plist_binwrite.proofs.SameScalars.{tells_both}
@@ -28,7 +28,7 @@ use Rattle.plist_binwrite.proofs.Uniques.{all_from, all_unique, members_self, me
 -- ---- a plan's numbers
 
 module _ {es : List PlainEvent} {plan : Plan} (planned : IsPlanned es plan) {class : ℕ → ℕ}
-    (goes : GoesBy es class plan) (whole : Tree) (e : es ≡ lengthless whole) where
+    (goes : IsPlanByClass es class plan) (whole : Tree) (e : es ≡ lengthless whole) where
   stand : AllByRecursion (Stands es) (positions whole 0)
   stand = positions_stand es _ 0 (occurs_whole e)
 
@@ -76,7 +76,7 @@ module _ {es : List PlainEvent} {plan : Plan} (planned : IsPlanned es plan) {cla
   -- and their bytes
   pub planned_size : (w : ℕ) (objects : ℕ → Object) → Describes es (numbers_of plan) objects
       → (order : List ℕ) → AllOnce (count_of plan) order
-      → length (bodies w objects order) ≡ objects_by class w whole
+      → length (object_table w objects order) ≡ objects_by class w whole
   planned_size w objects describes order all =
       total_bodies w objects order (count_of plan) all
       ∙ sym (total_numbers (λ k. length (form w (objects k))))

@@ -7,20 +7,20 @@ use Rattle.std.proofs.lemmas.List.{get_or-set_same, get_or-set_other}
 use Rattle.std.proofs.lemmas.List.Elements.{All-get_or, All-set, All-from_get_or}
 use Rattle.std.proofs.lemmas.Option.{slice_get_within}
 use Rattle.plist_base.specs.Bracketing.{lengthless}
-use Rattle.plist_base.specs.Events.{PlainEvent, EndCollection, Single}
+use Rattle.plist_base.specs.Events.{PlainEvent, EndCollection, ScalarEvent}
 use Rattle.plist_base.specs.Trees.{String, Tree, Leaf, Array, Dictionary, Trees, NoTrees, TreeAnd, Members, NoMembers, MemberAnd}
 use Rattle.plist_binwrite.specs.declared.kinds.EntryKind.TheVariants as kind
 use Rattle.plist_binwrite.specs.EventTable.{AllBelow, EndsTree, LacksItem, event_at, is_end, entry_kind_of}
 use Rattle.plist_binwrite.specs.inner.Entries.{AreApart, is_leaf}
-use Rattle.plist_binwrite.specs.Keys.{Lacks, HasDistinctKeys, HasKeysOnce, ItemsHaveKeysOnce, ValuesHaveKeysOnce}
-use Rattle.plist_binwrite.specs.Occurrences.{size, OccursAt, ItemsOccurAt, PairsOccurAt, positions, positions_in_items, positions_in_pairs}
+use Rattle.plist_binwrite.specs.RepeatedKeys.{Lacks, HasDistinctKeys, HasKeysOnce, ItemsHaveKeysOnce, ValuesHaveKeysOnce}
+use Rattle.plist_binwrite.specs.Occurrences.{event_count, OccursAt, ItemsOccurAt, PairsOccurAt, positions, positions_in_items, positions_in_pairs}
 use Rattle.plist_binwrite.proofs.Inside.{positions_all}
 use Rattle.plist_binwrite.proofs.Sitting.{occurs_whole, occurs_items, occurs_pairs, occurs_item, occurs_next, occurs_key, occurs_value, occurs_next_pair}
 use Rattle.plist_binwrite.proofs.Skipping.{stands_single, starts_array}
 use Rattle.plist_binwrite.proofs.Passing.{Left, FirstPair, pairs_first, onward, pairs_stop}
 use Rattle.plist_binwrite.proofs.Uniques.{all_both}
 
-same_key : (k l : List ℕ) → Some (Single (String k)) ≡ Some (Single (String l)) → k ≡ l
+same_key : (k l : List ℕ) → Some (ScalarEvent (String k)) ≡ Some (ScalarEvent (String l)) → k ≡ l
 same_key k l p = cc
 
 -- ---- one dictionary
@@ -28,7 +28,7 @@ same_key k l p = cc
 -- the key has the stamp
 abbrev pub IsStamped : (scalars : List PlainEvent) (mark : ℕ) (stamps : List ℕ) → List ℕ → Type 0
 IsStamped scalars mark stamps key =
-    (s : ℕ) × (slice_get scalars s ≡ Some (Single (String key))) × (get_or stamps s 0 ≡ mark)
+    (s : ℕ) × (slice_get scalars s ≡ Some (ScalarEvent (String key))) × (get_or stamps s 0 ≡ mark)
 
 -- no key of these pairs has it
 abbrev pub AreFresh : (scalars : List PlainEvent) (mark : ℕ) (stamps : List ℕ) → Members → Type 0
@@ -65,7 +65,7 @@ module _ {scalars : List PlainEvent} {mark : ℕ} {es : List PlainEvent} {stamps
       walked_end h = (pairs_stop w h).up (tt, λ key stamped. tt)
 
       key_is : (f : FirstPair es (Tells scalars mark stamps all) q)
-          → event_at es q ≡ Single (String f.key)
+          → event_at es q ≡ ScalarEvent (String f.key)
       key_is f = stands_single f.named
 
       -- each key is a scalar
@@ -89,7 +89,7 @@ module _ {scalars : List PlainEvent} {mark : ℕ} {es : List PlainEvent} {stamps
               → Left PairsOccurAt es (Tells scalars mark (set stamps s mark) all) next
           walked_next next other within h skip =
               let f = pairs_first w h in
-              let is : slice_get scalars s ≡ Some (Single (String f.key)) = here ∙ ap Some
+              let is : slice_get scalars s ≡ Some (ScalarEvent (String f.key)) = here ∙ ap Some
               (key_is f) in
               onward f.value skip (λ goes. record {
                 down = λ d. let l = goes.down d in (
@@ -105,8 +105,8 @@ module _ {scalars : List PlainEvent} {mark : ℕ} {es : List PlainEvent} {stamps
                   (fresh f.key (s, is, get_or-set_same stamps s mark 0 within), d),
                   λ key (t, at, m).
                       let off : t ≢ s = λ e. other (ap (λ n. get_or stamps n 0) (sym e) ∙ m) in (
-                        (λ e. off (apart t s (Single (String key)) at
-                            (is ∙ ap (λ k. Some (Single (String k))) (sym e)))),
+                        (λ e. off (apart t s (ScalarEvent (String key)) at
+                            (is ∙ ap (λ k. Some (ScalarEvent (String k))) (sym e)))),
                         fresh key (t, at, get_or-set_other stamps s t mark 0 off ∙ m),
                       ),
                 );
@@ -143,7 +143,7 @@ module _ (es : List PlainEvent) where
       once_items : (ts : Trees) (q : ℕ) → ItemsOccurAt es ts q → ItemsHaveKeysOnce ts
       once_items NoTrees q s = tt
       once_items (TreeAnd t ts) q s =
-          (once_tree t q (occurs_item s), once_items ts (q + size t) (occurs_next s))
+          (once_tree t q (occurs_item s), once_items ts (q + event_count t) (occurs_next s))
 
       once_values : (ms : Members) (q : ℕ) → PairsOccurAt es ms q → ValuesHaveKeysOnce ms
       once_values NoMembers q s = tt
@@ -176,7 +176,7 @@ module _ (es : List PlainEvent) where
     items_positions NoTrees p s h = tt
     items_positions (TreeAnd t ts) p s h =
         all_both (λ one. Once _) _ _
-        (once_positions t p (occurs_item s) h.0) (items_positions ts (p + size t)
+        (once_positions t p (occurs_item s) h.0) (items_positions ts (p + event_count t)
         (occurs_next s) h.1)
 
     pairs_positions : (ms : Members) (p : ℕ) → PairsOccurAt es ms p → ValuesHaveKeysOnce ms
@@ -186,7 +186,7 @@ module _ (es : List PlainEvent) where
       (Leaf _, occurs_key s, tt),
       all_both (λ one. Once _) _ _
           (once_positions t (p + 1) (occurs_value s) h.0)
-          (pairs_positions ms (p + 1 + size t) (occurs_next_pair s) h.1),
+          (pairs_positions ms (p + 1 + event_count t) (occurs_next_pair s) h.1),
     )
 
   -- one dictionary whose keys aren't different

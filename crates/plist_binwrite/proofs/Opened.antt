@@ -4,11 +4,11 @@ use Rattle.std.specs.List.{AllByRecursion}
 use Rattle.std.proofs.lemmas.Bool.{eq-eqb, ne_eqb}
 use Rattle.std.proofs.lemmas.Bool.Decides.{nat_tests}
 use Rattle.std.proofs.lemmas.List.{take-append-drop, length-take-le}
-use Rattle.plist_base.specs.Events.{PlainEvent, StartArray, StartDictionary, EndCollection, Single}
+use Rattle.plist_base.specs.Events.{PlainEvent, StartArray, StartDictionary, EndCollection, ScalarEvent}
 use Rattle.plist_base.specs.Trees.{Tree, Leaf, Array, Dictionary, Trees, NoTrees, TreeAnd, Members, NoMembers, MemberAnd}
 use Rattle.plist_base.specs.Bracketing.{lengthless, lengthless_items, lengthless_pairs}
 use Rattle.plist_binwrite.specs.EventTable.{event_at}
-use Rattle.plist_binwrite.specs.Occurrences.{size, OccursAt}
+use Rattle.plist_binwrite.specs.Occurrences.{event_count, OccursAt}
 use Rattle.plist_binwrite.specs.inner.Opening.{open_behind, open_from, open_after, skip_behind, skip_from, skip_after}
 use Rattle.plist_binwrite.proofs.Sitting.{past_one}
 use Rattle.plist_binwrite.proofs.Skipping.{first_event, occurs_within, size_positive}
@@ -74,7 +74,7 @@ mutual
   open_pairs NoMembers p begun = refl
   open_pairs (MemberAnd k t ms) p begun =
       open_append (lengthless t) (lengthless_pairs ms) (p + 1) begun
-      ∙ open_pairs ms (p + 1 + size t) (open_from (lengthless t) (p + 1) begun)
+      ∙ open_pairs ms (p + 1 + event_count t) (open_from (lengthless t) (p + 1) begun)
       ∙ open_tree t (p + 1) begun
 
 -- and its end is that of its start
@@ -90,7 +90,7 @@ skip_end body q told begun h =
     (eq-eqb q q refl) ∙ omega (arith, length-append body (EndCollection ∷ []))
 
 skip_tree : (t : Tree) (q : ℕ) (begun : List ℕ) → skip_from (lengthless t) q begun q (q + 1)
-    ≡ q + size t
+    ≡ q + event_count t
 skip_tree (Leaf x) q begun = refl
 skip_tree (Array ts) q begun =
     skip_end _ q _ begun (open_items ts (q + 1) (q ∷ begun))
@@ -107,7 +107,7 @@ one_apart : (e : PlainEvent) (p q told : ℕ) (begun : List ℕ) → p ≢ q →
 one_apart EndCollection p q told [] off l = (tt, refl)
 one_apart EndCollection p q told (i ∷ outer) off l =
     (l.1, ap (λ b. if b then p + 1 else told) (ne_eqb q i (λ e. l.0 (sym e))))
-one_apart (Single x) p q told begun off l = (l, refl)
+one_apart (ScalarEvent x) p q told begun off l = (l, refl)
 one_apart e p q told begun off l = ((off, l), refl)
 
 -- no other events begin it, or end what begins there
@@ -141,14 +141,14 @@ module _ (es : List PlainEvent) (q : ℕ) (le : q ≤ length es) where
       ∙ ap (skip_from (drop q es) q before q) before_apart.1
 
 pub skip_ends : (es : List PlainEvent) (t : Tree) (q : ℕ) → OccursAt es t q
-    → skip_after es q ≡ q + size t
+    → skip_after es q ≡ q + event_count t
 skip_ends es t q s =
     let le : q ≤ length es = omega (arith, occurs_within s) in
     let b = before es q le in
     from_there es q le ∙ ap (λ l. skip_from l q b q (q + 1)) s.is
     ∙ skip_append (lengthless t) s.rest q b q (q + 1)
-    ∙ (λ i. skip_from s.rest (q + size t) (open_tree t q b i) q (skip_tree t q b i))
-    ∙ (apart s.rest (q + size t) q (q + size t) b
+    ∙ (λ i. skip_from s.rest (q + event_count t) (open_tree t q b i) q (skip_tree t q b i))
+    ∙ (apart s.rest (q + event_count t) q (q + event_count t) b
     (λ k lt h. omega (arith, h, size_positive t)) (before_apart es q le).0).1
 
 one_within : (e : PlainEvent) (p q told n : ℕ) (begun : List ℕ) → q ≤ p → p < n → q < told
@@ -189,7 +189,7 @@ module _ (all : List PlainEvent) where
       → Starts (open_behind e p begun)
   one_starts EndCollection p [] is a = tt
   one_starts EndCollection p (i ∷ outer) is a = a.1
-  one_starts (Single x) p begun is a = a
+  one_starts (ScalarEvent x) p begun is a = a
   one_starts e p begun is a = (ap is_start is, a)
 
   all_start : (es : List PlainEvent) (p : ℕ) (begun : List ℕ) → drop p all ≡ es → Starts begun

@@ -9,11 +9,11 @@ use Rattle.plist_base.specs.Bracketing.{lengthless, lengthless_items, lengthless
 use Rattle.plist_base.specs.Events.{PlainEvent, EndCollection}
 use Rattle.plist_base.specs.Trees.{Scalar, Tree, Leaf, Array, Dictionary, Trees, NoTrees, TreeAnd, Members, NoMembers, MemberAnd}
 use Rattle.plist_binwrite.specs.Classes.{AreClasses, same_class, kept, count_by, objects_by, size_by}
-use Rattle.plist_binwrite.specs.ObjectCounts.{scalar_eq, collected, texts, collections_in, scalars_in, object_count}
+use Rattle.plist_binwrite.specs.ObjectCounts.{scalar_eq, collections_among, leaf_scalars, collections_in, scalars_in, object_count}
 use Rattle.plist_binwrite.specs.Numberings.{object_of}
 use Rattle.plist_binwrite.specs.inner.Scalars.{Owner, shared, alone, own, owner, AreOwners}
 use Rattle.plist_binwrite.specs.Sizes.{total, object_size, size_with, file_size}
-use Rattle.plist_binwrite.specs.Occurrences.{size, OccursAt, positions, positions_in_items, positions_in_pairs}
+use Rattle.plist_binwrite.specs.Occurrences.{event_count, OccursAt, positions, positions_in_items, positions_in_pairs}
 use Rattle.plist_binwrite.specs.Written.{reference_width}
 use Rattle.plist_binwrite.proofs.Inside.{Stands, one_tree, positions_stand}
 use Rattle.plist_binwrite.proofs.SameScalars.{owner_eq, owners_tell, tells_both}
@@ -83,7 +83,7 @@ later p (one ∷ ones) r =
     (omega arith, later p ones (lower (p + 1) (one.0 + 1) ones (omega (arith, r.0)) r.1))
 
 mutual
-  rising : (t : Tree) (p : ℕ) (after : List One) → Rise (p + size t) after
+  rising : (t : Tree) (p : ℕ) (after : List One) → Rise (p + event_count t) after
       → Rise p (positions t p ++ after)
   rising (Leaf x) p after r = (omega arith, r)
   rising (Array ts) p after r = (
@@ -110,9 +110,9 @@ mutual
   rising_pairs NoMembers p after r = lower p _ after (omega arith) r
   rising_pairs (MemberAnd k t ms) p after r = (
     omega arith,
-    rw (append_assoc (positions t (p + 1)) (positions_in_pairs ms (p + 1 + size t)) after)
-        (rising t (p + 1) (positions_in_pairs ms (p + 1 + size t) ++ after)
-        (rising_pairs ms (p + 1 + size t) after (lower _ _ after
+    rw (append_assoc (positions t (p + 1)) (positions_in_pairs ms (p + 1 + event_count t)) after)
+        (rising t (p + 1) (positions_in_pairs ms (p + 1 + event_count t) ++ after)
+        (rising_pairs ms (p + 1 + event_count t) after (lower _ _ after
         (omega (arith, length-append (lengthless t) (lengthless_pairs ms))) r))),
   )
 
@@ -122,7 +122,7 @@ positions_rise t = rw (← (append-nil (positions t 0))) (rising t 0 [] tt)
 -- ---- the weights of one of each kind
 
 text_member : (ones : List One) (p : ℕ) (x : Scalar)
-    → is_member owned_eq ones (p, Leaf x) ≡ is_member scalar_eq (texts ones) x
+    → is_member owned_eq ones (p, Leaf x) ≡ is_member scalar_eq (leaf_scalars ones) x
 text_member [] p x = refl
 text_member ((q, Leaf y) ∷ ones) p x = ap (λ b. scalar_eq x y || b) (text_member ones p x)
 text_member ((q, t) ∷ ones) p x = text_member ones p x
@@ -141,15 +141,15 @@ module _ (weight : Tree → ℕ) where
 
   owned_total : (low : ℕ) (ones : List One) → Rise low ones
       → total weigh (unique_keys owned_eq ones)
-      ≡ total weigh (collected ones) + total (λ y. weight (Leaf y))
-      (unique_keys scalar_eq (texts ones))
+      ≡ total weigh (collections_among ones) + total (λ y. weight (Leaf y))
+      (unique_keys scalar_eq (leaf_scalars ones))
   owned_total low [] r = refl
   owned_total low ((p, Leaf x) ∷ ones) r =
       let more = owned_total (p + 1) ones r.1 in
-      rw (text_member ones p x) (elim (is_member scalar_eq (texts ones) x) as (λ b. total weigh
+      rw (text_member ones p x) (elim (is_member scalar_eq (leaf_scalars ones) x) as (λ b. total weigh
       (cond b (unique_keys owned_eq ones) ((p, Leaf x) ∷ unique_keys owned_eq ones))
-      ≡ total weigh (collected ones) + total (λ y. weight (Leaf y)) (cond b
-      (unique_keys scalar_eq (texts ones)) (x ∷ unique_keys scalar_eq (texts ones)))) [
+      ≡ total weigh (collections_among ones) + total (λ y. weight (Leaf y)) (cond b
+      (unique_keys scalar_eq (leaf_scalars ones)) (x ∷ unique_keys scalar_eq (leaf_scalars ones)))) [
         | true ↦ more
         | false ↦ omega (arith, more)
       ])
@@ -200,7 +200,7 @@ module _ {es : List PlainEvent} {class : ℕ → ℕ} {count : ℕ} (o : AreOwne
     → class p ≡ class q) where
   all_apart : (a : One) → Stands es a → own_tree a.1 a.0 ≡ alone a.0 → (ones : List One)
       → AllByRecursion (Stands es) ones → AllByRecursion (λ later. a.0 < later.0) ones
-      → AllByRecursion (λ y. eqb (num a.0) y ≡ false) (map (λ one. num one.0) (collected ones))
+      → AllByRecursion (λ y. eqb (num a.0) y ≡ false) (map (λ one. num one.0) (collections_among ones))
   all_apart a s i [] r h = tt
   all_apart a s i ((q, Leaf y) ∷ ones) r h = all_apart a s i ones r.1 h.1
   all_apart a s i ((q, t) ∷ ones) r h = (
@@ -212,7 +212,7 @@ module _ {es : List PlainEvent} {class : ℕ → ℕ} {count : ℕ} (o : AreOwne
   )
 
   distinct_at : (low : ℕ) (ones : List One) → AllByRecursion (Stands es) ones → Rise low ones
-      → IsDistinct eqb (map (λ one. num one.0) (collected ones))
+      → IsDistinct eqb (map (λ one. num one.0) (collections_among ones))
   unfolding IsDistinct
   distinct_at low [] s r = tt
   distinct_at low ((p, Leaf x) ∷ ones) s r = distinct_at (p + 1) ones s.1 r.1

@@ -2,7 +2,7 @@
 use Rattle.std.proofs.Common.{◌≡◌, ◌≢◌, ◌⊎◌, inl, inr, ℕ, ◌+◌, ◌<◌, ◌≤◌, false, List, length, set, Some, refl, ap, sym, ◌∙◌, arith}
 use Rattle.std.specs.Prelude.{slice_get}
 use Rattle.std.proofs.lemmas.Option.{slice_get_within}
-use Rattle.plist_base.specs.Events.{Single, PlainEvent}
+use Rattle.plist_base.specs.Events.{ScalarEvent, PlainEvent}
 use Rattle.plist_base.specs.Trees.{Scalar}
 use Rattle.plist_binwrite.specs.EventTable.{event_at, nth_number}
 use Rattle.plist_binwrite.specs.inner.Scalars.{owner, own, shared, alone, AreApart, HaveClasses, AreOwners, is_leaf}
@@ -18,11 +18,11 @@ module _ {es scalars : List PlainEvent} {top index : ℕ} (cs : List ℕ) (v : �
 
   -- a scalar's is its index among the different ones, and another event's is new
   pub one_more : (new : ℕ) → top ≤ new
-      → ((x : Scalar) → event_at es index ≡ Single x → slice_get scalars v ≡ Some (Single x))
+      → ((x : Scalar) → event_at es index ≡ ScalarEvent x → slice_get scalars v ≡ Some (ScalarEvent x))
       → (is_leaf (event_at es index) ≡ false → (top ≤ v) × (v < new) × (length scalars ≤ v))
       → HaveClasses es (nth_number (set cs index v)) scalars new (index + 1)
   one_more new more scalar other = record {
-    scalars = λ p l x s. at_write p (λ w. slice_get scalars w ≡ Some (Single x))
+    scalars = λ p l x s. at_write p (λ w. slice_get scalars w ≡ Some (ScalarEvent x))
         (λ i. scalar x (rw i at s)) (λ d. have.scalars p (omega (arith, l, d)) x s);
     others = λ p l n. at_write p (λ w. (length scalars ≤ w) × (w < new))
         (λ i. let o = other (rw i at n) in (o.2, o.1))
@@ -53,7 +53,7 @@ module _ {es keys : List PlainEvent} {class : ℕ → ℕ} {top index : ℕ}
   record IsShared (p : ℕ) : Type 0 where
     scalar : Scalar
     owned : owner es p ≡ shared scalar
-    key : slice_get keys (class p) ≡ Some (Single scalar)
+    key : slice_get keys (class p) ≡ Some (ScalarEvent scalar)
     early : class p < length keys
 
   record IsAlone (p : ℕ) : Type 0 where
@@ -63,7 +63,7 @@ module _ {es keys : List PlainEvent} {class : ℕ → ℕ} {top index : ℕ}
 
   -- an event is a scalar or not
   known : (e : PlainEvent) (p : ℕ) → p < length es → event_at es p ≡ e → IsShared p ⊎ IsAlone p
-  known (Single x) p l is =
+  known (ScalarEvent x) p l is =
       let key = have.scalars p (omega arith) x is in
       inl (record {
         scalar = x;
@@ -99,7 +99,7 @@ module _ {es keys : List PlainEvent} {class : ℕ → ℕ} {top index : ℕ}
     complete = λ p q l m h. elim (known _ p l refl) [
       | inl s ↦ elim (known _ q m refl) [
         | inl t ↦ let same : s.scalar ≡ t.scalar = cc (s.owned, t.owned) in
-            apart (class p) (class q) _ (s.key ∙ ap (λ x. Some (Single x)) same) t.key
+            apart (class p) (class q) _ (s.key ∙ ap (λ x. Some (ScalarEvent x)) same) t.key
         | inr o ↦ cc (s.owned, o.owned)
       ]
       | inr n ↦ elim (known _ q m refl) [

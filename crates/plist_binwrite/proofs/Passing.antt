@@ -3,7 +3,7 @@ use Rattle.std.proofs.Common.{◌≡◌, inl, inr, ℕ, ◌+◌, ◌≤◌, Bool
 use Rattle.plist_base.specs.Events.{PlainEvent, EndCollection}
 use Rattle.plist_base.specs.Trees as trees
 use Rattle.plist_base.specs.Trees.{Tree, Leaf, Trees, NoTrees, TreeAnd, Members, NoMembers, MemberAnd}
-use Rattle.plist_binwrite.specs.Occurrences.{size, OccursAt, ItemsOccurAt, PairsOccurAt}
+use Rattle.plist_binwrite.specs.Occurrences.{event_count, OccursAt, ItemsOccurAt, PairsOccurAt}
 use Rattle.plist_binwrite.specs.EventTable.{is_end, event_at, half_at, EndsTree, LacksItem}
 use Rattle.plist_binwrite.proofs.Sitting.{occurs_item, occurs_next, occurs_key, occurs_value, occurs_next_pair}
 use Rattle.plist_binwrite.proofs.Skipping.{first_event, begins, occurs_in}
@@ -26,13 +26,13 @@ pub record First {L : Type 0} (AllOccurAt : List PlainEvent → L → ℕ → Ty
   pub tree : Tree
   pub rest : L
   pub here : OccursAt es tree p
-  pub occurs : AllOccurAt es rest (p + size tree)
+  pub occurs : AllOccurAt es rest (p + event_count tree)
   pub goes : Goes tree rest
 
 -- past it the walk goes on
 pub onward : {L : Type 0} {AllOccurAt : List PlainEvent → L → ℕ → Type 0} {es : List PlainEvent}
     {Goes : Tree → L → Type 0} {More : L → ℕ → Type 0} {p next : ℕ} (f : First AllOccurAt es Goes p)
-    → EndsTree es p next → (Goes f.tree f.rest → More f.rest (p + size f.tree))
+    → EndsTree es p next → (Goes f.tree f.rest → More f.rest (p + event_count f.tree))
     → Left AllOccurAt es More next
 onward f skip goes =
     rw (skip f.tree f.here) (record { left = f.rest; occurs = f.occurs; goes = goes f.goes })

@@ -10,7 +10,7 @@ use Rattle.std.proofs.lemmas.List.{get_or-set_same, get_or-set_other, length-set
 use Rattle.plist_format.specs.Container.{magic}
 use Rattle.plist_format.specs.Object.{Object}
 use Rattle.plist_binwrite.specs.Forms.{form, IsWritable}
-use Rattle.plist_binwrite.specs.Written.{bodies, Laid}
+use Rattle.plist_binwrite.specs.Written.{object_table, Laid}
 use Rattle.plist_binwrite.specs.inner.Laying.{IsOrder, KeepsMarks, laid_out, AllOnce}
 use Rattle.std.proofs.lemmas.List.Folds.{list_any_at}
 use Rattle.plist_base.specs.Events.{PlainEvent}
@@ -41,14 +41,14 @@ pub record Lies (w : ℕ) (objects : ℕ → Object) (places bytes : List ℕ) (
 
 module _ (w : ℕ) (objects : ℕ → Object) where
   found : (places order : List ℕ) (at k : ℕ) → Laid w objects places order at → list_any
-      (eqb k) order ≡ true → Lies w objects places (bodies w objects order) at k
+      (eqb k) order ≡ true → Lies w objects places (object_table w objects order) at k
   found places [] at k l any = cc
   found places (j ∷ order) at k l any =
       elim (eqb_tells k j) [
         | inl e ↦ rw e.1
             (record {
               before = [];
-              after = bodies w objects order;
+              after = object_table w objects order;
               is = refl;
               at_place = omega
                   (arith, l.0);
@@ -93,14 +93,14 @@ module _ (w : ℕ) (objects : ℕ → Object) where
         omega (
           arith,
           f.at_place,
-          length-magic (bodies w objects order),
+          length-magic (object_table w objects order),
           ap length f.is,
           length-append f.before (form w (objects k) ++ f.after),
         )
 
   pub laid_snoc : (places order : List ℕ) (at k v : ℕ) → k < length places
       → list_any (eqb k) order ≡ false → IsWritable w (objects k)
-      → v ≡ at + length (bodies w objects order)
+      → v ≡ at + length (object_table w objects order)
       → Laid w objects places order at → Laid w objects (set places k v) (order ++ k ∷ []) at
   laid_snoc places [] at k v h new good e l =
       (get_or-set_same _ k v 0 h ∙ omega arith, good, tt)
@@ -112,7 +112,7 @@ module _ (w : ℕ) (objects : ℕ → Object) where
           l.1,
           laid_snoc places order (at + length (form w (objects j))) k v h
               (sym (ap (λ b. b || list_any (eqb k) order) d.0) ∙ new) good
-              (omega (arith, e, length-append (form w (objects j)) (bodies w objects order))) l.2,
+              (omega (arith, e, length-append (form w (objects j)) (object_table w objects order))) l.2,
         )
       ]
 
@@ -185,19 +185,19 @@ in_order k o n = true_from_ne_false _ (λ e. n (o.others k e))
 
 -- the bytes of the objects, by number
 length-bodies : (w : ℕ) (objects : ℕ → Object) (order : List ℕ)
-    → length (bodies w objects order) ≡ total (λ k. length (form w (objects k))) order
+    → length (object_table w objects order) ≡ total (λ k. length (form w (objects k))) order
 length-bodies w objects [] = refl
 length-bodies w objects (k ∷ order) =
     omega (
       arith,
-      length-append (form w (objects k)) (bodies w objects order),
+      length-append (form w (objects k)) (object_table w objects order),
       length-bodies w objects order,
     )
 
 -- in whatever order they stand
 pub total_bodies : (w : ℕ) (objects : ℕ → Object) (order : List ℕ) (count : ℕ)
     → AllOnce count order
-    → length (bodies w objects order) ≡ total_below (λ k. length (form w (objects k))) count
+    → length (object_table w objects order) ≡ total_below (λ k. length (form w (objects k))) count
 total_bodies w objects order count all =
     length-bodies w objects _
     ∙ total_all (λ k. length _) _ _ all.distinct
@@ -230,7 +230,7 @@ not_before xs i d h =
 -- what is told of the place so far
 pub record Along (w : ℕ) (objects : ℕ → Object) (order places : List ℕ) (i : ℕ)
     (at : Option ℕ) : Type 0 where
-  pub told : IsSizeOrNone at (8 + length (bodies w objects (take i order)))
+  pub told : IsSizeOrNone at (8 + length (object_table w objects (take i order)))
   pub laid : IfSome at (λ n. Laid w objects places (take i order) 8)
 
 pub along_next : (w : ℕ) (objects : ℕ → Object) (order places : List ℕ) (i v : ℕ)
@@ -246,18 +246,18 @@ along_next w objects order places i v at next lt distinct below good is sum none
   laid = by at next is none along.told along.laid;
 }
   where
-    more : 8 + length (bodies w objects (take i order)) + length
+    more : 8 + length (object_table w objects (take i order)) + length
         (form w (objects (get_or order i 0)))
-        ≡ 8 + length (bodies w objects (take (i + 1) order))
+        ≡ 8 + length (object_table w objects (take (i + 1) order))
     more =
         omega (
           arith,
           ap length (one_part (λ k. form w (objects k)) order i lt),
-          length-append (bodies w objects (take i order)) (form w (objects (get_or order i 0))),
+          length-append (object_table w objects (take i order)) (form w (objects (get_or order i 0))),
         )
 
     by : (at next : Option ℕ) → IfSome at (λ n. v ≡ n) → (at ≡ None → next ≡ None)
-        → IsSizeOrNone at (8 + length (bodies w objects (take i order)))
+        → IsSizeOrNone at (8 + length (object_table w objects (take i order)))
         → IfSome at (λ n. Laid w objects places (take i order) 8)
         → IfSome next (λ n. Laid w objects (set places (get_or order i 0) v) (take (i + 1) order) 8)
     by None (Some m) is none told laid = let e : Some m ≡ None = none refl in cc

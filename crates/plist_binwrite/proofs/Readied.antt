@@ -5,7 +5,7 @@ use Rattle.std.specs.Prelude.{⊤}
 use Rattle.std.specs.Prelude.{option_map}
 use Rattle.std.proofs.lemmas.List.Elements.{All-from_get_or, recursion_from_All}
 use Rattle.std.proofs.lemmas.Option.{slice_get-map, slice_get-get_or}
-use Rattle.plist_base.specs.Bracketing.{bracketing, lengthless, AreWhole}
+use Rattle.plist_base.specs.Bracketing.{bracketing, lengthless, AreTreeEvents}
 use Rattle.plist_base.specs.Events.{PlainEvent}
 use Rattle.plist_base.specs.Faults.{Fault, MatchFault}
 use Rattle.plist_base.specs.Trees.{Tree}
@@ -19,9 +19,9 @@ use Rattle.plist_binwrite.specs.ObjectCounts.{collections_in}
 use Rattle.plist_binwrite.specs.Forms.{form, table_form, AllFit}
 use Rattle.plist_binwrite.specs.EventTable.{nth_number, Describes, plain_events}
 use Rattle.plist_binwrite.specs.inner.Laying.{AllOnce, laid_out, closed, IsOrder, HasAll}
-use Rattle.plist_binwrite.specs.inner.Planning.{IsPlanned, GoesBy, numbers_of, count_of}
+use Rattle.plist_binwrite.specs.inner.Planning.{IsPlanned, IsPlanByClass, numbers_of, count_of}
 use Rattle.plist_binwrite.specs.Occurrences.{positions}
-use Rattle.plist_binwrite.specs.Written.{Laid, reference_width, offset_width, bodies, ending}
+use Rattle.plist_binwrite.specs.Written.{Laid, reference_width, offset_width, object_table, table_and_trailer}
 use Rattle.plist_binwrite.specs.declared.plan.Plan.{Plan}
 use Rattle.plist_binwrite.proofs.ClassObjects.{Numbered, numbered, number_apart, number_below}
 use Rattle.plist_binwrite.proofs.Kept.{planned_count, planned_size}
@@ -36,9 +36,9 @@ use Rattle.plist_base.specs.declared.error.Error.{Error}
 use Rattle.plist_binwrite.specs.declared.event_table.EventTable.{EventTable}
 use Rattle.plist_base.specs.Writing.{Answer, answer_of}
 use Rattle.plist_base.proofs.Grammar.{complete_of_whole}
-use Rattle.plist_binwrite.specs.declared.completion.Draft.{Draft}
-use Rattle.plist_binwrite.specs.declared.completion.Ready.{Ready}
-use Rattle.plist_binwrite.specs.inner.Ending.{numbers_in, file_of, IsDraftOf, IsFitting, IsReady, NeedsNoMemory, SendsReady}
+use Rattle.plist_binwrite.specs.declared.send_file.Draft.{Draft}
+use Rattle.plist_binwrite.specs.declared.send_file.Ready.{Ready}
+use Rattle.plist_binwrite.specs.inner.PlannedFiles.{numbers_in, file_of, IsDraftOf, IsFitting, IsReady, NeedsNoMemory, SendsReady}
 use Rattle.plist_binwrite.specs.OutputBuffer.{IsSplit, SendsRest, SendsRestInPart}
 use Rattle.plist_binwrite.specs.inner.Sizing.{ExceedsWith, FitsWith}
 use Rattle.plist_binwrite.specs.Sizes.{IsSizeOrNone, size_with}
@@ -46,14 +46,14 @@ use Rattle.plist_binwrite.specs.SendingAs.{IsFileAs}
 use Rattle.plist_binwrite.proofs.Unhinted.{plain_lengthless}
 
 module _ {es : List PlainEvent} {plan : Plan} (planned : IsPlanned es plan) {class : ℕ → ℕ}
-    (goes : GoesBy es class plan) (t : Tree) (e : es ≡ lengthless t) (objects : ℕ → Object)
+    (goes : IsPlanByClass es class plan) (t : Tree) (e : es ≡ lengthless t) (objects : ℕ → Object)
     (describes : Describes es (numbers_of plan) objects) (order : List ℕ)
     (all : AllOnce (count_of plan) order) where
   -- how long the magic and the objects are
   pub laid_length : length (laid_out (reference_width (count_of plan)) objects order)
       ≡ 8 + objects_by class (reference_width (count_by class t)) t
   laid_length =
-      length-magic (bodies (reference_width (count_of plan)) objects order)
+      length-magic (object_table (reference_width (count_of plan)) objects order)
       ∙ ap (λ k. 8 + k) (planned_size planned goes t e
       (reference_width (count_of plan)) objects describes order all)
       ∙ ap (λ c. 8 + objects_by class (reference_width c) t)
@@ -65,7 +65,7 @@ module _ {es : List PlainEvent} {plan : Plan} (planned : IsPlanned es plan) {cla
     w = reference_width (length places)
 
     abbrev body : List ℕ
-    body = bodies w objects order
+    body = object_table w objects order
 
     abbrev file : List ℕ
     file = laid_out w objects order
@@ -161,8 +161,8 @@ module _ {es : List PlainEvent} {plan : Plan} (planned : IsPlanned es plan) {cla
         numbered = whole.numbered;
         laid = laid;
         is =
-            append_assoc magic body (ending places (length file))
-            ∙ ap (λ at. magic ++ (body ++ ending places at)) (length-magic body);
+            append_assoc magic body (table_and_trailer places (length file))
+            ∙ ap (λ at. magic ++ (body ++ table_and_trailer places at)) (length-magic body);
         items = items_are;
       };
       numbered = record {
@@ -191,7 +191,7 @@ module _ {es : List PlainEvent} {plan : Plan} {order marks : List ℕ} (told : O
   once : AllOnce (count_of plan) order
   once = record { distinct = o.distinct; numbered = λ k. (o.below k, all k) }
 
-  module _ {class : ℕ → ℕ} (goes : GoesBy es class plan) (t : Tree) (e : es ≡ lengthless t) where
+  module _ {class : ℕ → ℕ} (goes : IsPlanByClass es class plan) (t : Tree) (e : es ≡ lengthless t) where
     abbrev size_of_all : ℕ
     size_of_all = objects_by class (reference_width (count_by class t)) t
 
@@ -216,7 +216,7 @@ module _ {es : List PlainEvent} {plan : Plan} {order marks : List ℕ} (told : O
 
   -- where the file doesn't fit, by any classes
   pub oversized : IfSome told (λ table. ExceedsWith table count) → {class : ℕ → ℕ}
-      → GoesBy es class plan → IsOversized class es
+      → IsPlanByClass es class plan → IsOversized class es
   oversized exceeds {class} goes t e = too_large goes t e told exceeds (table_told goes t e)
 
   module _ (places : List ℕ) {table : ℕ} (known : told ≡ Some table) (fits : FitsWith table count)
@@ -226,7 +226,7 @@ module _ {es : List PlainEvent} {plan : Plan} {order marks : List ℕ} (told : O
     widths : width ≡ reference_width (length places)
     widths = wide ∙ ap reference_width (n ∙ sym long)
 
-    all_fit : (class : ℕ → ℕ) → GoesBy es class plan → Fits class es
+    all_fit : (class : ℕ → ℕ) → IsPlanByClass es class plan → Fits class es
     all_fit class goes t e =
         let objects = objects_by class (reference_width (count_by class t)) t in
         subst (λ k. size_with k objects < 2 ^ 64) (count_told goes t e)
@@ -255,7 +255,7 @@ exceeds_same told same exceeds = subst (λ k. IfSome told (λ table. ExceedsWith
 pub file_is : (objects : ℕ → Object) (order places : List ℕ) (table width : ℕ)
     → width ≡ reference_width (length places)
     → table ≡ length (laid_out (reference_width (length places)) objects order)
-    → magic ++ (bodies width objects order ++ ending places table)
+    → magic ++ (object_table width objects order ++ table_and_trailer places table)
     ≡ closed (laid_out (reference_width (length places)) objects order) places
 file_is objects order places table width wide e =
     cc
@@ -277,8 +277,8 @@ sends_end contents es ready old middle new waiting (Err error) sent front failed
 -- ---- what goes out
 
 module _ {W : Type 0} (contents : W → Option (List ℕ)) (events : EventTable) (old new : W)
-    (whole : AreWhole (plain_events events)) {class : ℕ → ℕ} {ready : Ready}
-    (r : IsReady (plain_events events) ready) (goes : GoesBy (plain_events events) class ready.plan)
+    (whole : AreTreeEvents (plain_events events)) {class : ℕ → ℕ} {ready : Ready}
+    (r : IsReady (plain_events events) ready) (goes : IsPlanByClass (plain_events events) class ready.plan)
   where
     of : Numbered (plain_events events) (numbers_in ready)
     of = numbered r.planned

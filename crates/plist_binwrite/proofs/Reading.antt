@@ -6,7 +6,7 @@ use Rattle.std.proofs.lemmas.Bool.{lt-ltb, le-ltb, cases_lt, le-leb, lt-leb, and
 use Rattle.std.proofs.lemmas.Grind.{flat_map-append}
 use Rattle.std.proofs.lemmas.Str.{chars_past_char, chars-nil, length-encode, is_utf8-from_IsUtf8, chars-encodes, utf16_chars-nil, utf16_chars_lone, utf16_chars_pair}
 use Rattle.std.proofs.lemmas.List.{nil_from_length}
-use Rattle.plist_binwrite.specs.Forms.{big_endian, char_units, units_of, is_ascii_text, ascii_form, wide_form, text_form, scalar_form, form, keys_of, values_of, IsText, IsWritableScalar, AllFit, IsWritable}
+use Rattle.plist_binwrite.specs.Forms.{big_endian, char_units, units_of, is_ascii_text, ascii_form, wide_form, text_form, scalar_form, form, key_numbers, value_numbers, IsText, IsWritableScalar, AllFit, IsWritable}
 use Rattle.std.specs.List.{zip, list_any}
 use Rattle.std.specs.Str.{encode_utf8_all}
 use Rattle.std.specs.Char.Utf16.{utf16_chars, lone_unit_char, surrogate_pair_char}
@@ -177,19 +177,19 @@ scalar_read width (trees.Real (Eight v)) rest is =
 scalar_read width (trees.String v) rest is = text_read width v rest is
 scalar_read width (trees.Uid v) rest is = uid_read width v rest is
 
-pub length-keys_of : (ps : List (ℕ × ℕ)) → length (keys_of ps) ≡ length ps
+pub length-keys_of : (ps : List (ℕ × ℕ)) → length (key_numbers ps) ≡ length ps
 length-keys_of [] = refl
 length-keys_of (p ∷ ps) = ap suc (length-keys_of ps)
 
-pub length-values_of : (ps : List (ℕ × ℕ)) → length (values_of ps) ≡ length ps
+pub length-values_of : (ps : List (ℕ × ℕ)) → length (value_numbers ps) ≡ length ps
 length-values_of [] = refl
 length-values_of (p ∷ ps) = ap suc (length-values_of ps)
 
-zip_is : (ps : List (ℕ × ℕ)) → zip (keys_of ps) (values_of ps) ≡ ps
+zip_is : (ps : List (ℕ × ℕ)) → zip (key_numbers ps) (value_numbers ps) ≡ ps
 zip_is [] = refl
 zip_is (p ∷ ps) = ap (λ l. p ∷ l) (zip_is ps)
 
-pub dictionary_is : (ps : List (ℕ × ℕ)) → dictionary (length ps) (keys_of ps ++ values_of ps)
+pub dictionary_is : (ps : List (ℕ × ℕ)) → dictionary (length ps) (key_numbers ps ++ value_numbers ps)
     ≡ Dictionary ps
 dictionary_is ps =
     rw (
@@ -207,12 +207,12 @@ form_read w positive (Array items) rest is =
     (length-table w items)
     ∙ ap Array (numbers_back w items positive is.1)
 form_read w positive (Dictionary ps) rest is =
-    let many : length (keys_of ps ++ values_of ps) * w ≡ length ps * (2 * w) =
+    let many : length (key_numbers ps ++ value_numbers ps) * w ≡ length ps * (2 * w) =
     simp (length-append, length-keys_of, length-values_of) (grind arith) in
-    rw (← flat_map-append (big_endian w) (keys_of ps) (values_of ps))
-    (counted w 0xd (length ps) (flat_map (big_endian w) (keys_of ps ++ values_of ps)) rest
-    (layout-dictionary w) is.0 (length-table w (keys_of ps ++ values_of ps) ∙ many)
-    ∙ ap (dictionary (length ps)) (numbers_back w (keys_of ps ++ values_of ps) positive
-    (all_both _ (keys_of ps) (values_of ps) is.1 is.2))
+    rw (← flat_map-append (big_endian w) (key_numbers ps) (value_numbers ps))
+    (counted w 0xd (length ps) (flat_map (big_endian w) (key_numbers ps ++ value_numbers ps)) rest
+    (layout-dictionary w) is.0 (length-table w (key_numbers ps ++ value_numbers ps) ∙ many)
+    ∙ ap (dictionary (length ps)) (numbers_back w (key_numbers ps ++ value_numbers ps) positive
+    (all_both _ (key_numbers ps) (value_numbers ps) is.1 is.2))
     ∙ dictionary_is ps)
 form_read w positive (Faulty kind) rest is = absurd is

@@ -1,7 +1,7 @@
 -- What sending a file does.
 use Rattle.std.proofs.Common.{◌≡◌, ℕ, ◌^◌, ◌<◌, List, Option, Ok, Err, ◌∙◌, subst, refl}
 use Rattle.plist_binwrite.specs.declared.event_table.EventTable.{EventTable}
-use Rattle.plist_base.specs.Bracketing.{bracketing, lengthless, AreAlike, AreWhole, AreComplete}
+use Rattle.plist_base.specs.Bracketing.{bracketing, lengthless, AreAlike, AreTreeEvents, AreComplete}
 use Rattle.plist_base.specs.Events.{PlainEvent}
 use Rattle.plist_base.specs.Faults.{FaultKind, Fault, Io, OutOfMemory, PlistTooLarge, fault_nowhere}
 use Rattle.plist_base.specs.Trees.{Tree}
@@ -61,7 +61,7 @@ sends_nothing contents class events fault old new is same = rw is (refl, same)
 pub sends_too_large : {W : Type 0} (contents : W → Option (List ℕ)) (class : ℕ
     → ℕ) (events : EventTable)
     (fault : Fault) (old new : W) → fault ≡ fault_nowhere PlistTooLarge
-    → AreWhole (plain_events events) → IsOversized class (plain_events events) → new ≡ old
+    → AreTreeEvents (plain_events events) → IsOversized class (plain_events events) → new ≡ old
     → SendsBy class contents (plain_events events) (Err fault) old new
 sends_too_large contents class events fault old new is whole large same = rw is (
   refl,

@@ -1,14 +1,14 @@
 -- The objects of trees by their indices: their forms, their sizes, and that they can be written.
 use Rattle.std.proofs.Common.{◌≡◌, ◌⊎◌, inl, inr, ℕ, ◌+◌, ◌*◌, ◌/◌, ◌^◌, ◌<◌, ◌≤◌, false, List, ◌∷◌, ◌++◌, length, flat_map, map, Option, None, Some, SomeIff, refl, ap, sym, ◌∙◌, subst, arith, length-append}
 use Rattle.std.proofs.lemmas.Bool.{cases_lt}
-use Rattle.plist_base.specs.Events.{PlainEvent, Single}
+use Rattle.plist_base.specs.Events.{PlainEvent, ScalarEvent}
 use Rattle.plist_base.specs.Trees.{number_of_trees, number_of_members, Scalar, Tree, Leaf, Array, Dictionary, Trees, NoTrees, TreeAnd, Members, NoMembers, MemberAnd}
 use Rattle.plist_base.specs.Bracketing.{without_length}
 use Rattle.plist_binwrite.specs.declared.kinds.EntryKind.{EntryKind}
 use Rattle.plist_binwrite.specs.declared.kinds.EntryKind.TheVariants as kind
-use Rattle.plist_binwrite.specs.Occurrences.{size, OccursAt, ItemsOccurAt, PairsOccurAt}
+use Rattle.plist_binwrite.specs.Occurrences.{event_count, OccursAt, ItemsOccurAt, PairsOccurAt}
 use Rattle.plist_binwrite.specs.Numberings.{references, pairs, object_of}
-use Rattle.plist_binwrite.specs.Forms.{big_endian, length_form, units_of, is_ascii_text, text_form, table_form, form, keys_of, values_of, IsWritable, AllFit}
+use Rattle.plist_binwrite.specs.Forms.{big_endian, length_form, units_of, is_ascii_text, text_form, table_form, form, key_numbers, value_numbers, IsWritable, AllFit}
 use Rattle.plist_binwrite.specs.EventTable.{IfScalar, is_end, entry_kind_of, event_at, item_indices, key_indices, value_indices, nth_number, AllNumbered, IsBracketed}
 use Rattle.plist_binwrite.specs.Sizes.{IsSizeOrNone, dictionary_size}
 use Rattle.plist_binwrite.specs.inner.Entries.{is_leaf}
@@ -39,8 +39,8 @@ module _ (es : List PlainEvent) (numbers : List ℕ) (count w : ℕ)
       (number_fits t q (occurs_item s), refs_fit ts _ (occurs_next s))
 
   pairs_fit : (ms : Members) (q : ℕ) → PairsOccurAt es ms q
-      → AllFit w (keys_of (pairs (nth_number numbers) ms q))
-      × AllFit w (values_of (pairs (nth_number numbers) ms q))
+      → AllFit w (key_numbers (pairs (nth_number numbers) ms q))
+      × AllFit w (value_numbers (pairs (nth_number numbers) ms q))
   pairs_fit NoMembers q s = (tt, tt)
   pairs_fit (MemberAnd k t ms) q s =
       let more = pairs_fit ms _ (occurs_next_pair s) in (
@@ -67,8 +67,8 @@ module _ (es : List PlainEvent) (numbers : List ℕ) (count w : ℕ)
 -- ---- by the kind of the event here
 
 -- a scalar has no length
-scalar_is : (e : PlainEvent) (x : Scalar) → without_length e ≡ Single x → e ≡ Single x
-scalar_is (Single y) x h = h
+scalar_is : (e : PlainEvent) (x : Scalar) → without_length e ≡ ScalarEvent x → e ≡ ScalarEvent x
+scalar_is (ScalarEvent y) x h = h
 scalar_is e x h = cc
 
 module _ {es : List PlainEvent} {k : EntryKind} {p : ℕ} (at : k ≡ entry_kind_of (event_at es p))
@@ -89,7 +89,7 @@ module _ {es : List PlainEvent} {k : EntryKind} {p : ℕ} (at : k ≡ entry_kind
 
   -- no collection begins
   module _ (other : (k ≡ kind.Scalar) ⊎ (k ≡ kind.End)) where
-    neither : ((x : Scalar) → event_at es p ≡ Single x → P (Leaf x)) → (t : Tree) → OccursAt es t p
+    neither : ((x : Scalar) → event_at es p ≡ ScalarEvent x → P (Leaf x)) → (t : Tree) → OccursAt es t p
         → P t
     neither h (Leaf x) s = h x (stands_single s)
     neither h (Array ts) s = absurd ((no_start other).0 (cc (starts_array s)))
@@ -113,12 +113,12 @@ module _ (num : ℕ → ℕ) where
   refs_are NoTrees q = refl
   refs_are (TreeAnd t ts) q = ap (λ l. num q ∷ l) (refs_are ts _)
 
-  pub keys_are : (ms : Members) (q : ℕ) → keys_of (pairs num ms q) ≡ map num (key_indices ms q)
+  pub keys_are : (ms : Members) (q : ℕ) → key_numbers (pairs num ms q) ≡ map num (key_indices ms q)
   keys_are NoMembers q = refl
   keys_are (MemberAnd k t ms) q = ap (λ l. num q ∷ l) (keys_are ms _)
 
   pub values_are : (ms : Members) (q : ℕ)
-      → values_of (pairs num ms q) ≡ map num (value_indices ms q)
+      → value_numbers (pairs num ms q) ≡ map num (value_indices ms q)
   values_are NoMembers q = refl
   values_are (MemberAnd k t ms) q = ap (λ l. num (q + 1) ∷ l) (values_are ms _)
 
@@ -150,10 +150,10 @@ dictionary_told told w count ms h told_is =
     rw (h, twice ms) (grind arith) in
     subst (IsSizeOrNone _) (λ i. length (length_form 0xd (half i)) + two i) told_is
 
-pub told_if : (told : Option ℕ) (size : ℕ) → SomeIff told (size < 2 ^ 64) size
-    → IsSizeOrNone told size
-told_if None size h = elim (cases_lt _ _) [ inl l ↦ absurd (h l) | inr l ↦ l ]
-told_if (Some x) size h = h.1
+pub told_if : (told : Option ℕ) (event_count : ℕ) → SomeIff told (event_count < 2 ^ 64) event_count
+    → IsSizeOrNone told event_count
+told_if None event_count h = elim (cases_lt _ _) [ inl l ↦ absurd (h l) | inr l ↦ l ]
+told_if (Some x) event_count h = h.1
 
 pub wide_length : (text : List ℕ) → is_ascii_text text ≡ false
     → length (length_form 0x6 (length (units_of text))) + length (units_of text) * 2

@@ -14,8 +14,8 @@ use Rattle.plist_base.specs.Trees.{number_of_trees, number_of_members, Tree, Lea
 use Rattle.plist_format.specs.Object.{children_of}
 use Rattle.plist_format.specs.Unfolding.{TableEntry, items_of, until_fault, unfolding_of}
 use Rattle.plist_format.specs.Visits.{visits_within, visits_of}
-use Rattle.plist_binwrite.specs.ObjectCounts.{collection_of, collected}
-use Rattle.plist_binwrite.specs.Occurrences.{size, OccursAt, ItemsOccurAt, PairsOccurAt, positions, positions_in_items, positions_in_pairs}
+use Rattle.plist_binwrite.specs.ObjectCounts.{collection_of, collections_among}
+use Rattle.plist_binwrite.specs.Occurrences.{event_count, OccursAt, ItemsOccurAt, PairsOccurAt, positions, positions_in_items, positions_in_pairs}
 use Rattle.plist_binwrite.specs.Numberings.{references, pairs, object_of}
 use Rattle.plist_binwrite.proofs.Uniques.{all_from}
 use Rattle.plist_binwrite.proofs.Sitting.{occurs_items, occurs_pairs, occurs_item, occurs_next, occurs_key, occurs_value, occurs_next_pair}
@@ -23,18 +23,18 @@ use Rattle.plist_binwrite.proofs.Sitting.{occurs_items, occurs_pairs, occurs_ite
 pub length-references : (num : ℕ → ℕ) (ts : Trees) (q : ℕ) → length (references num ts q)
     ≡ number_of_trees ts
 length-references num NoTrees q = refl
-length-references num (TreeAnd t ts) q = omega (arith, length-references num ts (q + size t))
+length-references num (TreeAnd t ts) q = omega (arith, length-references num ts (q + event_count t))
 
 pub length-pairs : (num : ℕ → ℕ) (ms : Members) (q : ℕ)
     → length (pairs num ms q) ≡ number_of_members ms
 length-pairs num NoMembers q = refl
-length-pairs num (MemberAnd k t ms) q = omega (arith, length-pairs num ms (q + 1 + size t))
+length-pairs num (MemberAnd k t ms) q = omega (arith, length-pairs num ms (q + 1 + event_count t))
 
 -- ---- what is shown of some trees: their events, and the numbers of their collections
 
 module _ (num : ℕ → ℕ) where
   abbrev numbers : List (ℕ × Tree) → List ℕ
-  numbers ones = map (λ one. num one.0) (collected ones)
+  numbers ones = map (λ one. num one.0) (collections_among ones)
 
   pub record Shows (shown : List Item) (entered : List ℕ) (es : List PlainEvent)
       (ones : List (ℕ × Tree)) : Type 0 where
@@ -50,7 +50,7 @@ module _ (num : ℕ → ℕ) where
           s.visits,
           t.visits,
           flat_map-append collection_of x y,
-          map-append (λ one. num one.0) (collected x) (collected y),
+          map-append (λ one. num one.0) (collections_among x) (collections_among y),
         ) refl;
   }
 
@@ -65,7 +65,7 @@ module _ (num : ℕ → ℕ) where
   }
 
 module _ (table : List TableEntry) (es : List PlainEvent) (num rank : ℕ → ℕ)
-    (ranked : (t : Tree) (p : ℕ) → OccursAt es t p → rank (num p) ≡ size t)
+    (ranked : (t : Tree) (p : ℕ) → OccursAt es t p → rank (num p) ≡ event_count t)
     (holds : (t : Tree) (p : ℕ) → OccursAt es t p
     → (place : ℕ) × (slice_get table (num p) ≡ Some (record {
       place = place;
@@ -100,9 +100,9 @@ module _ (table : List TableEntry) (es : List PlainEvent) (num rank : ℕ → �
       (not_on_path m i path h a.1)
 
   -- it is entered, and shows what is in it
-  entered : (t : Tree) (p at : ℕ) {m : ℕ} {path : List ℕ} → OccursAt es t p → size t < m
+  entered : (t : Tree) (p at : ℕ) {m : ℕ} {path : List ℕ} → OccursAt es t p → event_count t < m
       → Path m path
-      → ((place : ℕ) → Path (size t) (num p ∷ path) → Shows num
+      → ((place : ℕ) → Path (event_count t) (num p ∷ path) → Shows num
       (items_of place (object_of num t p) (items_in (num p ∷ path) place))
       (visits_within (num p) (object_of num t p) (visits_in (num p ∷ path)))
       (bracketing t) (positions t p)) → ShowsTree path at t p
@@ -111,7 +111,7 @@ module _ (table : List TableEntry) (es : List PlainEvent) (num rank : ℕ → �
       let found = holds t p s in
       let not_open = not_on_path m (num p) path (omega (arith, ranked t p s)) o.above in
       let path_in = path_push (num p) o.is (slice_get_within table (num p) _ found.1) not_open in
-      let all = all_from (λ x. size t ≤ rank x) (λ x. m ≤ rank x) (λ x l. omega arith) _ o.above in
+      let all = all_from (λ x. event_count t ≤ rank x) (λ x. m ≤ rank x) (λ x l. omega arith) _ o.above in
       let fuel = path_fuel path_in in
       let e : length table - length path ≡ suc (length table - length (num p ∷ path)) = omega
       arith in
@@ -123,7 +123,7 @@ module _ (table : List TableEntry) (es : List PlainEvent) (num rank : ℕ → �
   leaf x p at s h o = entered (Leaf x) p at s h o (λ _ _. record { items = refl; visits = refl })
 
   mutual
-    unfolds : (t : Tree) (p at : ℕ) {m : ℕ} {path : List ℕ} → OccursAt es t p → size t < m
+    unfolds : (t : Tree) (p at : ℕ) {m : ℕ} {path : List ℕ} → OccursAt es t p → event_count t < m
         → Path m path → ShowsTree path at t p
     unfolds (Leaf x) p at s h o = leaf x p at s h o
     unfolds (Array ts) p at s h o =
@@ -142,7 +142,7 @@ module _ (table : List TableEntry) (es : List PlainEvent) (num rank : ℕ → �
     unfolds_items (TreeAnd t ts) q at s h o =
         let long = length-append (lengthless t) (lengthless_items ts) in
         shows_both num (unfolds t q at (occurs_item s) (omega arith) o)
-        (unfolds_items ts (q + size t) at (occurs_next s) (omega arith) o)
+        (unfolds_items ts (q + event_count t) at (occurs_next s) (omega arith) o)
 
     unfolds_pairs : (ms : Members) (q at : ℕ) {m : ℕ} {path : List ℕ} → PairsOccurAt es ms q
         → length (lengthless_pairs ms) < m → Path m path
@@ -153,11 +153,11 @@ module _ (table : List TableEntry) (es : List PlainEvent) (num rank : ℕ → �
         let long = length-append (lengthless t) (lengthless_pairs ms) in
         shows_both num (leaf (trees.String k) q at (occurs_key s) (omega arith) o)
         (shows_both num (unfolds t (q + 1) at (occurs_value s) (omega arith) o)
-        (unfolds_pairs ms (q + 1 + size t) at (occurs_next_pair s) (omega arith) o))
+        (unfolds_pairs ms (q + 1 + event_count t) at (occurs_next_pair s) (omega arith) o))
 
   pub unfolds_whole : (t : Tree) (at : ℕ) → OccursAt es t 0 → ShowsTree [] at t 0
   unfolds_whole t at s =
-      unfolds t 0 at {m = suc (size t)} s (omega arith)
+      unfolds t 0 at {m = suc (event_count t)} s (omega arith)
       (record { is = path_none (length table); above = tt })
 
 pub no_fault : (es : List PlainEvent) → until_fault (map Ok es) ≡ map Ok es

@@ -1,6 +1,6 @@
 -- Held events are those of a tree without their lengths.
 use Rattle.std.proofs.Common.{◌≡◌, List, [], ◌∷◌, map, refl, sym, ◌∙◌}
-use Rattle.plist_base.specs.Bracketing.{bracketing, lengthless, without_length, AreAlike, AreWhole}
+use Rattle.plist_base.specs.Bracketing.{bracketing, lengthless, without_length, AreAlike, AreTreeEvents}
 use Rattle.plist_base.specs.Events.{PlainEvent}
 use Rattle.plist_base.specs.Trees.{Tree}
 use Rattle.plist_base.proofs.Stacks.{lengthless-is, without_length-twice}
@@ -29,6 +29,6 @@ pub plain_lengthless : (held : EventTable) (t : Tree) → AreAlike (plain_events
     → plain_events held ≡ lengthless t
 plain_lengthless held t h = sym (plain_twice held) ∙ h ∙ lengthless-is t
 
-pub whole_bracketed : (held : EventTable) → AreWhole (plain_events held)
+pub whole_bracketed : (held : EventTable) → AreTreeEvents (plain_events held)
     → IsBracketed (plain_events held)
 whole_bracketed held whole = (whole.0, plain_lengthless held _ whole.1)

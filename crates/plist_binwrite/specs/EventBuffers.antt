@@ -3,7 +3,7 @@ use Rattle.std.specs.Prelude.{◌≡◌, Bool, List, [], ◌∷◌, ◌++◌, Op
 use Rattle.plist_base.specs.declared.error.Error.{Error}
 use Rattle.plist_base.specs.declared.error.EventKind.{EventKind}
 use Rattle.plist_base.specs.declared.error.EventKind.TheVariants as event_kind
-use Rattle.plist_base.specs.Bracketing.{without_length, AreWhole, AreComplete, CanContinue}
+use Rattle.plist_base.specs.Bracketing.{without_length, AreTreeEvents, AreComplete, CanContinue}
 use Rattle.plist_base.specs.Events.{PlainEvent, kind_of_event}
 use Rattle.plist_base.specs.Faults.{Fault, UnexpectedEventType, fault_nowhere, fault_of}
 use Rattle.plist_binwrite.specs.declared.event_buffer.EventBuffer.{EventBuffer}
@@ -29,7 +29,7 @@ misplaced_fault held event =
 
 -- a test: are the events those of a tree?
 abbrev pub TestsWhole : Bool → List PlainEvent → Type 0
-TestsWhole answer events = MatchBool answer (AreComplete events) (AreWhole events → ⊥)
+TestsWhole answer events = MatchBool answer (AreComplete events) (AreTreeEvents events → ⊥)
 
 -- the event is taken
 abbrev pub BuffersNext : (before : EventBuffer) → PlainEvent → (after : EventBuffer) → Type 0

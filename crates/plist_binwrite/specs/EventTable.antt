@@ -1,14 +1,14 @@
 -- The events that a writer holds, and what it plans of them.
 use Rattle.std.specs.Prelude.{◌≡◌, ℕ, ◌+◌, ◌<◌, ◌≤◌, Bool, true, false, List, [], ◌∷◌, length, get_or, map, ⊤, ◌++◌, ◌⊎◌, Some, slice_get, if◌then◌else◌}
 use Rattle.plist_base.specs.declared.event.Event.{Event}
-use Rattle.plist_base.specs.Events.{PlainEvent, event_of, StartArray, StartDictionary, EndCollection, Single}
+use Rattle.plist_base.specs.Events.{PlainEvent, event_of, StartArray, StartDictionary, EndCollection, ScalarEvent}
 use Rattle.plist_format.specs.Object.{Object}
 use Rattle.plist_binwrite.specs.declared.event_table.EventTable.{EventTable}
 use Rattle.plist_binwrite.specs.declared.kinds.EntryKind.{EntryKind}
 use Rattle.plist_binwrite.specs.declared.kinds.EntryKind.TheVariants as kind
 use Rattle.plist_base.specs.Trees.{Scalar, Tree, Leaf, Array, Dictionary, Trees, NoTrees, TreeAnd, Members, NoMembers, MemberAnd}
 use Rattle.plist_base.specs.Bracketing.{without_length, lengthless}
-use Rattle.plist_binwrite.specs.Occurrences.{size, OccursAt}
+use Rattle.plist_binwrite.specs.Occurrences.{event_count, OccursAt}
 use Rattle.plist_binwrite.specs.Numberings.{object_of}
 use Rattle.plist_binwrite.specs.inner.Entries.{all_shown, shown}
 use Rattle.plist_binwrite.specs.declared.entries.EventEntry.{EventEntry}
@@ -31,7 +31,7 @@ shown_in held entry = shown (scalars_of held) entry
 
 -- this holds of the scalar, if the event is one
 abbrev pub IfScalar : PlainEvent → (Scalar → Type 0) → Type 0
-IfScalar (Single scalar) P = P scalar
+IfScalar (ScalarEvent scalar) P = P scalar
 IfScalar event P = ⊤
 
 abbrev pub is_end : PlainEvent → Bool
@@ -42,7 +42,7 @@ abbrev pub entry_kind_of : PlainEvent → EntryKind
 entry_kind_of (StartArray hint) = kind.Array
 entry_kind_of (StartDictionary hint) = kind.Dictionary
 entry_kind_of EndCollection = kind.End
-entry_kind_of (Single x) = kind.Scalar
+entry_kind_of (ScalarEvent x) = kind.Scalar
 
 abbrev pub event_at : List PlainEvent → ℕ → PlainEvent
 event_at es p = get_or es p EndCollection
@@ -56,7 +56,7 @@ LacksItem es p = (is_end (event_at es p) ≡ true) ⊎ (length es ≤ p)
 
 -- the tree that begins at an index ends before this one
 abbrev pub EndsTree : List PlainEvent → (index behind : ℕ) → Type 0
-EndsTree es p behind = (t : Tree) → OccursAt es t p → behind ≡ p + size t
+EndsTree es p behind = (t : Tree) → OccursAt es t p → behind ≡ p + event_count t
 
 -- the different scalar of this number stands at an index
 abbrev pub IsScalarAt : EventTable → (index scalar : ℕ) → Type 0
@@ -78,7 +78,7 @@ IsBracketed es = (t : Tree) × (es ≡ lengthless t)
 -- the indices of the items
 abbrev pub item_indices : Trees → ℕ → List ℕ
 item_indices NoTrees q = []
-item_indices (TreeAnd t ts) q = q ∷ item_indices ts (q + size t)
+item_indices (TreeAnd t ts) q = q ∷ item_indices ts (q + event_count t)
 
 -- of a pair the index of the value, or of the key
 abbrev pub half_at : Bool → ℕ → ℕ
@@ -88,7 +88,7 @@ half_at of_values q = if of_values then q + 1 else q
 abbrev pub half_indices : Bool → Members → ℕ → List ℕ
 half_indices of_values NoMembers q = []
 half_indices of_values (MemberAnd k t ms) q =
-    half_at of_values q ∷ half_indices of_values ms (q + 1 + size t)
+    half_at of_values q ∷ half_indices of_values ms (q + 1 + event_count t)
 
 abbrev pub key_indices : Members → ℕ → List ℕ
 key_indices ms q = half_indices false ms q
@@ -115,7 +115,7 @@ abbrev pub IsNumbered : List ℕ → List ℕ → ℕ → Type 0
 IsNumbered numbers firsts p = get_or numbers p 0 < length firsts
 
 -- what was numbered stays so
-pub record Keeps (old_numbers old_firsts new_numbers new_firsts : List ℕ) : Type 0 where
+pub record KeepsNumbering (old_numbers old_firsts new_numbers new_firsts : List ℕ) : Type 0 where
   pub numbered : (p : ℕ) → IsNumbered old_numbers old_firsts p → IsNumbered new_numbers new_firsts p
   pub first : 0 < length old_firsts → get_or new_firsts 0 0 ≡ get_or old_firsts 0 0
   pub grows : length old_firsts ≤ length new_firsts

@@ -1,12 +1,12 @@
 -- What a call of a writer does: what it holds then, whether it has failed, and what went out.
 use Rattle.std.specs.Prelude.{◌≡◌, ◌⊎◌, ℕ, Bool, true, false, List, [], ◌∷◌, ◌++◌, Option, None, Ok, Err, MatchBool}
 use Rattle.std.specs.declared.io.traits.Write.{Ghosts}
-use Rattle.plist_base.specs.Bracketing.{without_length, AreWhole, CanContinue}
+use Rattle.plist_base.specs.Bracketing.{without_length, AreTreeEvents, CanContinue}
 use Rattle.plist_base.specs.Events.{PlainEvent}
 use Rattle.plist_base.specs.Faults.{WriterFailed, fault_nowhere}
 use Rattle.plist_base.specs.Trees.{Tree}
 use Rattle.plist_base.specs.Writing.{Answer, MatchKind}
-use Rattle.plist_binwrite.specs.declared.shared.Sharing.{Ghosts as SharingGhosts}
+use Rattle.plist_binwrite.specs.declared.sharing.Sharing.{Ghosts as SharingGhosts}
 use Rattle.plist_binwrite.specs.declared.writer.FileWriter.{FileWriter}
 use Rattle.plist_binwrite.specs.SendingAs.{SendsFileAs, FailsAs}
 use Rattle.plist_binwrite.specs.EventBuffers.{buffered_events, misplaced_fault}
@@ -40,7 +40,7 @@ module _ {W S : Type 0} {g : Ghosts W} {h : SharingGhosts S} (IsFile : Tree → 
   abbrev pub Holds : (before : FileWriter W S g h) → PlainEvent → (after : FileWriter W S g h)
       → Type 0
   Holds before event after =
-      (AreWhole (open_events before ++ event ∷ []) → ⊥)
+      (AreTreeEvents (open_events before ++ event ∷ []) → ⊥)
       × (open_events after ≡ open_events before ++ without_length event ∷ [])
       × (sink_of after ≡ sink_of before)
 
@@ -60,9 +60,9 @@ module _ {W S : Type 0} {g : Ghosts W} {h : SharingGhosts S} (IsFile : Tree → 
       ⊥
 
   -- a call
-  abbrev pub Takes : (before : FileWriter W S g h) → PlainEvent → Answer
+  abbrev pub IsWriterStep : (before : FileWriter W S g h) → PlainEvent → Answer
       → (after : FileWriter W S g h) → Type 0
-  Takes before event answer after =
+  IsWriterStep before event answer after =
       MatchBool (failed_of before)
       ((answer ≡ Err (fault_nowhere WriterFailed)) × (after ≡ before))
       (TakesEvent before event answer after)

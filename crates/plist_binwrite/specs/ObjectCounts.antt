@@ -12,10 +12,10 @@ use Rattle.plist_binwrite.specs.Occurrences.{positions}
 
 -- ---- whether a scalar is another
 
-abbrev pub truth_eq : Bool → Bool → Bool
-truth_eq true true = true
-truth_eq false false = true
-truth_eq a b = false
+abbrev pub boolean_eq : Bool → Bool → Bool
+boolean_eq true true = true
+boolean_eq false false = true
+boolean_eq a b = false
 
 abbrev pub integer_eq : ℤ → ℤ → Bool
 integer_eq (pos a) (pos b) = nat_eq a b
@@ -28,7 +28,7 @@ real_eq (Eight a) (Eight b) = bytes_eq a b
 real_eq a b = false
 
 abbrev pub scalar_eq : Scalar → Scalar → Bool
-scalar_eq (trees.Boolean a) (trees.Boolean b) = truth_eq a b
+scalar_eq (trees.Boolean a) (trees.Boolean b) = boolean_eq a b
 scalar_eq (trees.Data a) (trees.Data b) = bytes_eq a b
 scalar_eq (trees.Date a) (trees.Date b) = bytes_eq a b
 scalar_eq (trees.Integer a) (trees.Integer b) = integer_eq a b
@@ -44,24 +44,24 @@ abbrev pub collection_of : ℕ × Tree → List (ℕ × Tree)
 collection_of (index, Leaf scalar) = []
 collection_of (index, tree) = (index, tree) ∷ []
 
-abbrev pub collected : List (ℕ × Tree) → List (ℕ × Tree)
-collected ones = flat_map collection_of ones
+abbrev pub collections_among : List (ℕ × Tree) → List (ℕ × Tree)
+collections_among ones = flat_map collection_of ones
 
 -- and the scalars
-abbrev pub text_of : ℕ × Tree → List Scalar
-text_of (index, Leaf scalar) = scalar ∷ []
-text_of (index, tree) = []
+abbrev pub leaf_scalar : ℕ × Tree → List Scalar
+leaf_scalar (index, Leaf scalar) = scalar ∷ []
+leaf_scalar (index, tree) = []
 
-abbrev pub texts : List (ℕ × Tree) → List Scalar
-texts ones = flat_map text_of ones
+abbrev pub leaf_scalars : List (ℕ × Tree) → List Scalar
+leaf_scalars ones = flat_map leaf_scalar ones
 
 -- the arrays and dictionaries of a tree, also where one equals another
 abbrev pub collections_in : Tree → List (ℕ × Tree)
-collections_in tree = collected (positions tree 0)
+collections_in tree = collections_among (positions tree 0)
 
 -- its scalars, with its keys as texts
 abbrev pub scalars_in : Tree → List Scalar
-scalars_in tree = texts (positions tree 0)
+scalars_in tree = leaf_scalars (positions tree 0)
 
 -- one object for each collection, and one for each different scalar
 abbrev pub object_count : Tree → ℕ

@@ -5,8 +5,8 @@ use Rattle.plist_base.specs.Events.{PlainEvent, EndCollection}
 use Rattle.plist_base.specs.Trees.{Tree, Leaf, Array, Dictionary, Trees, NoTrees, TreeAnd, Members, NoMembers, MemberAnd, String}
 
 -- the number of events
-abbrev pub size : Tree → ℕ
-size t = length (lengthless t)
+abbrev pub event_count : Tree → ℕ
+event_count t = length (lengthless t)
 
 -- the events of t occur in es from index p on
 pub record OccursAt (es : List PlainEvent) (t : Tree) (p : ℕ) : Type 0 where
@@ -33,10 +33,10 @@ abbrev mutual
   pub positions_in_items : Trees → ℕ → List (ℕ × Tree)
   positions_in_items NoTrees p = []
   positions_in_items (TreeAnd tree trees) p = positions tree p
-      ++ positions_in_items trees (p + size tree)
+      ++ positions_in_items trees (p + event_count tree)
 
   pub positions_in_pairs : Members → ℕ → List (ℕ × Tree)
   positions_in_pairs NoMembers p = []
   positions_in_pairs (MemberAnd key tree pairs) p =
       (p, Leaf (String key)) ∷ (positions tree (p + 1) ++ positions_in_pairs pairs
-      (p + 1 + size tree))
+      (p + 1 + event_count tree))

@@ -1,6 +1,6 @@
 -- What bodies and proofs speak of, and no public clause.
 pub mod Columns
-pub mod Ending
+pub mod PlannedFiles
 pub mod Entries
 pub mod Laws
 pub mod Laying

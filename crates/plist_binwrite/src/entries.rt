@@ -4,8 +4,8 @@ ghost use Rattle.std.specs.Prelude.{◌≡◌, ◌-◌, ◌^◌, ◌<◌, ◌++�
 ghost use Rattle.plist_binwrite.specs.inner.Columns.{entry_of, kind_in, number_in, scalar_named, IsEntryNumber};
 ghost use Rattle.plist_binwrite.specs.inner.Entries.{behind_at, closed_at, ended_at, entry_at};
 
+use crate::compact_numbers::Numbers;
 use crate::kinds::EntryKind;
-use crate::numbers::Numbers;
 use std::alloc::{AllocError, Global};
 use std::marker::Model;
 

@@ -5,11 +5,11 @@
 //! does. The one refusal is `Io` without an offset; a beginning of all that was put went out then.
 
 ghost use Rattle.std.specs.Prelude.{◌≡◌, ◌∷◌, [], ◌≤◌, ◌<◌};
-ghost use Rattle.plist_binwrite.specs.Forms.{big_endian, doublings, unsigned_form, integer_form, uid_form, length_form, boolean_form, data_form, date_form, real_form, table_form, marked};
+ghost use Rattle.plist_binwrite.specs.Forms.{big_endian, doublings, unsigned_form, integer_form, uid_form, length_form, boolean_form, data_form, date_form, real_form, table_form, marker_and_number};
 ghost use Rattle.plist_binwrite.specs.OutputBuffer.{Puts};
-ghost use Rattle.plist_binwrite.specs.Written.{ending, trailer_of};
+ghost use Rattle.plist_binwrite.specs.Written.{table_and_trailer, trailer_of};
 
-use crate::numbers::Numbers;
+use crate::compact_numbers::Numbers;
 use crate::output_buffer::{put, put_both};
 pub use crate::scalar::put_scalar;
 pub use crate::text::put_text;
@@ -73,7 +73,8 @@ fn put_marked_number<W: Write>(
     number: u64,
 ) -> Result<(), Error>
     requires width { width ≤ 8 }
-    ensures { Puts W.contents out.old buffer.old (marked byte width number) result out.new
+    ensures { Puts W.contents out.old buffer.old (marker_and_number byte width number) result
+        out.new
         buffer.new }
 {
     let digits = number.to_be_bytes();
@@ -155,7 +156,8 @@ pub fn put_uid<W: Write>(out: &mut W, buffer: &mut Vec<u8>, uid: Uid) -> Result<
 
 // Puts an integer above `i64::MAX`, in sixteen bytes.
 fn put_wide_integer<W: Write>(out: &mut W, buffer: &mut Vec<u8>, number: u64) -> Result<(), Error>
-    ensures { Puts W.contents out.old buffer.old (marked 0x14 16 number) result out.new buffer.new }
+    ensures { Puts W.contents out.old buffer.old (marker_and_number 0x14 16 number) result out.new
+        buffer.new }
 {
     put_marked_number(out, buffer, 0x14, 8, 0)?;
     put_number(out, buffer, 8, number)
@@ -217,7 +219,7 @@ pub fn put_table_and_trailer<W: Write>(
     places: &Numbers,
     table: usize,
 ) -> Result<(), Error>
-    ensures { Puts W.contents out.old buffer.old (ending places.now table) result out.new
+    ensures { Puts W.contents out.old buffer.old (table_and_trailer places.now table) result out.new
         buffer.new }
 {
     let width = offset_width(table as u64);

@@ -5,9 +5,9 @@ ghost use Rattle.plist_binwrite.specs.EventTable.{plain_events};
 ghost use Rattle.plist_binwrite.specs.inner.Laying.{IsOrder, HasAll};
 ghost use Rattle.plist_binwrite.specs.inner.Planning.{IsPlanned, count_of};
 
+use crate::compact_numbers::Numbers;
 use crate::event_table::EventTable;
 use crate::kinds::EntryKind;
-use crate::numbers::Numbers;
 use crate::plan::Plan;
 use std::alloc::{AllocError, Global};
 

@@ -6,30 +6,30 @@
 
 pub mod children;
 pub mod classes;
-pub mod completion;
+pub mod compact_numbers;
 mod entries;
 pub mod event_buffer;
 pub mod event_table;
 mod expects;
 pub mod forms;
-pub mod keys;
 pub mod kinds;
 mod layout;
 mod lengths;
 mod numbering;
-pub mod numbers;
 mod objects;
 pub mod output_buffer;
 mod plan;
+pub mod repeated_keys;
 mod scalar;
-mod shared;
+pub mod send_file;
+mod sharing;
 mod size;
 mod text;
 pub mod widths;
 mod writer;
 
-pub use completion::{complete, complete_by_class};
 pub use event_table::EventTable;
 pub use plist_base::send::send_and_flush;
-pub use shared::{EqualScalars, Sharing};
+pub use send_file::{complete, complete_by_class};
+pub use sharing::{EqualScalars, Sharing};
 pub use writer::{BinaryWriter, FileWriter};

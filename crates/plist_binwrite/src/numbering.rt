@@ -4,9 +4,9 @@ ghost use Rattle.std.specs.Prelude.{◌≡◌, length, IfOk};
 ghost use Rattle.plist_binwrite.specs.EventTable.{plain_events, AllBelow};
 ghost use Rattle.plist_binwrite.specs.inner.Numbering.{IsNumberingOf, NumbersRoot, NumbersTree};
 
+use crate::compact_numbers::Numbers;
 use crate::event_table::EventTable;
 use crate::kinds::{EntryKind, key_or_value};
-use crate::numbers::Numbers;
 use std::alloc::{AllocError, Global};
 
 // Held events, and the class of each.
@@ -27,7 +27,7 @@ struct Numbered {
 impl Numbered {
     ghost use Rattle.std.specs.Prelude.{◌≡◌, ◌<◌, [], length, IfOk, OnOk};
     ghost use Rattle.plist_binwrite.specs.EventTable.{plain_events};
-    ghost use Rattle.plist_binwrite.specs.inner.Numbering.{AreMarks, BeginsAt, GoesSoFar, HaveIdsOf, IsPlanOf, KeepsNumbers, NumbersAll, NumbersChildren, NumbersHalf, NumbersItem, NumbersItems, RootIsFirst};
+    ghost use Rattle.plist_binwrite.specs.inner.Numbering.{AreMarks, BeginsAt, IsNumberedSoFar, HaveIdsOf, IsPlanOf, KeepsNumbers, NumbersAll, NumbersChildren, NumbersHalf, NumbersItem, NumbersItems, RootIsFirst};
 
     // No numbers so far.
     fn new(alloc: Global, events: &EventTable<'_>, count: usize) -> Result<Numbered, AllocError>
@@ -46,7 +46,7 @@ impl Numbered {
 
     // Numbers the object of the event here, unless it has a number.
     fn number_one(&mut self, given: &Classed<'_, '_>, index: usize) -> Result<(), AllocError>
-        requires so_far { GoesSoFar given.now self.old }
+        requires so_far { IsNumberedSoFar given.now self.old }
         // The answer.
         ensures numbered { OnOk result (NumbersItem given.now index self.new) }
         ensures first { OnOk result (BeginsAt given.now index self.old self.new) }
@@ -76,8 +76,8 @@ impl Numbered {
 
     // Numbers the items of an array from here on.
     fn number_items(&mut self, given: &Classed<'_, '_>, from: usize) -> Result<(), AllocError>
-        requires so_far { GoesSoFar given.now self.old }
-        ensures so_far { OnOk result (GoesSoFar given.now self.new) }
+        requires so_far { IsNumberedSoFar given.now self.old }
+        ensures so_far { OnOk result (IsNumberedSoFar given.now self.new) }
         ensures keeps { OnOk result (KeepsNumbers self.old self.new) }
         ensures numbered { OnOk result (NumbersItems given.now from self.new) }
     {
@@ -96,8 +96,8 @@ impl Numbered {
         from: usize,
         values: bool,
     ) -> Result<(), AllocError>
-        requires so_far { GoesSoFar given.now self.old }
-        ensures so_far { OnOk result (GoesSoFar given.now self.new) }
+        requires so_far { IsNumberedSoFar given.now self.old }
+        ensures so_far { OnOk result (IsNumberedSoFar given.now self.new) }
         ensures keeps { OnOk result (KeepsNumbers self.old self.new) }
         ensures numbered { OnOk result (NumbersHalf given.now values from self.new) }
     {
@@ -112,9 +112,9 @@ impl Numbered {
 
     // Numbers the keys of the collection that begins here, and then its values.
     fn number_children(&mut self, given: &Classed<'_, '_>, index: usize) -> Result<(), AllocError>
-        requires so_far { GoesSoFar given.now self.old }
+        requires so_far { IsNumberedSoFar given.now self.old }
         requires index { index < length (plain_events given.now.events.now) }
-        ensures so_far { OnOk result (GoesSoFar given.now self.new) }
+        ensures so_far { OnOk result (IsNumberedSoFar given.now self.new) }
         ensures keeps { OnOk result (KeepsNumbers self.old self.new) }
         ensures numbered { OnOk result (NumbersChildren given.now index self.new) }
     {
@@ -132,7 +132,7 @@ impl Numbered {
 
     // Numbers all: a collection, when its turn comes, its keys and then its values.
     fn number_all(&mut self, given: &Classed<'_, '_>) -> Result<(), AllocError>
-        requires so_far { GoesSoFar given.now self.old }
+        requires so_far { IsNumberedSoFar given.now self.old }
         requires none { self.old.firsts ≡ [] }
         ensures plan { OnOk result (IsPlanOf given.now self.new) }
         ensures all { OnOk result (NumbersAll given.now self.new) }

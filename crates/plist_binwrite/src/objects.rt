@@ -5,9 +5,9 @@ ghost use Rattle.plist_binwrite.specs.EventTable.{AllBelow};
 ghost use Rattle.plist_binwrite.specs.inner.Planning.{CanPut, count_of, events_in};
 ghost use Rattle.plist_binwrite.specs.inner.Putting.{PutsArray, PutsDictionary, PutsHalf, PutsItems, PutsObject, PutsOrder};
 
+use crate::compact_numbers::Numbers;
 use crate::forms::{put_length, put_number, put_scalar};
 use crate::kinds::{EntryKind, key_or_value};
-use crate::numbers::Numbers;
 use crate::plan::Planned;
 use crate::size::count_items;
 use plist_base::Error;

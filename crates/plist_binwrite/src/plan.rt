@@ -4,7 +4,7 @@ ghost use Rattle.std.specs.Prelude.{◌≡◌, ◌<◌, length, IfOk};
 ghost use Rattle.plist_base.specs.Outcomes.{OnlyMemory};
 ghost use Rattle.plist_binwrite.specs.Classes.{AreClasses};
 ghost use Rattle.plist_binwrite.specs.EventTable.{plain_events, nth_number, AllBelow, IsBracketed};
-ghost use Rattle.plist_binwrite.specs.inner.Planning.{IsPlanned, GoesBy, numbers_of, firsts_of};
+ghost use Rattle.plist_binwrite.specs.inner.Planning.{IsPlanned, IsPlanByClass, numbers_of, firsts_of};
 
 use crate::classes::Classes;
 use crate::event_table::EventTable;
@@ -62,7 +62,7 @@ pub fn plan_by_class(
     requires below { AllBelow classes.count classes.of }
     requires classes { AreClasses (plain_events events.now) (nth_number classes.of) }
     ensures planned { IfOk result (λ plan. IsPlanned (plain_events events.now) plan) }
-    ensures goes { IfOk result (GoesBy (plain_events events.now) (nth_number classes.of)) }
+    ensures goes { IfOk result (IsPlanByClass (plain_events events.now) (nth_number classes.of)) }
     ensures memory { OnlyMemory result }
 {
     let numbering = number_by_class(alloc, events, &classes.of, classes.count)?;

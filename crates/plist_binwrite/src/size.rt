@@ -8,10 +8,10 @@ ghost use Rattle.plist_binwrite.specs.inner.Planning.{IsPlanned, count_of, event
 ghost use Rattle.plist_binwrite.specs.Sizes.{IsSizeOrNone, size_with};
 ghost use Rattle.plist_binwrite.specs.inner.Sizing.{AreLaid, CountsItems, ExceedsWith, FitsWith, IsWritableAt, IsEndOrNone, IsSizeOrNoneAt};
 
+use crate::compact_numbers::Numbers;
 use crate::event_table::EventTable;
 use crate::kinds::EntryKind;
 use crate::lengths::{add, length_of_collection, length_of_scalar};
-use crate::numbers::Numbers;
 use crate::plan::Planned;
 use crate::widths::offset_width;
 use plist_base::Error;

@@ -5,7 +5,7 @@ ghost use Rattle.std.proofs.Props.{props};
 ghost use Rattle.plist_binwrite.specs.EventBuffers.{is_whole};
 
 use crate::event_buffer::EventBuffer;
-use crate::shared::{EqualScalars, Sharing};
+use crate::sharing::{EqualScalars, Sharing};
 use plist_base::{Error, ErrorKind, Event, Sealed, Writer};
 use std::alloc::Global;
 use std::io::Write;
@@ -69,14 +69,14 @@ impl<W: Write, S: Sharing> FileWriter<W, S> {
 impl<W: Write, S: Sharing> Sealed for FileWriter<W, S> {}
 
 impl<W: Write, S: Sharing> Writer for FileWriter<W, S> {
-    ghost use Rattle.plist_binwrite.specs.FileWriter.{Takes, open_events, failed_of};
+    ghost use Rattle.plist_binwrite.specs.FileWriter.{IsWriterStep, open_events, failed_of};
     ghost use Rattle.plist_binwrite.specs.inner.Laws.{takes_law, takes_failed};
 
     ghost held = { open_events };
 
     ghost failed = { failed_of };
 
-    ghost Step = { Takes S.IsFile S.size W.contents };
+    ghost Step = { IsWriterStep S.IsFile S.size W.contents };
 
     fn write(&mut self, event: Event<'_>) -> Result<(), Error> {
         if self.has_failed {

@@ -1,2 +1,2 @@
 pub mod Objects
-pub mod Writers
+pub mod ReadBackFaults

@@ -5,8 +5,8 @@ ghost use Rattle.std.specs.Prelude.{◌≡◌, IfErr, IfOk, IsSome, None, Some, 
 ghost use Rattle.std.specs.Option.{option_copied};
 ghost use Rattle.plist_base.specs.declared.error.EventKind.TheVariants as event_kind;
 ghost use Rattle.plist_base.specs.Trees.{Array, Dictionary as Pairs, NoMembers, NoTrees};
-ghost use Rattle.plist.specs.Contents.{array_in, dictionary_in, text_in};
-ghost use Rattle.plist.specs.Views.{item_trees, kind_of_tree, pair_trees, tree_of};
+ghost use Rattle.plist.specs.Accessors.{array_in, dictionary_in, text_in};
+ghost use Rattle.plist.specs.ValueTrees.{item_trees, kind_of_tree, pair_trees, tree_of};
 
 use plist::{Dictionary, Value, Variant, kind_of_value};
 use plist_base::{Date, Error, EventKind, RealBits, Uid};

@@ -2,8 +2,8 @@
 
 ghost use Rattle.std.specs.Prelude.{◌≡◌, Some, option_map};
 ghost use Rattle.plist_base.specs.Reals.{number_of_real, real_of};
-ghost use Rattle.plist.specs.Contents.{real_in};
-ghost use Rattle.plist.specs.Views.{tree_of};
+ghost use Rattle.plist.specs.Accessors.{real_in};
+ghost use Rattle.plist.specs.ValueTrees.{tree_of};
 
 use plist::{RealBits, Value};
 

@@ -6,10 +6,10 @@ ghost use Rattle.plist_ascii.specs.Texts.{tight};
 ghost use Rattle.plist_base.specs.Faults.{WriterFailed, fault_nowhere};
 ghost use Rattle.plist_reader.specs.Reader.{items_of_input};
 ghost use Rattle.plist.specs.Collecting.{built_tree};
-ghost use Rattle.plist.specs.Inputs.{IsValueOf};
+ghost use Rattle.plist.specs.ValueOfItems.{IsValueOf};
 ghost use Rattle.plist.specs.Limiting.{NestsWithin};
-ghost use Rattle.plist.specs.ReadBy.{items_of_text};
-ghost use Rattle.plist.specs.Views.{tree_of, tree_pairs};
+ghost use Rattle.plist.specs.FromReader.{items_of_text};
+ghost use Rattle.plist.specs.ValueTrees.{tree_of, tree_pairs};
 
 use plist::callers::are_equal;
 use plist::{Builder, Dialect, Dictionary, Limits, Value};

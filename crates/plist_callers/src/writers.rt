@@ -7,8 +7,8 @@ ghost use Rattle.plist_binwrite.specs.Files.{IsFileOf};
 ghost use Rattle.plist_binwrite.specs.ObjectCounts.{HasObjects};
 ghost use Rattle.plist_share.specs.Distinct.{IsLeastOfAll, distinct_subtrees};
 ghost use Rattle.plist_share.specs.SharedFiles.{IsSharedFileOf};
-ghost use Rattle.plist.specs.Views.{tree_of};
-ghost use Rattle.plist_callers.specs.Writers.{KeepsFromBack};
+ghost use Rattle.plist.specs.ValueTrees.{tree_of};
+ghost use Rattle.plist_callers.specs.ReadBackFaults.{PreventsReadBack};
 
 use plist::callers::file_by_events;
 use plist::{Error, Value};
@@ -25,7 +25,7 @@ use std::alloc::Global;
 pub fn write_back(alloc: Global, value: &Value) -> Result<Value, Error>
     ensures same { IfOk result (λ again. tree_of again ≡ tree_of value.now) }
     ensures refused { IfErr result
-        (λ e. KeepsFromBack (kind_of (error_kind_of e)) (tree_of value.now)) }
+        (λ e. PreventsReadBack (kind_of (error_kind_of e)) (tree_of value.now)) }
 {
     let mut bytes = Vec::new(alloc);
     value.to_writer_binary(alloc, &mut bytes)?;

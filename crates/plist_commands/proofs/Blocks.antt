@@ -3,14 +3,14 @@ use Rattle.std.proofs.Common.{◌≡◌, ℕ, zero, suc, ◌+◌, ◌*◌, ◌/�
 use Rattle.std.specs.Simd.{first_chunks}
 use Rattle.std.proofs.lemmas.Grind.{flat_map-append}
 use Rattle.std.proofs.lemmas.List.{take-append-drop}
-use Rattle.plist_commands.specs.declared.lines.Notation.{Notation}
-use Rattle.plist_commands.specs.declared.lines.Notation.TheVariants as notation
-use Rattle.plist_commands.specs.Lines.{hexadecimal_digit, noted, text_of_byte}
+use Rattle.plist_commands.specs.declared.escaped_lines.Notation.{Notation}
+use Rattle.plist_commands.specs.declared.escaped_lines.Notation.TheVariants as notation
+use Rattle.plist_commands.specs.EscapedLines.{hexadecimal_digit, in_notation, escaped_byte}
 
 -- what is printed of two parts is printed of both
 pub both_noted : (n : Notation) (left right : List ℕ)
-    → noted n left ++ noted n right ≡ noted n (left ++ right)
-both_noted notation.Text left right = sym (flat_map-append text_of_byte left right)
+    → in_notation n left ++ in_notation n right ≡ in_notation n (left ++ right)
+both_noted notation.Text left right = sym (flat_map-append escaped_byte left right)
 both_noted notation.Hexadecimal left right =
     sym (flat_map-append (λ byte. hexadecimal_digit (byte / 16) ∷ hexadecimal_digit (byte % 16) ∷ [])
     left right)
@@ -28,27 +28,27 @@ block_at size (suc count) (suc i) bytes none below =
 -- what is printed of one more block
 pub block_more : (n : Notation) (size count : ℕ) (bytes old line printed new none : List ℕ)
     (blocks : List (List ℕ)) (i : ℕ) → blocks ≡ first_chunks size count bytes
-    → length blocks ≡ count → i < length blocks → line ≡ old ++ noted n (take (i * size) bytes)
-    → printed ≡ noted n (get_or blocks i none) → new ≡ line ++ printed
-    → new ≡ old ++ noted n (take ((i + 1) * size) bytes)
+    → length blocks ≡ count → i < length blocks → line ≡ old ++ in_notation n (take (i * size) bytes)
+    → printed ≡ in_notation n (get_or blocks i none) → new ≡ line ++ printed
+    → new ≡ old ++ in_notation n (take ((i + 1) * size) bytes)
 block_more n size count bytes old line printed new none blocks i are many below so_far of grown =
     let here : get_or blocks i none ≡ take size (drop (i * size) bytes) =
     ap (λ all. get_or all i none) are ∙ block_at size count i bytes none (omega (arith, below, many))
     in
-    grown ∙ (λ k. so_far k ++ (of ∙ ap (noted n) here) k)
-    ∙ append_assoc old (noted n (take (i * size) bytes)) _
+    grown ∙ (λ k. so_far k ++ (of ∙ ap (in_notation n) here) k)
+    ∙ append_assoc old (in_notation n (take (i * size) bytes)) _
     ∙ ap (λ l. old ++ l) (both_noted n (take (i * size) bytes) (take size (drop (i * size) bytes))
-    ∙ ap (noted n) (sym (take-add (i * size) size bytes)
+    ∙ ap (in_notation n) (sym (take-add (i * size) size bytes)
     ∙ ap (λ k. take k bytes) {x = i * size + size} {y = (i + 1) * size} (omega arith)))
 
 -- and of the bytes behind all blocks
 pub blocks_end : (n : Notation) (size count : ℕ) (bytes old line new rest : List ℕ) (i : ℕ)
-    → i ≡ count → line ≡ old ++ noted n (take (i * size) bytes) → rest ≡ drop (count * size) bytes
-    → new ≡ line ++ noted n rest → new ≡ old ++ noted n bytes
+    → i ≡ count → line ≡ old ++ in_notation n (take (i * size) bytes) → rest ≡ drop (count * size) bytes
+    → new ≡ line ++ in_notation n rest → new ≡ old ++ in_notation n bytes
 blocks_end n size count bytes old line new rest i at so_far is grown =
-    grown ∙ (λ k. so_far k ++ ap (noted n) is k)
-    ∙ append_assoc old (noted n (take (i * size) bytes)) _
-    ∙ ap (λ l. old ++ l) (ap (λ k. noted n (take (k * size) bytes)
-    ++ noted n (drop (count * size) bytes)) at
+    grown ∙ (λ k. so_far k ++ ap (in_notation n) is k)
+    ∙ append_assoc old (in_notation n (take (i * size) bytes)) _
+    ∙ ap (λ l. old ++ l) (ap (λ k. in_notation n (take (k * size) bytes)
+    ++ in_notation n (drop (count * size) bytes)) at
     ∙ both_noted n (take (count * size) bytes) (drop (count * size) bytes)
-    ∙ ap (noted n) (take-append-drop (count * size) bytes))
+    ∙ ap (in_notation n) (take-append-drop (count * size) bytes))

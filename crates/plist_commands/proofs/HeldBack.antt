@@ -11,9 +11,9 @@ use Rattle.plist_base.specs.Prefixes.{AppendsPrefix}
 use Rattle.plist_base.specs.Sources.{CountsIo, Rises}
 use Rattle.plist_base.proofs.Fronts.{Appends-at}
 use Rattle.plist_base.proofs.Refusals.{MatchFault-all, MatchFault-at, MatchFault-weaker}
-use Rattle.plist_commands.specs.Prefixes.{PassesOn}
+use Rattle.plist_commands.specs.HeldLines.{PassesOn}
 use Rattle.plist_commands.specs.Items.{ComesIfKnown, GivesNext}
-use Rattle.plist_commands.specs.Lines.{line_of, lines_of, first_fault}
+use Rattle.plist_commands.specs.EscapedLines.{line_of, lines_of, first_fault}
 use Rattle.plist_commands.specs.Printing.{CountsReads, IsWriterError, PrintsAll, PrintsUntil}
 
 -- a beginning of a beginning

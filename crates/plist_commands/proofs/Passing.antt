@@ -5,13 +5,13 @@ use Rattle.std.specs.Simd.{first_chunks}
 use Rattle.std.proofs.KnownBytes.{Appends-nil, Appends-trans}
 use Rattle.std.proofs.lemmas.Bool.Decides.{Decides-eqb}
 use Rattle.std.proofs.lemmas.List.{take-append-drop}
-use Rattle.plist_base.specs.Events.{Single}
+use Rattle.plist_base.specs.Events.{ScalarEvent}
 use Rattle.plist_base.specs.Prefixes.{AppendsPrefix}
 use Rattle.plist_base.specs.Trees.{Data, String}
-use Rattle.plist_commands.specs.declared.lines.Notation.{Notation}
-use Rattle.plist_commands.specs.declared.lines.Notation.TheVariants as notation
-use Rattle.plist_commands.specs.Prefixes.{PassesOn}
-use Rattle.plist_commands.specs.Lines.{hexadecimal, line_of, noted, text_of_bytes}
+use Rattle.plist_commands.specs.declared.escaped_lines.Notation.{Notation}
+use Rattle.plist_commands.specs.declared.escaped_lines.Notation.TheVariants as notation
+use Rattle.plist_commands.specs.HeldLines.{PassesOn}
+use Rattle.plist_commands.specs.EscapedLines.{hexadecimal, line_of, in_notation, escaped_text}
 use Rattle.plist_commands.proofs.Blocks.{block_more, blocks_end, both_noted}
 use Rattle.plist_commands.proofs.HeldBack.{front_longer}
 
@@ -58,18 +58,18 @@ front_alone a b all held (sent, appended, is) = (sent, held, appended, is)
 -- ---- blocks
 
 pub none_passed : (n : Notation) (a : Option (List ℕ)) (bytes old : List ℕ)
-    → PassesOn a a (old ++ noted n (take 0 bytes)) old
+    → PassesOn a a (old ++ in_notation n (take 0 bytes)) old
 none_passed notation.Text a bytes old = ([], Appends-nil a, append-nil old)
 none_passed notation.Hexadecimal a bytes old = ([], Appends-nil a, append-nil old)
 
 module _ (n : Notation) (size count : ℕ) (bytes old : List ℕ) (a b c : Option (List ℕ))
-    (held : List ℕ) (i : ℕ) (so_far : PassesOn a b (old ++ noted n (take (i * size) bytes)) held)
+    (held : List ℕ) (i : ℕ) (so_far : PassesOn a b (old ++ in_notation n (take (i * size) bytes)) held)
   where
     -- one more block
     pub block_passed : (blocks : List (List ℕ)) (none kept : List ℕ)
         → blocks ≡ first_chunks size count bytes → length blocks ≡ count → i < length blocks
-        → PassesOn b c (held ++ noted n (get_or blocks i none)) kept
-        → PassesOn a c (old ++ noted n (take ((i + 1) * size) bytes)) kept
+        → PassesOn b c (held ++ in_notation n (get_or blocks i none)) kept
+        → PassesOn a c (old ++ in_notation n (take ((i + 1) * size) bytes)) kept
     block_passed blocks none kept are many below now =
         subst (λ l. PassesOn a c l kept)
         (block_more n size count bytes old _ _ _ none blocks i are many below refl refl refl)
@@ -78,29 +78,29 @@ module _ (n : Notation) (size count : ℕ) (bytes old : List ℕ) (a b c : Optio
     -- a beginning of it
     pub block_in_front : (blocks : List (List ℕ)) (none : List ℕ)
         → blocks ≡ first_chunks size count bytes → length blocks ≡ count → i < length blocks
-        → AppendsPrefix b c (held ++ noted n (get_or blocks i none))
-        → AppendsPrefix a c (old ++ noted n bytes)
+        → AppendsPrefix b c (held ++ in_notation n (get_or blocks i none))
+        → AppendsPrefix a c (old ++ in_notation n bytes)
     block_in_front blocks none are many below now =
         let place = (i + 1) * size in
         subst (λ l. AppendsPrefix a c l)
-        (append_assoc old (noted n (take place bytes)) (noted n (drop place bytes))
+        (append_assoc old (in_notation n (take place bytes)) (in_notation n (drop place bytes))
         ∙ ap (λ l. old ++ l) (both_noted n (take place bytes) (drop place bytes)
-        ∙ ap (noted n) (take-append-drop place bytes)))
-        (front_longer a c _ (noted n (drop place bytes))
+        ∙ ap (in_notation n) (take-append-drop place bytes)))
+        (front_longer a c _ (in_notation n (drop place bytes))
         (subst (λ l. AppendsPrefix a c l)
         (block_more n size count bytes old _ _ _ none blocks i are many below refl refl refl)
         (both_in_front a b c _ held _ so_far now)))
 
     -- the bytes behind all blocks
     pub rest_passed : (rest kept : List ℕ) → i ≡ count → rest ≡ drop (count * size) bytes
-        → PassesOn b c (held ++ noted n rest) kept → PassesOn a c (old ++ noted n bytes) kept
+        → PassesOn b c (held ++ in_notation n rest) kept → PassesOn a c (old ++ in_notation n bytes) kept
     rest_passed rest kept at is now =
         subst (λ l. PassesOn a c l kept)
         (blocks_end n size count bytes old _ _ rest i at refl is refl)
         (both_passed a b c _ held _ kept so_far now)
 
     pub rest_in_front : (rest : List ℕ) → i ≡ count → rest ≡ drop (count * size) bytes
-        → AppendsPrefix b c (held ++ noted n rest) → AppendsPrefix a c (old ++ noted n bytes)
+        → AppendsPrefix b c (held ++ in_notation n rest) → AppendsPrefix a c (old ++ in_notation n bytes)
     rest_in_front rest at is now =
         subst (λ l. AppendsPrefix a c l) (blocks_end n size count bytes old _ _ rest i at refl is refl)
         (both_in_front a b c _ held _ so_far now)
@@ -124,18 +124,18 @@ module _ (a b : Option (List ℕ)) (old word bytes end line : List ℕ) (grown :
 
 -- the lines of a text and of data are such
 pub text_line : (text bytes : List ℕ) → bytes ≡ text
-    → codes "String \"" ++ text_of_bytes bytes ++ codes "\"\n" ≡ line_of (Single (String text))
+    → codes "String \"" ++ escaped_text bytes ++ codes "\"\n" ≡ line_of (ScalarEvent (String text))
 text_line text bytes is =
-    sym (append_assoc (codes "String \"" ++ text_of_bytes bytes) (codes "\"") (codes "\n"))
-    ∙ ap (λ l. line_of (Single (String l))) is
+    sym (append_assoc (codes "String \"" ++ escaped_text bytes) (codes "\"") (codes "\n"))
+    ∙ ap (λ l. line_of (ScalarEvent (String l))) is
 
 pub data_line : (bytes : List ℕ) → (length bytes == 0) ≡ false
-    → codes "Data " ++ hexadecimal bytes ++ codes "\n" ≡ line_of (Single (Data bytes))
+    → codes "Data " ++ hexadecimal bytes ++ codes "\n" ≡ line_of (ScalarEvent (Data bytes))
 data_line [] some = absurd (true≢false some)
 data_line (byte ∷ bytes) some = refl
 
 pub no_data_line : (bytes : List ℕ) → (length bytes == 0) ≡ true
-    → codes "Data" ++ hexadecimal bytes ++ codes "\n" ≡ line_of (Single (Data bytes))
+    → codes "Data" ++ hexadecimal bytes ++ codes "\n" ≡ line_of (ScalarEvent (Data bytes))
 no_data_line [] none = refl
 no_data_line (byte ∷ bytes) none =
     let no : suc (length bytes) ≡ 0 = (Decides-eqb (length (byte ∷ bytes)) 0).0 none in

@@ -7,7 +7,7 @@ use Rattle.std.proofs.lemmas.Fmt.{decimal_digit, decimal_step, length-decimal-le
 use Rattle.std.proofs.lemmas.Grind.{flat_map-append}
 use Rattle.std.proofs.lemmas.List.{take-append-drop, take_more}
 use Rattle.plist_base.specs.Date.{real_bits, second_of_bytes, has_fraction}
-use Rattle.plist_commands.specs.Lines.{hexadecimal, stands_for_itself, text_of_byte, text_of_bytes, text_of_date}
+use Rattle.plist_commands.specs.EscapedLines.{hexadecimal, stands_for_itself, escaped_byte, escaped_text, text_of_date}
 
 -- ---- a date with a fraction
 
@@ -63,16 +63,16 @@ written_behind front room digits rest new start ends before written =
 
 -- ---- texts whose bytes stand for themselves
 
-plain_byte : (byte : ℕ) → stands_for_itself byte ≡ true → text_of_bytes (byte ∷ []) ≡ byte ∷ []
+plain_byte : (byte : ℕ) → stands_for_itself byte ≡ true → escaped_text (byte ∷ []) ≡ byte ∷ []
 plain_byte byte is = rw is refl
 
 -- one more byte of a text that is looked through
 pub plain_more : (text : List ℕ) (i : ℕ) (before byte : Bool) → i < length text
-    → (before ≡ true → text_of_bytes (take i text) ≡ take i text)
+    → (before ≡ true → escaped_text (take i text) ≡ take i text)
     → byte ≡ stands_for_itself (get_or text i 0)
-    → (before && byte) ≡ true → text_of_bytes (take (i + 1) text) ≡ take (i + 1) text
+    → (before && byte) ≡ true → escaped_text (take (i + 1) text) ≡ take (i + 1) text
 plain_more text i before byte within so_far is both =
     let (front, plain) = and_parts before byte both in
     rw (take_more text i 0 within)
-    (flat_map-append text_of_byte (take i text) (get_or text i 0 ∷ [])
+    (flat_map-append escaped_byte (take i text) (get_or text i 0 ∷ [])
     ∙ (λ k. so_far front k ++ plain_byte (get_or text i 0) (sym is ∙ plain) k))

@@ -13,10 +13,10 @@ use Rattle.plist_base.specs.Events.{PlainEvent}
 use Rattle.plist_base.specs.Faults.{FaultKind, Io, IsIo, MatchFault, OutOfMemory, error_kind_of, fault_nowhere, fault_of, kind_of, offset_of}
 use Rattle.plist_base.specs.Prefixes.{AppendsPrefix}
 use Rattle.plist_base.proofs.Fronts.{Appends-at}
-use Rattle.plist_commands.specs.Prefixes.{PassesOn}
-use Rattle.plist_commands.specs.Lines.{line_of, lines_of_events}
+use Rattle.plist_commands.specs.HeldLines.{PassesOn}
+use Rattle.plist_commands.specs.EscapedLines.{line_of, lines_of_events}
 use Rattle.plist_commands.specs.Printing.{IsWriterFault, IsWriterError}
-use Rattle.plist_commands.specs.Runs.{ComesOfReading, GoesThrough, StepAnswer, HoldsRun, PrintsRun}
+use Rattle.plist_commands.specs.ReaderRuns.{ComesOfReading, AdvancesOver, StepAnswer, HoldsRun, PrintsRun}
 use Rattle.plist_commands.proofs.HeldBack.{device_own}
 
 lines_more : (events : List PlainEvent) (event : PlainEvent)
@@ -62,15 +62,15 @@ module _ {I : Type 0} (goes : I → StepAnswer → I → Type 0) (last : I → P
   -- so many events came, whose lines were sent or are held back
   abbrev pub HasRun : (old now : I) → (before after : Option (List ℕ)) → (held : List ℕ) → Type 0
   HasRun old now before after held =
-      (events : List PlainEvent) × GoesThrough goes last old events now
+      (events : List PlainEvent) × AdvancesOver goes last old events now
       × PassesOn before after (lines_of_events events) held
 
   pub run_none : (old : I) (before : Option (List ℕ)) (held : List ℕ) → held ≡ []
       → HasRun old old before before held
   run_none old before held none = ([], refl, ([], Appends-nil before, sym none))
 
-  one_more : (events : List PlainEvent) (old now new : I) → GoesThrough goes last old events now
-      → goes now (Some (Ok tt)) new → GoesThrough goes last old (events ++ last new ∷ []) new
+  one_more : (events : List PlainEvent) (old now new : I) → AdvancesOver goes last old events now
+      → goes now (Some (Ok tt)) new → AdvancesOver goes last old (events ++ last new ∷ []) new
   one_more [] old now new is step =
       (new, subst (λ i. goes i (Some (Ok tt)) new) (sym is) step, refl, refl)
   one_more (event ∷ events) old now new (next, first, told, more) step =
@@ -210,7 +210,7 @@ module _ {I : Type 0} (goes : I → StepAnswer → I → Type 0) (last : I → P
   abbrev pub HasHeld : (old now : I) → (held : List PlainEvent) → Type 0
   HasHeld old now held =
       (events : List PlainEvent)
-      × GoesThrough goes last old events now
+      × AdvancesOver goes last old events now
       × (held ≡ map without_length events)
 
   pub held_none : (old : I) (held : List PlainEvent) → held ≡ [] → HasHeld old old held

@@ -3,28 +3,28 @@ use Rattle.std.specs.Prelude.{⊤}
 use Rattle.std.proofs.Common.{◌≡◌, ◌↔◌, ℕ, Bool, true, false, List, [], ◌∷◌, ◌++◌, Option, Some, None, Result, Ok, Err, IfSome, map, refl, sym, ap, ◌∙◌, append-nil}
 use Rattle.std.specs.Option.{option_map}
 use Rattle.plist_base.specs.declared.error.Error.{Error}
-use Rattle.plist_base.specs.Bracketing.{bracketing, without_length, AreAlike, AreWhole, CanContinue}
+use Rattle.plist_base.specs.Bracketing.{bracketing, without_length, AreAlike, AreTreeEvents, CanContinue}
 use Rattle.plist_base.specs.Events.{PlainEvent, Item}
 use Rattle.plist_base.specs.Faults.{Fault, MatchFault}
 use Rattle.plist_base.specs.Trees.{Tree, Leaf, Array, Dictionary}
 use Rattle.plist_base.proofs.Grammar.{alike_last, alike_with, complete_of_whole, continue_alike, whole_alike}
 use Rattle.plist_base.specs.Writing.{Answer}
 use Rattle.plist_format.specs.Unfolding.{items_of_file}
-use Rattle.plist_binwrite.specs.Keys.{HasKeysOnce}
+use Rattle.plist_binwrite.specs.RepeatedKeys.{HasKeysOnce}
 use Rattle.plist_binwrite.specs.EventBuffers.{TestsWhole}
 use Rattle.plist_binwrite.specs.Sending.{Sends}
 use Rattle.plist_reader.specs.declared.format.Format.TheVariants as format
 use Rattle.plist_reader.specs.Formats.{format_of}
 use Rattle.plist_reader.specs.Reader.{items_by, items_of_input}
 use Rattle.plist.specs.Building.{Unfinished, NotBegun, IsNested, events_so_far}
-use Rattle.plist.specs.Inputs.{AreOf, IsValueOf}
+use Rattle.plist.specs.ValueOfItems.{AreItemsOfTree, IsValueOf}
 use Rattle.plist.specs.LastWins.{last_wins}
 use Rattle.plist.specs.inner.Following.{taken_before, continues-accepted}
 use Rattle.plist.proofs.Gathered.{sends_tree}
 use Rattle.plist.proofs.Inputs.{all-events, event-more, no-events, stops-there}
 use Rattle.plist.proofs.KeysOnce.{keys-once}
 use Rattle.plist_keyed.proofs.Told.{same_of}
-use Rattle.plist_commands.specs.Converting.{HoldsTree, AreNoTree, IsDirect, SendsRead, items_of_known}
+use Rattle.plist_commands.specs.Converting.{HoldsTree, AreNoTree, BytesHaveKeysOnce, SendsRead, items_of_known}
 use Rattle.plist_commands.specs.Items.{ComesIfKnown, GivesNext}
 
 -- of the items these events were taken, which are alike to those held, and these items are to come
@@ -114,7 +114,7 @@ module _ (all before : List Item) (held : List PlainEvent) (took : TookOf all be
 
   -- an event of a tree can come next
   pub goes_on : (after : List Item) (e : PlainEvent) → before ≡ Ok e ∷ after → (tree : Tree)
-      → AreOf all tree → CanContinue held e
+      → AreItemsOfTree all tree → CanContinue held e
   goes_on after e b tree (others, same, whole) =
       let (events, u, is, ok, alike, like) = took in
       let s = all-events events others (Ok e ∷ after)
@@ -127,8 +127,8 @@ module _ (all before : List Item) (held : List PlainEvent) (took : TookOf all be
       )
 
   -- the items are those of the tree whose events are held at the end
-  pub held_at_end : before ≡ [] → AreWhole held
-      → (tree : Tree) × AreOf all tree × AreAlike held (bracketing tree)
+  pub held_at_end : before ≡ [] → AreTreeEvents held
+      → (tree : Tree) × AreItemsOfTree all tree × AreAlike held (bracketing tree)
   held_at_end none (tree, whole) =
       let (events, u, is, ok, alike, like) = took in (
         tree,
@@ -141,7 +141,7 @@ module _ (all before : List Item) (held : List PlainEvent) (took : TookOf all be
       )
 
   -- all that a tree's items are is held at the end
-  pub whole_at_end : before ≡ [] → (tree : Tree) → AreOf all tree → AreWhole held
+  pub whole_at_end : before ≡ [] → (tree : Tree) → AreItemsOfTree all tree → AreTreeEvents held
   whole_at_end none tree (others, same, whole) =
       let (events, u, is, ok, alike, like) = took in
       let s = all-events events others []
@@ -166,7 +166,7 @@ binary_items (Some bytes) inner coming e is h =
 pub not_direct : (known : Option (List ℕ)) (held : List PlainEvent)
     → HoldsTree (items_of_known known) held → (repeats : Bool)
     → ((tree : Tree) → AreAlike held (bracketing tree) → (repeats ≡ false) ↔ HasKeysOnce tree)
-    → (repeats ≡ false → ⊥) → IfSome known (λ bytes. IsDirect bytes → ⊥)
+    → (repeats ≡ false → ⊥) → IfSome known (λ bytes. BytesHaveKeysOnce bytes → ⊥)
 not_direct None held h repeats once repeated = tt
 not_direct (Some bytes) held (_, (t, are, alike)) repeats once repeated =
     λ (tree, of, last).
@@ -188,6 +188,6 @@ sends_read (Some bytes) held (_, (t, are, alike)) contents answer old new once s
 
 -- known bytes are no such list
 pub not_read : (known : Option (List ℕ)) → AreNoTree (items_of_known known)
-    → IfSome known (λ bytes. IsDirect bytes → ⊥)
+    → IfSome known (λ bytes. BytesHaveKeysOnce bytes → ⊥)
 not_read None h = tt
 not_read (Some bytes) h = λ (tree, of, last). h tree of

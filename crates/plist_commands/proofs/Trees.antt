@@ -1,7 +1,7 @@
 -- Why an archive has no tree under a key.
 use Rattle.std.proofs.Common.{ℕ, List, map}
 use Rattle.plist.specs.declared.value.Value.{Value}
-use Rattle.plist.specs.Views.{tree_of}
+use Rattle.plist.specs.ValueTrees.{tree_of}
 use Rattle.plist_keyed.specs.declared.error.KeyedError.{KeyedError}
 use Rattle.plist_keyed.specs.declared.error.KeyedError.TheVariants as error
 use Rattle.plist_keyed.specs.Archives.{resolved_tree}

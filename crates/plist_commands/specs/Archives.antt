@@ -2,14 +2,14 @@
 use Rattle.std.specs.Prelude.{◌≡◌, ℕ, List, Option, None, Result, Ok, Err, map, ⊤}
 use Rattle.std.specs.Io.KnownBytes.{Appends}
 use Rattle.plist_base.specs.Bracketing.{bracketing}
-use Rattle.plist_base.specs.Faults.{IsFromOutside}
+use Rattle.plist_base.specs.Faults.{IsIoOrMemory}
 use Rattle.plist_base.specs.Trees.{Tree}
 use Rattle.plist.specs.declared.value.Value.{Value}
-use Rattle.plist.specs.Views.{tree_of}
+use Rattle.plist.specs.ValueTrees.{tree_of}
 use Rattle.plist_keyed.specs.Archives.{ArchiveFault, resolved_tree}
 use Rattle.plist_keyed.specs.Contents.{IsArchive, IsArchiveOf, IsUidAt}
 use Rattle.plist_keyed.specs.Errors.{MatchError}
-use Rattle.plist_commands.specs.Lines.{lines_of_events}
+use Rattle.plist_commands.specs.EscapedLines.{lines_of_events}
 use Rattle.plist_commands.specs.Failures.{PlainFailure, OfPlist, OfArchive, NoSuchTop}
 
 -- the property list is an archive whose key names an object with this tree, or this fault
@@ -44,6 +44,6 @@ PrintsTreeAt contents root key old new =
 
 -- the failure says why they didn't: there is no tree, or the writer or memory failed
 abbrev pub IsUnprintedAt : (root : Value) → (key : List ℕ) → PlainFailure → Type 0
-IsUnprintedAt root key (OfPlist fault) = (fault.offset ≡ None) × IsFromOutside fault.kind
+IsUnprintedAt root key (OfPlist fault) = (fault.offset ≡ None) × IsIoOrMemory fault.kind
 IsUnprintedAt root key (OfArchive error) = IsRefusedAt root key (OfArchive error)
 IsUnprintedAt root key NoSuchTop = IsRefusedAt root key NoSuchTop

@@ -20,8 +20,8 @@ words_for (Convert from to) = codes "convert" ∷ from ∷ to ∷ []
 words_for (Keyed file key) = codes "keyed" ∷ file ∷ key ∷ []
 
 -- the words are no command
-abbrev pub IsWrong : (words : List (List ℕ)) → Type 0
-IsWrong words = (asked : PlainCommand) → ¬ (words ≡ words_for asked)
+abbrev pub IsNoCommand : (words : List (List ℕ)) → Type 0
+IsNoCommand words = (asked : PlainCommand) → ¬ (words ≡ words_for asked)
 
 -- what contracts see of a command
 abbrev pub plain_command_of : Command → PlainCommand
@@ -31,11 +31,11 @@ plain_command_of (command.Keyed file key) = Keyed file.now key.now
 
 -- how the program ends where a command answered so: with 0 and no word where it is done, with 1
 -- where it was refused, and then its fault has been reported
-abbrev pub EndsWith : {E : Type 0} → (reports : E → PlainMessage → Bool → E → Type 0)
+abbrev pub IsStatusAfter : {E : Type 0} → (reports : E → PlainMessage → Bool → E → Type 0)
     → CommandOutcome → (status : ℕ)
     → (old new : E) → Type 0
-EndsWith reports (Ok done) status old new = (status ≡ 0) × (new ≡ old)
-EndsWith reports (Err failure) status old new =
+IsStatusAfter reports (Ok done) status old new = (status ≡ 0) × (new ≡ old)
+IsStatusAfter reports (Err failure) status old new =
     (status ≡ 1) × ((whole : Bool) × reports old (Fault failure) whole new)
 
 -- the words ask for a command that may have answered so, and an output whose bytes are known then
@@ -51,14 +51,14 @@ Answered answers contents words old answer new =
 -- Unless the status is that of wrong words, the words ask for a command that may have answered so,
 -- an output whose bytes are known then holds these, and the program ends as it does behind that
 -- answer.
-abbrev pub EndsBy : {O E : Type 0}
+abbrev pub RunEnds : {O E : Type 0}
     → (answers : PlainCommand → Option (List ℕ) → CommandOutcome → Option (List ℕ) → Type 0)
     → (contents : O → Option (List ℕ)) → (reports : E → PlainMessage → Bool → E → Type 0)
     → (words : List (String Global)) → (status : ℕ) → (old new : O) → (err whole : E) → Type 0
-EndsBy answers contents reports words status old new err whole =
+RunEnds answers contents reports words status old new err whole =
     status ≢ 2 → (asked : PlainCommand) × (answer : CommandOutcome)
     × (map string_bytes words ≡ words_for asked)
-    × answers asked (contents old) answer (contents new) × EndsWith reports answer status err whole
+    × answers asked (contents old) answer (contents new) × IsStatusAfter reports answer status err whole
 
 -- the command may have answered so, and an output whose bytes are known then holds these
 abbrev pub Performs : {O A : Type 0} → (answers : PlainCommand → Option (List ℕ) → CommandOutcome

@@ -1,7 +1,7 @@
 -- What becomes of a source's property list where its file is sent without a value.
 use Rattle.std.specs.Prelude.{◌≡◌, ◌⊎◌, ℕ, Bool, true, List, ◌++◌, Option, Result, Ok, Err, IfErr, IfOk, IfSome}
 use Rattle.std.specs.Option.{option_map}
-use Rattle.plist_base.specs.Bracketing.{bracketing, AreAlike, AreWhole}
+use Rattle.plist_base.specs.Bracketing.{bracketing, AreAlike, AreTreeEvents}
 use Rattle.plist_base.specs.declared.error.Error.{Error}
 use Rattle.plist_base.specs.declared.source.Source.{Ghosts}
 use Rattle.plist_base.specs.Events.{PlainEvent, Item}
@@ -13,13 +13,13 @@ use Rattle.plist_binread.specs.declared.counter.DecodeCounter.{Ghosts as Counter
 use Rattle.plist_binread.specs.declared.reader.BinaryReader.{BinaryReader}
 use Rattle.plist_binwrite.specs.Files.{IsFileOf}
 use Rattle.plist_reader.specs.Reader.{items_of_input}
-use Rattle.plist.specs.Inputs.{AreOf, IsValueOf, IsReadIfKnown}
+use Rattle.plist.specs.ValueOfItems.{AreItemsOfTree, IsValueOf, IsReadIfKnown}
 use Rattle.plist.specs.LastWins.{last_wins}
 use Rattle.plist.specs.SendingValues.{SendsTree}
 
 -- the bytes are a property list in which no dictionary has a key twice
-abbrev pub IsDirect : List ℕ → Type 0
-IsDirect bytes = (tree : Tree) × AreOf (items_of_input bytes) tree × (last_wins tree ≡ tree)
+abbrev pub BytesHaveKeysOnce : List ℕ → Type 0
+BytesHaveKeysOnce bytes = (tree : Tree) × AreItemsOfTree (items_of_input bytes) tree × (last_wins tree ≡ tree)
 
 -- the items of known bytes
 abbrev pub items_of_known : (known : Option (List ℕ)) → Option (List Item)
@@ -31,7 +31,7 @@ IsReadAs known answer = IsReadIfKnown (items_of_known known) answer
 
 -- nothing went out, and known bytes are no such list
 abbrev pub LeavesToValue : {W : Type 0} → (known : Option (List ℕ)) → (old new : W) → Type 0
-LeavesToValue known old new = (new ≡ old) × IfSome known (λ bytes. IsDirect bytes → ⊥)
+LeavesToValue known old new = (new ≡ old) × IfSome known (λ bytes. BytesHaveKeysOnce bytes → ⊥)
 
 module _ {W : Type 0} (contents : W → Option (List ℕ)) (known : Option (List ℕ)) where
   -- the tree that the bytes are read as goes out, or its sending stops
@@ -73,8 +73,8 @@ items_left known reader = option_map (λ bytes. items_to_come bytes reader) (kno
 -- the events are a tree's, and the items are of that tree
 abbrev pub HoldsTree : (items : Option (List Item)) → (held : List PlainEvent) → Type 0
 HoldsTree items held =
-    AreWhole held
-    × IfSome items (λ all. (tree : Tree) × AreOf all tree × AreAlike held (bracketing tree))
+    AreTreeEvents held
+    × IfSome items (λ all. (tree : Tree) × AreItemsOfTree all tree × AreAlike held (bracketing tree))
 
 -- the same where the answer is that they are
 abbrev pub FindsTree : (items : Option (List Item)) → Result Bool Error → (held : List PlainEvent)
@@ -91,4 +91,4 @@ IsRefusedFor items answer = IfErr answer (λ error. IsReadIfKnown items (Err (fa
 
 -- the items are no tree's
 abbrev pub AreNoTree : (items : Option (List Item)) → Type 0
-AreNoTree items = IfSome items (λ all. (tree : Tree) → AreOf all tree → ⊥)
+AreNoTree items = IfSome items (λ all. (tree : Tree) → AreItemsOfTree all tree → ⊥)

@@ -1,8 +1,8 @@
-pub mod Lines
+pub mod EscapedLines
 pub mod Examples
-pub mod Prefixes
+pub mod HeldLines
 pub mod Printing
-pub mod Runs
+pub mod ReaderRuns
 pub mod Items
 pub mod Messages
 pub mod Commands

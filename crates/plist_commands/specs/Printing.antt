@@ -2,7 +2,7 @@
 use Rattle.std.specs.Prelude.{◌≡◌, ℕ, ◌⊎◌, List, Option, None, Some, ⊤, IfSome, MatchResult, Result}
 use Rattle.std.specs.Io.KnownBytes.{Appends}
 use Rattle.plist_base.specs.declared.error.Error.{Error}
-use Rattle.plist_base.specs.Faults.{Fault, MatchFault, IsFromOutside, kind_of, error_kind_of, fault_of, offset_of}
+use Rattle.plist_base.specs.Faults.{Fault, MatchFault, IsIoOrMemory, kind_of, error_kind_of, fault_of, offset_of}
 use Rattle.plist_base.specs.declared.source.Source.{Ghosts}
 use Rattle.plist_base.specs.Bracketing.{bracketing}
 use Rattle.plist_base.specs.Events.{Item}
@@ -13,8 +13,8 @@ use Rattle.plist_binread.specs.declared.counter.DecodeCounter.{Ghosts as Counter
 use Rattle.plist_binread.specs.declared.reader.BinaryReader.{BinaryReader}
 use Rattle.plist_base.specs.Prefixes.{AppendsPrefix}
 use Rattle.plist.specs.declared.value.Value.{Value}
-use Rattle.plist.specs.Views.{tree_of}
-use Rattle.plist_commands.specs.Lines.{lines_of, lines_of_events, first_fault}
+use Rattle.plist.specs.ValueTrees.{tree_of}
+use Rattle.plist_commands.specs.EscapedLines.{lines_of, lines_of_events, first_fault}
 
 -- there is no fault, and all the lines went out
 abbrev pub PrintsAll : List Item → (old new : Option (List ℕ)) → Type 0
@@ -33,8 +33,8 @@ module _ {W : Type 0} (contents : W → Option (List ℕ)) (items : Option (List
     abbrev pub PrintsItems : Type 0
     PrintsItems = IfSome items (λ all. PrintsAll all (contents old) (contents new))
 
-    abbrev pub EndsItems : Error → Type 0
-    EndsItems error = IfSome items (λ all. PrintsUntil error all (contents old) (contents new))
+    abbrev pub PrintsItemsUntil : Error → Type 0
+    PrintsItemsUntil error = IfSome items (λ all. PrintsUntil error all (contents old) (contents new))
 
     -- a beginning of their lines went out
     abbrev pub SendsPrefixOfItems : Type 0
@@ -48,8 +48,8 @@ module _ {S W : Type 0} (known : S → Option (List ℕ)) (contents : W → Opti
   PrintsFile = IfSome (known source) (λ bytes.
       PrintsAll (items_of_file bytes) (contents old) (contents new))
 
-  abbrev pub EndsFile : Error → Type 0
-  EndsFile error = IfSome (known source) (λ bytes.
+  abbrev pub PrintsFileUntil : Error → Type 0
+  PrintsFileUntil error = IfSome (known source) (λ bytes.
       PrintsUntil error (items_of_file bytes) (contents old) (contents new))
 
   abbrev pub SendsPrefixOfFile : Type 0
@@ -68,7 +68,7 @@ module _ {W : Type 0} (contents : W → Option (List ℕ)) (value : Value) (old 
 
 -- the writer's failure, or want of memory for a line: neither has an offset
 abbrev pub IsWriterFault : Fault → Type 0
-IsWriterFault fault = (fault.offset ≡ None) × IsFromOutside fault.kind
+IsWriterFault fault = (fault.offset ≡ None) × IsIoOrMemory fault.kind
 
 abbrev pub IsWriterError : Error → Type 0
 IsWriterError error = IsWriterFault (fault_of error)

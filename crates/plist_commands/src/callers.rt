@@ -6,7 +6,7 @@ ghost use Rattle.plist_base.specs.Prefixes.{AppendsPrefix};
 ghost use Rattle.plist_commands.specs.Commands.{Answered};
 ghost use Rattle.plist_commands.specs.Failures.{PlainFailure, plain_failure_of, failure_text};
 ghost use Rattle.plist_commands.specs.Converting.{IfOkIs, LeavesToValue, SendsBytes};
-ghost use Rattle.plist_commands.specs.Lines.{lines_of};
+ghost use Rattle.plist_commands.specs.EscapedLines.{lines_of};
 ghost use Rattle.plist_commands.specs.Messages.{Fault, Usage};
 ghost use Rattle.plist_commands.specs.Printing.{PrintsAll, PrintsUntil};
 ghost use Rattle.plist_commands.specs.declared.convert.Streamed.TheVariants.{NeedsValue, Sent};

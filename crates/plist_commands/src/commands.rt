@@ -3,7 +3,7 @@
 ghost use Rattle.std.specs.Prelude.{◌≡◌, ℕ, ◌↔◌, List, Option, Bool, map, string_bytes, IfSome, IsNone};
 ghost use Rattle.plist_commands.specs.Failures.{CommandOutcome};
 ghost use Rattle.plist_commands.specs.Messages.{Usage};
-ghost use Rattle.plist_commands.specs.Commands.{PlainCommand, plain_command_of, words_for, IsWrong, EndsBy, Performs};
+ghost use Rattle.plist_commands.specs.Commands.{PlainCommand, plain_command_of, words_for, IsNoCommand, RunEnds, Performs};
 
 use crate::convert::convert_file;
 use crate::failure::Failure;
@@ -31,7 +31,7 @@ pub enum Command<'a> {
 pub fn command_of(words: &[String]) -> Option<Command<'_>>
     ensures found { IfSome result (λ c. map string_bytes words.now
         ≡ words_for (plain_command_of c)) }
-    ensures wrong { IsNone result ↔ IsWrong (map string_bytes words.now) }
+    ensures wrong { IsNone result ↔ IsNoCommand (map string_bytes words.now) }
 {
     match words {
         [verb, file] if verb.as_str() == "print" => Some(Command::Print(file.as_str())),
@@ -106,10 +106,10 @@ pub fn run_words<R: Commands, O: Write, E: Messages>(
     out: &mut O,
     err: &mut E,
 ) -> u8
-    ensures wrong { (result ≡ 2) ↔ IsWrong (map string_bytes words.now) }
+    ensures wrong { (result ≡ 2) ↔ IsNoCommand (map string_bytes words.now) }
     ensures silent { result ≡ 2 → out.new ≡ out.old }
     ensures usage { result ≡ 2 → (whole : Bool) × E.reports err.old Usage whole err.new }
-    ensures ends { EndsBy (R.answers rt.now) O.contents E.reports words.now result out.old out.new
+    ensures ends { RunEnds (R.answers rt.now) O.contents E.reports words.now result out.old out.new
         err.old err.new }
 {
     let Some(command) = command_of(words) else {

@@ -1,14 +1,14 @@
 //! Writes a property list as a binary one.
 
 ghost use Rattle.std.specs.Prelude.{◌≡◌, true, false, IfErr, IfSome, None};
-ghost use Rattle.plist_base.specs.Bracketing.{AreWhole};
+ghost use Rattle.plist_base.specs.Bracketing.{AreTreeEvents};
 ghost use Rattle.plist_base.specs.Faults.{offset_of};
 ghost use Rattle.plist_binwrite.specs.EventBuffers.{buffered_events, is_whole};
 ghost use Rattle.plist_reader.specs.Formats.{format_of};
 ghost use Rattle.plist_commands.specs.Converting.{AreNoTree, FindsTree, IfOkIs, IsRefusedFor, IsStoppedFor, LeavesToValue, OfHeld, SendsAll, items_of_known};
 ghost use Rattle.plist_commands.specs.Holding.{IsEmpty};
 ghost use Rattle.plist_commands.specs.Printing.{CountsReads};
-ghost use Rattle.plist_commands.specs.Runs.{ConvertsSource, HoldsBinary, HoldsOther, HoldsRun, ReadsSource};
+ghost use Rattle.plist_commands.specs.ReaderRuns.{ConvertsSource, HoldsBinary, HoldsOther, HoldsRun, ReadsSource};
 ghost use Rattle.plist_commands.specs.declared.convert.Streamed.TheVariants.{NeedsValue, Sent};
 
 use crate::event_sink::EventSink;
@@ -20,7 +20,7 @@ use plist_base::{Error, Source};
 use plist_binread::BinaryReader;
 use plist_binwrite::complete;
 use plist_binwrite::event_buffer::EventBuffer;
-use plist_binwrite::keys::repeats_key;
+use plist_binwrite::repeated_keys::repeats_key;
 use plist_reader::{Format, format_of};
 use std::alloc::Global;
 use std::io::Write;
@@ -121,7 +121,7 @@ fn send_events<W: Write>(
     pending: &EventBuffer,
     writer: &mut W,
 ) -> Result<Streamed, Error>
-    requires { AreWhole (buffered_events pending.now) }
+    requires { AreTreeEvents (buffered_events pending.now) }
     ensures sent { OfHeld (buffered_events pending.now) (λ known. IfOkIs result Sent
         (SendsAll W.contents known writer.old writer.new)) }
     ensures left { OfHeld (buffered_events pending.now) (λ known. IfOkIs result NeedsValue

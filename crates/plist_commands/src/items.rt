@@ -6,7 +6,7 @@ ghost use Rattle.plist_base.specs.Faults.{Fault};
 ghost use Rattle.plist_base.specs.Outcomes.{IfFault};
 ghost use Rattle.plist_base.specs.Sources.{ItemCountsIo};
 ghost use Rattle.plist_commands.specs.Items.{ComesIfKnown};
-ghost use Rattle.plist_commands.specs.Runs.{StepAnswer};
+ghost use Rattle.plist_commands.specs.ReaderRuns.{StepAnswer};
 
 use plist_base::{Error, Event, Source};
 use plist_binread::BinaryReader;
@@ -55,7 +55,7 @@ impl<S: Source> Items for BinaryReader<S> {
     ghost use Rattle.plist_binread.specs.BinaryReader.{binary_source, binary_steps};
     ghost use Rattle.plist_binread.specs.Advancing.{current_event};
     ghost use Rattle.plist_commands.specs.Converting.{items_left};
-    ghost use Rattle.plist_commands.specs.Runs.{AdvancesBinary};
+    ghost use Rattle.plist_commands.specs.ReaderRuns.{AdvancesBinary};
 
     ghost coming = { items_left S.known };
 

@@ -1,7 +1,7 @@
 //! Prints a tree of a keyed archive.
 
 ghost use Rattle.std.specs.Prelude.{IfErr, IfOk, OnOk};
-ghost use Rattle.plist.specs.Views.{tree_of};
+ghost use Rattle.plist.specs.ValueTrees.{tree_of};
 ghost use Rattle.plist_commands.specs.Archives.{IsRefusedAt, IsTreeAt, IsUnprintedAt, PrintsTreeAt};
 ghost use Rattle.plist_commands.specs.Failures.{plain_failure_of};
 

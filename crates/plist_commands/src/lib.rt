@@ -4,21 +4,22 @@
 //! lines of their items, or those before the first fault.
 #![tactic(auto)]
 
+mod arguments;
 pub mod callers;
 mod commands;
 mod convert;
+mod escaped_lines;
 mod event_sink;
 mod failure;
 mod items;
 mod keyed;
-mod lines;
 mod messages;
 mod open;
 mod print;
 mod reader_events;
 mod value_events;
-mod words;
 
+pub use arguments::program_arguments;
 pub use commands::{Command, Commands, command_of, run_words};
 pub use convert::{Streamed, convert_binary, convert_file};
 pub use failure::Failure;
@@ -26,4 +27,3 @@ pub use keyed::{keyed_file, print_at};
 pub use messages::{Message, Messages};
 pub use print::{print_events, print_reader};
 pub use value_events::print_value;
-pub use words::program_arguments;

@@ -1,18 +1,18 @@
 //! Prints the events of a source, or of whatever else gives items.
 
 ghost use Rattle.std.specs.Prelude.{◌≡◌, ◌⊎◌, ◌++◌, [], IfErr, OnErr, OnOk};
-ghost use Rattle.plist_base.specs.Events.{Single};
+ghost use Rattle.plist_base.specs.Events.{ScalarEvent};
 ghost use Rattle.plist_base.specs.Faults.{fault_of};
 ghost use Rattle.plist_base.specs.Trees.{Data, String};
 ghost use Rattle.plist_binread.specs.BinaryReader.{binary_source};
 ghost use Rattle.plist_commands.specs.Converting.{items_left};
-ghost use Rattle.plist_commands.specs.Prefixes.{EndsBehind, MakesRoom, PassesBytes, PassesLine, SendsBytesInPart, SendsPrefix, SendsLineInPart};
-ghost use Rattle.plist_commands.specs.Lines.{line_of, noted};
-ghost use Rattle.plist_commands.specs.Printing.{CountsReads, CountsReadsOf, EndsFile, EndsItems, IsWriterError, PrintsFile, PrintsItems, SendsPrefixOfFile, SendsPrefixOfItems};
-ghost use Rattle.plist_commands.specs.Runs.{PrintsReader, PrintsRun, PrintsSource};
+ghost use Rattle.plist_commands.specs.HeldLines.{EndsBehind, MakesRoom, PassesBytes, PassesLine, SendsBytesInPart, SendsPrefix, SendsLineInPart};
+ghost use Rattle.plist_commands.specs.EscapedLines.{line_of, in_notation};
+ghost use Rattle.plist_commands.specs.Printing.{CountsReads, CountsReadsOf, PrintsFileUntil, PrintsItemsUntil, IsWriterError, PrintsFile, PrintsItems, SendsPrefixOfFile, SendsPrefixOfItems};
+ghost use Rattle.plist_commands.specs.ReaderRuns.{PrintsReader, PrintsRun, PrintsSource};
 
+use crate::escaped_lines::{Notation, line_bound, push_bytes, push_line};
 use crate::items::Items;
-use crate::lines::{Notation, line_bound, push_bytes, push_line};
 use plist_base::send::{flush, send};
 use plist_base::{Error, Event, Source};
 use plist_binread::BinaryReader;
@@ -61,11 +61,12 @@ fn pass_block<W: Write>(
     block: &[u8],
     notation: Notation,
 ) -> Result<(), Error>
-    ensures passed { PassesBytes W.contents result out.old lines.old (noted notation block.now)
+    ensures passed { PassesBytes W.contents result out.old lines.old
+        (in_notation notation block.now)
         out.new lines.new }
     ensures fault { IfErr result IsWriterError }
     ensures prefix { OnErr result (SendsBytesInPart W.contents out.old lines.old
-        (noted notation block.now) out.new) }
+        (in_notation notation block.now) out.new) }
 {
     make_room(out, lines, MOST_OF_BLOCK)?;
     push_bytes(lines, block, notation)?;
@@ -79,11 +80,12 @@ fn pass_bytes<W: Write>(
     bytes: &[u8],
     notation: Notation,
 ) -> Result<(), Error>
-    ensures passed { PassesBytes W.contents result out.old lines.old (noted notation bytes.now)
+    ensures passed { PassesBytes W.contents result out.old lines.old
+        (in_notation notation bytes.now)
         out.new lines.new }
     ensures fault { IfErr result IsWriterError }
     ensures prefix { OnErr result (SendsBytesInPart W.contents out.old lines.old
-        (noted notation bytes.now) out.new) }
+        (in_notation notation bytes.now) out.new) }
 {
     let (blocks, rest) = bytes.as_chunks::<BLOCK>();
     for block in blocks {
@@ -102,10 +104,10 @@ fn pass_parts<W: Write>(
     end: &[u8],
 ) -> Result<(), Error>
     ensures passed { PassesBytes W.contents result out.old lines.old
-        (word.now ++ noted notation bytes.now ++ end.now) out.new lines.new }
+        (word.now ++ in_notation notation bytes.now ++ end.now) out.new lines.new }
     ensures fault { IfErr result IsWriterError }
     ensures prefix { OnErr result (SendsBytesInPart W.contents out.old lines.old
-        (word.now ++ noted notation bytes.now ++ end.now) out.new) }
+        (word.now ++ in_notation notation bytes.now ++ end.now) out.new) }
 {
     lines.extend_from_slice(word)?;
     pass_bytes(out, lines, bytes, notation)?;
@@ -116,10 +118,10 @@ fn pass_parts<W: Write>(
 // The line of a text.
 fn pass_text<W: Write>(out: &mut W, lines: &mut Vec<u8>, text: &str) -> Result<(), Error>
     ensures passed { PassesBytes W.contents result out.old lines.old
-        (line_of (Single (String text.now))) out.new lines.new }
+        (line_of (ScalarEvent (String text.now))) out.new lines.new }
     ensures fault { IfErr result IsWriterError }
     ensures prefix { OnErr result (SendsBytesInPart W.contents out.old lines.old
-        (line_of (Single (String text.now))) out.new) }
+        (line_of (ScalarEvent (String text.now))) out.new) }
 {
     let bytes = text.as_bytes();
     pass_parts(out, lines, b"String \"", bytes, Notation::Text, b"\"\n")
@@ -128,10 +130,10 @@ fn pass_text<W: Write>(out: &mut W, lines: &mut Vec<u8>, text: &str) -> Result<(
 // The line of data, whose word stands alone where there are no bytes.
 fn pass_data<W: Write>(out: &mut W, lines: &mut Vec<u8>, bytes: &[u8]) -> Result<(), Error>
     ensures passed { PassesBytes W.contents result out.old lines.old
-        (line_of (Single (Data bytes.now))) out.new lines.new }
+        (line_of (ScalarEvent (Data bytes.now))) out.new lines.new }
     ensures fault { IfErr result IsWriterError }
     ensures prefix { OnErr result (SendsBytesInPart W.contents out.old lines.old
-        (line_of (Single (Data bytes.now))) out.new) }
+        (line_of (ScalarEvent (Data bytes.now))) out.new) }
 {
     if bytes.is_empty() {
         return pass_parts(out, lines, b"Data", bytes, Notation::Hexadecimal, b"\n");
@@ -214,7 +216,7 @@ fn pass_lines<I: Items, W: Write>(
         (W.contents writer.old) (W.contents writer.new) }
     // A refusal.
     ensures refused { IfErr result
-        (EndsItems W.contents (I.coming items.old) writer.old writer.new) }
+        (PrintsItemsUntil W.contents (I.coming items.old) writer.old writer.new) }
     ensures fault { IfErr result (λ error. IsWriterError error ⊎ I.gives (fault_of error)) }
     // The state after it.
     ensures prefix { SendsPrefixOfItems W.contents (I.coming items.old) writer.old writer.new }
@@ -240,7 +242,7 @@ fn send_lines<I: Items, W: Write>(alloc: Global, items: &mut I, writer: &mut W) 
         (W.contents writer.old) (W.contents writer.new) }
     // A refusal.
     ensures refused { IfErr result
-        (EndsItems W.contents (I.coming items.old) writer.old writer.new) }
+        (PrintsItemsUntil W.contents (I.coming items.old) writer.old writer.new) }
     ensures fault { IfErr result (λ error. IsWriterError error ⊎ I.gives (fault_of error)) }
     // The state after it.
     ensures prefix { SendsPrefixOfItems W.contents (I.coming items.old) writer.old writer.new }
@@ -264,7 +266,7 @@ pub(crate) fn print_items<I: Items, W: Write>(
         (W.contents writer.old) (W.contents writer.new) }
     // A refusal.
     ensures refused { IfErr result
-        (EndsItems W.contents (I.coming items.old) writer.old writer.new) }
+        (PrintsItemsUntil W.contents (I.coming items.old) writer.old writer.new) }
     ensures fault { IfErr result (λ error. IsWriterError error ⊎ I.gives (fault_of error)) }
     // The state after it.
     ensures prefix { SendsPrefixOfItems W.contents (I.coming items.old) writer.old writer.new }
@@ -293,7 +295,7 @@ pub fn print_reader<S: Source, W: Write>(
         (W.contents writer.old) (W.contents writer.new) }
     // A refusal.
     ensures refused { IfErr result
-        (EndsItems W.contents (items_left S.known reader.old) writer.old writer.new) }
+        (PrintsItemsUntil W.contents (items_left S.known reader.old) writer.old writer.new) }
     // The state after it.
     ensures prefix { SendsPrefixOfItems W.contents (items_left S.known reader.old)
         writer.old writer.new }
@@ -318,7 +320,7 @@ pub fn print_events<S: Source, W: Write>(
     ensures printed { OnOk result (PrintsFile S.known W.contents source writer.old writer.new) }
     ensures answers { PrintsSource S.known S.failures source result (W.contents writer.old)
         (W.contents writer.new) }
-    ensures refused { IfErr result (EndsFile S.known W.contents source writer.old writer.new) }
+    ensures refused { IfErr result (PrintsFileUntil S.known W.contents source writer.old writer.new) }
     ensures prefix { SendsPrefixOfFile S.known W.contents source writer.old writer.new }
 {
     let mut reader = BinaryReader::new(alloc, source);

@@ -44,7 +44,7 @@ impl<S: Source> Items for ReaderEvents<S> {
     ghost use Rattle.plist_base.specs.Events.{event_of};
     ghost use Rattle.plist_reader.specs.Reader.{steps_in_state};
     ghost use Rattle.plist_commands.specs.Items.{failures_in, items_to_read};
-    ghost use Rattle.plist_commands.specs.Runs.{AdvancesReading};
+    ghost use Rattle.plist_commands.specs.ReaderRuns.{AdvancesReading};
 
     ghost coming = { items_to_read S.known };
 

@@ -7,12 +7,12 @@ use Rattle.std.specs.List.{list_any}
 use Rattle.std.proofs.lemmas.List.{map-append}
 use Rattle.std.proofs.lemmas.List.Concat.{flat_map-append}
 use Rattle.std.proofs.lemmas.Option.{slice_get-map}
-use Rattle.plist_base.specs.Events.{PlainEvent, Item, StartArray, StartDictionary, EndCollection, Single}
+use Rattle.plist_base.specs.Events.{PlainEvent, Item, StartArray, StartDictionary, EndCollection, ScalarEvent}
 use Rattle.plist_base.specs.Trees as trees
 use Rattle.plist_base.specs.Trees.{Tree, Leaf, Array, Dictionary, Trees, NoTrees, TreeAnd, Members, NoMembers, MemberAnd, number_of_trees, number_of_members}
 use Rattle.plist_base.specs.Bracketing.{bracketing, bracketing_of_items, bracketing_of_pairs, without_length, AreAlike}
 use Rattle.plist_base.proofs.Grammar.{alike_with}
-use Rattle.plist_binwrite.specs.Keys.{HasKeysOnce, ItemsHaveKeysOnce, ValuesHaveKeysOnce, HasDistinctKeys, Lacks}
+use Rattle.plist_binwrite.specs.RepeatedKeys.{HasKeysOnce, ItemsHaveKeysOnce, ValuesHaveKeysOnce, HasDistinctKeys, Lacks}
 use Rattle.plist_keyed.specs.Archives.{ArchiveFault, UidOutOfRange, RecursiveUid, and_then, replaced, replaced_items, replaced_pairs, tree_found, resolved}
 use Rattle.plist_keyed.specs.inner.Walks.{Step, fault_of_archive, items_of_steps, steps_of_event, steps_of_events, steps_found, steps_at}
 
@@ -122,7 +122,7 @@ module _ (answer : ℕ → Result Tree ArchiveFault) (follow : ℕ → List Step
   mutual
     tree-gives : (t : Tree) → Gives (replaced answer t) (run (bracketing t))
     tree-gives (Leaf (trees.Uid uid)) = rw (append-nil (follow uid)) (h uid)
-    tree-gives (Leaf x) = (Single x ∷ [], refl, refl)
+    tree-gives (Leaf x) = (ScalarEvent x ∷ [], refl, refl)
     tree-gives (Array ts) =
         rw (run-append (bracketing_of_items ts) (EndCollection ∷ []))
         (bracketed bracketing_of_items (StartArray (Some (number_of_trees ts))) Array (λ us. refl)
@@ -144,7 +144,7 @@ module _ (answer : ℕ → Result Tree ArchiveFault) (follow : ℕ → List Step
         → AreItemsOf bracketing_of_pairs (replaced_pairs answer ms) (run (bracketing_of_pairs ms))
     pairs-give NoMembers = ([], refl, refl)
     pairs-give (MemberAnd k t ms) =
-        let key = Single (trees.String k) in
+        let key = ScalarEvent (trees.String k) in
         rw (run-append (bracketing t) (bracketing_of_pairs ms))
         (both (λ u. key ∷ bracketing u) bracketing_of_pairs bracketing_of_pairs (MemberAnd k)
         NoMembers refl (λ u us. refl) _ _ _ _ (behind-one bracketing key _ _ (tree-gives t))

@@ -12,14 +12,14 @@ use Rattle.plist_base.proofs.Grammar.{alike_with}
 use Rattle.plist_base.proofs.OneTree.{one_tree}
 use Rattle.plist_base.proofs.Refusals.{MatchFault-weaker}
 use Rattle.plist_binwrite.proofs.Least.{no_fault}
-use Rattle.plist_binwrite.specs.Keys.{HasKeysOnce}
+use Rattle.plist_binwrite.specs.RepeatedKeys.{HasKeysOnce}
 use Rattle.plist.specs.declared.value.Value.{Value}
 use Rattle.plist.specs.Building.{NotBegun, events_so_far}
 use Rattle.plist.specs.Collecting.{IsRefusal}
 use Rattle.plist.specs.inner.Following.{continues-accepted}
-use Rattle.plist.specs.Inputs.{AreOf, Decides, IsValueOf, IsFirstFault}
+use Rattle.plist.specs.ValueOfItems.{AreItemsOfTree, IsFaultOfNext, IsValueOf, IsFirstFault}
 use Rattle.plist.specs.LastWins.{last_wins}
-use Rattle.plist.specs.Views.{tree_of}
+use Rattle.plist.specs.ValueTrees.{tree_of}
 use Rattle.plist.proofs.Inputs.{all-events, no-events}
 use Rattle.plist.proofs.KeysOnce.{keys-once}
 use Rattle.plist_keyed.specs.declared.error.KeyedError.{KeyedError}
@@ -49,7 +49,7 @@ only : (es : List PlainEvent) (f : Fault) (more : List Item) (fault : Fault) →
     ⊎ (fault ≡ fault_nowhere OutOfMemory)
 only es f more fault (rest, whole, alike) ((events, next, held, is, ok, like, decides), none) =
     elim (stands es events f more next is) [
-      | inl p ↦ inl (subst (λ n. Decides held events n fault) p decides)
+      | inl p ↦ inl (subst (λ n. IsFaultOfNext held events n fault) p decides)
       | inr (x, left, m, p, q) ↦
           let can : CanContinue (events_so_far held) x = (
             left ++ rest,
@@ -59,7 +59,7 @@ only es f more fault (rest, whole, alike) ((events, next, held, is, ok, like, de
                 ∙ ap (λ l. l ++ rest) (sym q)) ∙ alike,
           ) in
           inr (subst (λ o. IsRefusal o fault) (continues-accepted held x ok can)
-          (subst (λ n. Decides held events n fault) p decides))
+          (subst (λ n. IsFaultOfNext held events n fault) p decides))
     ]
 
 by_kind : (kind : FaultKind) (offset : Option ℕ) (Q : Type 0) (R : ArchiveFault → Type 0)
@@ -87,7 +87,7 @@ fault-told (Err f) items fault (es, more, is, begins) h =
     ])
 
 -- items are the events of one tree
-pub same_of : (all : List Item) (t u : Tree) → AreOf all t → AreOf all u → t ≡ u
+pub same_of : (all : List Item) (t u : Tree) → AreItemsOfTree all t → AreItemsOfTree all u → t ≡ u
 same_of all t u (events, same, alike) (others, also, like) =
     let s = all-events events others [] (append-nil (map Ok events) ∙ sym same ∙ also) in
     let e : others ≡ events = s.2 ∙ ap (λ l. events ++ l) (no-events s.0 s.1) ∙ append-nil events in

@@ -9,7 +9,7 @@ use Rattle.std.proofs.lemmas.List.Folds.{list_any-append}
 use Rattle.std.proofs.lemmas.Option.{slice_get-map, slice_get_within}
 use Rattle.plist_base.specs.declared.error.Error.{Error}
 use Rattle.plist_base.specs.Bracketing.{bracketing}
-use Rattle.plist_base.specs.Events.{PlainEvent, Single}
+use Rattle.plist_base.specs.Events.{PlainEvent, ScalarEvent}
 use Rattle.plist_base.specs.Faults.{Fault, MatchFault}
 use Rattle.plist_base.specs.inner.Paths.{IsPath}
 use Rattle.plist_base.proofs.Paths.{path_push, path_pop, path_rises}
@@ -17,7 +17,7 @@ use Rattle.plist_base.proofs.Refusals.{MatchFault-weaker}
 use Rattle.plist.specs.declared.stream.events.Events.{Events}
 use Rattle.plist.specs.declared.value.Value.{Value}
 use Rattle.plist.specs.Events.{remaining_events}
-use Rattle.plist.specs.Views.{tree_of}
+use Rattle.plist.specs.ValueTrees.{tree_of}
 use Rattle.plist_keyed.specs.declared.walk.Walk.{Walk}
 use Rattle.plist_keyed.specs.Archives.{UidOutOfRange, RecursiveUid}
 use Rattle.plist_keyed.specs.inner.Walks.{Step, fault_of_archive, items_of_steps, steps_of_event, steps_of_events, steps_found, steps_at}
@@ -159,7 +159,7 @@ module _ (old new : Walk) (uid : ℕ) (object : Value) (o : IsWalk old)
 
 uid_steps : (f : ℕ → List Step) (e : PlainEvent) (uid : ℕ) → uid_of_event e ≡ Some uid
     → steps_of_event f e ≡ f uid
-uid_steps f (Single x) uid h = ap (λ found. option_map_or f found (Some (Ok (Single x)) ∷ [])) h
+uid_steps f (ScalarEvent x) uid h = ap (λ found. option_map_or f found (Some (Ok (ScalarEvent x)) ∷ [])) h
 uid_steps f e uid h = cc
 
 -- a Uid's object isn't entered

@@ -7,7 +7,7 @@ use Rattle.std.specs.declared.vec.Vec.{Vec}
 use Rattle.plist_base.specs.Trees.{Tree}
 use Rattle.plist.specs.declared.value.Value.{Value}
 use Rattle.plist.specs.declared.value.Value.TheVariants as value
-use Rattle.plist.specs.Views.{tree_of}
+use Rattle.plist.specs.ValueTrees.{tree_of}
 use Rattle.plist_keyed.specs.declared.archive.Archive.{Archive}
 use Rattle.plist_keyed.specs.declared.error.KeyedError.{KeyedError}
 use Rattle.plist_keyed.specs.declared.error.KeyedError.TheVariants as keyed_error

@@ -5,7 +5,7 @@ ghost use Rattle.std.specs.declared.alloc.Global.{Global};
 ghost use Rattle.std.specs.declared.vec.Vec.{Vec};
 ghost use Rattle.std.specs.Option.{option_copied};
 ghost use Rattle.plist_keyed.specs.Contents.{IsArrayAt, IsDictionaryAt, IsUidAt, names_of, objects_of, trees_in, HasNoArrayAt, HasNoDictionaryAt, IsOpenedOf, IsNoArchive};
-ghost use Rattle.plist.specs.Views.{tree_of};
+ghost use Rattle.plist.specs.ValueTrees.{tree_of};
 ghost use Rattle.plist_keyed.specs.Archives.{resolved_tree};
 ghost use Rattle.plist_keyed.specs.Errors.{IsFaultOf};
 

@@ -49,14 +49,14 @@ module _ {I V : Type 0} (next_gives : I → Option (String Global × V) → I �
 -- one is made of something: the same of its pairs
 module _ {I J V : Type 0} (becomes : J → I → Type 0)
     (next_gives : I → Option (String Global × V) → I → Type 0) (made : J) where
-  abbrev pub Adds : Rows V → Result (Unit {0}) Error → Rows V → Type 0
-  Adds old answer new =
+  abbrev pub ExtendsByIterable : Rows V → Result (Unit {0}) Error → Rows V → Type 0
+  ExtendsByIterable old answer new =
       (iter : I) × becomes made iter × ExtendsBy next_gives iter old answer new
 
-  abbrev pub IsMadeFrom : Rows V → Type 0
-  IsMadeFrom pairs = (iter : I) × becomes made iter × IsMadeOf next_gives iter pairs
+  abbrev pub IsMadeOfIterable : Rows V → Type 0
+  IsMadeOfIterable pairs = (iter : I) × becomes made iter × IsMadeOf next_gives iter pairs
 
 -- whatever is made of it may be asked for items, and ends
-abbrev pub Ends : {J I : Type 0} → (becomes : J → I → Type 0) → (can_next : I → Type 0)
+abbrev pub IterableEnds : {J I : Type 0} → (becomes : J → I → Type 0) → (can_next : I → Type 0)
     → (remaining : I → Count) → J → Type 0
-Ends becomes can_next remaining made = IsFiniteIterable becomes can_next remaining made
+IterableEnds becomes can_next remaining made = IsFiniteIterable becomes can_next remaining made

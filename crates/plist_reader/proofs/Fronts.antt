@@ -7,11 +7,11 @@ use Rattle.std.proofs.lemmas.List.{length-take, get_or-take, get_or_past}
 use Rattle.std.proofs.lemmas.List.Sums.{prefix_len-drop_all, prefix_len-drop_no, prefix_len-drop_yes}
 use Rattle.std.proofs.lemmas.Option.{slice_get_within, slice_get-get_or, get_or_from_slice_get}
 use Rattle.plist_base.specs.Faults.{FaultKind, Io, OutOfMemory, IsIo}
-use Rattle.plist_base.specs.Sources.{IsPlaceWithin}
+use Rattle.plist_base.specs.Sources.{IsOffsetWithin}
 use Rattle.plist_format.specs.Container.{magic}
-use Rattle.plist_binread.specs.Failures.{HasPlace}
+use Rattle.plist_binread.specs.FaultOffsets.{HasOffset}
 use Rattle.plist_reader.specs.declared.format.Format.TheVariants.{Binary}
-use Rattle.plist_reader.specs.Formats.{input_front, is_white, mark_length, past_white, xml_place, text_format, format_of}
+use Rattle.plist_reader.specs.Formats.{input_front, is_white, byte_order_mark_length, past_white, xml_place, text_format, format_of}
 
 -- two facts of known bytes together
 pub both_known : {A : Type 0} (o : Option A) {P Q R : A → Type 0} → IfSome o P → IfSome o Q
@@ -20,8 +20,8 @@ both_known None p q f = tt
 both_known (Some x) p q f = f x p q
 
 -- a place within bounds is one
-pub within-placed : (start end : ℕ) (offset : Option ℕ) → IsPlaceWithin start end offset
-    → HasPlace offset
+pub within-placed : (start end : ℕ) (offset : Option ℕ) → IsOffsetWithin start end offset
+    → HasOffset offset
 within-placed start end None h = h
 within-placed start end (Some place) h = tt
 
@@ -119,15 +119,15 @@ then_some-cond false place = refl
 pub binary-is : (bytes : List ℕ) → true ≡ starts_with nat_eq bytes magic → Binary ≡ format_of bytes
 unfolding format_of
 binary-is bytes h =
-    ap (λ b. cond b Binary (text_format (xml_place (mark_length bytes) (input_front bytes)))) h
+    ap (λ b. cond b Binary (text_format (xml_place (byte_order_mark_length bytes) (input_front bytes)))) h
 
 pub text-is : (k a b : Option (List ℕ)) (start : ℕ) (place : Option ℕ) → a ≡ k → b ≡ a
     → IfSome k (λ bytes. false ≡ starts_with nat_eq bytes magic)
-    → IfSome a (λ bytes. start ≡ mark_length bytes)
+    → IfSome a (λ bytes. start ≡ byte_order_mark_length bytes)
     → IfSome b (λ bytes. place ≡ xml_place start (input_front bytes))
     → IfSome k (λ bytes. text_format place ≡ format_of bytes)
 unfolding format_of
 text-is k a b start place p q h m x =
     both_known k (both_known k (rw p at m) (rw (q ∙ p) at x)
     (λ bytes m x. x ∙ ap (λ s. xml_place s (input_front bytes)) m)) h (λ bytes x h. ap text_format x
-    ∙ ap (λ b. cond b Binary (text_format (xml_place (mark_length bytes) (input_front bytes)))) h)
+    ∙ ap (λ b. cond b Binary (text_format (xml_place (byte_order_mark_length bytes) (input_front bytes)))) h)

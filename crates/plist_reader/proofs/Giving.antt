@@ -13,15 +13,15 @@ use Rattle.plist_base.specs.declared.limited.Limited.{Limited}
 use Rattle.plist_base.specs.declared.limits.Limit.{Limit}
 use Rattle.plist_base.specs.declared.limits.Limits.{Limits}
 use Rattle.plist_base.specs.declared.limits.Limiter.{Limiter}
-use Rattle.plist_base.specs.Limits.{GivesLimited, PassesNext, come_of, event_or_limit, iterator_of, limited_items, under}
+use Rattle.plist_base.specs.Limits.{GivesLimited, PassesNext, items_admitted, event_or_limit, iterator_of, limited_items, limited_by}
 use Rattle.plist_base.specs.Faults.{FaultKind, Fault, Io, UnexpectedEof, OutOfMemory, InvalidMagic, InvalidTrailerObjectOffsetSize, InvalidTrailerObjectReferenceSize, ObjectOffsetTooLarge, ObjectReferenceTooLarge, RecursiveObject, NullObjectUnimplemented, FillObjectUnimplemented, UnknownObjectType, IntegerOutOfRange, OverflowOrNanDate, InvalidUtf8String, InvalidUtf16String, UnclosedString, IncompleteComment, InvalidUtf8AsciiStream, InvalidOctalString, LimitReached, MatchFault, XmlUnsupported, IsIo, fault_at, fault_nowhere, kind_of, error_kind_of, fault_of}
 use Rattle.plist_base.specs.Sequential.{from_place}
 use Rattle.plist_reader.specs.Streams.{stream_bytes_left, stream_source, stream_place, held}
-use Rattle.plist_base.specs.Sources.{ItemCountsIo, IsPlaceWithin}
+use Rattle.plist_base.specs.Sources.{ItemCountsIo, IsOffsetWithin}
 use Rattle.plist_base.proofs.Refusals.{MatchFault-weaker}
 use Rattle.plist_binread.specs.BinaryReader as binary
-use Rattle.plist_binread.specs.Failures.{HasPlace, MatchGiven, ItemGivenWithin}
-use Rattle.plist_binread.specs.Remaining.{SomeRemain, WantsMemory}
+use Rattle.plist_binread.specs.FaultOffsets.{HasOffset, MatchGiven, ItemGivenWithin}
+use Rattle.plist_binread.specs.Remaining.{SomeRemain, AllocatesFirst}
 use Rattle.plist_ascii.specs.Ascii.{items_of_ascii, items_in, BeginsWithText}
 use Rattle.plist_ascii.specs.AsciiReader as ascii
 use Rattle.plist_ascii.specs.Kinds.{IsAsciiFault, IsAsciiItem, IsFaultOfBytes}
@@ -30,7 +30,7 @@ use Rattle.plist_ascii.specs.declared.dialect.Dialect.TheVariants.{Lax}
 use Rattle.plist_ascii.specs.Texts.{lax, ends_bare}
 use Rattle.plist_reader.specs.declared.reader.State.{State}
 use Rattle.plist_reader.specs.declared.reader.State.TheVariants as state
-use Rattle.plist_reader.specs.Reader.{BeginsInside, FileGives, MatchText, OfFile, OfText, TextGives, coming, file_within, input_within, is_limited_in, items_by, items_of_input, text_to_come, GivesItem, GivesIfKnown, EndsAfter, IsReaderFault, IsReaderItem, IsRefusedKind, StateGives, HoldsSource, HasItsPlace, IsPlaced, MatchPlaced, source_in}
+use Rattle.plist_reader.specs.Reader.{BeginsInside, FileGives, MatchText, BinaryReaderOf, AsciiReaderOf, TextGives, state_items, file_within, input_within, is_limited_in, items_by, items_of_input, text_to_come, GivesItem, GivesIfKnown, EndsAfter, IsReaderFault, IsReaderItem, IsRefusedKind, StateGives, HoldsSource, ItemHasOffset, FaultHasOffset, MatchOffset, source_in}
 use Rattle.plist_reader.specs.declared.format.Format.TheVariants as format
 use Rattle.plist_reader.specs.Formats.{format_of, input_front}
 use Rattle.plist_reader.proofs.Fronts.{within-placed}
@@ -43,12 +43,12 @@ Given = Option (Result Event Error)
 one-owed : {A : Type 0} (x : A) (xs : List A) → 0 < length (x ∷ xs)
 one-owed x xs = omega arith
 
-wants-owed : (before : List Item) → WantsMemory before → SomeRemain before
+wants-owed : (before : List Item) → AllocatesFirst before → SomeRemain before
 wants-owed [] h = absurd h
 wants-owed (x ∷ xs) h = one-owed x xs
 
 either-owed : (new : Bool) (before : List Item) → MatchBool new (SomeRemain before)
-    (WantsMemory before)
+    (AllocatesFirst before)
     → SomeRemain before
 either-owed true before h = h
 either-owed false before h = wants-owed _ h
@@ -118,7 +118,7 @@ over-ends E None h = h
 over-ends E (Some (Ok event)) h = tt
 over-ends E (Some (Err error)) h = text-or-all _ E h
 
-ascii-ends : (E : Type 0) (item : Given) → ascii.EndsAfterOutside item E → IsAsciiItem item
+ascii-ends : (E : Type 0) (item : Given) → ascii.EndsAfterIoOrMemory item E → IsAsciiItem item
     → EndsAfter item E
 ascii-ends E None h k = h
 ascii-ends E (Some (Ok event)) h k = tt
@@ -144,7 +144,7 @@ binary-kinds limited (Some (Err error)) h =
     by (kind_of (error_kind_of error)) (fault_of error).offset h.placed
   where
     by : (kind : FaultKind) (offset : Option ℕ)
-        → MatchGiven kind (IsPlaceWithin 0 (2 ^ 64) offset) (offset ≡ None) (HasPlace offset)
+        → MatchGiven kind (IsOffsetWithin 0 (2 ^ 64) offset) (offset ≡ None) (HasOffset offset)
         ((limited ≡ true) × (offset ≡ None)) → IsReaderFault limited kind
     by (LimitReached limit) offset h = h.0
     by Io offset h = tt
@@ -185,14 +185,14 @@ same-count a b e = cc
 
 -- where the readers' own faults are
 binary-placed : (limited : Bool) (item : Given) → ItemGivenWithin 0 (2 ^ 64) limited item
-    → HasItsPlace item
+    → ItemHasOffset item
 binary-placed limited None h = tt
 binary-placed limited (Some (Ok event)) h = tt
 binary-placed limited (Some (Err error)) h = placed _ _ h.placed
   where
     placed : (kind : FaultKind) (offset : Option ℕ)
-        → MatchGiven kind (IsPlaceWithin 0 (2 ^ 64) offset) (offset ≡ None) (HasPlace offset)
-        ((limited ≡ true) × (offset ≡ None)) → MatchPlaced kind (offset ≡ None) (HasPlace offset)
+        → MatchGiven kind (IsOffsetWithin 0 (2 ^ 64) offset) (offset ≡ None) (HasOffset offset)
+        ((limited ≡ true) × (offset ≡ None)) → MatchOffset kind (offset ≡ None) (HasOffset offset)
     placed (LimitReached limit) offset p = p.1
     placed Io offset p = within-placed 0 (2 ^ 64) offset p
     placed UnexpectedEof offset p = within-placed 0 (2 ^ 64) offset p
@@ -212,10 +212,10 @@ binary-placed limited (Some (Err error)) h = placed _ _ h.placed
     placed InvalidUtf16String offset p = p
     placed kind offset p = absurd p
 
-some-place : (offset : Option ℕ) (place : ℕ) → offset ≡ Some place → HasPlace offset
+some-place : (offset : Option ℕ) (place : ℕ) → offset ≡ Some place → HasOffset offset
 some-place offset place is = rw is tt
 
-ascii-placed : (place : ℕ) (item : Given) → ascii.FaultIsAt item place → HasItsPlace item
+ascii-placed : (place : ℕ) (item : Given) → ascii.FaultIsAt item place → ItemHasOffset item
 ascii-placed place None h = tt
 ascii-placed place (Some (Ok event)) h = tt
 ascii-placed place (Some (Err error)) h = placed _ _ h
@@ -223,7 +223,7 @@ ascii-placed place (Some (Err error)) h = placed _ _ h
     placed : (kind : FaultKind) (offset : Option ℕ)
         → MatchFault kind (offset ≡ Some place) (offset ≡ None)
         (IsFaultOfBytes kind × (offset ≡ Some place))
-        → MatchPlaced kind (offset ≡ None) (HasPlace offset)
+        → MatchOffset kind (offset ≡ None) (HasOffset offset)
     placed Io offset p = some-place offset place p
     placed OutOfMemory offset p = p
     placed UnclosedString offset p = some-place offset place p.1
@@ -266,7 +266,7 @@ ascii-items (Some bytes) l e is =
 -- ---- under limits
 
 abbrev come : Bool → Limiter → List Item → List Item
-come ended limiter items = cond ended [] (under limiter items)
+come ended limiter items = cond ended [] (limited_by limiter items)
 
 limit-other : (kind : FaultKind) (limit : Limit) (X Y Z : Type 0) → kind ≡ LimitReached limit → Z
     → MatchFault kind X Y Z
@@ -279,7 +279,7 @@ reached-owed (Some limit) event behind =
     one-owed {A = Item} (Err (fault_nowhere (LimitReached limit))) []
 
 limits-owed : (limiter : Limiter) (items : List Item) → SomeRemain items
-    → SomeRemain (under limiter items)
+    → SomeRemain (limited_by limiter items)
 limits-owed limiter [] h = h
 limits-owed limiter (Ok event ∷ items) h = reached-owed _ _ _
 limits-owed limiter (Err fault ∷ items) h = one-owed {A = Item} (Err fault) []
@@ -291,15 +291,15 @@ limited-item was now old new before after None item w g p =
     rw (p.0, w, g.0, p.2) (refl, refl)
 limited-item was now old new before after (Some (Ok asked)) None w g p = absurd p
 limited-item was now old new before after (Some (Ok asked)) (Some (Ok passed)) w g p =
-    rw (w, p.2) (ap (under old) g ∙ p.1 after
-    ∙ ap (λ v. Ok (event_of v) ∷ under new after) (sym p.0))
+    rw (w, p.2) (ap (limited_by old) g ∙ p.1 after
+    ∙ ap (λ v. Ok (event_of v) ∷ limited_by new after) (sym p.0))
 limited-item was now old new before after (Some (Ok asked)) (Some (Err error)) w g p =
     rw (w, p.1) (limit-other (fault_of error).kind p.0.0 _ _ _ (ap (λ (f : Fault). f.kind) p.0.1)
-    (ap (under old) g ∙ p.0.2 after))
+    (ap (limited_by old) g ∙ p.0.2 after))
 limited-item was now old new before after (Some (Err fault)) None w g p = absurd p
 limited-item was now old new before after (Some (Err fault)) (Some given) w g p =
     rw (p.0, w, p.1) (MatchFault-weaker (kind_of (error_kind_of fault)) (λ _. refl)
-    (λ m. (refl, limits-owed old before m.1)) (λ b. ap (under old) b) g)
+    (λ m. (refl, limits-owed old before m.1)) (λ b. ap (limited_by old) b) g)
 
 limited-goes : (was now : Bool) (old new : Limiter) (k l : Option (List Item)) (asked item : Given)
     → was ≡ false → GivesIfKnown k asked l → PassesNext old asked item new now
@@ -322,12 +322,12 @@ module _ (now : Bool) (old new : Limiter) where
   passes-count (Some (Err fault)) None a b h p = absurd p
   passes-count (Some (Err fault)) (Some given) a b h p = rw p.0 h
 
-  passes-placed : (asked item : Given) → HasItsPlace asked → PassesNext old asked item new now
-      → HasItsPlace item
+  passes-placed : (asked item : Given) → ItemHasOffset asked → PassesNext old asked item new now
+      → ItemHasOffset item
   passes-placed None item h p = rw p.0 tt
   passes-placed (Some (Ok asked)) None h p = absurd p
   passes-placed (Some (Ok asked)) (Some (Ok passed)) h p = tt
-  passes-placed (Some (Ok asked)) (Some (Err error)) h p = subst IsPlaced (sym p.0.1) refl
+  passes-placed (Some (Ok asked)) (Some (Err error)) h p = subst FaultHasOffset (sym p.0.1) refl
   passes-placed (Some (Err fault)) None h p = absurd p
   passes-placed (Some (Err fault)) (Some given) h p = rw p.0 h
 
@@ -351,7 +351,7 @@ module _ (now : Bool) (old new : Limiter) where
   passes-ends (Some (Err fault)) (Some given) p = rw p.0 (text-or-all _ (now ≡ true) p.1)
 
 -- a reader of ASCII that has given nothing has all items of its source to give
-fresh-text : {R : Type 0} (known : R → Option (List ℕ)) (source : R) (sequence : SourceBytes R) (reader : OfText R)
+fresh-text : {R : Type 0} (known : R → Option (List ℕ)) (source : R) (sequence : SourceBytes R) (reader : AsciiReaderOf R)
     → stream_source sequence ≡ source → stream_place sequence ≡ 0 → held sequence ≡ []
     → IfSome (known source) (λ bytes. format.Ascii ≡ format_of bytes)
     → ascii.untaken_bytes (stream_bytes_left known) reader
@@ -408,8 +408,8 @@ xml-counts place a b error is same =
     let kind = ap (λ (f : Fault). f.kind) is in rw kind same
 
 pub xml-place : (place : ℕ) (error : Error) → fault_of error ≡ fault_at XmlUnsupported place
-    → HasItsPlace (Some (Err error))
-xml-place place error is = subst IsPlaced (sym is) tt
+    → ItemHasOffset (Some (Err error))
+xml-place place error is = subst FaultHasOffset (sym is) tt
 
 -- a read failed
 pub io-items : (k : Option (List ℕ)) (limits : Option Limits) (error : Error)
@@ -429,16 +429,16 @@ io-kind error io = by (kind_of (error_kind_of error)) io
     by kind io = absurd io
 
 pub io-place : (error : Error) → IsIo (kind_of (error_kind_of error))
-    → HasPlace (fault_of error).offset → HasItsPlace (Some (Err error))
+    → HasOffset (fault_of error).offset → ItemHasOffset (Some (Err error))
 io-place error io place = placed _ _ io place
   where
-    placed : (kind : FaultKind) (offset : Option ℕ) → IsIo kind → HasPlace offset
-        → MatchPlaced kind (offset ≡ None) (HasPlace offset)
+    placed : (kind : FaultKind) (offset : Option ℕ) → IsIo kind → HasOffset offset
+        → MatchOffset kind (offset ≡ None) (HasOffset offset)
     placed Io offset io place = place
     placed kind offset io place = absurd io
 
 module _ {R : Type 0} {g : Ghosts R} (known : R → Option (List ℕ)) (failed : R → ℕ) where
-  pub binary-gives : (old new : OfFile R g) (item : Given) → FileGives {g = g} known failed old item new
+  pub binary-gives : (old new : BinaryReaderOf R g) (item : Given) → FileGives {g = g} known failed old item new
       → StateGives known failed (state.Binary old) item (state.Binary new)
   binary-gives old new item h = record {
     items = binary-goes (known (binary.binary_source old)) (known (binary.binary_source new))
@@ -454,11 +454,11 @@ module _ {R : Type 0} {g : Ghosts R} (known : R → Option (List ℕ)) (failed :
     inside = (new, refl, h);
   }
 
-  pub ascii-gives : (old new : OfText R) (item : Given)
+  pub ascii-gives : (old new : AsciiReaderOf R) (item : Given)
       → TextGives known failed old item new
       → StateGives {R = R} {g = g} known failed (state.Ascii old) item (state.Ascii new)
   ascii-gives old new item h = record {
-    items = subst (λ d. GivesIfKnown ((let before : State R g = state.Ascii old in coming known
+    items = subst (λ d. GivesIfKnown ((let before : State R g = state.Ascii old in state_items known
         before))
         item (option_map (λ bytes. items_of_ascii (ends_bare d) bytes (ascii.place_of new))
         (ascii.untaken_bytes (stream_bytes_left known) new))) (sym h.dialect)
@@ -477,7 +477,7 @@ module _ {R : Type 0} {g : Ghosts R} (known : R → Option (List ℕ)) (failed :
   }
 
   -- nothing more comes
-  over-gives : (old : Limited (OfText R)) → old.ended ≡ true
+  over-gives : (old : Limited (AsciiReaderOf R)) → old.ended ≡ true
       → StateGives {R = R} {g = g} known failed (state.Limited old) None (state.Limited old)
   over-gives old over = record {
     items = stays (text_to_come known (iterator_of old));
@@ -491,11 +491,11 @@ module _ {R : Type 0} {g : Ghosts R} (known : R → Option (List ℕ)) (failed :
   }
     where
       stays : (k : Option (List Item))
-          → GivesIfKnown (option_map (come_of old) k) None (option_map (come_of old) k)
+          → GivesIfKnown (option_map (items_admitted old) k) None (option_map (items_admitted old) k)
       stays None = tt
-      stays (Some all) = (come_of old all, refl, rw over (refl, refl))
+      stays (Some all) = (items_admitted old all, refl, rw over (refl, refl))
 
-  pub limited-gives : (old new : Limited (OfText R)) (item : Given)
+  pub limited-gives : (old new : Limited (AsciiReaderOf R)) (item : Given)
       → GivesLimited (TextGives known failed) old item new
       → StateGives {R = R} {g = g} known failed (state.Limited old) item (state.Limited new)
   limited-gives old new item h = by old.ended refl h
@@ -527,13 +527,13 @@ module _ {R : Type 0} {g : Ghosts R} (known : R → Option (List ℕ)) (failed :
 
   -- a state that stands as the source before the choice goes on as that
   chosen-gives : (source : R) (limits : Option Limits) (old new : State R g) (item : Given)
-      → coming known old ≡ option_map (input_within limits) (known source)
+      → state_items known old ≡ option_map (input_within limits) (known source)
       → is_limited_in old ≡ is_some limits
       → HoldsSource failed (Some source) item (source_in new)
       → BeginsInside known failed limits item new → StateGives known failed old item new
       → StateGives known failed (state.Unread source limits) item new
   chosen-gives source limits old new item same limited count inside h = record {
-    items = subst (λ o. GivesIfKnown o item (coming known new)) same h.items;
+    items = subst (λ o. GivesIfKnown o item (state_items known new)) same h.items;
     failures = count;
     offset = h.offset;
     ended = λ e. absurd e;
@@ -557,14 +557,14 @@ module _ {R : Type 0} {g : Ghosts R} (known : R → Option (List ℕ)) (failed :
       held None h = h
       held (Some kept) h = subst (λ n. ItemCountsIo item n (failed kept)) f h
 
-  binary-items : (limits : Option Limits) (k : Option (List ℕ)) (reader : OfFile R g)
+  binary-items : (limits : Option Limits) (k : Option (List ℕ)) (reader : BinaryReaderOf R g)
       → IfSome k (λ bytes. format.Binary ≡ format_of bytes)
       → IfSome k (λ bytes. binary.items_to_come bytes reader ≡ file_within limits bytes)
       → IfSome k (λ bytes. binary.items_to_come bytes reader ≡ input_within limits bytes)
   binary-items limits None reader is h = tt
   binary-items limits (Some bytes) reader is h = h ∙ file-input limits bytes is
 
-  pub begun-binary : (source : R) (limits : Option Limits) (old new : OfFile R g) (item : Given)
+  pub begun-binary : (source : R) (limits : Option Limits) (old new : BinaryReaderOf R g) (item : Given)
       → binary.binary_source old ≡ source → binary.is_new old ≡ true
       → binary.has_limits old ≡ is_some limits
       → IfSome (known source) (λ bytes. format.Binary ≡ format_of bytes)
@@ -581,7 +581,7 @@ module _ {R : Type 0} {g : Ghosts R} (known : R → Option (List ℕ)) (failed :
       (ap failed at) h.failures)
       (old, fresh, limited, h) (binary-gives old new item h)
 
-  pub begun-ascii : (source : R) (sequence : SourceBytes R) (old new : OfText R) (item : Given)
+  pub begun-ascii : (source : R) (sequence : SourceBytes R) (old new : AsciiReaderOf R) (item : Given)
       → stream_source sequence ≡ source → ascii.device_of old ≡ sequence → stream_place sequence ≡ 0
       → held sequence ≡ [] → IfSome (known source) (λ bytes. format.Ascii ≡ format_of bytes)
       → ascii.untaken_bytes (stream_bytes_left known) old ≡ option_map input_front
@@ -597,8 +597,8 @@ module _ {R : Type 0} {g : Ghosts R} (known : R → Option (List ℕ)) (failed :
       (told-failures _ _ item h.failures))
       (old, place, refl, h) (ascii-gives old new item h)
 
-  pub begun-limited : (source : R) (limits : Limits) (sequence : SourceBytes R) (fresh : OfText R)
-      (old new : Limited (OfText R)) (item : Given) → come_of old ≡ limited_items limits
+  pub begun-limited : (source : R) (limits : Limits) (sequence : SourceBytes R) (fresh : AsciiReaderOf R)
+      (old new : Limited (AsciiReaderOf R)) (item : Given) → items_admitted old ≡ limited_items limits
       → iterator_of old ≡ fresh → stream_source sequence ≡ source → ascii.device_of fresh ≡ sequence
       → stream_place sequence ≡ 0 → held sequence ≡ []
       → IfSome (known source) (λ bytes. format.Ascii ≡ format_of bytes)
@@ -626,7 +626,7 @@ module _ {R : Type 0} {g : Ghosts R} (known : R → Option (List ℕ)) (failed :
       → IfSome (known source) (λ bytes. GivesItem (input_within limits bytes) (Some (Err error)) [])
       → IsRefusedKind (kind_of (error_kind_of error))
       → ItemCountsIo {A = Event} (Some (Err error)) (failed source) (failed other)
-      → HasItsPlace (Some (Err error))
+      → ItemHasOffset (Some (Err error))
       → StateGives {R = R} {g = g} known failed (state.Unread source limits) (Some (Err error))
       (state.Refused other)
   refused-gives source other limits error items kind count place = record {

@@ -14,11 +14,11 @@ abbrev pub is_white : ℕ → Bool
 is_white c = list_any (λ d. c == d) (9 ∷ 10 ∷ 12 ∷ 13 ∷ 32 ∷ [])
 
 -- the mark of the byte order in UTF-8
-abbrev pub mark : List ℕ
-mark = 0xEF ∷ 0xBB ∷ 0xBF ∷ []
+abbrev pub byte_order_mark : List ℕ
+byte_order_mark = 0xEF ∷ 0xBB ∷ 0xBF ∷ []
 
-abbrev pub mark_length : List ℕ → ℕ
-mark_length bytes = cond (starts_with nat_eq bytes mark) 3 0
+abbrev pub byte_order_mark_length : List ℕ → ℕ
+byte_order_mark_length bytes = cond (starts_with nat_eq bytes byte_order_mark) 3 0
 
 -- the place of the first byte past white space, from a place on
 abbrev pub past_white : (place : ℕ) → List ℕ → ℕ
@@ -37,7 +37,7 @@ text_format (Some place) = Xml place
 unfoldable pub format_of : List ℕ → Format
 format_of bytes =
     cond (starts_with nat_eq bytes magic) Binary
-    (text_format (xml_place (mark_length bytes) (input_front bytes)))
+    (text_format (xml_place (byte_order_mark_length bytes) (input_front bytes)))
 
 -- ---- worked examples
 

@@ -6,7 +6,7 @@ use Rattle.plist_base.specs.declared.event.Event.{Event}
 use Rattle.plist_base.specs.declared.source.Source.{Ghosts}
 use Rattle.plist_base.specs.declared.limited.Limited.{Limited}
 use Rattle.plist_base.specs.declared.limits.Limits.{Limits}
-use Rattle.plist_base.specs.Limits.{GivesLimited, HasEndedLimited, come_of, iterator_of, limited_items}
+use Rattle.plist_base.specs.Limits.{GivesLimited, HasEndedLimited, items_admitted, iterator_of, limited_items}
 use Rattle.plist_base.specs.Faults.{Fault, FaultKind, Io, IncompleteComment, InvalidOctalString, InvalidUtf16String, InvalidUtf8AsciiStream, LimitReached, MatchFault, OutOfMemory, UnclosedString, XmlUnsupported, kind_of, error_kind_of, fault_of, fault_at}
 use Rattle.plist_base.specs.Events.{Item, event_of}
 use Rattle.plist_base.specs.Sources.{ItemCountsIo}
@@ -14,7 +14,7 @@ use Rattle.plist_binread.specs.BinaryReader as binary
 use Rattle.plist_binread.specs.declared.reader.BinaryReader.{BinaryReader}
 use Rattle.plist_binread.specs.declared.counter.Uncounted.{Uncounted}
 use Rattle.plist_binread.specs.contracts.counter.UncountedDecodeCounter.TheImpl.{ghosts}
-use Rattle.plist_binread.specs.Failures.{HasPlace, MatchGiven}
+use Rattle.plist_binread.specs.FaultOffsets.{HasOffset, MatchGiven}
 use Rattle.plist_binread.specs.Remaining.{SomeRemain, walk_steps}
 use Rattle.plist_format.specs.Unfolding.{items_of_file}
 use Rattle.plist_ascii.specs.Ascii.{items_of_ascii}
@@ -55,14 +55,14 @@ file_within None bytes = items_of_file bytes
 file_within (Some limits) bytes = limited_items limits (items_of_file bytes)
 
 -- the reader of a binary source, which counts nothing, and that of one in ASCII
-abbrev pub OfFile : (R : Type 0) → Ghosts R → Type 0
-OfFile R g = BinaryReader R Uncounted g ghosts
+abbrev pub BinaryReaderOf : (R : Type 0) → Ghosts R → Type 0
+BinaryReaderOf R g = BinaryReader R Uncounted g ghosts
 
-abbrev pub OfText : Type 0 → Type 0
-OfText R = AsciiReader (SourceBytes R)
+abbrev pub AsciiReaderOf : Type 0 → Type 0
+AsciiReaderOf R = AsciiReader (SourceBytes R)
 
 -- what a reader of ASCII has still to give
-abbrev pub text_to_come : {R : Type 0} (known : R → Option (List ℕ)) → OfText R
+abbrev pub text_to_come : {R : Type 0} (known : R → Option (List ℕ)) → AsciiReaderOf R
     → Option (List Item)
 text_to_come known reader =
     option_map (λ bytes. items_of_ascii (ascii.stops_of reader) bytes (ascii.place_of reader))
@@ -71,18 +71,18 @@ text_to_come known reader =
 module _ {R : Type 0} {g : Ghosts R} (known : R → Option (List ℕ)) where
   -- the items still to come, where the source's bytes are known: before the choice those of the
   -- source, then those of the reader that was chosen
-  abbrev pub coming : State R g → Option (List Item)
-  coming (state.Unread source limits) = option_map (input_within limits) (known source)
-  coming (state.Binary reader) =
+  abbrev pub state_items : State R g → Option (List Item)
+  state_items (state.Unread source limits) = option_map (input_within limits) (known source)
+  state_items (state.Binary reader) =
       option_map (λ bytes. binary.items_to_come bytes reader) (known (binary.binary_source reader))
-  coming (state.Ascii reader) = text_to_come known reader
-  coming (state.Limited reader) = option_map (come_of reader) (text_to_come known
+  state_items (state.Ascii reader) = text_to_come known reader
+  state_items (state.Limited reader) = option_map (items_admitted reader) (text_to_come known
       (iterator_of reader))
-  coming (state.Refused source) = Some []
-  coming state.Moved = Some []
+  state_items (state.Refused source) = Some []
+  state_items state.Moved = Some []
 
   abbrev pub reader_items : Reader R g → Option (List Item)
-  reader_items reader = coming reader.state
+  reader_items reader = state_items reader.state
 
 -- the source
 abbrev pub source_in : {R : Type 0} {g : Ghosts R} → State R g → Option R
@@ -99,16 +99,16 @@ abbrev pub reader_source : {R : Type 0} {g : Ghosts R} → Reader R g → Option
 reader_source reader = source_in reader.state
 
 -- the reader gives nothing more
-abbrev pub IsOver : {R : Type 0} {g : Ghosts R} → State R g → Type 0
-IsOver (state.Unread source limits) = ⊥
-IsOver (state.Binary reader) = binary.HasEndedBinary reader
-IsOver (state.Ascii reader) = ascii.HasEndedAscii reader
-IsOver (state.Limited reader) = HasEndedLimited reader
-IsOver (state.Refused source) = ⊤
-IsOver state.Moved = ⊤
+abbrev pub HasEndedState : {R : Type 0} {g : Ghosts R} → State R g → Type 0
+HasEndedState (state.Unread source limits) = ⊥
+HasEndedState (state.Binary reader) = binary.HasEndedBinary reader
+HasEndedState (state.Ascii reader) = ascii.HasEndedAscii reader
+HasEndedState (state.Limited reader) = HasEndedLimited reader
+HasEndedState (state.Refused source) = ⊤
+HasEndedState state.Moved = ⊤
 
 abbrev pub HasEndedReader : {R : Type 0} {g : Ghosts R} → Reader R g → Type 0
-HasEndedReader reader = IsOver reader.state
+HasEndedReader reader = HasEndedState reader.state
 
 -- are there limits?
 abbrev pub is_limited_in : {R : Type 0} {g : Ghosts R} → State R g → Bool
@@ -183,37 +183,37 @@ IsSourceRefusal item = MatchOption item ⊥ (λ answer. MatchResult answer (λ _
 
 -- a fact for want of memory and the fault of a limit, which have no place, and one for every other
 -- fault of a reader
-abbrev pub MatchPlaced : FaultKind → (nowhere placed : Type 0) → Type 0
-MatchPlaced OutOfMemory nowhere placed = nowhere
-MatchPlaced (LimitReached limit) nowhere placed = nowhere
-MatchPlaced kind nowhere placed = placed
+abbrev pub MatchOffset : FaultKind → (nowhere placed : Type 0) → Type 0
+MatchOffset OutOfMemory nowhere placed = nowhere
+MatchOffset (LimitReached limit) nowhere placed = nowhere
+MatchOffset kind nowhere placed = placed
 
-abbrev pub IsPlaced : Fault → Type 0
-IsPlaced fault = MatchPlaced fault.kind (fault.offset ≡ None) (HasPlace fault.offset)
+abbrev pub FaultHasOffset : Fault → Type 0
+FaultHasOffset fault = MatchOffset fault.kind (fault.offset ≡ None) (HasOffset fault.offset)
 
 -- an item's fault has a place, but for those two
-abbrev pub HasItsPlace : Option (Result Event Error) → Type 0
-HasItsPlace item = MatchOption item ⊤ (λ answer. IfErr answer (λ error. IsPlaced (fault_of error)))
+abbrev pub ItemHasOffset : Option (Result Event Error) → Type 0
+ItemHasOffset item = MatchOption item ⊤ (λ answer. IfErr answer (λ error. FaultHasOffset (fault_of error)))
 
 -- one call of a reader that was chosen
 abbrev pub FileGives : {R : Type 0} {g : Ghosts R} (known : R → Option (List ℕ)) (failed : R → ℕ)
-    → OfFile R g → Option (Result Event Error) → OfFile R g → Type 0
+    → BinaryReaderOf R g → Option (Result Event Error) → BinaryReaderOf R g → Type 0
 FileGives known failed = binary.GivesBinary known failed ⊥ (λ _. 0)
 
 abbrev pub TextGives : {R : Type 0} (known : R → Option (List ℕ)) (failed : R → ℕ)
-    → OfText R → Option (Result Event Error) → OfText R → Type 0
+    → AsciiReaderOf R → Option (Result Event Error) → AsciiReaderOf R → Type 0
 TextGives known failed =
     ascii.GivesAscii (stream_bytes_left known) (λ bytes. Some (failed (stream.stream_source bytes)))
 
 module _ {R : Type 0} {g : Ghosts R} (known : R → Option (List ℕ)) (failed : R → ℕ) where
   -- the first item is that of a reader that has given none, or the source is refused
   abbrev pub BeginsInside : Option Limits → Option (Result Event Error) → State R g → Type 0
-  BeginsInside limits item (state.Binary new) = (fresh : OfFile R g)
+  BeginsInside limits item (state.Binary new) = (fresh : BinaryReaderOf R g)
       × (binary.is_new fresh ≡ true) × (binary.has_limits fresh ≡ is_some limits)
       × FileGives known failed fresh item new
-  BeginsInside limits item (state.Ascii new) = (fresh : OfText R)
+  BeginsInside limits item (state.Ascii new) = (fresh : AsciiReaderOf R)
       × (ascii.place_of fresh ≡ 0) × (limits ≡ None) × TextGives known failed fresh item new
-  BeginsInside limits item (state.Limited new) = (fresh : Limited (OfText R))
+  BeginsInside limits item (state.Limited new) = (fresh : Limited (AsciiReaderOf R))
       × (ascii.place_of (iterator_of fresh) ≡ 0) × (is_some limits ≡ true)
       × GivesLimited (TextGives known failed) fresh item new
   BeginsInside limits item (state.Refused source) = IsSourceRefusal item
@@ -224,21 +224,21 @@ module _ {R : Type 0} {g : Ghosts R} (known : R → Option (List ℕ)) (failed :
       → Type 0
   GivesInside (state.Unread source limits) item new = BeginsInside limits item new
   GivesInside (state.Binary old) item new =
-      (reader : OfFile R g) × (new ≡ state.Binary reader) × FileGives known failed old item reader
+      (reader : BinaryReaderOf R g) × (new ≡ state.Binary reader) × FileGives known failed old item reader
   GivesInside (state.Ascii old) item new =
-      (reader : OfText R) × (new ≡ state.Ascii reader) × TextGives known failed old item reader
-  GivesInside (state.Limited old) item new = (reader : Limited (OfText R))
+      (reader : AsciiReaderOf R) × (new ≡ state.Ascii reader) × TextGives known failed old item reader
+  GivesInside (state.Limited old) item new = (reader : Limited (AsciiReaderOf R))
       × (new ≡ state.Limited reader) × GivesLimited (TextGives known failed) old item reader
   GivesInside old item new = (item ≡ None) × (new ≡ old)
 
 -- one call of `next`
 pub record StateGives {R : Type 0} {g : Ghosts R} (known : R → Option (List ℕ)) (failed : R → ℕ)
     (old : State R g) (item : Option (Result Event Error)) (new : State R g) : Type 0 where
-  pub items : GivesIfKnown (coming known old) item (coming known new)
+  pub items : GivesIfKnown (state_items known old) item (state_items known new)
   pub failures : HoldsSource failed (source_in old) item (source_in new)
-  pub offset : HasItsPlace item
-  pub ended : IsOver old → item ≡ None
-  pub ends : EndsAfter item (IsOver new)
+  pub offset : ItemHasOffset item
+  pub ended : HasEndedState old → item ≡ None
+  pub ends : EndsAfter item (HasEndedState new)
   pub kinds : IsReaderItem (is_limited_in old) item
   pub limits : is_limited_in old ≡ false → is_limited_in new ≡ false
   pub inside : GivesInside known failed old item new

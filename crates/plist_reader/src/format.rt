@@ -5,8 +5,8 @@ ghost use Rattle.std.specs.List.{starts_with};
 ghost use Rattle.plist_base.specs.Faults.{IsIo, Io, fault_at, kind_of, error_kind_of, offset_of};
 ghost use Rattle.plist_base.specs.Outcomes.{OnlyFault, DecodesBy};
 ghost use Rattle.plist_base.specs.Sources.{AnswersIo};
-ghost use Rattle.plist_binread.specs.Failures.{HasPlace};
-ghost use Rattle.plist_reader.specs.Formats.{is_white, mark_length, input_front, xml_place, format_of};
+ghost use Rattle.plist_binread.specs.FaultOffsets.{HasOffset};
+ghost use Rattle.plist_reader.specs.Formats.{is_white, byte_order_mark_length, input_front, xml_place, format_of};
 
 use crate::bytes::read_byte;
 use plist_base::{Error, ErrorKind, Source, read_exact_at};
@@ -33,7 +33,7 @@ fn begins_with<S: Source, const N: usize>(source: &mut S, front: &[u8; N]) -> Re
     ensures value { DecodesBy result (S.known source.old) (λ b. starts_with nat_eq b front.now) }
     // A refusal.
     ensures refused { IfErr result (λ error. IsIo (kind_of (error_kind_of error))) }
-    ensures offset { IfErr result (λ error. HasPlace (offset_of error)) }
+    ensures offset { IfErr result (λ error. HasOffset (offset_of error)) }
     // The state after it.
     ensures unchanged { S.known source.new ≡ S.known source.old }
     ensures failures { AnswersIo result (S.failures source.old) (S.failures source.new) }
@@ -51,12 +51,12 @@ fn begins_with<S: Source, const N: usize>(source: &mut S, front: &[u8; N]) -> Re
 }
 
 // How many bytes the mark of the byte order takes.
-fn mark_length<S: Source>(source: &mut S) -> Result<u64, Error>
+fn byte_order_mark_length<S: Source>(source: &mut S) -> Result<u64, Error>
     // The answer.
-    ensures length { DecodesBy result (S.known source.old) mark_length }
+    ensures length { DecodesBy result (S.known source.old) byte_order_mark_length }
     // A refusal.
     ensures refused { IfErr result (λ error. IsIo (kind_of (error_kind_of error))) }
-    ensures offset { IfErr result (λ error. HasPlace (offset_of error)) }
+    ensures offset { IfErr result (λ error. HasOffset (offset_of error)) }
     // The state after it.
     ensures unchanged { S.known source.new ≡ S.known source.old }
     ensures failures { AnswersIo result (S.failures source.old) (S.failures source.new) }
@@ -91,7 +91,7 @@ fn xml_place<S: Source>(source: &mut S, start: u64) -> Result<Option<u64>, Error
     ensures value { DecodesBy result (S.known source.old) (λ b. xml_place start (input_front b)) }
     // A refusal.
     ensures refused { IfErr result (λ error. IsIo (kind_of (error_kind_of error))) }
-    ensures offset { IfErr result (λ error. HasPlace (offset_of error)) }
+    ensures offset { IfErr result (λ error. HasOffset (offset_of error)) }
     // The state after it.
     ensures unchanged { S.known source.new ≡ S.known source.old }
     ensures failures { AnswersIo result (S.failures source.old) (S.failures source.new) }
@@ -118,7 +118,7 @@ pub fn format_of<S: Source>(source: &mut S) -> Result<Format, Error>
     ensures format { DecodesBy result (S.known source.old) format_of }
     // A refusal.
     ensures refused { IfErr result (λ error. IsIo (kind_of (error_kind_of error))) }
-    ensures offset { IfErr result (λ error. HasPlace (offset_of error)) }
+    ensures offset { IfErr result (λ error. HasOffset (offset_of error)) }
     // The state after it.
     ensures unchanged { S.known source.new ≡ S.known source.old }
     ensures failures { AnswersIo result (S.failures source.old) (S.failures source.new) }
@@ -126,7 +126,7 @@ pub fn format_of<S: Source>(source: &mut S) -> Result<Format, Error>
     if begins_with(source, MAGIC)? {
         return Ok(Format::Binary);
     }
-    let start = mark_length(source)?;
+    let start = byte_order_mark_length(source)?;
     match xml_place(source, start)? {
         Some(place) => Ok(Format::Xml(place)),
         None => Ok(Format::Ascii),

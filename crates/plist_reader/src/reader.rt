@@ -2,7 +2,7 @@
 
 ghost use Rattle.std.specs.Prelude.{◌≡◌, ◌<◌, IfSome, Some, true};
 ghost use Rattle.std.specs.Option.{is_some};
-ghost use Rattle.plist_binread.specs.BinaryReader.{HasToCome, has_limits as is_limited_file, is_new, binary_source as source_of_file};
+ghost use Rattle.plist_binread.specs.BinaryReader.{WillGive, has_limits as is_limited_file, is_new, binary_source as source_of_file};
 ghost use Rattle.plist_reader.specs.Formats.{format_of};
 ghost use Rattle.plist_reader.specs.Reader.{StateGives, all_steps, file_within, steps_in_state};
 
@@ -31,7 +31,7 @@ pub(crate) enum State<R: Source> {
 
 // The reader of a binary source.
 fn binary_reader<R: Source>(alloc: Global, source: R, limits: Option<Limits>) -> BinaryReader<R>
-    ensures items { HasToCome (R.known source) (file_within limits) result }
+    ensures items { WillGive (R.known source) (file_within limits) result }
     ensures source { source_of_file result ≡ source }
     ensures new { is_new result ≡ true }
     ensures limited { is_limited_file result ≡ is_some limits }
@@ -145,7 +145,8 @@ impl<R: Source> Reader<R> {
     /// Of a binary source no memory is taken for a text or data that is refused, unless it is
     /// short. A text in ASCII is read before it is counted: it takes at most its bytes there.
     pub fn with_limits(alloc: Global, source: R, limits: Limits) -> Self
-        ensures items { reader_items R.known result ≡ option_map (limited_input limits) (R.known source) }
+        ensures items { reader_items R.known result ≡ option_map (limited_input limits)
+            (R.known source) }
         ensures source { reader_source result ≡ Some source }
         ensures limited { reader_is_limited result ≡ true }
     {

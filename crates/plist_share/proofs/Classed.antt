@@ -4,7 +4,7 @@ use Rattle.plist_base.specs.Events.{PlainEvent}
 use Rattle.plist_base.specs.Trees.{Tree, Leaf, Array, Dictionary, Trees, NoTrees, TreeAnd, Members, NoMembers, MemberAnd}
 use Rattle.plist_format.specs.Object as obj
 use Rattle.plist_binwrite.specs.Numberings.{references, pairs, object_of}
-use Rattle.plist_binwrite.specs.Occurrences.{size, OccursAt, ItemsOccurAt, PairsOccurAt}
+use Rattle.plist_binwrite.specs.Occurrences.{event_count, OccursAt, ItemsOccurAt, PairsOccurAt}
 use Rattle.plist_binwrite.proofs.Sitting.{occurs_items, occurs_pairs, occurs_item, occurs_next, occurs_key, occurs_value, occurs_next_pair}
 
 module _ (es : List PlainEvent) (class : ℕ → ℕ)
@@ -27,7 +27,7 @@ module _ (es : List PlainEvent) (class : ℕ → ℕ)
     complete_items NoTrees p q s r = refl
     complete_items (TreeAnd t ts) p q s r =
         let first = complete t p q (occurs_item s) (occurs_item r) in
-        let more = complete_items ts (p + size t) _ (occurs_next s) (occurs_next r) in
+        let more = complete_items ts (p + event_count t) _ (occurs_next s) (occurs_next r) in
         λ i. first i ∷ more i
 
     complete_pairs : (ms : Members) (p q : ℕ) → PairsOccurAt es ms p → PairsOccurAt es ms q

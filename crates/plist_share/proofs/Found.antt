@@ -9,7 +9,7 @@ use Rattle.plist_base.specs.Events.{PlainEvent}
 use Rattle.plist_format.specs.Object as obj
 use Rattle.plist_format.specs.Object.{dictionary}
 use Rattle.plist_binwrite.specs.Classes.{AreClasses}
-use Rattle.plist_binwrite.specs.Forms.{keys_of, values_of}
+use Rattle.plist_binwrite.specs.Forms.{key_numbers, value_numbers}
 use Rattle.plist_binwrite.specs.EventTable.{item_indices, key_indices, value_indices, keys_in, values_in, entry_kind_of, event_at, nth_number}
 use Rattle.plist_binwrite.specs.Numberings.{pairs, object_of}
 use Rattle.plist_binwrite.specs.Occurrences.{OccursAt}
@@ -34,14 +34,14 @@ same_pairs : (class : ℕ → ℕ) (ms ns : Members) (p q : ℕ)
 same_pairs class ms ns p q e =
     let a = pairs _ ms p in
     let b = pairs _ ns q in
-    let all : keys_of a ++ values_of a ≡ keys_of b ++ values_of b =
+    let all : key_numbers a ++ value_numbers a ≡ key_numbers b ++ value_numbers b =
     (λ i. keys_are class ms p i ++ values_are class ms p i) ∙ e
     ∙ (λ i. sym (keys_are class ns q) i ++ sym (values_are class ns q) i) in
     let many : length a ≡ length b = omega (
       arith,
       ap length all,
-      length-append (keys_of a) (values_of a),
-      length-append (keys_of b) (values_of b),
+      length-append (key_numbers a) (value_numbers a),
+      length-append (key_numbers b) (value_numbers b),
       length-keys_of a,
       length-values_of a,
       length-keys_of b,
@@ -53,8 +53,8 @@ same_halves : (f g : ℕ → ℕ) (ms : Members) (p q : ℕ) → pairs f ms p �
     → map f (key_indices ms p) ++ map f (value_indices ms p)
     ≡ map g (key_indices ms q) ++ map g (value_indices ms q)
 same_halves f g ms p q e = λ i.
-    (sym (keys_are f ms p) ∙ ap keys_of e ∙ keys_are g ms q) i
-    ++ (sym (values_are f ms p) ∙ ap values_of e ∙ values_are g ms q) i
+    (sym (keys_are f ms p) ∙ ap key_numbers e ∙ keys_are g ms q) i
+    ++ (sym (values_are f ms p) ∙ ap value_numbers e ∙ values_are g ms q) i
 
 -- ---- all indices have their classes
 

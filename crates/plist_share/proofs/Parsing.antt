@@ -6,7 +6,7 @@ use Rattle.std.proofs.lemmas.Option.{slice_get_within}
 use Rattle.plist_base.specs.inner.Paths.{IsPath}
 use Rattle.plist_base.proofs.Paths.{path_push, path_rises}
 use Rattle.plist_base.specs.Faults.{Fault}
-use Rattle.plist_base.specs.Events.{PlainEvent, EndCollection, Single, Item}
+use Rattle.plist_base.specs.Events.{PlainEvent, EndCollection, ScalarEvent, Item}
 use Rattle.plist_base.specs.Trees as trees
 use Rattle.plist_base.specs.Trees.{Tree, Leaf, Array, Dictionary, Trees, NoTrees, TreeAnd, Members, NoMembers, MemberAnd}
 use Rattle.plist_base.specs.Bracketing.{bracketing, bracketing_of_items, bracketing_of_pairs}
@@ -18,7 +18,7 @@ use Rattle.plist_share.proofs.Meaning.{Stands, Means, MeansItems, MeansPairs}
 tail_is : (a b : Item) (xs ys : List Item) → a ∷ xs ≡ b ∷ ys → xs ≡ ys
 tail_is a b xs ys p = cc
 
-head_scalar : (x y : trees.Scalar) (xs ys : List Item) → Ok (Single x) ∷ xs ≡ Ok (Single y) ∷ ys
+head_scalar : (x y : trees.Scalar) (xs ys : List Item) → Ok (ScalarEvent x) ∷ xs ≡ Ok (ScalarEvent y) ∷ ys
     → x ≡ y
 head_scalar x y xs ys p = cc
 

@@ -4,7 +4,7 @@ ghost use Rattle.std.specs.Prelude.{◌≡◌, ◌+◌, ◌<◌, length, IfOk, O
 ghost use Rattle.plist_base.specs.Outcomes.{OnlyMemory};
 ghost use Rattle.plist_binwrite.specs.Classes.{AreClasses};
 ghost use Rattle.plist_binwrite.specs.EventTable.{plain_events, AllBelow, nth_number, table_event, entry_kind_of};
-ghost use Rattle.plist_binwrite.specs.inner.Scalars.{AreApart, OwnBy};
+ghost use Rattle.plist_binwrite.specs.inner.Scalars.{AreApart, AreClassesOf};
 ghost use Rattle.plist_share.specs.inner.Keys.{SeparatesAll, SeparatesTrees, Extends, keys_seen, AddsClasses, AreClassesWithin, HaveFrom, IsClassAt, IsKeyAt, is_dictionary};
 
 use indexmap::IndexSet;
@@ -12,8 +12,8 @@ use plist_base::{Error, ErrorKind};
 use plist_binwrite::EventTable;
 use plist_binwrite::children::child_indices;
 use plist_binwrite::classes::{Classes, classes_of};
+use plist_binwrite::compact_numbers::Numbers;
 use plist_binwrite::kinds::{EntryKind, push_index};
-use plist_binwrite::numbers::Numbers;
 use std::alloc::{AllocError, Global};
 
 /// A collection by its kind and the classes of its children.
@@ -186,7 +186,7 @@ fn give_classes(
 // Gives the trees their classes, where each event has that of its scalar or one of its own.
 fn give_trees(alloc: Global, events: &EventTable<'_>, found: &mut Classes) -> Result<(), Error>
     requires long { length found.old.of ≡ length (plain_events events.now) }
-    requires classes { OwnBy events.now found.old }
+    requires classes { AreClassesOf events.now found.old }
     ensures classes { OnOk result (SeparatesAll events.now found.new) }
     ensures memory { OnlyMemory result }
 {

@@ -8,7 +8,7 @@ use plist_uses::convert::convert;
 use plist_uses::counting::count;
 use plist_uses::generated::{Reading, write_readings};
 use plist_uses::settings::{Settings, SettingsError};
-use plist_uses::strangers::read_upload;
+use plist_uses::untrusted_file::read_upload;
 use std::process::Abort;
 
 fn settings_of(rt: &(impl Abort + AllocGlobal), file: &[u8]) -> Settings {

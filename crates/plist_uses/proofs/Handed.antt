@@ -4,7 +4,7 @@ use Rattle.plist_base.specs.Bracketing.{bracketing, bracketing_of_items}
 use Rattle.plist_base.specs.Events.{PlainEvent, EndCollection}
 use Rattle.plist_base.specs.Trees.{Tree, trees_of, number_of_trees}
 use Rattle.plist_base.specs.Writing.{Answer}
-use Rattle.plist.specs.Handing.{TakesAll}
+use Rattle.plist.specs.WrittenEvents.{TakesAll}
 use Rattle.plist_uses.specs.declared.generated.Reading.{Reading}
 use Rattle.plist_uses.specs.Generated.{reading_tree}
 

@@ -7,9 +7,9 @@ use Rattle.plist_base.specs.Trees.{Tree}
 use Rattle.plist_binwrite.specs.Files.{IsFileOf}
 use Rattle.plist_reader.specs.Reader.{items_of_input}
 use Rattle.plist.specs.declared.value.Value.{Value}
-use Rattle.plist.specs.Inputs.{IsValueOf}
+use Rattle.plist.specs.ValueOfItems.{IsValueOf}
 use Rattle.plist.specs.SendingValues.{SendsValue}
-use Rattle.plist.specs.Views.{tree_of}
+use Rattle.plist.specs.ValueTrees.{tree_of}
 
 -- where the bytes of a source are known, their items are those of the value
 abbrev pub IsReadBy : (known : Option (List ℕ)) → Result Value Error → Type 0

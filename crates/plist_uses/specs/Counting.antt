@@ -2,7 +2,7 @@
 use Rattle.std.specs.Prelude.{◌≡◌, ℕ, ◌+◌, ◌-◌, ◌^◌, min, Bool, true, false, cond, List, ◌∷◌, ◌++◌, Result, Ok, Err, IfOk, IfErr, length, map, filter, ⊤}
 use Rattle.plist_base.specs.declared.error.Error.{Error}
 use Rattle.plist_base.specs.Faults.{Fault, MatchFault, error_kind_of, fault_of, kind_of}
-use Rattle.plist_base.specs.Events.{PlainEvent, Item, StartArray, StartDictionary, Single}
+use Rattle.plist_base.specs.Events.{PlainEvent, Item, StartArray, StartDictionary, ScalarEvent}
 use Rattle.plist_base.specs.Trees.{String}
 use Rattle.plist_uses.specs.declared.counting.Counts.{Counts}
 
@@ -15,13 +15,13 @@ starts_dictionary (StartDictionary length) = true
 starts_dictionary event = false
 
 abbrev pub is_text : PlainEvent → Bool
-is_text (Single (String text)) = true
+is_text (ScalarEvent (String text)) = true
 is_text event = false
 
 -- any other scalar
 abbrev pub is_other : PlainEvent → Bool
-is_other (Single (String text)) = false
-is_other (Single scalar) = true
+is_other (ScalarEvent (String text)) = false
+is_other (ScalarEvent scalar) = true
 is_other event = false
 
 -- how many of the events pass, or the largest number of 64 bits where there are more

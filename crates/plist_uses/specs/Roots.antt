@@ -6,8 +6,8 @@ use Rattle.plist_keyed.specs.Contents.{IsArchiveOf, IsNoArchive, IsUidAt}
 use Rattle.plist_keyed.specs.Errors.{IsFaultOf}
 use Rattle.plist_keyed.specs.declared.error.KeyedError.{KeyedError}
 use Rattle.plist.specs.declared.value.Value.{Value}
-use Rattle.plist.specs.Contents.{text_in}
-use Rattle.plist.specs.Views.{tree_of}
+use Rattle.plist.specs.Accessors.{text_in}
+use Rattle.plist.specs.ValueTrees.{tree_of}
 
 -- the tree of the Uid that stands at `root` among the names of the archive
 abbrev pub IsRootOf : (archive : Value) → (root : Tree) → Type 0

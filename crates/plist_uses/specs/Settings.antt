@@ -9,9 +9,9 @@ use Rattle.plist_uses.specs.declared.settings.SettingsError.{SettingsError}
 use Rattle.plist_uses.specs.declared.settings.SettingsError.TheVariants as settings_error
 use Rattle.plist_binwrite.specs.Files.{IsFileOf}
 use Rattle.plist.specs.declared.value.Value.{Value}
-use Rattle.plist.specs.Contents.{dictionary_in, text_in}
-use Rattle.plist.specs.Inputs.{IsValueOf}
-use Rattle.plist.specs.Views.{pair_trees, tree_of}
+use Rattle.plist.specs.Accessors.{dictionary_in, text_in}
+use Rattle.plist.specs.ValueOfItems.{IsValueOf}
+use Rattle.plist.specs.ValueTrees.{pair_trees, tree_of}
 use Rattle.plist_reader.specs.Reader.{items_of_input}
 use Rattle.plist_uses.specs.declared.settings.Settings.{Settings}
 

@@ -1,7 +1,7 @@
 //! The root of a keyed archive.
 
 ghost use Rattle.std.specs.Prelude.{IfErr, IfNone, IfOk, IfSome};
-ghost use Rattle.plist.specs.Views.{tree_of};
+ghost use Rattle.plist.specs.ValueTrees.{tree_of};
 ghost use Rattle.plist_uses.specs.Roots.{HasNoRoot, IsRootOf, RefusesRoot};
 
 use plist::Value;

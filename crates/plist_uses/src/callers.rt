@@ -2,9 +2,9 @@
 
 ghost use Rattle.std.specs.Prelude.{◌≡◌, ◌∷◌, [], IfOk, IfSome, OnOk, string_bytes};
 ghost use Rattle.std.specs.Option.{option_copied};
-ghost use Rattle.plist.specs.Handing.{TakesAll};
+ghost use Rattle.plist.specs.WrittenEvents.{TakesAll};
 ghost use Rattle.plist.specs.Limiting.{NestsWithin};
-ghost use Rattle.plist.specs.Views.{tree_of};
+ghost use Rattle.plist.specs.ValueTrees.{tree_of};
 ghost use Rattle.plist_reader.specs.Reader.{items_of_input};
 ghost use Rattle.plist_uses.specs.Converting.{IsFileOfInput};
 ghost use Rattle.plist_uses.specs.Counting.{AreCountedOf};
@@ -17,7 +17,7 @@ use crate::convert::convert;
 use crate::counting::{Counts, count};
 use crate::generated::{Reading, write_readings};
 use crate::settings::{Settings, SettingsError};
-use crate::strangers::read_upload;
+use crate::untrusted_file::read_upload;
 use plist::stream::{Source, Writer};
 use plist::{Error, Value};
 use plist_keyed::KeyedError;

@@ -1,7 +1,7 @@
 //! Writing a list straight from events, with no value of it in memory.
 
 ghost use Rattle.std.specs.Prelude.{OnOk};
-ghost use Rattle.plist.specs.Handing.{TakesAll};
+ghost use Rattle.plist.specs.WrittenEvents.{TakesAll};
 ghost use Rattle.plist_uses.specs.Generated.{reading_events, list_events};
 
 use plist::stream::Writer;

@@ -9,4 +9,4 @@ pub mod convert;
 pub mod counting;
 pub mod generated;
 pub mod settings;
-pub mod strangers;
+pub mod untrusted_file;

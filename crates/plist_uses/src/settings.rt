@@ -8,7 +8,7 @@ ghost use Rattle.std.specs.Str.{bytes_eq};
 ghost use Rattle.plist_base.specs.Outcomes.{OnlyMemory};
 ghost use Rattle.plist_base.specs.Writing.{answer_of};
 ghost use Rattle.plist.specs.SendingValues.{SendsTree};
-ghost use Rattle.plist.specs.Views.{tree_of};
+ghost use Rattle.plist.specs.ValueTrees.{tree_of};
 ghost use Rattle.plist_uses.specs.Settings.{IsFaultOfFile, IsReadOf, RefusesOpening, Sets, pairs_of, tree_in};
 
 use plist::stream::Source;

@@ -7,6 +7,8 @@ mod ascii;
 #[cfg(test)]
 mod building;
 #[cfg(test)]
+mod decode_counter;
+#[cfg(test)]
 mod entries;
 #[cfg(test)]
 mod events;
@@ -16,6 +18,8 @@ mod faults;
 mod interrupted;
 #[cfg(test)]
 mod numbers;
+#[cfg(test)]
+mod reader_windows;
 #[cfg(test)]
 mod reading;
 #[cfg(test)]
@@ -27,12 +31,8 @@ mod sources;
 #[cfg(test)]
 mod support;
 #[cfg(test)]
-mod told;
-#[cfg(test)]
 mod values;
 #[cfg(test)]
 mod vast;
-#[cfg(test)]
-mod whole;
 #[cfg(test)]
 mod writing;

@@ -1,7 +1,7 @@
 -- Which events can follow those that a builder holds, and how they carry it on.
 use Rattle.std.proofs.Common.{◌≡◌, ℕ, List, [], ◌∷◌, ◌++◌, Option, Some, None, MatchOption, map, refl, sym, ap, ◌∙◌, append_assoc, append-nil, subst, option_and_then}
 use Rattle.std.proofs.lemmas.Option.{none-some}
-use Rattle.plist_base.specs.Events.{PlainEvent, StartArray, StartDictionary, EndCollection, Single}
+use Rattle.plist_base.specs.Events.{PlainEvent, StartArray, StartDictionary, EndCollection, ScalarEvent}
 use Rattle.plist_base.specs.Faults.{FaultKind}
 use Rattle.plist_base.specs.Trees.{Tree, Leaf, Array, Dictionary, trees_of, members_of, String}
 use Rattle.plist_base.specs.Bracketing.{bracketing, bracketing_of_items, bracketing_of_pairs, without_length, AreAlike, CanContinue, ContinueAlike}
@@ -27,13 +27,13 @@ items-append (u ∷ ts) t =
 
 pairs-append : (ps : TreePairs) (k : List ℕ) (t : Tree)
     → bracketing_of_pairs (members_of (ps ++ (k, t) ∷ [])) ≡ bracketing_of_pairs (members_of ps)
-    ++ Single (String k) ∷ bracketing t
-pairs-append [] k t = ap (λ l. Single (String k) ∷ l) (append-nil (bracketing t))
+    ++ ScalarEvent (String k) ∷ bracketing t
+pairs-append [] k t = ap (λ l. ScalarEvent (String k) ∷ l) (append-nil (bracketing t))
 pairs-append (p ∷ ps) k t =
-    ap (λ l. Single (String p.0) ∷ (bracketing p.1 ++ l)) (pairs-append ps k t)
-    ∙ ap (λ l. Single (String p.0) ∷ l)
+    ap (λ l. ScalarEvent (String p.0) ∷ (bracketing p.1 ++ l)) (pairs-append ps k t)
+    ∙ ap (λ l. ScalarEvent (String p.0) ∷ l)
     (sym (append_assoc (bracketing p.1) (bracketing_of_pairs (members_of ps))
-    (Single (String k) ∷ bracketing t)))
+    (ScalarEvent (String k) ∷ bracketing t)))
 
 -- a tree that is complete inside collections that take values adds its events
 tree-goes : (t : Tree) (outer : List OpenCollection) → AllTakeValue outer
@@ -51,9 +51,9 @@ tree-goes t (AfterKey ps k ∷ outer) ok =
     let before = bracketing_of_pairs (members_of ps) in (
       ok.1,
       ap (λ l. events_round outer ++ StartDictionary None ∷ l) (pairs-append ps k t
-          ∙ sym (append_assoc before (Single (String k) ∷ []) (bracketing t)))
+          ∙ sym (append_assoc before (ScalarEvent (String k) ∷ []) (bracketing t)))
           ∙ sym (append_assoc (events_round outer)
-          (StartDictionary None ∷ (before ++ Single (String k) ∷ [])) (bracketing t)),
+          (StartDictionary None ∷ (before ++ ScalarEvent (String k) ∷ [])) (bracketing t)),
     )
 
 -- behind the events so far the event is refused, or what is held then has them and it, up to
@@ -72,7 +72,7 @@ begun-goes outer (StartDictionary n) ok = (
       (StartDictionary n ∷ []) refl,
 )
 begun-goes outer EndCollection ok = λ p. none-some _ (sym p)
-begun-goes outer (Single x) ok =
+begun-goes outer (ScalarEvent x) ok =
     let t = tree-goes (Leaf x) outer ok in (t.0, ap (map without_length) t.1)
 
 -- an end makes a tree of its collection, which has the events from its start on
@@ -102,10 +102,10 @@ dictionary-goes : (ps : TreePairs) (outer : List OpenCollection) (e : PlainEvent
     (in_dictionary and_pair ps outer e)
 dictionary-goes ps outer EndCollection ok =
     closed-goes (Dictionary (members_of ps)) (StartDictionary None) _ outer ok refl
-dictionary-goes ps outer (Single (String s)) ok = (
+dictionary-goes ps outer (ScalarEvent (String s)) ok = (
   ok,
   sym (ap (map without_length) (append_assoc (events_round outer)
-      (StartDictionary None ∷ bracketing_of_pairs (members_of ps)) (Single (String s) ∷ []))),
+      (StartDictionary None ∷ bracketing_of_pairs (members_of ps)) (ScalarEvent (String s) ∷ []))),
 )
 dictionary-goes ps outer e ok = λ p. none-some _ (sym p)
 
@@ -185,8 +185,8 @@ steps-within (InArray ts) outer es ok =
 steps-within (InDictionary ps) outer es ok = pairs-within ps outer es ok
 steps-within (AfterKey ps k) outer es ok =
     ap (λ l. steps (want_in outer) (StartDictionary None ∷ l))
-    (append_assoc (bracketing_of_pairs (members_of ps)) (Single (String k) ∷ []) es)
-    ∙ pairs-within ps outer (Single (String k) ∷ es) ok
+    (append_assoc (bracketing_of_pairs (members_of ps)) (ScalarEvent (String k) ∷ []) es)
+    ∙ pairs-within ps outer (ScalarEvent (String k) ∷ es) ok
 
 steps-round : (outer : List OpenCollection) (es : List PlainEvent) → AllTakeValue outer
     → expected_after (events_round outer ++ es) ≡ steps (want_in outer) es

@@ -4,12 +4,12 @@ use Rattle.std.specs.Map.{lookup, values_of}
 use Rattle.std.specs.Option.{option_eq}
 use Rattle.std.specs.declared.alloc.Global.{Global}
 use Rattle.std.specs.declared.vec.Vec.{Vec}
-use Rattle.plist.specs.declared.same.Later.{Later}
-use Rattle.plist.specs.declared.same.Pair.{Pair}
+use Rattle.plist.specs.declared.equal.Later.{Later}
+use Rattle.plist.specs.declared.equal.Pair.{Pair}
 use Rattle.plist.specs.declared.value.Value.{Value}
-use Rattle.plist.specs.Same.{same, same_items, same_members}
+use Rattle.plist.specs.Equal.{same, same_items, same_members}
 use Rattle.plist_pairs.specs.Equal.{same_pairs}
-use Rattle.plist.specs.Views.{item_trees, pair_trees, tree_of}
+use Rattle.plist.specs.ValueTrees.{item_trees, pair_trees, tree_of}
 use Rattle.plist.specs.inner.Weights.{weight, weights}
 
 -- whether values are equal

@@ -10,7 +10,7 @@ use Rattle.std.specs.Cmp.Derive.{both_true}
 use Rattle.plist_base.specs.declared.real.RealBits.{RealBits}
 use Rattle.plist_base.specs.declared.real.RealBits.TheVariants.{Four, Eight}
 use Rattle.plist_base.specs.Trees.{Scalar, Boolean, Data, Date, Integer, Real, String, Uid, Tree, Leaf, Array, Dictionary, Trees, NoTrees, TreeAnd, Members, NoMembers, MemberAnd}
-use Rattle.plist.specs.Same.{AreSameAt, same_real, same_scalar, first_value, is_among, if_found, has_keys, same, same_items, is_covered}
+use Rattle.plist.specs.Equal.{AreSameAt, same_real, same_scalar, first_value, is_among, if_found, has_keys, same, same_items, is_covered}
 
 pub key_eq : (k l : List ℕ) → bytes_eq k l ≡ true → k ≡ l
 key_eq k l h = (bytes_eq-Decides k l).0 h

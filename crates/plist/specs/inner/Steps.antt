@@ -1,6 +1,6 @@
 -- How an event carries on what a builder holds, one collection at a time.
 use Rattle.std.specs.Prelude.{ℕ, List, [], ◌∷◌, ◌++◌, Option, Some, None}
-use Rattle.plist_base.specs.Events.{PlainEvent, StartArray, StartDictionary, EndCollection, Single}
+use Rattle.plist_base.specs.Events.{PlainEvent, StartArray, StartDictionary, EndCollection, ScalarEvent}
 use Rattle.plist_base.specs.Trees.{Tree, Leaf, Array, Dictionary, String, trees_of, members_of}
 use Rattle.plist.specs.LastWins.{TreePairs}
 use Rattle.plist.specs.Building.{OpenCollection, InArray, InDictionary, AfterKey, Unfinished, NotBegun, Within, Complete}
@@ -23,7 +23,7 @@ module _ (add : TreePairs → List ℕ → Tree → TreePairs) where
   begun outer (StartArray length) = Some (Within (InArray []) outer)
   begun outer (StartDictionary length) = Some (Within (InDictionary []) outer)
   begun outer EndCollection = None
-  begun outer (Single scalar) = Some (and_tree (Leaf scalar) outer)
+  begun outer (ScalarEvent scalar) = Some (and_tree (Leaf scalar) outer)
 
   -- where an item or an array's end is to come
   abbrev pub in_array : (items : List Tree) → (outer : List OpenCollection) → PlainEvent
@@ -35,7 +35,7 @@ module _ (add : TreePairs → List ℕ → Tree → TreePairs) where
   abbrev pub in_dictionary : (pairs : TreePairs) → (outer : List OpenCollection) → PlainEvent
       → Option Unfinished
   in_dictionary pairs outer EndCollection = Some (and_tree (Dictionary (members_of pairs)) outer)
-  in_dictionary pairs outer (Single (String key)) = Some (Within (AfterKey pairs key) outer)
+  in_dictionary pairs outer (ScalarEvent (String key)) = Some (Within (AfterKey pairs key) outer)
   in_dictionary pairs outer event = None
 
   -- what is held after the event, unless it can't come

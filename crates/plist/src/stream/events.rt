@@ -5,7 +5,7 @@ ghost use Rattle.plist_base.specs.Bracketing.{bracketing};
 ghost use Rattle.plist_base.specs.Events.{EndCollection};
 ghost use Rattle.plist_base.specs.Outcomes.{OnlyMemory};
 ghost use Rattle.plist.specs.Events.{remaining_events, OpensLevel};
-ghost use Rattle.plist.specs.Views.{tree_of};
+ghost use Rattle.plist.specs.ValueTrees.{tree_of};
 
 use crate::Value;
 use crate::dictionary::Iter;

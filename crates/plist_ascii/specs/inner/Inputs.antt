@@ -8,16 +8,16 @@ use Rattle.plist_base.specs.declared.error.Error.{Error}
 use Rattle.plist_base.specs.declared.event.Event.{Event}
 use Rattle.plist_base.specs.Events.{event_of}
 use Rattle.plist_base.specs.Faults.{FaultKind, OutOfMemory, UnclosedString, fault_of, fault_at, kind_of, error_kind_of}
-use Rattle.plist_ascii.specs.declared.escape.Escaped.{Escaped}
+use Rattle.plist_ascii.specs.declared.unescape.Escaped.{Escaped}
 use Rattle.plist_ascii.specs.declared.input.Input.{Input}
 use Rattle.plist_ascii.specs.declared.input.Stop.{Stop}
 use Rattle.plist_ascii.specs.Taken.{Taken, run}
 use Rattle.plist_ascii.specs.Texts.{Token, bare}
 use Rattle.plist_ascii.specs.Ascii.{lead_of, token_by, placed_items, IsTextToken}
-use Rattle.plist_ascii.specs.Kinds.{BehindBracket}
+use Rattle.plist_ascii.specs.Kinds.{IfBracket}
 use Rattle.plist_ascii.specs.Incoming.{AnswersIoIfCounted, ItemCountsIoIfCounted}
-use Rattle.plist_ascii.specs.Unread.{unread, IfKnown, first, stops, IsAt, is_from_outside, FirstIsTaken, TakesPart, Answers}
-use Rattle.plist_ascii.specs.AsciiReader.{GivesAsciiItem, BehindQuoted, bytes_to_come}
+use Rattle.plist_ascii.specs.Unread.{unread, IfKnown, first, stops, IsFaultAt, is_io_or_memory, FirstIsTaken, TakesPart, Answers}
+use Rattle.plist_ascii.specs.AsciiReader.{GivesAsciiItem, IfQuotedItem, bytes_to_come}
 use Rattle.plist_ascii.specs.inner.Parts.{escaped_bytes, Parts, EndsRun}
 
 -- ---- failures
@@ -35,9 +35,9 @@ ItemCountsFailed failures old item new = ItemCountsIoIfCounted item (failures ol
     (failures new.inner)
 
 -- a device's fault or want of memory alone, where the bytes taken end
-abbrev pub OnlyFromOutside : {R A : Type 0} → Result A Error → Input R → Type 0
-OnlyFromOutside answer input = IfErr answer (λ error. IsAt (fault_of error) input.taken
-    × (is_from_outside (kind_of (error_kind_of error)) ≡ true))
+abbrev pub OnlyIoOrMemory : {R A : Type 0} → Result A Error → Input R → Type 0
+OnlyIoOrMemory answer input = IfErr answer (λ error. IsFaultAt (fault_of error) input.taken
+    × (is_io_or_memory (kind_of (error_kind_of error)) ≡ true))
 
 -- ---- one byte
 
@@ -79,7 +79,7 @@ token_until stop byte = token_by (stops stop) (lead_of byte) byte
 
 -- behind a bracket no byte has been looked at
 abbrev pub StopsAtBracket : {R : Type 0} → Input R → Event → Type 0
-StopsAtBracket new event = BehindBracket (event_of event) (new.peeked ≡ None)
+StopsAtBracket new event = IfBracket (event_of event) (new.peeked ≡ None)
 
 -- more than the items that are still to come
 abbrev pub to_come_of : {R : Type 0} → Input R → ℕ
@@ -117,8 +117,8 @@ module _ {R : Type 0} (known : R → Option (List ℕ)) where
 
   -- a fault from outside; or the text isn't closed, where nothing is left
   abbrev pub IsUnclosedText : Input R → Input R → Error → Type 0
-  IsUnclosedText old new error = IsAt (fault_of error) new.taken
-      × (is_from_outside (kind_of (error_kind_of error)) ≡ false
+  IsUnclosedText old new error = IsFaultAt (fault_of error) new.taken
+      × (is_io_or_memory (kind_of (error_kind_of error)) ≡ false
       → (fault_of error ≡ fault_at UnclosedString new.taken) × HasNothingLeft old new)
 
   -- the run was taken
@@ -163,9 +163,9 @@ module _ {R : Type 0} (known : R → Option (List ℕ)) where
   -- a fault from outside; or one that n bytes have, which were taken
   abbrev pub FailsBehind : (fails : List ℕ → FaultKind → ℕ → Type 0) → Input R → Input R → Error
       → Type 0
-  FailsBehind fails old new error = IsAt (fault_of error) new.taken
+  FailsBehind fails old new error = IsFaultAt (fault_of error) new.taken
       × (old.taken ≤ new.taken)
-      × (is_from_outside (kind_of (error_kind_of error)) ≡ false
+      × (is_io_or_memory (kind_of (error_kind_of error)) ≡ false
       → IfKnown (unread known old) (λ xs. (n : ℕ) × fails xs (kind_of (error_kind_of error)) n
       × (unread known new ≡ Some (drop n xs)) × (new.taken ≡ old.taken + n)))
 
@@ -200,9 +200,9 @@ module _ {R : Type 0} (known : R → Option (List ℕ)) where
   GivesUnit = GivesBy (λ u. u)
 
   -- memory is wanted only for a text
-  abbrev pub WantsForText : (List ℕ → Token) → Input R
+  abbrev pub AllocatesForText : (List ℕ → Token) → Input R
       → Error → Type 0
-  WantsForText front old error = kind_of (error_kind_of error) ≡ OutOfMemory
+  AllocatesForText front old error = kind_of (error_kind_of error) ≡ OutOfMemory
       → IfKnown (unread known old) (λ xs. IsTextToken (front xs).gives)
 
   -- the first item of the bytes to be taken came
@@ -215,4 +215,4 @@ module _ {R : Type 0} (known : R → Option (List ℕ)) where
   -- behind a quoted text no byte has been looked at
   abbrev pub StopsAtQuote : Stop → Input R → Option (Result Event Error) → Input R → Type 0
   StopsAtQuote stop old item new = IfKnown (unread known old) (λ xs.
-      BehindQuoted (placed_items (stops stop) xs old.taken) item (new.peeked ≡ None))
+      IfQuotedItem (placed_items (stops stop) xs old.taken) item (new.peeked ≡ None))

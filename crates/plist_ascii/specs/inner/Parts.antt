@@ -7,8 +7,8 @@ use Rattle.std.specs.declared.string.String.{String}
 use Rattle.plist_base.specs.declared.error.ErrorKind.{ErrorKind}
 use Rattle.plist_base.specs.Faults.{FaultKind, InvalidUtf8AsciiStream, kind_of}
 use Rattle.plist_ascii.specs.Escapes.{is_surrogate}
-use Rattle.plist_ascii.specs.declared.escape.Escaped.{Escaped}
-use Rattle.plist_ascii.specs.declared.escape.Escaped.TheVariants as piece
+use Rattle.plist_ascii.specs.declared.unescape.Escaped.{Escaped}
+use Rattle.plist_ascii.specs.declared.unescape.Escaped.TheVariants as piece
 use Rattle.plist_ascii.specs.Taken.{Taken, taken}
 use Rattle.plist_ascii.specs.Quoted.{behind, run_end, quoted_by}
 

@@ -12,18 +12,18 @@ use Rattle.plist_base.specs.contracts.event.EventPartialEq.TheImpl as impl
 use Rattle.plist_base.specs.declared.event.Event.{Event}
 use Rattle.plist_base.specs.declared.event.Event.TheVariants as event
 use Rattle.plist_base.specs.declared.real.RealBits.TheVariants as real
-use Rattle.plist_base.specs.Events.{PlainEvent, Single, event_of}
+use Rattle.plist_base.specs.Events.{PlainEvent, ScalarEvent, event_of}
 use Rattle.plist_base.specs.Trees.{Boolean, Data, Date, Integer, Real, String, Uid}
 
 abbrev pub writes_of : PlainEvent → List (List ℕ)
-writes_of (Single (Boolean value)) = fed.u8 (cond value 1 0)
-writes_of (Single (Data bytes)) = bytes ∷ []
-writes_of (Single (Date bytes)) = bytes ∷ []
-writes_of (Single (Integer z)) = fed.i128 z
-writes_of (Single (Real (real.Four bytes))) = bytes ∷ []
-writes_of (Single (Real (real.Eight bytes))) = bytes ∷ []
-writes_of (Single (String text)) = text ∷ []
-writes_of (Single (Uid n)) = fed.u64 n
+writes_of (ScalarEvent (Boolean value)) = fed.u8 (cond value 1 0)
+writes_of (ScalarEvent (Data bytes)) = bytes ∷ []
+writes_of (ScalarEvent (Date bytes)) = bytes ∷ []
+writes_of (ScalarEvent (Integer z)) = fed.i128 z
+writes_of (ScalarEvent (Real (real.Four bytes))) = bytes ∷ []
+writes_of (ScalarEvent (Real (real.Eight bytes))) = bytes ∷ []
+writes_of (ScalarEvent (String text)) = text ∷ []
+writes_of (ScalarEvent (Uid n)) = fed.u64 n
 writes_of _ = []
 
 abbrev pub eq_of_events : Event → Event → Bool
@@ -35,14 +35,14 @@ same_list a b = slice_eq-Decides Decides-eqb a b _ refl
 -- events that are equal show the same
 pub same_event : (x y : Event) → eq_of_events x y ≡ true → event_of x ≡ event_of y
 same_event (event.Data a) (event.Data b) h =
-    ap (λ l. Single (Data l)) ((same_list (cow_slice_items a) (cow_slice_items b)).0 h)
+    ap (λ l. ScalarEvent (Data l)) ((same_list (cow_slice_items a) (cow_slice_items b)).0 h)
 same_event (event.String a) (event.String b) h =
-    ap (λ l. Single (String l)) ((same_list (cow_str_bytes a) (cow_str_bytes b)).0 h)
-same_event (event.Date a) (event.Date b) h = ap (λ l. Single (Date l)) ((same_list a b).0 h)
+    ap (λ l. ScalarEvent (String l)) ((same_list (cow_str_bytes a) (cow_str_bytes b)).0 h)
+same_event (event.Date a) (event.Date b) h = ap (λ l. ScalarEvent (Date l)) ((same_list a b).0 h)
 same_event (event.Real (real.Four a)) (event.Real (real.Four b)) h =
-    ap (λ l. Single (Real (real.Four l))) ((same_list a b).0 h)
+    ap (λ l. ScalarEvent (Real (real.Four l))) ((same_list a b).0 h)
 same_event (event.Real (real.Eight a)) (event.Real (real.Eight b)) h =
-    ap (λ l. Single (Real (real.Eight l))) ((same_list a b).0 h)
+    ap (λ l. ScalarEvent (Real (real.Eight l))) ((same_list a b).0 h)
 same_event x y h = search (comparing, rules, bytes_eq-Decides, h)
 
 pub same_writes : (x y : Event) → eq_of_events x y ≡ true → writes_of (event_of x) ≡ writes_of

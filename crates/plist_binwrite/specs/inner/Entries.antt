@@ -3,7 +3,7 @@ use Rattle.std.specs.Prelude.{◌≡◌, ℕ, ◌+◌, ◌<◌, ◌==◌, Bool, 
 use Rattle.std.specs.List.{list_any}
 use Rattle.plist_base.specs.Bracketing.{without_length}
 use Rattle.plist_base.specs.declared.event.Event.{Event}
-use Rattle.plist_base.specs.Events.{PlainEvent, event_of, StartArray, StartDictionary, EndCollection, Single}
+use Rattle.plist_base.specs.Events.{PlainEvent, event_of, StartArray, StartDictionary, EndCollection, ScalarEvent}
 use Rattle.plist_binwrite.specs.inner.Opening.{open_after, skip_after}
 use Rattle.plist_binwrite.specs.declared.entries.EventEntry.{EventEntry}
 use Rattle.plist_binwrite.specs.declared.entries.EventEntry.TheVariants as entry
@@ -14,7 +14,7 @@ AreApart {K} keys = (i j : ℕ) (k : K) → slice_get keys i ≡ Some k → slic
     → i ≡ j
 
 abbrev pub is_leaf : PlainEvent → Bool
-is_leaf (Single x) = true
+is_leaf (ScalarEvent x) = true
 is_leaf event = false
 
 -- the entry at an index

@@ -5,12 +5,12 @@ use Rattle.plist_base.specs.Bracketing.{without_length}
 use Rattle.plist_base.specs.Events.{PlainEvent}
 use Rattle.plist_base.specs.Faults.{FaultKind, fault_nowhere, UnexpectedEventType, ExpectedEndOfEventStream, Io, OutOfMemory, WriterFailed, PlistTooLarge}
 use Rattle.plist_base.specs.Trees.{Tree}
-use Rattle.plist_base.specs.Writing.{Answer, MatchKind, AnswersByOrder, GoesOn}
+use Rattle.plist_base.specs.Writing.{Answer, MatchKind, AnswersByOrder, IsHeldAfter}
 use Rattle.std.proofs.lemmas.Bool.{true≢false, false≢true}
 use Rattle.plist_base.proofs.Grammar.{alike_last, continue_alike}
-use Rattle.plist_binwrite.specs.declared.shared.Sharing.{Ghosts as SharingGhosts}
+use Rattle.plist_binwrite.specs.declared.sharing.Sharing.{Ghosts as SharingGhosts}
 use Rattle.plist_binwrite.specs.declared.writer.FileWriter.{FileWriter}
-use Rattle.plist_binwrite.specs.FileWriter.{Takes, TakesEvent, Completes, Holds, open_events, failed_of}
+use Rattle.plist_binwrite.specs.FileWriter.{IsWriterStep, TakesEvent, Completes, Holds, open_events, failed_of}
 
 -- each part of a fact by kind in turn
 by_kind : (kind : FaultKind) (a b c d : Type 0) → (a → c) → (b → d) → MatchKind kind a b ⊥
@@ -36,7 +36,7 @@ module _ {W S : Type 0} {g : Ghosts W} {h : SharingGhosts S} (IsFile : Tree → 
   goes_on : (after : FileWriter W S g h)
       → Completes IsFile size contents before event after
       ⊎ Holds IsFile size contents before event after
-      → GoesOn (open_events before) event (open_events after)
+      → IsHeldAfter (open_events before) event (open_events after)
   goes_on after (inl c) = inl c.0.1.0.0
   goes_on after (inr h) =
       inr (continue_alike (open_events after) (open_events before ++ event ∷ [])
@@ -51,12 +51,12 @@ module _ {W S : Type 0} {g : Ghosts W} {h : SharingGhosts S} (IsFile : Tree → 
       (t.0, by_kind fault.kind _ _ _ _ (λ r. (r.0, r.2)) (λ f. (f.0, f.1)) t.1)
 
   pub takes_law : (answer : Answer) (after : FileWriter W S g h)
-      → Takes IsFile size contents before event answer after → failed_of before ≡ false
+      → IsWriterStep IsFile size contents before event answer after → failed_of before ≡ false
       → AnswersByOrder (open_events before) event answer (open_events after) (failed_of after)
       (after ≡ before)
   takes_law answer after t ok = taken answer after (match_false (failed_of before) _ _ ok t)
 
   pub takes_failed : (answer : Answer) (after : FileWriter W S g h)
-      → Takes IsFile size contents before event answer after → failed_of before ≡ true
+      → IsWriterStep IsFile size contents before event answer after → failed_of before ≡ true
       → (answer ≡ Err (fault_nowhere WriterFailed)) × (after ≡ before)
   takes_failed answer after t failed = match_true (failed_of before) _ _ failed t

@@ -3,7 +3,7 @@ use Rattle.std.specs.Prelude.{◌≡◌, ◌≢◌, ◌↔◌, ℕ, ◌<◌, tru
 use Rattle.std.specs.List.{list_any, IsDistinct}
 use Rattle.plist_format.specs.Container.{magic}
 use Rattle.plist_format.specs.Object.{Object}
-use Rattle.plist_binwrite.specs.Written.{bodies, ending}
+use Rattle.plist_binwrite.specs.Written.{object_table, table_and_trailer}
 
 -- some of the numbers below a count in order, none twice; each of them has a mark that isn't 0
 pub record IsOrder (count : ℕ) (order marks : List ℕ) : Type 0 where
@@ -23,7 +23,7 @@ KeepsMarks old new = (k : ℕ) → get_or old k 0 ≢ 0 → get_or new k 0 ≢ 0
 
 -- the magic and the objects in this order
 abbrev pub laid_out : (width : ℕ) (objects : ℕ → Object) (order : List ℕ) → List ℕ
-laid_out width objects order = magic ++ bodies width objects order
+laid_out width objects order = magic ++ object_table width objects order
 
 -- each number below a count stands in the order once
 pub record AllOnce (count : ℕ) (order : List ℕ) : Type 0 where
@@ -32,4 +32,4 @@ pub record AllOnce (count : ℕ) (order : List ℕ) : Type 0 where
 
 -- the file with its table and trailer
 abbrev pub closed : (file places : List ℕ) → List ℕ
-closed file places = file ++ ending places (length file)
+closed file places = file ++ table_and_trailer places (length file)

@@ -8,7 +8,7 @@ use Rattle.plist_binwrite.specs.declared.event_table.EventTable.{EventTable}
 use Rattle.plist_binwrite.specs.declared.numbering.Classed.{Classed}
 use Rattle.plist_binwrite.specs.declared.numbering.Numbered.{Numbered}
 use Rattle.plist_binwrite.specs.declared.numbering.Numbering.{Numbering}
-use Rattle.plist_binwrite.specs.EventTable.{plain_events, is_end, event_at, nth_number, item_indices, half_indices, keys_in, values_in, AllNumbered, IsNumbered, Keeps}
+use Rattle.plist_binwrite.specs.EventTable.{plain_events, is_end, event_at, nth_number, item_indices, half_indices, keys_in, values_in, AllNumbered, IsNumbered, KeepsNumbering}
 use Rattle.plist_binwrite.specs.inner.PlansBy.{IsPlan, HaveIds}
 
 -- so many numbers, none of which is given yet
@@ -29,14 +29,14 @@ abbrev pub HaveIdsOf : Classed → Numbered → Type 0
 HaveIdsOf given found = HaveIds given.classes.now found.ids found.firsts
 
 -- each event has a class, and the numbers given so far go by them
-pub record GoesSoFar (given : Classed) (found : Numbered) : Type 0 where
+pub record IsNumberedSoFar (given : Classed) (found : Numbered) : Type 0 where
   pub long : length given.classes.now ≡ length (plain_events given.events.now)
   pub plan : IsPlanOf given found
   pub ids : HaveIdsOf given found
 
 -- what was numbered stays so
 abbrev pub KeepsNumbers : (old new : Numbered) → Type 0
-KeepsNumbers old new = Keeps old.numbers old.firsts new.numbers new.firsts
+KeepsNumbers old new = KeepsNumbering old.numbers old.firsts new.numbers new.firsts
 
 -- an item that is numbered before all others has the first number
 abbrev pub BeginsAt : Classed → (index : ℕ) → (old new : Numbered) → Type 0

@@ -1,6 +1,6 @@
 -- Which starts among events have no end yet, and where the others have theirs.
 use Rattle.std.specs.Prelude.{ℕ, ◌+◌, ◌==◌, if◌then◌else◌, List, [], ◌∷◌}
-use Rattle.plist_base.specs.Events.{PlainEvent, EndCollection, Single}
+use Rattle.plist_base.specs.Events.{PlainEvent, EndCollection, ScalarEvent}
 
 -- the indices without the innermost one
 abbrev pub without_innermost : List ℕ → List ℕ
@@ -11,7 +11,7 @@ without_innermost (index ∷ outer) = outer
 -- come
 abbrev pub open_behind : PlainEvent → (index : ℕ) → (begun : List ℕ) → List ℕ
 open_behind EndCollection index begun = without_innermost begun
-open_behind (Single x) index begun = begun
+open_behind (ScalarEvent x) index begun = begun
 open_behind start index begun = index ∷ begun
 
 -- the same, once these events have come from an index on

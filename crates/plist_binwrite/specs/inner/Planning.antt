@@ -28,8 +28,8 @@ pub record IsPlanned (es : List PlainEvent) (plan : Plan) : Type 0 where
   pub root : nth_number (numbers_of plan) 0 ≡ 0
 
 -- these are the classes that a plan goes by
-abbrev pub GoesBy : List PlainEvent → (class : ℕ → ℕ) → Plan → Type 0
-GoesBy es class plan = IsPlan es class (numbers_of plan) (firsts_of plan)
+abbrev pub IsPlanByClass : List PlainEvent → (class : ℕ → ℕ) → Plan → Type 0
+IsPlanByClass es class plan = IsPlan es class (numbers_of plan) (firsts_of plan)
 
 -- the events of a planned file, and the numbers of their objects
 abbrev pub events_in : Planned → List PlainEvent

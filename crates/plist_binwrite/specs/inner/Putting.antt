@@ -11,14 +11,14 @@ use Rattle.plist_binwrite.specs.EventTable.{plain_events, item_indices, half_ind
 use Rattle.plist_binwrite.specs.Numberings.{object_of}
 use Rattle.plist_binwrite.specs.OutputBuffer.{Puts}
 use Rattle.plist_binwrite.specs.Occurrences.{OccursAt, ItemsOccurAt, PairsOccurAt}
-use Rattle.plist_binwrite.specs.Written.{bodies}
+use Rattle.plist_binwrite.specs.Written.{object_table}
 use Rattle.plist_binwrite.specs.Classes.{SendsBy}
-use Rattle.plist_binwrite.specs.declared.completion.Draft.{Draft}
-use Rattle.plist_binwrite.specs.declared.completion.Ready.{Ready}
+use Rattle.plist_binwrite.specs.declared.send_file.Draft.{Draft}
+use Rattle.plist_binwrite.specs.declared.send_file.Ready.{Ready}
 use Rattle.plist_binwrite.specs.declared.event_table.EventTable.{EventTable}
 use Rattle.plist_binwrite.specs.declared.plan.Planned.{Planned}
-use Rattle.plist_binwrite.specs.inner.Ending.{SendsReady, file_of, numbers_in}
-use Rattle.plist_binwrite.specs.inner.Planning.{GoesBy}
+use Rattle.plist_binwrite.specs.inner.PlannedFiles.{SendsReady, file_of, numbers_in}
+use Rattle.plist_binwrite.specs.inner.Planning.{IsPlanByClass}
 pub use Rattle.plist_binwrite.specs.inner.Planning.{numbers_of, events_in, numbers_by}
 
 module _ {W : Type 0} (contents : W → Option (List ℕ)) (old : W) (buffer : Vec ℕ Global) where
@@ -64,7 +64,7 @@ module _ {W : Type 0} (contents : W → Option (List ℕ)) (old : W) (buffer : V
       → (holds : Vec ℕ Global) → Type 0
   PutsOrder file order result new holds = (objects : ℕ → Object)
       → Describes (events_in file) (numbers_of file.plan.now) objects
-      → Puts contents old buffer (bodies file.width objects order) result new holds
+      → Puts contents old buffer (object_table file.width objects order) result new holds
 
 module _ {W : Type 0} (contents : W → Option (List ℕ)) where
   -- the whole file is put
@@ -82,5 +82,5 @@ module _ {W : Type 0} (contents : W → Option (List ℕ)) where
   -- or is sent or refused, whatever classes it goes by
   abbrev pub SendsDraft : EventTable → Draft → Result (Unit {0}) Error → (old new : W) → Type 0
   SendsDraft held draft result old new =
-      (class : ℕ → ℕ) → GoesBy (plain_events held) class draft.plan
+      (class : ℕ → ℕ) → IsPlanByClass (plain_events held) class draft.plan
       → SendsBy class contents (plain_events held) (answer_of result) old new

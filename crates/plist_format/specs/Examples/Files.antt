@@ -5,7 +5,7 @@ use Rattle.std.specs.Int.{bytes_high_first}
 use Rattle.std.specs.Str.{is_utf8, chars}
 use Rattle.std.specs.Char.Utf16.{utf16_chars}
 use lib.Utf8.{encode}
-use Rattle.plist_base.specs.Events.{Item, StartArray, StartDictionary, EndCollection, Single}
+use Rattle.plist_base.specs.Events.{Item, StartArray, StartDictionary, EndCollection, ScalarEvent}
 use Rattle.plist_base.specs.Faults.{FaultKind, fault_at}
 use Rattle.plist_base.specs.Trees.{Scalar}
 use Rattle.plist_base.specs.Date.{real_exponent, real_mantissa, real_scale, parts_in_second, parts_of, whole_seconds, parts_left, real_second, second_of_bits}
@@ -59,7 +59,7 @@ abbrev pub refused : FaultKind → (place : ℕ) → List Item
 refused kind place = Err (fault_at kind place) ∷ []
 
 abbrev pub scalar : Scalar → Item
-scalar value = Ok (Single value)
+scalar value = Ok (ScalarEvent value)
 
 abbrev pub array : (items : ℕ) → Item
 array items = Ok (StartArray (Some items))

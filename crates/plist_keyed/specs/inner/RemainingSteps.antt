@@ -5,14 +5,14 @@ use Rattle.plist_base.specs.declared.error.Error.{Error}
 use Rattle.plist_base.specs.declared.event.Event.{Event}
 use Rattle.plist_base.specs.Bracketing.{bracketing}
 use Rattle.plist_base.specs.inner.Paths.{IsPath}
-use Rattle.plist_base.specs.Events.{PlainEvent, Single, Item, event_of}
+use Rattle.plist_base.specs.Events.{PlainEvent, ScalarEvent, Item, event_of}
 use Rattle.plist_base.specs.Faults.{Fault, MatchFault, fault_of}
 use Rattle.plist.specs.declared.stream.events.Events.{Events}
 use Rattle.plist.specs.declared.value.Value.{Value}
 use Rattle.plist.specs.Collecting.{item_by}
-use Rattle.plist.specs.Inputs.{BeginsWith}
+use Rattle.plist.specs.ValueOfItems.{BeginsWith}
 use Rattle.plist.specs.Events.{remaining_events}
-use Rattle.plist.specs.Views.{tree_of}
+use Rattle.plist.specs.ValueTrees.{tree_of}
 use Rattle.plist_keyed.specs.declared.walk.Move.{Move}
 use Rattle.plist_keyed.specs.declared.walk.Move.TheVariants as move
 use Rattle.plist_keyed.specs.declared.walk.Walk.{Walk}
@@ -30,7 +30,7 @@ items_at objects uid =
 
 -- the number of a Uid's event
 abbrev pub uid_of_event : PlainEvent → Option ℕ
-uid_of_event (Single scalar) = number_of_uid scalar
+uid_of_event (ScalarEvent scalar) = number_of_uid scalar
 uid_of_event event = None
 
 module _ (objects : List (List PlainEvent)) where

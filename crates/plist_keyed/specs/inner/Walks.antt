@@ -3,7 +3,7 @@
 use Rattle.std.specs.Prelude.{ℕ, zero, suc, Bool, true, false, List, [], ◌∷◌, ◌++◌, Option, Some, None, Ok, Err, nat_eq, slice_get}
 use Rattle.std.specs.List.{list_any, flat_map}
 use Rattle.std.specs.Option.{option_map_or}
-use Rattle.plist_base.specs.Events.{PlainEvent, Single, Item}
+use Rattle.plist_base.specs.Events.{PlainEvent, ScalarEvent, Item}
 use Rattle.plist_base.specs.Faults.{Fault, fault_at, ObjectReferenceTooLarge, RecursiveObject}
 use Rattle.plist_keyed.specs.Archives.{ArchiveFault, UidOutOfRange, RecursiveUid, number_of_uid}
 
@@ -25,8 +25,8 @@ items_of_steps (None ∷ steps) = items_of_steps steps
 
 -- the steps of an event, where a Uid is followed
 abbrev pub steps_of_event : (follow : ℕ → List Step) → PlainEvent → List Step
-steps_of_event follow (Single scalar) =
-    option_map_or follow (number_of_uid scalar) (Some (Ok (Single scalar)) ∷ [])
+steps_of_event follow (ScalarEvent scalar) =
+    option_map_or follow (number_of_uid scalar) (Some (Ok (ScalarEvent scalar)) ∷ [])
 steps_of_event follow event = Some (Ok event) ∷ []
 
 abbrev pub steps_of_events : (follow : ℕ → List Step) → List PlainEvent → List Step

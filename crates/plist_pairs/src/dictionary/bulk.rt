@@ -11,7 +11,7 @@ use plist_base::Error;
 use std::alloc::Global;
 
 impl<V> Pairs<V> {
-    ghost use Rattle.plist_pairs.specs.Bulk.{Adds, Ends, IsMadeFrom, Retains};
+    ghost use Rattle.plist_pairs.specs.Bulk.{ExtendsByIterable, IterableEnds, IsMadeOfIterable, Retains};
 
     /// Keeps the pairs for which the closure answers `true`, in their order, and drops the others.
     /// It asks once for each pair, in their order.
@@ -40,8 +40,10 @@ impl<V> Pairs<V> {
     pub fn extend<I: IntoIterator<Item = (String, V)>>(&mut self, more: I) -> Result<(), Error>
     where
         V: Drop,
-        requires asked { Ends I.into_iter_gives I.IntoIter.can_next I.IntoIter.remaining more }
-        ensures pairs { Adds I.into_iter_gives I.IntoIter.next_gives more self.old result self.new }
+        requires asked { IterableEnds I.into_iter_gives I.IntoIter.can_next I.IntoIter.remaining
+            more }
+        ensures pairs { ExtendsByIterable I.into_iter_gives I.IntoIter.next_gives more self.old
+            result self.new }
         ensures memory { OnlyMemory result }
     {
         let mut rest = more.into_iter();
@@ -62,8 +64,9 @@ impl<V> Pairs<V> {
     ) -> Result<Pairs<V>, Error>
     where
         V: Drop,
-        requires asked { Ends I.into_iter_gives I.IntoIter.can_next I.IntoIter.remaining pairs }
-        ensures pairs { IfOk result (IsMadeFrom I.into_iter_gives I.IntoIter.next_gives pairs) }
+        requires asked { IterableEnds I.into_iter_gives I.IntoIter.can_next I.IntoIter.remaining
+            pairs }
+        ensures pairs { IfOk result (IsMadeOfIterable I.into_iter_gives I.IntoIter.next_gives pairs) }
         ensures memory { OnlyMemory result }
     {
         let mut made = Pairs::new(alloc);

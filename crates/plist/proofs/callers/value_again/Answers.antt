@@ -1,7 +1,7 @@
 use Rattle.std.proofs.Common.{Ok, map, ap, ◌∙◌}
 use Rattle.plist.specs.Collecting.{built_tree}
 use Rattle.plist.specs.Events.{remaining_events}
-use Rattle.plist.specs.Views.{tree_of}
+use Rattle.plist.specs.ValueTrees.{tree_of}
 use Rattle.plist.proofs.Inputs.{back}
 use Rattle.plist.proofs.Itself.{itself}
 use Rattle.plist.proofs.Shown.{events_coming, events-show}

@@ -1,8 +1,8 @@
 use Rattle.std.proofs.Common.{Ok, map, ap, subst}
 use Rattle.plist.specs.Collecting.{built_tree}
-use Rattle.plist.specs.Inputs.{IsReadBack}
+use Rattle.plist.specs.ValueOfItems.{IsReadBack}
 use Rattle.plist.specs.Events.{remaining_events}
-use Rattle.plist.specs.Views.{tree_of}
+use Rattle.plist.specs.ValueTrees.{tree_of}
 use Rattle.plist.proofs.Inputs.{back}
 use Rattle.plist.proofs.Itself.{itself}
 use Rattle.plist.proofs.Shown.{events_coming, events-show}

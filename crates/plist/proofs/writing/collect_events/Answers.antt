@@ -2,7 +2,7 @@ use Rattle.std.proofs.Common.{rules, map, ap, ◌∙◌, ◌++◌}
 use Rattle.plist_base.specs.Bracketing.{bracketing, without_length}
 use Rattle.plist_binwrite.specs.EventTable.{plain_events}
 use Rattle.plist.specs.Events.{remaining_events}
-use Rattle.plist.specs.Views.{tree_of}
+use Rattle.plist.specs.ValueTrees.{tree_of}
 use Rattle.plist.proofs.Gathered.{gathered_more, gathered_all}
 use Rattle.plist.proofs.writing.collect_events.Goals as goal
 

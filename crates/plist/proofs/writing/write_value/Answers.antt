@@ -2,7 +2,7 @@ use Rattle.std.proofs.Common.{[], sym, refl}
 use Rattle.std.proofs.lemmas.Result.{err_from_is_err_and}
 use Rattle.plist_base.specs.Bracketing.{bracketing}
 use Rattle.plist_base.specs.Faults.{fault_of}
-use Rattle.plist.specs.Views.{tree_of}
+use Rattle.plist.specs.ValueTrees.{tree_of}
 use Rattle.plist.proofs.Handed.{one-more, refused, all-handed}
 use Rattle.plist.proofs.writing.write_value.Goals as goal
 

@@ -1,6 +1,6 @@
 -- What the loop of `write_value` keeps.
 use Rattle.plist_base.specs.Bracketing.{bracketing}
-use Rattle.plist.specs.Views.{tree_of}
+use Rattle.plist.specs.ValueTrees.{tree_of}
 use Rattle.plist.proofs.Handed.{HandedSoFar}
 use Rattle.plist.proofs.writing.write_value.Given as goal
 

@@ -1,7 +1,7 @@
 use Rattle.std.proofs.Common.{◌≡◌, ◌∙◌, true, Some, sym, ap, arith, rules, FitsSigned, w32, w64}
 use Rattle.std.proofs.lemmas.Int.{to_z-of_z}
 use Rattle.jiff_core.proofs.SignedLemmas.{signed_arith}
-use Rattle.plist_base.specs.UnixSeconds.{day_in, has_marks, time_in, zone_in}
+use Rattle.plist_base.specs.UnixSeconds.{day_in, has_separators, time_in, zone_in}
 use Rattle.plist_base.proofs.DatePrinting.{spelled}
 use Rattle.plist_base.proofs.date_reading.unix_second_of_text.Goals as goal
 
@@ -24,7 +24,7 @@ returns c =
     let day : day_in text ≡ Some c.in_ok-day.day = search rules in
     let time : time_in text ≡ Some c.in_ok-time.time = search rules in
     let zone : zone_in text ≡ Some c.in_ok-zone.zone = search rules in
-    let marks : has_marks text ≡ true = search rules in
+    let marks : has_separators text ≡ true = search rules in
     record {
       is = simp to_z-of_z (ap Some second
           ∙ sym (spelled _ _ _ _ marks day time

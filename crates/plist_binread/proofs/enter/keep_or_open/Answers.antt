@@ -2,7 +2,7 @@ use Rattle.std.proofs.Common.{arith, sym, refl, ap, ◌∙◌, ◌+◌, cond}
 use Rattle.std.proofs.lemmas.Bool.{false≢true}
 use Rattle.std.proofs.lemmas.List.{length-reverse}
 use Rattle.plist_binread.specs.Remaining.{cached_count, scalar_at}
-use Rattle.plist_binread.specs.Packed.{unmarked, single}
+use Rattle.plist_binread.specs.Packed.{unmarked, scalar_event}
 use Rattle.plist_binread.specs.Slot.{event_in}
 use Rattle.plist_binread.proofs.Steps.{yields_scalar, yields_collection, collection_large, reverse-push, start_falls, steps_positive}
 use Rattle.plist_binread.proofs.Opened.{IsOpen-push, not_open, admits_more, cached_count-keep, cached_count-mark}
@@ -29,7 +29,7 @@ returns-in-Some-clause-yields c = λ _ bytes bounds entry k is decoded.
       rw c.cache.ensures.contents (known_kept bytes bounds _ _ _ k _ c.in-Some.tag
           c.in-Some.content _ (event_in c.args.slot.now) c.requires.below c.args.walk.now.same
           c.in-Some.ensures.tag.0 c.cache.ensures.tags c.in-Some.ensures.scalar
-          (ap (λ found. single (scalar_at found)) is ∙ scalar)),
+          (ap (λ found. scalar_event (scalar_at found)) is ∙ scalar)),
     )
 
 pub returns-in-None-clause-falls : goal.returns-in-None-clause-falls

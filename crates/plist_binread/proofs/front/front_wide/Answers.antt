@@ -1,6 +1,6 @@
 use Rattle.std.proofs.Common.{◌≡◌, ◌<◌, ◌++◌, pos, ap, sym, ◌∙◌, Some, arith}
 use Rattle.plist_base.specs.Trees.{Integer}
-use Rattle.plist_binread.specs.Decoding.{single_in}
+use Rattle.plist_binread.specs.Decoding.{scalar_event_in}
 use Rattle.plist_format.specs.Object.{Scalar, wide_integer, meaning_of_front}
 use Rattle.plist_binread.proofs.Contents.{wide_front, wide_low, wide_high}
 use Rattle.plist_binread.proofs.front.front_wide.Goals as goal
@@ -23,4 +23,4 @@ returns-clause-outcome c = λ more whole.
       c.if-high-ne0.false,
     )
     (wide_low c.number_from-low.result (omega arith)) in
-    ap single_in is ∙ ap Some (sym c.set.ensures)
+    ap scalar_event_in is ∙ ap Some (sym c.set.ensures)

@@ -11,11 +11,11 @@ loop-i-preserved g c =
     let at = c.loop-i.i * w in
     let width : at + w - at ≡ w = omega arith in
     let within : at + w ≤ length seen =
-        omega (
-          arith,
-          number_within w c.loop-i.i (length seen / w) (omega (arith, c.min-at_hand.ensures)),
-          div-mul-le_self (length seen) w,
-        ) in
+    omega (
+      arith,
+      number_within w c.loop-i.i (length seen / w) (omega (arith, c.min-at_hand.ensures)),
+      div-mul-le_self (length seen) w,
+    ) in
     let number = c.number_from.ensures.value ∙ ap (λ k. number_of (take k (drop at seen))) width in
     record {
       len = search rules;

@@ -10,21 +10,21 @@ returns-then-place-bounds-clause-decoded g c =
     known_beyond _ c.args.bounds.now.reference_width c.args.bounds.now.trailer c.args.place
     c.refuse_overrun.new.self.fault c.if-place-bounds.true c.refuse_overrun.ensures.fault
 
-pub returns-in-Long-clause-decoded : goal.returns-in-Long-clause-decoded
-returns-in-Long-clause-decoded g c =
+pub returns-in-Unseen-clause-decoded : goal.returns-in-Unseen-clause-decoded
+returns-in-Unseen-clause-decoded g c =
     long_decodes _ _ c.args.bounds.now c.args.place c.decode_front.new.slot.content
     (event_in c.decode_long.new.slot) (answer_in c.decode_long.result c.decode_long.new.slot)
-    c.in-Ok.ensures.unchanged (rw c.in-Long.is at c.in-Ok.ensures.long)
+    c.in-Ok.ensures.unchanged (rw c.in-Unseen.is at c.in-Ok.ensures.long)
     c.decode_long.ensures.current
 
-pub returns-in-Long-clause-limit : goal.returns-in-Long-clause-limit
-returns-in-Long-clause-limit g c =
+pub returns-in-Unseen-clause-limit : goal.returns-in-Unseen-clause-limit
+returns-in-Unseen-clause-limit g c =
     long_limits c.decode_long.result c.args.left c.decode_long.new.slot _ _ c.args.bounds.now c.args.place c.decode_front.new.slot.content
-    c.in-Ok.ensures.unchanged (rw c.in-Long.is at c.in-Ok.ensures.long)
+    c.in-Ok.ensures.unchanged (rw c.in-Unseen.is at c.in-Ok.ensures.long)
     c.decode_long.ensures.limit
 
-pub returns-in-TooLarge : goal.returns-in-TooLarge
-returns-in-TooLarge g c = record {
+pub returns-in-Overrun : goal.returns-in-Overrun
+returns-in-Overrun g c = record {
   decoded = seen_refused _ c.args.bounds.now c.args.place c.in-Ok.outcome
       (event_in c.decode_front.new.slot) c.refuse_object.new.slot.fault c.in-Ok.ensures.outcome
       c.refuse_object.ensures.refused;

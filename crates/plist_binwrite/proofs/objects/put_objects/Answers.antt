@@ -4,7 +4,7 @@ use Rattle.plist_format.specs.Object.{Object}
 use Rattle.plist_binwrite.specs.Forms.{form}
 use Rattle.plist_binwrite.specs.EventTable.{Describes}
 use Rattle.plist_binwrite.specs.OutputBuffer.{Puts}
-use Rattle.plist_binwrite.specs.Written.{bodies}
+use Rattle.plist_binwrite.specs.Written.{object_table}
 use Rattle.plist_binwrite.specs.inner.Planning.{events_in, numbers_of}
 use Rattle.plist_binwrite.proofs.Outgoing.{puts_none, puts_then, puts_refused, puts_as, one_part, all_parts}
 use Rattle.plist_binwrite.proofs.Placing.{described}
@@ -25,7 +25,7 @@ next : (g : _) (c : After-put_object g) (objects : ℕ → Object)
     → Describes (events_in c.args.file.now) (numbers_of c.args.file.now.plan.now) objects
     → (c.loop-index.index < length c.args.order.now)
     × Puts g.W.Write.contents c.args.out.now c.args.buffer.now
-    (bodies c.args.file.now.width objects (take c.loop-index.index c.args.order.now)
+    (object_table c.args.file.now.width objects (take c.loop-index.index c.args.order.now)
     ++ form c.args.file.now.width (objects (get_or c.args.order.now c.loop-index.index 0)))
     c.put_object.result c.put_object.new.out c.put_object.new.buffer
 next g c objects d =

@@ -3,7 +3,7 @@ use Rattle.plist_format.specs.Object.{Object}
 use Rattle.plist_binwrite.specs.EventTable.{Describes}
 use Rattle.plist_binwrite.specs.OutputBuffer.{PutsBytes}
 use Rattle.plist_binwrite.specs.inner.Planning.{numbers_of}
-use Rattle.plist_binwrite.specs.Written.{bodies}
+use Rattle.plist_binwrite.specs.Written.{object_table}
 use Rattle.plist_binwrite.specs.inner.Putting.{events_in}
 use Rattle.plist_binwrite.proofs.objects.put_objects.Given as goal
 
@@ -11,5 +11,5 @@ abbrev pub invariant-loop-index : goal.invariant-loop-index
 invariant-loop-index g l = (objects : ℕ → Object)
     → Describes (events_in l.file) (numbers_of l.file.plan.now) objects
     → PutsBytes (g.W.Write.contents l.initial.out) l.initial.buffer.items
-    (bodies l.file.width objects (take l.index l.order)) (Ok tt)
+    (object_table l.file.width objects (take l.index l.order)) (Ok tt)
     (g.W.Write.contents l.out) l.buffer.items

@@ -2,7 +2,7 @@ use Rattle.std.proofs.Common.{◌≡◌, ℕ, List, ◌<◌, length, get_or, ari
 use Rattle.std.proofs.lemmas.List.{length-set, take_all}
 use Rattle.plist_binwrite.specs.inner.Laying.{IsOrder}
 use Rattle.plist_binwrite.specs.inner.Planning.{count_of}
-use Rattle.plist_binwrite.specs.Written.{bodies}
+use Rattle.plist_binwrite.specs.Written.{object_table}
 use Rattle.plist_binwrite.proofs.Placing.{length-magic, along_next, any_at, sized, if_some_all}
 use Rattle.plist_binwrite.proofs.size.place_objects.Goals as goal
 
@@ -56,7 +56,7 @@ loop-index-preserved c =
 
 pub returns-clause-size : goal.returns-clause-size
 returns-clause-size c = λ objects d.
-    rw (length-magic (bodies c.args.file.now.width objects c.args.order.now))
+    rw (length-magic (object_table c.args.file.now.width objects c.args.order.now))
     (rw (take_all c.loop-index.index c.args.order.now
     (omega (arith, c.loop-index-test.false, c.len-index-end.ensures)))
     at (c.loop-index.invariant.1 objects d).told)

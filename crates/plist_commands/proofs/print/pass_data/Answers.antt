@@ -1,7 +1,7 @@
 use Rattle.std.proofs.Common.{◌++◌, subst, sym, ◌∙◌}
 use Rattle.std.proofs.lemmas.Result.{on_err_weaker, on_ok_weaker}
 use Rattle.plist_base.specs.Prefixes.{AppendsPrefix}
-use Rattle.plist_commands.specs.Prefixes.{PassesOn}
+use Rattle.plist_commands.specs.HeldLines.{PassesOn}
 use Rattle.plist_commands.proofs.Passing.{data_line, no_data_line}
 use Rattle.plist_commands.proofs.print.pass_data.Goals as goal
 

@@ -3,7 +3,7 @@ use Rattle.std.proofs.lemmas.Result.{IfErr-weaker, err_from_is_err_and, on_ok_we
 use Rattle.plist_base.specs.Faults.{Io, fault_nowhere, fault_of}
 use Rattle.plist_base.specs.Outcomes.{IfFault}
 use Rattle.plist_base.specs.Sources.{ItemCountsIo}
-use Rattle.plist_commands.specs.Printing.{EndsItems}
+use Rattle.plist_commands.specs.Printing.{PrintsItemsUntil}
 use Rattle.plist_commands.proofs.HeldBack.{Came, came, all_passed, device_own, fault_counts, fault_passed, front_passed, line_in_part, line_passed, own_ends, passed_none, sent_counts, whose_fault}
 use Rattle.plist_commands.proofs.Runs.{run_ended, run_faulted, run_more, run_none, run_stopped}
 use Rattle.plist_commands.proofs.print.pass_lines.Goals as goal
@@ -157,7 +157,7 @@ returns-clause-answers g c =
 pub returns-clause-refused : goal.returns-clause-refused
 returns-clause-refused g c =
     IfErr-weaker c.send.result (λ error. fault_of error ≡ fault_nowhere Io)
-    (EndsItems g.W.Write.contents (g.I.Items.coming c.args.items.now) c.args.writer.now
+    (PrintsItemsUntil g.W.Write.contents (g.I.Items.coming c.args.items.now) c.args.writer.now
     c.send.new.writer)
     (λ error own. own_ends (g.I.Items.coming c.args.items.now) error _ _ (device_own error own))
     c.send.ensures.fault

@@ -1,4 +1,4 @@
-use Rattle.plist_commands.specs.Lines.{noted}
+use Rattle.plist_commands.specs.EscapedLines.{in_notation}
 use Rattle.plist_commands.proofs.HeldBack.{on_err_of}
 use Rattle.plist_commands.proofs.Passing.{front_alone, front_none, parts_in_front, parts_passed}
 use Rattle.plist_commands.proofs.print.pass_parts.Goals as goal
@@ -11,7 +11,7 @@ pub returns-in_err-pass_bytes-clause-prefix : goal.returns-in_err-pass_bytes-cla
 returns-in_err-pass_bytes-clause-prefix g c =
     on_err_of c.from_residual-in_err-pass_bytes.result
     (parts_in_front (g.W.Write.contents c.args.out.now) (g.W.Write.contents c.pass_bytes.new.out)
-    c.args.lines.now.items c.args.word.now (noted c.args.notation c.args.bytes.now) c.args.end.now _
+    c.args.lines.now.items c.args.word.now (in_notation c.args.notation c.args.bytes.now) c.args.end.now _
     c.in_ok-extend_from_slice.ensures.items c.in_err-pass_bytes.ensures.prefix)
 
 -- what is held back is lost
@@ -19,13 +19,13 @@ pub returns-in_err-extend_from_slice-2-clause-prefix : goal.returns-in_err-exten
 returns-in_err-extend_from_slice-2-clause-prefix g c =
     on_err_of c.from_residual-in_err-extend_from_slice-2.result
     (parts_in_front (g.W.Write.contents c.args.out.now) (g.W.Write.contents c.pass_bytes.new.out)
-    c.args.lines.now.items c.args.word.now (noted c.args.notation c.args.bytes.now) c.args.end.now _
+    c.args.lines.now.items c.args.word.now (in_notation c.args.notation c.args.bytes.now) c.args.end.now _
     c.in_ok-extend_from_slice.ensures.items
     (front_alone _ _ _ _ c.in_ok-pass_bytes.ensures.passed))
 
 pub returns-clause-passed : goal.returns-clause-passed
 returns-clause-passed g c =
     parts_passed (g.W.Write.contents c.args.out.now) (g.W.Write.contents c.pass_bytes.new.out)
-    c.args.lines.now.items c.args.word.now (noted c.args.notation c.args.bytes.now) c.args.end.now _
+    c.args.lines.now.items c.args.word.now (in_notation c.args.notation c.args.bytes.now) c.args.end.now _
     c.in_ok-extend_from_slice.ensures.items _ _ c.in_ok-pass_bytes.ensures.passed
     c.in_ok-extend_from_slice-2.ensures.items

@@ -1,7 +1,7 @@
 use Rattle.std.proofs.Common.{◌++◌, rules, subst}
 use Rattle.std.proofs.lemmas.Result.{on_err_weaker, on_ok_weaker}
 use Rattle.plist_base.specs.Prefixes.{AppendsPrefix}
-use Rattle.plist_commands.specs.Prefixes.{PassesOn}
+use Rattle.plist_commands.specs.HeldLines.{PassesOn}
 use Rattle.plist_commands.proofs.Passing.{text_line}
 use Rattle.plist_commands.proofs.print.pass_text.Goals as goal
 

@@ -4,8 +4,8 @@ use Rattle.plist_base.specs.Prefixes.{AppendsPrefix}
 use Rattle.plist_binread.specs.BinaryReader.{items_to_come}
 use Rattle.plist_format.specs.Unfolding.{items_of_file}
 use Rattle.plist_commands.specs.Converting.{items_left}
-use Rattle.plist_commands.specs.Lines.{lines_of}
-use Rattle.plist_commands.specs.Printing.{EndsFile, EndsItems, PrintsAll, PrintsUntil}
+use Rattle.plist_commands.specs.EscapedLines.{lines_of}
+use Rattle.plist_commands.specs.Printing.{PrintsFileUntil, PrintsItemsUntil, PrintsAll, PrintsUntil}
 use Rattle.plist_commands.proofs.HeldBack.{of_file}
 use Rattle.plist_commands.proofs.print.print_events.Goals as goal
 
@@ -19,10 +19,10 @@ returns-clause-printed g c =
 
 pub returns-clause-refused : goal.returns-clause-refused
 returns-clause-refused g c =
-    IfErr-weaker c.print_reader.result (EndsItems g.W.Write.contents
+    IfErr-weaker c.print_reader.result (PrintsItemsUntil g.W.Write.contents
     (items_left g.S.Source.known c.new-reader.result) c.args.writer.now
     c.print_reader.new.writer)
-    (EndsFile g.S.Source.known g.W.Write.contents c.args.source c.args.writer.now
+    (PrintsFileUntil g.S.Source.known g.W.Write.contents c.args.source c.args.writer.now
     c.print_reader.new.writer)
     (λ error. of_file (g.S.Source.known c.args.source) _
     (λ bytes. items_to_come bytes c.new-reader.result) items_of_file

@@ -3,7 +3,7 @@ use Rattle.std.specs.Borrow.{Bor}
 use Rattle.std.proofs.lemmas.Result.{err_from_is_err_and}
 use Rattle.plist_base.specs.Faults.{fault_of}
 use Rattle.plist.specs.Collecting.{built_tree}
-use Rattle.plist.specs.Inputs.{IsValueOf}
+use Rattle.plist.specs.ValueOfItems.{IsValueOf}
 use Rattle.plist_keyed.specs.inner.RemainingSteps.{items_at, remaining_steps}
 use Rattle.plist_keyed.specs.inner.Walks.{items_of_steps}
 use Rattle.plist_keyed.proofs.Told.{fault-read}

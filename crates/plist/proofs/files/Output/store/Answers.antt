@@ -1,5 +1,5 @@
 use Rattle.plist.specs.Outputs.{contents_of}
-use Rattle.plist.specs.Views.{tree_of}
+use Rattle.plist.specs.ValueTrees.{tree_of}
 use Rattle.plist.proofs.Gathered.{stored}
 use Rattle.plist.proofs.files.Output.store.Goals as goal
 

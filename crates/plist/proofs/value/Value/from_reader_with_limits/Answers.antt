@@ -1,4 +1,4 @@
-use Rattle.plist_base.specs.Limits.{come_of, iterator_of}
+use Rattle.plist_base.specs.Limits.{items_admitted, iterator_of}
 use Rattle.std.proofs.Common.{ap, ◌∙◌, option_map}
 use Rattle.plist_reader.specs.Reader.{Gives, limited_input, reader_source, reader_items}
 use Rattle.plist.specs.Collecting.{built_tree}
@@ -14,7 +14,7 @@ returns-clause-value g c =
     ((λ j. option_map (c.new.ensures.items j)
     ((ap (reader_items known) c.new.ensures.inner ∙ c.with_limits-reader.ensures.items) j))
     ∙ input-twice c.args.limits _)
-    (c.collect.ensures.shown (λ l. option_map (come_of l) (reader_items known (iterator_of l)))
+    (c.collect.ensures.shown (λ l. option_map (items_admitted l) (reader_items known (iterator_of l)))
     (limited-shows (Gives known g.R.Source.failures) (reader_items known)
     (λ old item new gives. reader-shows _ _ item gives.items)))
 

@@ -1,6 +1,6 @@
 use Rattle.std.proofs.Common.{refl, sym, ◌∙◌, arith}
 use Rattle.plist_ascii.specs.inner.Parts.{escaped_bytes}
-use Rattle.plist_ascii.specs.declared.escape.Escaped.TheVariants.{Byte}
+use Rattle.plist_ascii.specs.declared.unescape.Escaped.TheVariants.{Byte}
 use Rattle.plist_ascii.proofs.Answering.{answers_same, answers_here, answers_fault, front_from}
 use Rattle.std.proofs.lemmas.Bool.{ne_eqb}
 use Rattle.plist_ascii.specs.Escapes.{escape_by}

@@ -5,7 +5,7 @@ use Rattle.plist_ascii.proofs.Items.{going_start, going_skip, going_event, going
 use Rattle.plist_base.specs.Faults.{kind_of, error_kind_of}
 use Rattle.plist_ascii.proofs.Answering.{inside_gets, outside_gets, inside_is}
 use Rattle.plist_ascii.proofs.input.Input.item.Goals as goal
-use Rattle.plist_ascii.proofs.input.Input.item.Goals.{then-is_from_outside, else-is_from_outside}
+use Rattle.plist_ascii.proofs.input.Input.item.Goals.{then-is_io_or_memory, else-is_io_or_memory}
 
 pub returns-then-has_ended-clause-items : goal.returns-then-has_ended-clause-items
 returns-then-has_ended-clause-items g c = λ xs e.
@@ -61,20 +61,20 @@ returns-in-Err-token_by-clause-items g c =
     λ xs e.
     let i = c.tokens.invariant.goes xs e in
     let t = some i.0 i.1 in
-    elim c.if-is_from_outside.branch [
-      | then-is_from_outside w ↦ rw (w.self-is) (
+    elim c.if-is_io_or_memory.branch [
+      | then-is_io_or_memory w ↦ rw (w.self-is) (
         [],
         w.end.ensures.unread,
         outside_gets (kind_of (error_kind_of error)) _ _ _
-            (sym c.is_from_outside.ensures ∙ w.if-is_from_outside.true) refl
+            (sym c.is_io_or_memory.ensures ∙ w.if-is_io_or_memory.true) refl
             (λ m. (
               refl,
               going_text i.2 t.1
                   (c.in-Err-token_by.ensures.memory m t.0 t.2),
             )),
       )
-      | else-is_from_outside w ↦ (
-          let d = sym c.is_from_outside.ensures ∙ w.if-is_from_outside.false in
+      | else-is_io_or_memory w ↦ (
+          let d = sym c.is_io_or_memory.ensures ∙ w.if-is_io_or_memory.false in
           let k = a.2 d t.0 t.2 in
           rw (w.self-is) (
             _,

@@ -2,7 +2,7 @@ use Rattle.std.proofs.Common.{◌∷◌, Ok, Err, ap}
 use Rattle.plist_ascii.specs.Taken.{taken, needs}
 use Rattle.plist_ascii.specs.Escapes.{octal, octal_text}
 use Rattle.plist_ascii.specs.inner.Parts.{escaped_bytes}
-use Rattle.plist_ascii.specs.declared.escape.Escaped.TheVariants.{Char}
+use Rattle.plist_ascii.specs.declared.unescape.Escaped.TheVariants.{Char}
 use Rattle.plist_ascii.proofs.Answering.{answers_passed, answers_one, answers_none, answers_here, answers_bad}
 use Rattle.plist_ascii.proofs.input.Input.octal.Goals as goal
 

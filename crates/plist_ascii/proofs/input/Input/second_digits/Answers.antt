@@ -2,7 +2,7 @@ use Rattle.std.proofs.Common.{Ok, Err, ap}
 use Rattle.plist_ascii.specs.Taken.{taken}
 use Rattle.plist_ascii.specs.Escapes.{unit, pair_text, second_digits}
 use Rattle.plist_ascii.specs.inner.Parts.{escaped_bytes}
-use Rattle.plist_ascii.specs.declared.escape.Escaped.TheVariants.{Char}
+use Rattle.plist_ascii.specs.declared.unescape.Escaped.TheVariants.{Char}
 use Rattle.plist_ascii.proofs.Answering.{answers_passed, answers_then, answers_stops, answers_here, answers_bad}
 use Rattle.plist_ascii.proofs.input.Input.second_digits.Goals as goal
 

@@ -1,5 +1,5 @@
 use Rattle.plist_base.specs.Faults.{fault_of}
-use Rattle.plist.specs.Views.{tree_of}
+use Rattle.plist.specs.ValueTrees.{tree_of}
 use Rattle.plist_keyed.specs.Contents.{objects_of}
 use Rattle.plist_keyed.proofs.Told.{tree-read, error-read}
 use Rattle.plist_keyed.proofs.archive.Archive.tree.Goals as goal

@@ -2,7 +2,7 @@ use Rattle.std.proofs.Common.{◌∙◌, ap, sym, None, Some}
 use Rattle.std.specs.Option.{option_copied}
 use Rattle.plist_base.specs.Bracketing.{bracketing}
 use Rattle.plist_base.specs.Faults.{fault_of}
-use Rattle.plist.specs.Views.{tree_of}
+use Rattle.plist.specs.ValueTrees.{tree_of}
 use Rattle.plist_keyed.proofs.Walked.{seen_at, missing, open_already, entered-walk, entered-owes}
 use Rattle.plist_keyed.proofs.walk.Walk.enter.Goals as goal
 

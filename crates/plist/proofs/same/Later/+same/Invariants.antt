@@ -1,9 +1,0 @@
-use Rattle.plist.specs.inner.PutOff.{ItemsLeft, PairsLeft}
-use Rattle.plist.proofs.same.Later.+same.Given as goal
-
-abbrev pub invariant-compare_items-loop-i : goal.invariant-compare_items-loop-i
-invariant-compare_items-loop-i l =
-    ItemsLeft l.items.items l.others.items l.initial.self l.i l.self
-
-abbrev pub invariant-compare_pairs-loop-i : goal.invariant-compare_pairs-loop-i
-invariant-compare_pairs-loop-i l = PairsLeft l.pairs l.others l.initial.self l.i l.self

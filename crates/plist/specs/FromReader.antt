@@ -1,0 +1,86 @@
+-- A source that is read whole, item by item.
+use Rattle.std.specs.Prelude.{◌≡◌, ℕ, ◌⊎◌, Bool, List, Option, None, Some, Result, Err, option_map, ⊤}
+use Rattle.plist_base.specs.Events.{Item, event_of}
+use Rattle.plist_base.specs.Faults.{Fault, FaultKind, ExpectedEndOfEventStream, Io, UnexpectedEndOfEventStream, UnexpectedEventType, fault_nowhere}
+use Rattle.plist_base.specs.Limits.{GivesLimited, items_admitted, iterator_of as inner_of_limited, limited_items}
+use Rattle.plist_base.specs.Seeking.{failures_of}
+use Rattle.plist_base.specs.declared.limited.Limited.{Limited}
+use Rattle.plist_base.specs.declared.limits.Limits.{Limits}
+use Rattle.plist_base.specs.declared.seeking.Seeking.{Seeking}
+use Rattle.plist_base.specs.Trees.{Tree}
+use Rattle.plist_ascii.specs.Ascii.{items_of_ascii}
+use Rattle.plist_ascii.specs.AsciiReader as ascii
+use Rattle.plist_ascii.specs.AsciiReader.{untaken_bytes, dialect_of, device_of, peeked_byte, place_of, readable}
+use Rattle.plist_ascii.specs.declared.reader.AsciiReader.{AsciiReader}
+use Rattle.plist_ascii.specs.declared.dialect.Dialect.{Dialect}
+use Rattle.plist_reader.specs.Formats.{input_front}
+use Rattle.plist_reader.specs.declared.reader.Reader.{Reader}
+use Rattle.plist_reader.specs.Reader.{Gives, FaultHasOffset, IsReaderFault, items_of_input, limited_input, reader_source, reader_items}
+use Rattle.plist.specs.Collecting.{Collects}
+
+-- the answer comes of the run of a reader that holds this very source and has all its items to give
+abbrev pub IsReadByReader : {R : Type 0} (known : R → Option (List ℕ)) (failed : R → ℕ) (source : R)
+    → Result Tree Fault → Type 0
+IsReadByReader {R} known failed source answer =
+    (reader : Reader R (record { known = known; failures = failed }))
+    × (reader_source reader ≡ Some source)
+    × (reader_items known reader ≡ option_map items_of_input (known source))
+    × Collects event_of (Gives known failed) reader answer
+
+-- the same under these limits
+abbrev pub IsReadWithin : {R : Type 0} → Limits
+    → (known : R → Option (List ℕ)) (failed : R → ℕ) (source : R) → Result Tree Fault → Type 0
+IsReadWithin {R} limits known failed source answer =
+    (limited : Limited (Reader R (record { known = known; failures = failed })))
+    × (items_admitted limited ≡ limited_items limits)
+    × (reader_source (inner_of_limited limited) ≡ Some source)
+    × (reader_items known (inner_of_limited limited)
+    ≡ option_map (limited_input limits) (known source))
+    × Collects event_of (GivesLimited (Gives known failed)) limited answer
+
+-- the same of a reader of ASCII in this dialect, which has taken no byte and looked at none
+abbrev pub IsReadAsAscii : {R : Type 0} (known : R → Option (List ℕ)) (failed : R → Option ℕ)
+    (source : R) → Dialect → Result Tree Fault → Type 0
+IsReadAsAscii {R} known failed source dialect answer =
+    (reader : AsciiReader R) × (device_of reader ≡ source) × (dialect_of reader ≡ dialect)
+    × (place_of reader ≡ 0) × (peeked_byte reader ≡ None)
+    × (untaken_bytes known reader ≡ readable (known source))
+    × Collects event_of (ascii.GivesAscii known failed) reader answer
+
+-- the items of an ASCII text
+abbrev pub items_of_text : (bare : ℕ → Bool) → List ℕ → List Item
+items_of_text bare bytes = items_of_ascii bare (input_front bytes) 0
+
+-- a fault of the events that came, for which they are no value's
+abbrev pub IsFaultOfEvents : FaultKind → Type 0
+IsFaultOfEvents (UnexpectedEventType expected found) = ⊤
+IsFaultOfEvents (ExpectedEndOfEventStream found) = ⊤
+IsFaultOfEvents UnexpectedEndOfEventStream = ⊤
+IsFaultOfEvents kind = ⊥
+
+-- why there is no value of a source: a fault that its reader can give, with a place where that has
+-- one; or one of the events, which has none
+abbrev pub IsReadingFault : (limited : Bool) → Fault → Type 0
+IsReadingFault limited fault =
+    (IsReaderFault limited fault.kind × FaultHasOffset fault)
+    ⊎ (IsFaultOfEvents fault.kind × (fault.offset ≡ None))
+
+-- a file couldn't be opened, or this is so of a source over it, none of whose calls had failed
+abbrev pub IfOpened : (F : Type 0) → Result Tree Fault → (Seeking F → Type 0) → Type 0
+IfOpened F answer P =
+    (answer ≡ Err (fault_nowhere Io))
+    ⊎ ((source : Seeking F) × (failures_of source ≡ 0) × P source)
+
+-- the answer comes of a file
+abbrev pub IsReadFromFile : (F : Type 0) → Result Tree Fault → Type 0
+IsReadFromFile F answer =
+    IfOpened F answer (λ source. IsReadByReader (λ _. None) failures_of source answer)
+
+-- the same under these limits
+abbrev pub IsReadFromFileWithin : (F : Type 0) → Limits → Result Tree Fault → Type 0
+IsReadFromFileWithin F limits answer =
+    IfOpened F answer (λ source. IsReadWithin limits (λ _. None) failures_of source answer)
+
+-- why there is no value of a file
+abbrev pub IsFileFault : (limited : Bool) → Fault → Type 0
+IsFileFault limited fault = (fault ≡ fault_nowhere Io) ⊎ IsReadingFault limited fault

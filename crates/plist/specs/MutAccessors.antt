@@ -1,0 +1,36 @@
+-- The types that a value holds, for what its `&mut` accessors lend.
+use denote.RattleType.{RattleType}
+use Rattle.std.specs.Prelude.{ℕ, List, Option, option_map}
+use Rattle.plist_base.specs.Trees.{Members, Trees}
+use Rattle.plist.specs.ValueTrees.{item_trees, pair_trees}
+use Rattle.std.specs.Borrow.{LendsIf, MutBor, Fml}
+use Rattle.std.specs.declared.alloc.Global.{Global}
+use Rattle.std.specs.declared.vec.Vec.{Vec}
+use Rattle.std.specs.contracts.alloc.Global as global
+use Rattle.std.specs.contracts.vec.Vec as vec
+use Rattle.std.specs.contracts.impls.GlobalAllocator.TheImpl.{ghosts}
+use Rattle.plist_pairs.specs.contracts.dictionary.Pairs as pairs
+use Rattle.plist.specs.contracts.value.Value.{the_row}
+use Rattle.plist.specs.declared.value.Value.{Value}
+use Rattle.plist.specs.declared.value.Value.TheVariants as made
+
+abbrev pub array_row : RattleType
+array_row = vec.the_row the_row global.the_row ghosts
+
+abbrev pub dictionary_row : RattleType
+dictionary_row = pairs.the_row the_row
+
+-- the value ends as an array, or a dictionary, of what the reference lends, and as it was where
+-- there is none
+abbrev pub LendsArray : MutBor Value → Option (MutBor (Vec Value Global)) → Value → Fml
+LendsArray value lent old = LendsIf the_row array_row value lent made.Array old
+
+abbrev pub LendsDictionary : MutBor Value → Option (MutBor (List (List ℕ × Value))) → Value → Fml
+LendsDictionary value lent old = LendsIf the_row dictionary_row value lent made.Dictionary old
+
+-- the items, or the pairs, that a reference lends
+abbrev pub items_lent : Option (MutBor (Vec Value Global)) → Option Trees
+items_lent lent = option_map (λ array. item_trees array.now.items) lent
+
+abbrev pub pairs_lent : Option (MutBor (List (List ℕ × Value))) → Option Members
+pairs_lent lent = option_map (λ pairs. pair_trees pairs.now) lent

@@ -1,0 +1,99 @@
+-- The value of an input, from the items that it is seen to give.
+use Rattle.std.specs.Prelude.{◌≡◌, ℕ, List, [], ◌∷◌, ◌++◌, Option, None, Some, Result, Ok, Err, IfSome, map, ⊤, option_map}
+use Rattle.plist_base.specs.declared.error.Error.{Error}
+use Rattle.plist_base.specs.Events.{PlainEvent, Item}
+use Rattle.plist_base.specs.Faults.{Fault, fault_nowhere, UnexpectedEndOfEventStream, MatchFault, IsIoOrMemory}
+use Rattle.plist_base.specs.Trees.{Tree}
+use Rattle.plist_base.specs.Bracketing.{bracketing, AreAlike}
+use Rattle.plist.specs.Building.{Unfinished, IsNested, events_so_far, refusal_at}
+use Rattle.plist.specs.Collecting.{Collects, IsRefusal, built_tree, item_by}
+use Rattle.plist.specs.declared.value.Value.{Value}
+use Rattle.plist.specs.LastWins.{last_wins}
+
+-- What stands behind events that can follow one another decides: a fault is the answer, an event
+-- that can't come next is refused, and where nothing stands there the events are no tree's.
+abbrev pub IsFaultOfNext : (held : Unfinished) (events : List PlainEvent) → (next : List Item) → Fault
+    → Type 0
+IsFaultOfNext held events [] fault =
+    (fault ≡ fault_nowhere UnexpectedEndOfEventStream)
+    × ((tree : Tree) → AreAlike events (bracketing tree) → ⊥)
+IsFaultOfNext held events (Ok event ∷ more) fault = IsRefusal (refusal_at held event) fault
+IsFaultOfNext held events (Err error ∷ more) fault = fault ≡ error
+
+-- the items are a tree's events, up to lengths
+abbrev pub AreItemsOfTree : List Item → Tree → Type 0
+AreItemsOfTree items tree =
+    (events : List PlainEvent) × (items ≡ map Ok events) × AreAlike events (bracketing tree)
+
+-- the first fault or refusal, and then the items are no tree's
+abbrev pub IsFirstFault : List Item → Fault → Type 0
+IsFirstFault items fault =
+    ((events : List PlainEvent) × (next : List Item) × (held : Unfinished)
+    × (items ≡ map Ok events ++ next) × IsNested held × AreAlike (events_so_far held) events
+    × IsFaultOfNext held events next fault)
+    × ((tree : Tree) → AreItemsOfTree items tree → ⊥)
+
+-- The tree whose events the items are, with the last value of each key; or, but for a device's
+-- fault and want of memory, the first fault or refusal.
+abbrev pub IsValueOf : List Item → Result Tree Fault → Type 0
+IsValueOf items (Ok tree) = (whole : Tree) × AreItemsOfTree items whole × (tree ≡ last_wins whole)
+IsValueOf items (Err fault) = MatchFault fault.kind ⊤ ⊤ (IsFirstFault items fault)
+
+-- the same of items that may not be known
+abbrev pub IsReadIfKnown : Option (List Item) → Result Tree Fault → Type 0
+IsReadIfKnown items answer = IfSome items (λ all. IsValueOf all answer)
+
+-- the value of the items that known bytes have
+abbrev pub ReadsItems : (List ℕ → List Item) → (known : Option (List ℕ)) → Result Value Error
+    → Type 0
+ReadsItems items_of known answer =
+    IfSome known (λ bytes. IsValueOf (items_of bytes) (built_tree answer))
+
+-- What is seen to come begins with this item, and nothing comes only where nothing is seen. A
+-- device's fault and want of memory may come anywhere.
+abbrev pub BeginsWith : (before : List Item) → Option Item → (after : List Item) → Type 0
+BeginsWith before None after = before ≡ []
+BeginsWith before (Some (Ok event)) after = before ≡ Ok event ∷ after
+BeginsWith before (Some (Err fault)) after = MatchFault fault.kind ⊤ ⊤ (before ≡ Err fault ∷ after)
+
+-- the same, and what comes next is seen too, where what is to come is seen
+abbrev pub BeginsWithIfKnown : (before : Option (List Item)) → Option Item
+    → (after : Option (List Item))
+    → Type 0
+BeginsWithIfKnown before item after =
+    IfSome before (λ all. (left : List Item) × (after ≡ Some left) × BeginsWith all item left)
+
+-- an iterator's calls give the items that are seen to come, one after the other
+abbrev pub ForeseesItems : {E I : Type 0} → (plain : E → PlainEvent)
+    → (I → Option (Result E Error) → I → Type 0) → (coming : I → Option (List Item)) → Type 0
+ForeseesItems {E} {I} plain next_gives coming =
+    (old : I) (item : Option (Result E Error)) (new : I) → next_gives old item new
+    → BeginsWithIfKnown (coming old) (option_map (item_by plain) item) (coming new)
+
+-- whatever shows the items of an iterator, the answer is that of these items
+abbrev pub AnswersAsForeseen : {E I : Type 0} → (plain : E → PlainEvent)
+    → (I → Option (Result E Error) → I → Type 0) → I → Result Tree Fault → Type 0
+AnswersAsForeseen {E} {I} plain next_gives iter answer =
+    (coming : I → Option (List Item)) → ForeseesItems plain next_gives coming → IsReadIfKnown
+    (coming iter) answer
+
+-- one is made of something: what comes of its items is the answer
+abbrev pub CollectsIterable : {E I J : Type 0} → (becomes : J → I → Type 0) → (plain : E → PlainEvent)
+    → (I → Option (Result E Error) → I → Type 0) → J → Result Value Error → Type 0
+CollectsIterable {E} {I} {J} becomes plain next_gives made answer =
+    (iter : I) × becomes made iter × Collects plain next_gives iter (built_tree answer)
+
+-- the same whatever shows its items
+abbrev pub AnswersIterable : {E I J : Type 0} → (becomes : J → I → Type 0) → (plain : E → PlainEvent)
+    → (I → Option (Result E Error) → I → Type 0) → J → Result Value Error → Type 0
+AnswersIterable {E} {I} {J} becomes plain next_gives made answer =
+    (iter : I) × becomes made iter × AnswersAsForeseen plain next_gives iter (built_tree answer)
+
+-- the answer is this tree, but for a device's fault and want of memory
+abbrev pub IsReadBack : Tree → Result Tree Fault → Type 0
+IsReadBack tree (Ok read) = read ≡ tree
+IsReadBack tree (Err fault) = IsIoOrMemory fault.kind
+
+-- a tree's events are those of no other tree, whatever their lengths
+abbrev pub DetermineTrees : Type 0
+DetermineTrees = (left right : Tree) → AreAlike (bracketing left) (bracketing right) → left ≡ right

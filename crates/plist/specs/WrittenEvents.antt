@@ -1,0 +1,46 @@
+-- What a writer is handed.
+use Rattle.std.specs.Prelude.{◌≡◌, ◌⊎◌, List, [], ◌∷◌, ◌++◌, Result, Ok, Err}
+use Rattle.plist_base.specs.declared.error.Error.{Error}
+use Rattle.plist_base.specs.Bracketing.{bracketing}
+use Rattle.plist_base.specs.Events.{PlainEvent, Item}
+use Rattle.plist_base.specs.Faults.{Fault, fault_nowhere, OutOfMemory}
+use Rattle.plist_base.specs.Writing.{Answer, answer_of}
+use Rattle.plist.specs.Events.{BeginsWithStart}
+use Rattle.plist.specs.declared.value.Value.{Value}
+use Rattle.plist.specs.ValueTrees.{tree_of}
+
+module _ {S : Type 0} (Step : S → PlainEvent → Answer → S → Type 0) where
+  -- the writer took these events, one step for each
+  abbrev pub TakesAll : (before : S) → List PlainEvent → (after : S) → Type 0
+  TakesAll before [] after = before ≡ after
+  TakesAll before (event ∷ events) after =
+      (between : S) × Step before event (Ok tt) between × TakesAll between events after
+
+  -- the writer refused an event
+  abbrev pub RefusesNext : (before : S) → List PlainEvent → Fault → (after : S) → Type 0
+  RefusesNext before [] fault after = ⊥
+  RefusesNext before (event ∷ events) fault after = Step before event (Err fault) after
+
+  -- memory ran out at a start, which the writer wasn't handed
+  abbrev pub StopsForMemory : (before : S) → List PlainEvent → Fault → (after : S) → Type 0
+  StopsForMemory before events fault after =
+      (fault ≡ fault_nowhere OutOfMemory) × BeginsWithStart events × (after ≡ before)
+
+  -- The writer took all events; or the first of them, and then refused the next, or memory ran out
+  -- at it.
+  abbrev pub WritesEvents : (before : S) → List PlainEvent → Answer → (after : S) → Type 0
+  WritesEvents before events (Ok done) after = TakesAll before events after
+  WritesEvents before events (Err fault) after =
+      (taken : List PlainEvent) × (left : List PlainEvent) × (events ≡ taken ++ left)
+      × ((between : S) × TakesAll before taken between
+      × (RefusesNext between left fault after ⊎ StopsForMemory between left fault after))
+
+  -- the events of a value
+  abbrev pub WritesValue : (before : S) → Value → Result (Unit {0}) Error → (after : S) → Type 0
+  WritesValue before value answer after =
+      WritesEvents before (bracketing (tree_of value)) (answer_of answer) after
+
+  -- one item
+  abbrev pub WritesItem : (before : S) → Item → Answer → (after : S) → Type 0
+  WritesItem before (Ok event) answer after = Step before event answer after
+  WritesItem before (Err fault) answer after = (answer ≡ Err fault) × (after ≡ before)

@@ -1,0 +1,171 @@
+//! What stands in a value of a kind. None of these calls takes memory.
+
+ghost use Rattle.std.specs.Prelude.{◌≡◌, ◌↔◌, IfSome, IsSome, IsSomeAnd, Some, option_map, pos};
+ghost use Rattle.std.specs.Option.{option_copied};
+ghost use Rattle.plist.specs.Accessors.{array_in, boolean_in, data_in, date_in, dictionary_in, integer_in, real_in, text_in, uid_in, IsBelowSigned, IsNatural};
+ghost use Rattle.plist.specs.ValueTrees.{item_trees, pair_trees, tree_of};
+
+use crate::{Dictionary, Value};
+use plist_base::{Date, RealBits, Uid};
+use std::alloc::Global;
+
+impl Value {
+    ghost use Rattle.std.specs.Borrow.{sem};
+    ghost use Rattle.plist.specs.declared.value.Value.TheVariants as made;
+    ghost use Rattle.plist.specs.MutAccessors.{LendsArray, LendsDictionary, items_lent, pairs_lent};
+
+    /// The array, if the value is one.
+    pub fn as_array(&self) -> Option<&Vec<Value>>
+        ensures value { option_map (λ a. item_trees a.now.items) result
+            ≡ array_in (tree_of self.now) }
+        ensures made { IfSome result (λ items. self.now ≡ made.Array items.now) }
+    {
+        let Value::Array(array) = self else {
+            return None;
+        };
+        Some(array)
+    }
+
+    /// The array, to be changed, if the value is one.
+    pub fn as_array_mut(&mut self) -> Option<&mut Vec<Value>>
+        ensures value { items_lent result ≡ array_in (tree_of self.old) }
+        ensures made { IfSome result (λ items. self.old ≡ made.Array items.now) }
+        ensures* writes_back { sem 𝓛 (LendsArray self.entry result self.old) }
+    {
+        let Value::Array(lent) = self else {
+            return None;
+        };
+        Some(lent)
+    }
+
+    /// The dictionary, if the value is one.
+    pub fn as_dictionary(&self) -> Option<&Dictionary>
+        ensures value { option_map (λ d. pair_trees d.now) result
+            ≡ dictionary_in (tree_of self.now) }
+        ensures made { IfSome result (λ pairs. self.now ≡ made.Dictionary pairs.now) }
+    {
+        let Value::Dictionary(dictionary) = self else {
+            return None;
+        };
+        Some(dictionary)
+    }
+
+    /// The dictionary, to be changed, if the value is one.
+    pub fn as_dictionary_mut(&mut self) -> Option<&mut Dictionary>
+        ensures value { pairs_lent result ≡ dictionary_in (tree_of self.old) }
+        ensures made { IfSome result (λ pairs. self.old ≡ made.Dictionary pairs.now) }
+        ensures* writes_back { sem 𝓛 (LendsDictionary self.entry result self.old) }
+    {
+        let Value::Dictionary(lent) = self else {
+            return None;
+        };
+        Some(lent)
+    }
+
+    /// The truth value, if the value is one.
+    pub fn as_boolean(&self) -> Option<bool>
+        ensures { result ≡ boolean_in (tree_of self.now) }
+    {
+        let Value::Boolean(value) = self else {
+            return None;
+        };
+        Some(*value)
+    }
+
+    /// The bytes of data, if the value is data.
+    pub fn as_data(&self) -> Option<&[u8]>
+        ensures { option_copied result ≡ data_in (tree_of self.now) }
+    {
+        let Value::Data(bytes) = self else {
+            return None;
+        };
+        Some(bytes.as_slice())
+    }
+
+    /// The date, if the value is one.
+    pub fn as_date(&self) -> Option<Date>
+        ensures { result ≡ date_in (tree_of self.now) }
+    {
+        let Value::Date(date) = self else {
+            return None;
+        };
+        Some(*date)
+    }
+
+    /// The bytes of a real, if the value is one.
+    pub fn as_real(&self) -> Option<RealBits>
+        ensures { result ≡ real_in (tree_of self.now) }
+    {
+        let Value::Real(bits) = self else {
+            return None;
+        };
+        Some(*bits)
+    }
+
+    /// The number, if the value is an integer that fits an `i64`.
+    pub fn as_signed_integer(&self) -> Option<i64>
+        ensures fits { IsSome result ↔ IsSomeAnd (integer_in (tree_of self.now)) IsBelowSigned }
+        ensures value { IfSome result (λ n. integer_in (tree_of self.now) ≡ Some n) }
+    {
+        let Value::Integer(number) = self else {
+            return None;
+        };
+        number.as_signed()
+    }
+
+    /// The number, if the value is an integer that isn't negative.
+    pub fn as_unsigned_integer(&self) -> Option<u64>
+        ensures fits { IsSome result ↔ IsSomeAnd (integer_in (tree_of self.now)) IsNatural }
+        ensures value { IfSome result (λ n. integer_in (tree_of self.now) ≡ Some (pos n)) }
+    {
+        let Value::Integer(number) = self else {
+            return None;
+        };
+        number.as_unsigned()
+    }
+
+    /// The text, if the value is one.
+    pub fn as_string(&self) -> Option<&str>
+        ensures { option_copied result ≡ text_in (tree_of self.now) }
+    {
+        let Value::String(text) = self else {
+            return None;
+        };
+        Some(text.as_str())
+    }
+
+    /// The identifier, if the value is one.
+    pub fn into_uid(self) -> Option<Uid>
+        ensures { result ≡ uid_in (tree_of self) }
+    {
+        let Value::Uid(uid) = &self else {
+            return None;
+        };
+        Some(*uid)
+    }
+
+    /// The identifier, if the value is one.
+    pub fn as_uid(&self) -> Option<&Uid>
+        ensures { option_copied result ≡ uid_in (tree_of self.now) }
+    {
+        let Value::Uid(lent) = self else {
+            return None;
+        };
+        Some(lent)
+    }
+
+    // Where a collection is stored.
+    pub(crate) fn allocator(&self) -> Option<Global> {
+        match self {
+            Value::Array(items) => Some(*items.allocator()),
+            Value::Dictionary(pairs) => Some(pairs.allocator()),
+            Value::Boolean(_)
+            | Value::Data(_)
+            | Value::Date(_)
+            | Value::Integer(_)
+            | Value::Real(_)
+            | Value::String(_)
+            | Value::Uid(_) => None,
+        }
+    }
+}

@@ -1,0 +1,95 @@
+-- What came of decoding an object, and where the references of a collection stand.
+use Rattle.std.specs.Prelude.{◌≡◌, ℕ, ◌+◌, ◌*◌, ◌/◌, ◌%◌, ◌<◌, ◌≤◌, List, [], ◌∷◌, Option, Some, Result, Ok, MatchOption, MatchResult, length, take, drop, get_or, cond, nat_eq}
+use Rattle.plist_base.specs.declared.error.Error.{Error}
+use Rattle.plist_base.specs.Faults.{ObjectOffsetTooLarge, NullObjectUnimplemented, FillObjectUnimplemented, UnknownObjectType, IntegerOutOfRange, OverflowOrNanDate, InvalidUtf8String, InvalidUtf16String}
+use Rattle.plist_base.specs.Events.{PlainEvent, EndCollection, Item}
+use Rattle.plist_binread.specs.declared.references.References.{References}
+use Rattle.plist_binread.specs.declared.object_faults.Outcome.{Outcome}
+use Rattle.plist_binread.specs.declared.object_faults.Outcome.TheVariants as outcome
+use Rattle.plist_binread.specs.declared.head.Bounds.{Bounds}
+use Rattle.plist_format.specs.Container.{number_at}
+use Rattle.plist_binread.specs.Remaining.{Explains}
+use Rattle.plist_binread.specs.Decoding.{Allocates, IsCollection, scalar_event_in, children_in}
+use Rattle.plist_format.specs.Object.{Object, Faulty, object_in}
+use Rattle.plist_binread.specs.Packed.{is_small_event}
+use Rattle.plist_format.specs.Unfolding.{until_fault}
+
+-- what was decoded is this object: a scalar or a collection, whose event is the current one, or a
+-- fault
+abbrev pub IsOutcomeOf : Object → (current : PlainEvent) → Outcome → Type 0
+IsOutcomeOf object current outcome.Unseen = Unit {0}
+IsOutcomeOf object current outcome.Overrun = object ≡ Faulty ObjectOffsetTooLarge
+IsOutcomeOf object current outcome.Null = object ≡ Faulty NullObjectUnimplemented
+IsOutcomeOf object current outcome.Fill = object ≡ Faulty FillObjectUnimplemented
+IsOutcomeOf object current (outcome.Unknown marker) = object ≡ Faulty (UnknownObjectType marker)
+IsOutcomeOf object current outcome.OutOfRange = object ≡ Faulty IntegerOutOfRange
+IsOutcomeOf object current outcome.NoDate = object ≡ Faulty OverflowOrNanDate
+IsOutcomeOf object current outcome.NotUtf8 = object ≡ Faulty InvalidUtf8String
+IsOutcomeOf object current outcome.NotUtf16 = object ≡ Faulty InvalidUtf16String
+IsOutcomeOf object current outcome.NoMemory = Allocates object
+IsOutcomeOf object current outcome.Scalar = scalar_event_in object ≡ Some current
+IsOutcomeOf object current (outcome.Collection count) = IsCollection object current count
+
+-- how many small objects were decoded
+abbrev pub small_outcome : Outcome → (current : PlainEvent) → ℕ
+small_outcome outcome.Unseen current = 0
+small_outcome outcome.Overrun current = 0
+small_outcome outcome.Null current = 0
+small_outcome outcome.Fill current = 0
+small_outcome (outcome.Unknown marker) current = 0
+small_outcome outcome.OutOfRange current = 0
+small_outcome outcome.NoDate current = 0
+small_outcome outcome.NotUtf8 current = 0
+small_outcome outcome.NotUtf16 current = 0
+small_outcome outcome.NoMemory current = 0
+small_outcome outcome.Scalar current = cond (is_small_event current) 1 0
+small_outcome (outcome.Collection count) current = 0
+
+-- the number of a child's reference among all those of its collection, where that has so many
+-- pairs, or none since it is an array
+abbrev pub reference_index : (pairs index : ℕ) → ℕ
+reference_index pairs index =
+    cond (nat_eq pairs 0) index (cond (nat_eq (index % 2) 0) (index / 2) (pairs + index / 2))
+
+-- where the reference of a child stands
+abbrev pub reference_place : References → (index width : ℕ) → ℕ
+reference_place references index width =
+    references.place + (references.start + reference_index references.pairs index * width)
+
+-- the references of the children of the object at the front of these bytes stand from `start` on
+abbrev pub AreReferencesAt : (width : ℕ) (object : List ℕ) (start pairs : ℕ) → Type 0
+AreReferencesAt width object start pairs =
+    (index : ℕ) → index < length (children_in (object_in width object))
+    → (start + reference_index pairs index * width + width ≤ length object)
+    × (number_at object (start + reference_index pairs index * width) width
+    ≡ get_or (children_in (object_in width object)) index 0)
+
+-- the same of the collection at the references' place
+abbrev pub AreReferences : (bytes : List ℕ) → Bounds → References → Type 0
+AreReferences bytes bounds references =
+    AreReferencesAt bounds.reference_width (drop references.place (take bounds.trailer bytes))
+    references.start references.pairs
+
+-- what remained begins with the current event, and goes on with what remains afterwards
+abbrev pub YieldsCurrent : List Item → (current : PlainEvent) → List Item → Type 0
+YieldsCurrent before current after = until_fault before ≡ Ok current ∷ until_fault after
+
+-- the same of an answer, or an error that comes where some items remained
+abbrev pub YieldsAnswer : {A : Type 0} → List Item → Result A Error → (current : PlainEvent)
+    → List Item
+    → Type 0
+YieldsAnswer before answer current after = MatchResult answer
+    (λ _. YieldsCurrent before current after)
+    (λ error. Explains (until_fault before) error)
+
+-- and of an item, or nothing where nothing remained
+abbrev pub YieldsNext : {A : Type 0} → List Item → Option (Result A Error) → (current : PlainEvent)
+    → List Item → Type 0
+YieldsNext before item current after =
+    MatchOption item ((before ≡ []) × (after ≡ [])) (λ answer. YieldsAnswer before answer current
+    after)
+
+-- the current event is an end
+abbrev pub IsCurrentEnd : {A E : Type 0} → Option (Result A E) → (current : PlainEvent) → Type 0
+IsCurrentEnd item current =
+    MatchOption item ⊥ (λ answer. MatchResult answer (λ _. current ≡ EndCollection) (λ error. ⊥))

@@ -1,0 +1,63 @@
+-- Where the faults of a reader are.
+use Rattle.std.specs.Prelude.{◌≡◌, ℕ, Bool, true, Option, None, Some, Result, IfErr, MatchOption, ⊤}
+use Rattle.plist_base.specs.declared.error.Error.{Error}
+use Rattle.plist_base.specs.Faults.{FaultKind, Fault, LimitReached, UnexpectedEof, InvalidMagic, InvalidTrailerObjectOffsetSize, InvalidTrailerObjectReferenceSize, ObjectOffsetTooLarge, ObjectReferenceTooLarge, RecursiveObject, NullObjectUnimplemented, FillObjectUnimplemented, UnknownObjectType, IntegerOutOfRange, OverflowOrNanDate, InvalidUtf8String, InvalidUtf16String, Io, OutOfMemory, fault_of}
+use Rattle.plist_base.specs.Sources.{IsOffsetWithin}
+
+-- a fact for the fault of a read, one for want of memory, and one for every other fault of a reader
+-- of binary property lists, which has no further ones
+abbrev pub MatchReader : FaultKind → (read memory other : Type 0) → Type 0
+MatchReader Io read memory other = read
+MatchReader UnexpectedEof read memory other = read
+MatchReader OutOfMemory read memory other = memory
+MatchReader InvalidMagic read memory other = other
+MatchReader InvalidTrailerObjectOffsetSize read memory other = other
+MatchReader InvalidTrailerObjectReferenceSize read memory other = other
+MatchReader ObjectOffsetTooLarge read memory other = other
+MatchReader ObjectReferenceTooLarge read memory other = other
+MatchReader RecursiveObject read memory other = other
+MatchReader NullObjectUnimplemented read memory other = other
+MatchReader FillObjectUnimplemented read memory other = other
+MatchReader (UnknownObjectType marker) read memory other = other
+MatchReader IntegerOutOfRange read memory other = other
+MatchReader OverflowOrNanDate read memory other = other
+MatchReader InvalidUtf8String read memory other = other
+MatchReader InvalidUtf16String read memory other = other
+MatchReader kind read memory other = ⊥
+
+-- there is a place
+abbrev pub HasOffset : Option ℕ → Type 0
+HasOffset None = ⊥
+HasOffset (Some place) = ⊤
+
+-- what lies from `start` on and before `end` was not read: one of the reads there failed or gave
+-- nothing, and the fault has the place of that read; or memory was wanted, and the fault has no
+-- place; or it is another fault of a reader, and has one
+pub record FailsWithin (start end : ℕ) (fault : Fault) : Type 0 where
+  pub placed : MatchReader fault.kind (IsOffsetWithin start end fault.offset) (fault.offset ≡ None)
+      (HasOffset fault.offset)
+
+-- the same of an answer's error, if there is one
+abbrev pub ErrWithin : {A : Type 0} → (start end : ℕ) → Result A Error → Type 0
+ErrWithin start end answer = IfErr answer (λ e. FailsWithin start end (fault_of e))
+
+-- and of an item
+abbrev pub ItemWithin : {A : Type 0} → (start end : ℕ) → Option (Result A Error) → Type 0
+ItemWithin start end item = MatchOption item ⊤ (λ answer. ErrWithin start end answer)
+
+-- the same, and one fact more for the fault of a limit
+abbrev pub MatchGiven : FaultKind → (read memory other limit : Type 0) → Type 0
+MatchGiven (LimitReached reached) read memory other limit = limit
+MatchGiven kind read memory other limit = MatchReader kind read memory other
+
+-- A fault that a reader gives: as above; or that of a limit, which has no place, where there are
+-- limits.
+pub record IsGivenWithin (start end : ℕ) (limited : Bool) (fault : Fault) : Type 0 where
+  pub placed : MatchGiven fault.kind (IsOffsetWithin start end fault.offset) (fault.offset ≡ None)
+      (HasOffset fault.offset) ((limited ≡ true) × (fault.offset ≡ None))
+
+-- the same of an item
+abbrev pub ItemGivenWithin : {A : Type 0} → (start end : ℕ) → (limited : Bool)
+    → Option (Result A Error) → Type 0
+ItemGivenWithin start end limited item =
+    MatchOption item ⊤ (λ answer. IfErr answer (λ e. IsGivenWithin start end limited (fault_of e)))

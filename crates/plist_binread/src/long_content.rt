@@ -1,0 +1,116 @@
+//! Texts and data whose content isn't all seen with an object's front.
+
+ghost use Rattle.std.specs.Prelude.{◌≡◌, IfErr, IfOk, ⊤};
+ghost use Rattle.plist_base.specs.Outcomes.{OnlyMemory};
+ghost use Rattle.plist_base.specs.Faults.{MatchFault, kind_of, error_kind_of};
+ghost use Rattle.plist_base.specs.Events.{event_of};
+ghost use Rattle.plist_base.specs.Sources.{AnswersIo};
+ghost use Rattle.plist_format.specs.Container.{numbers_spelled};
+ghost use Rattle.plist_format.specs.Object.{text, text_of_units};
+ghost use Rattle.plist_binread.specs.Decoding.{Decodes, DecodesEvent, IsLarge};
+ghost use Rattle.plist_binread.specs.FaultOffsets.{ErrWithin};
+ghost use Rattle.plist_binread.specs.Front.{AreUnits, EndsIn64Bits, FailsInContent, ReadsContent, content_means, unit_size};
+
+use crate::front::{Content, ContentKind};
+use crate::numbers::{read_bytes, write_units};
+use crate::packed::is_small;
+use plist_base::{Error, ErrorKind, Event, OwnedEvent, Source};
+use std::alloc::Global;
+use std::borrow::{CowSlice, CowStr};
+
+// The text or data of an object. A small one is never read here, since its front has all of it.
+fn large(event: OwnedEvent) -> Result<OwnedEvent, Error>
+    ensures decoded { DecodesEvent (event_of event.entry) result }
+    ensures large { IsLarge result }
+    ensures memory { OnlyMemory result }
+{
+    if is_small(&event) {
+        return Err(ErrorKind::OutOfMemory.without_position());
+    }
+    Ok(event)
+}
+
+// The text in these bytes, or the fault of the object at this place.
+fn text_event(bytes: Vec<u8>, place: u64) -> Result<OwnedEvent, Error>
+    ensures decoded { Decodes (text bytes.items) place result }
+    ensures large { IsLarge result }
+    ensures kinds { IfErr result (λ error. MatchFault (kind_of (error_kind_of error)) ⊥ ⊤ ⊤) }
+    ensures fault { ErrWithin place place result }
+{
+    match String::from_utf8(bytes) {
+        Ok(string) => large(Event::String(CowStr::Owned(string))),
+        Err(_) => Err(ErrorKind::InvalidUtf8String.with_byte_offset(place)),
+    }
+}
+
+// The text in these units, or the fault of the object at this place.
+fn wide_text_event(alloc: Global, units: &[u16], place: u64) -> Result<OwnedEvent, Error>
+    ensures decoded { Decodes (text_of_units units.now) place result }
+    ensures large { IsLarge result }
+    ensures kinds { IfErr result (λ error. MatchFault (kind_of (error_kind_of error)) ⊥ ⊤ ⊤) }
+    ensures fault { ErrWithin place place result }
+{
+    match String::from_utf16(alloc, units)? {
+        Ok(string) => large(Event::String(CowStr::Owned(string))),
+        Err(_) => Err(ErrorKind::InvalidUtf16String.with_byte_offset(place)),
+    }
+}
+
+// The units in these bytes, two a unit.
+fn units_in(alloc: Global, bytes: &[u8]) -> Result<Vec<u16>, Error>
+    requires { AreUnits 2 bytes.now }
+    ensures units { IfOk result (λ units. units.items ≡ numbers_spelled 2 bytes.now) }
+    ensures memory { OnlyMemory result }
+{
+    let mut units = vec![in alloc; 0u16; bytes.len() / 2]?;
+    write_units(bytes, &mut units);
+    Ok(units)
+}
+
+// The text or data in these bytes, or the fault of the object at this place.
+fn content_event(
+    alloc: Global,
+    kind: ContentKind,
+    bytes: Vec<u8>,
+    place: u64,
+) -> Result<OwnedEvent, Error>
+    requires units { AreUnits (unit_size kind) bytes.items }
+    ensures decoded { Decodes (content_means kind bytes.items) place result }
+    ensures large { IsLarge result }
+    ensures kinds { IfErr result (λ error. MatchFault (kind_of (error_kind_of error)) ⊥ ⊤ ⊤) }
+    ensures fault { ErrWithin place place result }
+{
+    match kind {
+        ContentKind::Data => large(Event::Data(CowSlice::Owned(bytes))),
+        ContentKind::Text => text_event(bytes, place),
+        ContentKind::WideText => {
+            let units = units_in(alloc, &bytes)?;
+            wide_text_event(alloc, &units, place)
+        }
+    }
+}
+
+/// Reads the text or data of this content, which isn't small, of the object at a place.
+pub fn read_long<S: Source>(
+    alloc: Global,
+    source: &mut S,
+    place: u64,
+    content: Content,
+) -> Result<OwnedEvent, Error>
+    requires fits { EndsIn64Bits place content }
+    // The answer.
+    ensures decoded { ReadsContent (S.known source.old) place content result }
+    ensures large { IsLarge result }
+    // A refusal.
+    ensures fault { FailsInContent place content result }
+    // The state after it.
+    ensures unchanged { S.known source.new ≡ S.known source.old }
+    ensures failures { AnswersIo result (S.failures source.old) (S.failures source.new) }
+{
+    let start = place + content.start;
+    let size = content.count * content.kind.unit_size();
+    match read_bytes(alloc, source, start, size as usize) {
+        Ok(bytes) => content_event(alloc, content.kind, bytes, place),
+        Err(error) => Err(error),
+    }
+}

@@ -1,0 +1,252 @@
+//! The reference of one child, among those of its collection.
+
+ghost use Rattle.std.specs.Prelude.{◌≡◌, ◌+◌, ◌-◌, ◌^◌, ◌<◌, ◌≤◌, IfErr, IfNone, IfOk, IfSome, OnOk};
+ghost use Rattle.plist_binread.specs.DecodeOutcome.{reference_place, reference_index};
+ghost use Rattle.plist_binread.specs.FaultOffsets.{ErrWithin};
+ghost use Rattle.plist_binread.specs.Reading.{HasNoChild, FindsReferences, HasNoChildren, HasPairs, AreReferencesBehind, AreReferencesOf, MissesNumber, ReadsNumber, ShowsLength};
+ghost use Rattle.plist_binread.specs.Step.{FindsChild, RefusesEach};
+ghost use Rattle.plist_binread.specs.Slot.{AnswersInSlot, answer_in};
+
+use crate::event_slot::{EventSlot, Refused};
+use crate::front::front_length;
+use crate::head::Bounds;
+use crate::numbers::{buffered_number, read_far_number};
+use plist_base::{Source, read_exact_at};
+
+/// Where the references of a collection stand.
+#[derive(Clone, Copy)]
+pub struct References {
+    /// The place of the collection, if there is one.
+    pub place: u64,
+    /// How far behind that its references begin.
+    pub start: u64,
+    /// How many pairs it has; none if it is an array.
+    pub pairs: u64,
+}
+
+impl References {
+    ghost use Rattle.std.specs.Prelude.{◌≡◌, ◌-◌, ◌^◌};
+
+    /// Those of no collection, since no object has this place.
+    pub fn none() -> Self
+        ensures { result.place ≡ 2 ^ 64 - 1 }
+    {
+        References {
+            place: u64::MAX,
+            start: 0,
+            pairs: 0,
+        }
+    }
+}
+
+// How many pairs a collection of this marker and length has: none if it is an array.
+#[inline(always)]
+fn pairs_in(marker: u8, count: u64) -> Option<u64>
+    ensures slots { IfSome result (HasPairs marker count) }
+    ensures none { IfNone result (HasNoChildren marker) }
+{
+    match marker {
+        0xa0..=0xaf => Some(0),
+        0xd0..=0xdf => Some(count),
+        _ => None,
+    }
+}
+
+// Finds the references of the collection that begins these bytes: all up to the trailer, or at
+// least a marker and a length.
+fn references_in(seen: &[u8], extent: u64, width: usize, place: u64) -> Option<References>
+    requires width { 0 < width }
+    requires far { ShowsLength extent seen.now }
+    ensures place { IfSome result (λ references. references.place ≡ place) }
+    ensures slots { IfSome result (AreReferencesBehind width seen.now) }
+    ensures none { IfNone result (HasNoChild width extent seen.now) }
+{
+    let (marker, rest) = seen.split_first()?;
+    let (count, behind) = front_length(*marker, rest)?;
+    let pairs = pairs_in(*marker, count)?;
+    let start = (seen.len() - behind.len()) as u64;
+    Some(References {
+        place,
+        start,
+        pairs,
+    })
+}
+
+// As many bytes as a marker and a length have at most.
+const LENGTH_END: usize = 10;
+
+// Finds the references of the collection at a place by bytes that are read there.
+#[cold]
+#[inline(never)]
+fn read_references<S: Source>(
+    source: &mut S,
+    bounds: &Bounds,
+    place: u64,
+    extent: u64,
+    slot: &mut EventSlot,
+) -> Result<References, Refused>
+    requires place { place < bounds.now.trailer }
+    requires extent { extent ≡ bounds.now.trailer - place }
+    // The answer.
+    ensures value { IfOk result (λ references. references.place ≡ place) }
+    ensures slots { FindsReferences (answer_in result slot.new) (S.known source.old) bounds.now
+        place }
+    // A refusal.
+    ensures fault { ErrWithin place bounds.now.trailer (answer_in result slot.new) }
+    // The state after it.
+    ensures unchanged { S.known source.new ≡ S.known source.old }
+    ensures failures { AnswersInSlot S.failures result slot.new source.old source.new }
+{
+    let mut front = [0; LENGTH_END];
+    let seen = &mut front[..extent.min(LENGTH_END as u64) as usize];
+    match read_exact_at(source, place, seen) {
+        Ok(()) => match references_in(seen, extent, bounds.reference_width, place) {
+            Some(references) => Ok(references),
+            None => Err(slot.refuse_overrun(place)),
+        },
+        Err(error) => Err(slot.refuse(error)),
+    }
+}
+
+// Finds the references of the collection at a place.
+#[inline(never)]
+fn find_references<S: Source>(
+    source: &mut S,
+    bounds: &Bounds,
+    place: u64,
+    slot: &mut EventSlot,
+) -> Result<References, Refused>
+    // The answer.
+    ensures value { IfOk result (λ references. references.place ≡ place) }
+    ensures slots { FindsReferences (answer_in result slot.new) (S.known source.old) bounds.now
+        place }
+    // A refusal.
+    ensures fault { ErrWithin place bounds.now.trailer (answer_in result slot.new) }
+    // The state after it.
+    ensures unchanged { S.known source.new ≡ S.known source.old }
+    ensures failures { AnswersInSlot S.failures result slot.new source.old source.new }
+{
+    if place >= bounds.trailer {
+        return Err(slot.refuse_overrun(place));
+    }
+    let extent = bounds.trailer - place;
+    let buffered = source.buffered(place);
+    if buffered.len() as u64 >= extent.min(LENGTH_END as u64) {
+        let seen = &buffered[..extent.min(buffered.len() as u64) as usize];
+        return match references_in(seen, extent, bounds.reference_width, place) {
+            Some(references) => Ok(references),
+            None => Err(slot.refuse_overrun(place)),
+        };
+    }
+    read_references(source, bounds, place, extent, slot)
+}
+
+// The number of a child's reference among those of its collection.
+fn reference_index(pairs: u64, index: u64) -> Option<u64>
+    ensures value { IfSome result (λ slot. slot ≡ reference_index pairs index) }
+    ensures far { IfNone result (2 ^ 64 ≤ reference_index pairs index) }
+{
+    if pairs == 0 {
+        Some(index)
+    } else if index % 2 == 0 {
+        Some(index / 2)
+    } else {
+        pairs.checked_add(index / 2)
+    }
+}
+
+// Where the reference of a child stands.
+#[inline(always)]
+fn reference_place(references: &References, index: u64, width: usize) -> Option<u64>
+    requires { 0 < width }
+    ensures value { IfSome result (λ place. place ≡ reference_place references.now index width) }
+    ensures far { IfNone result (2 ^ 64 ≤ reference_place references.now index width) }
+{
+    let behind = reference_index(references.pairs, index)?.checked_mul(width as u64)?;
+    references
+        .place
+        .checked_add(references.start.checked_add(behind)?)
+}
+
+// Turns to the references of the collection at a place, if they aren't those of the last one.
+#[inline(always)]
+fn refer_to<S: Source>(
+    source: &mut S,
+    bounds: &Bounds,
+    references: &mut References,
+    place: u64,
+    slot: &mut EventSlot,
+) -> Result<(), Refused>
+    requires references { AreReferencesOf (S.known source.old) bounds.now references.old }
+    // The answer.
+    ensures place { OnOk result (references.new.place ≡ place) }
+    // A refusal.
+    ensures refused { IfErr result (RefusesEach (S.known source.old) bounds.now place slot.new) }
+    ensures fault { ErrWithin place bounds.now.trailer (answer_in result slot.new) }
+    // The state after it.
+    ensures references { AreReferencesOf (S.known source.old) bounds.now references.new }
+    ensures unchanged { S.known source.new ≡ S.known source.old }
+    ensures failures { AnswersInSlot S.failures result slot.new source.old source.new }
+{
+    if references.place == place {
+        return Ok(());
+    }
+    *references = find_references(source, bounds, place, slot)?;
+    Ok(())
+}
+
+// Reads a reference that isn't at hand.
+#[cold]
+#[inline(never)]
+fn read_reference<S: Source>(
+    source: &mut S,
+    place: u64,
+    width: usize,
+    slot: &mut EventSlot,
+) -> Result<u64, Refused>
+    requires width { width ≤ 8 }
+    requires fits { place + width < 2 ^ 64 }
+    // The answer.
+    ensures value { ReadsNumber (answer_in result slot.new) (S.known source.old) place width }
+    // A refusal.
+    ensures refused { MissesNumber (answer_in result slot.new) (S.known source.old) place width }
+    ensures fault { ErrWithin place (place + width) (answer_in result slot.new) }
+    // The state after it.
+    ensures unchanged { S.known source.new ≡ S.known source.old }
+    ensures failures { AnswersInSlot S.failures result slot.new source.old source.new }
+{
+    slot.keep_error(read_far_number(source, place, width))
+}
+
+/// Finds the number of a child of the collection at a place.
+#[inline(always)]
+pub fn read_child<S: Source>(
+    source: &mut S,
+    bounds: &Bounds,
+    references: &mut References,
+    place: u64,
+    index: u64,
+    slot: &mut EventSlot,
+) -> Result<u64, Refused>
+    requires references { AreReferencesOf (S.known source.old) bounds.now references.old }
+    // The answer.
+    ensures child { FindsChild result slot.new (S.known source.old) bounds.now place index }
+    // A refusal.
+    ensures fault { ErrWithin place bounds.now.trailer (answer_in result slot.new) }
+    // The state after it.
+    ensures references { AreReferencesOf (S.known source.old) bounds.now references.new }
+    ensures unchanged { S.known source.new ≡ S.known source.old }
+    ensures failures { AnswersInSlot S.failures result slot.new source.old source.new }
+{
+    refer_to(source, bounds, references, place, slot)?;
+    let width = bounds.reference_width;
+    match reference_place(references, index, width) {
+        Some(at) if at < bounds.trailer && width as u64 <= bounds.trailer - at => {
+            match buffered_number(source, at, width) {
+                Some(number) => Ok(number),
+                None => read_reference(source, at, width, slot),
+            }
+        }
+        _ => Err(slot.refuse_overrun(place)),
+    }
+}

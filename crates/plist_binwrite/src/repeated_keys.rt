@@ -1,0 +1,70 @@
+//! Whether a dictionary has a key twice.
+
+ghost use Rattle.std.specs.Prelude.{◌≡◌, ◌≢◌, ◌+◌, ◌<◌, true, false, length, get_or, set, IfOk};
+ghost use Rattle.plist_base.specs.Outcomes.{OnlyMemory};
+ghost use Rattle.plist_binwrite.specs.EventTable.{plain_events, scalars_of, AllBelow, entry_kind_of, table_event};
+ghost use Rattle.plist_binwrite.specs.declared.kinds.EntryKind.TheVariants.{Dictionary as KindDictionary};
+ghost use Rattle.plist_binwrite.specs.RepeatedKeys.{TestsKeysOnce, TestsRepeats};
+
+use crate::event_table::EventTable;
+use crate::kinds::EntryKind;
+use plist_base::Error;
+use std::alloc::Global;
+
+// Whether a scalar has this stamp, which it has then.
+fn stamp(stamps: &mut Vec<usize>, scalar: usize, mark: usize) -> bool
+    requires { scalar < length stamps.old.items }
+    ensures stood { result ≡ true → get_or stamps.old.items scalar 0 ≡ mark }
+    ensures other { result ≡ false → get_or stamps.old.items scalar 0 ≢ mark }
+    ensures stamped { stamps.new.items ≡ set stamps.old.items scalar mark }
+{
+    let stood = stamps.as_slice()[scalar] == mark;
+    stamps[scalar] = mark;
+    stood
+}
+
+// Whether a dictionary begins here that has a key twice. A stamp tells of each different scalar
+// behind which start it was a key last.
+fn repeats_at(events: &EventTable<'_>, start: usize, stamps: &mut Vec<usize>) -> bool
+    requires start { start < length (plain_events events.now) }
+    requires long { length stamps.old.items ≡ length (scalars_of events.now) }
+    requires older { AllBelow (start + 1) stamps.old.items }
+    ensures long { length stamps.new.items ≡ length (scalars_of events.now) }
+    ensures newer { AllBelow (start + 2) stamps.new.items }
+    ensures begins { result ≡ true → entry_kind_of (table_event events.now start) ≡ KindDictionary }
+    ensures repeats { TestsRepeats events.now start result }
+{
+    let EntryKind::Dictionary = events.kind_at(start) else {
+        return false;
+    };
+    let mark = start + 1;
+    let mut key = mark;
+    'walk: while events.has_item(key) {
+        let Some(scalar) = events.scalar_index(key) else {
+            return false;
+        };
+        if stamp(stamps, scalar, mark) {
+            return true;
+        }
+        key = events.index_behind_pair(key);
+    }
+    false
+}
+
+/// Whether a dictionary of the property list whose events these are has a key twice. Where none
+/// has, the last value of each key is its only one.
+///
+/// # Errors
+/// `OutOfMemory`, without an offset.
+pub fn repeats_key(alloc: Global, events: &EventTable<'_>) -> Result<bool, Error>
+    ensures once { IfOk result (TestsKeysOnce events.now) }
+    ensures memory { OnlyMemory result }
+{
+    let mut stamps = vec![in alloc; 0usize; events.count_scalars()]?;
+    for index in 0..events.len() {
+        if repeats_at(events, index, &mut stamps) {
+            return Ok(true);
+        }
+    }
+    Ok(false)
+}

@@ -1,0 +1,35 @@
+//! Reading a file that a stranger sent.
+
+ghost use Rattle.std.specs.Prelude.{◌≤◌, ◌^◌, IfOk, length};
+ghost use Rattle.plist_base.specs.Bracketing.{bracketing};
+ghost use Rattle.plist_base.specs.Limits.{total_bytes};
+ghost use Rattle.plist.specs.Collecting.{built_tree};
+ghost use Rattle.plist.specs.ValueOfItems.{IsValueOf};
+ghost use Rattle.plist.specs.Limiting.{NestsWithin};
+ghost use Rattle.plist.specs.ValueTrees.{tree_of};
+ghost use Rattle.plist_uses.specs.Uploads.{items_of_upload};
+
+use plist::{Error, Limits, Value};
+use std::alloc::Global;
+
+/// The value of bytes that a stranger sent: at most 64 collections within one another, at most
+/// 100,000 events, and at most 16 MiB of texts and data, whatever the bytes say. So no file costs
+/// more memory than these take, or more of the call stack than 64 levels where the value is
+/// dropped, compared or copied.
+///
+/// # Errors
+///
+/// Those of [`Value::from_reader_with_limits`].
+pub fn read_upload(alloc: Global, bytes: &[u8]) -> Result<Value, Error>
+    ensures value { IsValueOf (items_of_upload bytes.now) (built_tree result) }
+    ensures shallow { IfOk result (λ value. NestsWithin (tree_of value) 64) }
+    ensures short { IfOk result (λ value. length (bracketing (tree_of value)) ≤ 100000) }
+    ensures light { IfOk result (λ value. total_bytes (bracketing (tree_of value)) ≤ 2 ^ 24) }
+{
+    let limits = Limits {
+        depth: 64,
+        items: 100_000,
+        bytes: Some(1 << 24),
+    };
+    Value::from_reader_with_limits(alloc, bytes, limits)
+}
