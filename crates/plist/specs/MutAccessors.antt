@@ -1,4 +1,4 @@
--- The types that a value holds, for what its `&mut` accessors lend.
+-- What the `&mut` accessors of a value lend, and the types of that.
 use denote.RattleType.{RattleType}
 use Rattle.std.specs.Prelude.{ℕ, List, Option, option_map}
 use Rattle.plist_base.specs.Trees.{Members, Trees}

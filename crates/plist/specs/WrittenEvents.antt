@@ -1,4 +1,4 @@
--- What a writer is handed.
+-- The events that are written: which of them a writer took, and why not the next one.
 use Rattle.std.specs.Prelude.{◌≡◌, ◌⊎◌, List, [], ◌∷◌, ◌++◌, Result, Ok, Err}
 use Rattle.plist_base.specs.declared.error.Error.{Error}
 use Rattle.plist_base.specs.Bracketing.{bracketing}

@@ -25,7 +25,7 @@ pub inside_gets : (kind : FaultKind) (A B C : Type 0) → is_io_or_memory kind �
     → MatchFault kind A B C
 inside_gets kind A B C e h = search rules
 
--- what is enough for a fault from outside
+-- what is enough for a device's fault or want of memory
 pub outside_gets : (kind : FaultKind) (A B C : Type 0) → is_io_or_memory kind ≡ true → A
     → (kind ≡ OutOfMemory → B) → MatchFault kind A B C
 outside_gets kind A B C e a b = search rules
@@ -55,7 +55,7 @@ inside_is f place i h =
 no_both : (b : Bool) → b ≡ true → b ≡ false → ⊥
 no_both b t f = cc
 
--- a device's fault is one from outside, and so is want of memory
+-- a device's fault says nothing of the bytes, nor does want of memory
 pub io_outside : (f : Error) (place : ℕ) → fault_of f ≡ fault_at Io place
     → IsFaultAt (fault_of f) place × (is_io_or_memory (kind_of (error_kind_of f)) ≡ true)
 io_outside f place e = (
@@ -99,7 +99,7 @@ module _ {X A : Type 0} (view : X → A) where
   answers_passed front old p new q (Err e) f h a =
       subst (λ e. Answers view front old p new q (Err e)) (sym h) a
 
-  -- a fault from outside says nothing of the bytes
+  -- a device's fault or want of memory says nothing of the bytes
   pub answers_outside : (front : List ℕ → Taken A) (old : Option (List ℕ)) (p : ℕ)
       (new : Option (List ℕ)) (q : ℕ) (f : Error)
       → IsFaultAt (fault_of f) q × (is_io_or_memory (kind_of (error_kind_of f)) ≡ true) → p ≤ q

@@ -61,8 +61,8 @@ pub record BeginsWithItem (stops : ℕ → Bool) (bytes : List ℕ) (p : ℕ) (i
   pub ends : placed_items stops bytes p ≡ placed lead q item ∷ placed_items stops left q
   pub rest : left ≡ drop (q - p) bytes
 
--- The first item came, and left the rest; nothing only where there is none. After a fault from
--- outside nothing is left; want of memory comes only in the place of a text.
+-- The first item came, and left the rest; nothing only where there is none. After a device's fault
+-- and want of memory nothing is left; want of memory comes only in the place of a text.
 abbrev pub GivesAsciiItem : (stops : ℕ → Bool) → List ℕ → (p : ℕ) → Option (Result Event Error)
     → (rest : List ℕ) → (q : ℕ) → Type 0
 GivesAsciiItem stops bytes p item rest q = MatchOption item
@@ -79,7 +79,7 @@ TakesBytes item p q = MatchOption item (p ≤ q) (λ answer. MatchResult answer
     (λ _. p < q)
     (λ error. MatchFault (kind_of (error_kind_of error)) (p ≤ q) (p ≤ q) (p < q)))
 
--- a fault stands where the bytes taken end; want of memory has no place
+-- a fault's offset is where the bytes taken end; want of memory has none
 abbrev pub FaultIsAt : Option (Result Event Error) → ℕ → Type 0
 FaultIsAt item place =
     MatchOption item ⊤ (λ answer. MatchResult answer (λ _. ⊤)
@@ -90,7 +90,7 @@ abbrev pub IfQuotedItem : List PlacedItem → Option (Result Event Error) → (b
 IfQuotedItem items item behind =
     MatchOption item ⊤ (λ answer. MatchResult answer (λ _. FirstIsQuoted items → behind) (λ _. ⊤))
 
--- after a fault from outside, and where nothing comes, nothing comes for good
+-- after a device's fault, want of memory and where nothing comes, nothing comes for good
 abbrev pub EndsAfterIoOrMemory : Option (Result Event Error) → Type 0 → Type 0
 EndsAfterIoOrMemory item ended =
     MatchOption item ended (λ answer. MatchResult answer (λ _. ⊤)

@@ -76,7 +76,7 @@ TakesFront t outcome new p q bytes =
     (t.gives ≡ outcome) × (new ≡ Some (drop t.bytes bytes)) × (q ≡ p + t.bytes)
 
 -- From place p to place q, what stands at the front of the old bytes was taken, and gave what the
--- answer says, seen by view. A fault from outside says nothing of the bytes.
+-- answer says, seen by view. A device's fault or want of memory says nothing of the bytes.
 abbrev pub Answers : {X A : Type 0} → (view : X → A) → (front : List ℕ → Taken A)
     → (old : Option (List ℕ)) → (p : ℕ) → (new : Option (List ℕ)) → (q : ℕ) → Result X Error
     → Type 0

@@ -1,4 +1,4 @@
--- The stack of what is wanted takes exactly the events that can go on to a tree's.
+-- The stack of what is expected takes exactly the events that can go on to a tree's.
 use Rattle.std.proofs.Common.{◌≡◌, List, [], ◌∷◌, ◌++◌, Option, Some, None, map, refl, sym, ap, ◌∙◌, append_assoc, append-nil, option_and_then, rules}
 use Rattle.std.proofs.lemmas.List.{map-append}
 use Rattle.std.proofs.lemmas.Option.{option_and_then_some}
@@ -19,7 +19,7 @@ steps_without_length [] s = refl
 steps_without_length (e ∷ es) s =
     λ i. option_and_then (λ u. steps_without_length es u i) (step_without_length s e i)
 
--- the same events up to lengths want the same
+-- behind the same events up to lengths the same is expected
 pub wanted_alike : (left right : List PlainEvent) → AreAlike left right
     → expected_after left ≡ expected_after right
 wanted_alike left right p =
@@ -27,7 +27,7 @@ wanted_alike left right p =
 
 -- ---- where the stack takes an event, it can go on to a tree
 
--- what fills the first want are a tree's events
+-- what fills the first expectation are a tree's events
 filled : (es : List PlainEvent) → Fills (OneValue ∷ []) (map without_length es) → AreTreeEvents es
 filled es (t, left, p, none) = (t, rw (p, none, append-nil, lengthless-is t) refl)
 
@@ -39,7 +39,7 @@ can_continue held e t p =
     (run_back (held ++ e ∷ []) g.0 (OneValue ∷ []) t p g.1) in
     (g.0, f.0, simp append_assoc at f.1)
 
--- the events are those of a tree exactly where nothing more is wanted after them
+-- the events are those of a tree exactly where nothing more is expected after them
 pub bracketed : (held : List PlainEvent) → expected_after held ≡ Some [] → AreTreeEvents held
 bracketed held p =
     rw append-nil at (filled (held ++ []) (run_back held [] (OneValue ∷ []) [] p refl))

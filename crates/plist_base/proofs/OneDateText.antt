@@ -123,7 +123,7 @@ elements (suc count) (x ∷ text) is =
     ∙ sym (front_behind _ 0 x _))
 elements count text is = absurd (omega (arith, is))
 
--- where the marks stand
+-- where the separators stand
 record Marks (text : List ℕ) : Type 0 where
   year : slice_index text 4 ≡ 45
   month : slice_index text 7 ≡ 45

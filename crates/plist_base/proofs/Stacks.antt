@@ -1,4 +1,4 @@
--- What fills a stack of wants, event by event.
+-- What fills a stack of expectations, event by event.
 use Rattle.std.proofs.Common.{◌≡◌, ℕ, true, List, [], ◌∷◌, ◌++◌, Option, Some, None, map, refl, ap, ◌∙◌, append_assoc, subst, option_and_then, rules}
 use Rattle.std.proofs.lemmas.List.{map-append}
 use Rattle.plist_base.specs.Events.{PlainEvent, StartArray, StartDictionary, EndCollection, ScalarEvent}
@@ -42,7 +42,7 @@ mutual
   lengthless-of-pairs-is (MemberAnd k t ms) = rw
       (map-append without_length, lengthless-is t, lengthless-of-pairs-is ms) refl
 
--- the events give what is wanted, and nothing more
+-- the events give what is expected, and nothing more
 abbrev pub Fills : Stack → List PlainEvent → Type 0
 Fills [] es = es ≡ []
 Fills (OneValue ∷ rest) es =
@@ -129,7 +129,7 @@ run_back (e ∷ es) more s t p f =
     run_along (step s e) s e t es (map without_length (es ++ more)) refl p
     (λ u q. run_back es more u t q f)
 
--- ---- a tree's events give one want, and nothing more
+-- ---- a tree's events fill one expectation, and nothing more
 
 item_begins : (t : Tree) (s : Stack) (es : List PlainEvent)
     → steps (Items ∷ s) (bracketing t ++ es) ≡ steps (OneValue ∷ Items ∷ s) (bracketing t ++ es)

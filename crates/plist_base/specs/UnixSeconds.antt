@@ -1,5 +1,5 @@
--- The text of a date: a profile of RFC 3339, as `2001-01-01T00:00:00Z` or `2001-01-01
--- 01:30:00+01:30`.
+-- The Unix second that the text of a date spells. The text is a profile of RFC 3339, as
+-- `2001-01-01T00:00:00Z` or `2001-01-01 01:30:00+01:30`.
 use Rattle.std.specs.Prelude.{◌≡◌, ℕ, ◌+◌, ◌-◌, ◌*◌, nat_le, nat_lt, Bool, cond, ◌&&◌, ◌||◌, ◌==◌, List, length, slice_index, ℤ, pos, neg_ℤ, ◌+ℤ◌, ◌-ℤ◌, ◌*ℤ◌, ◌≤ℤ◌, ◌<ℤ◌, Option, None, Some, refl, codes}
 use Rattle.std.specs.Char.{is_ascii_digit}
 use Rattle.std.specs.Int.{is_in_range}

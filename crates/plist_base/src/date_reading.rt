@@ -94,7 +94,7 @@ fn time_in(text: &[u8]) -> Option<u32>
     }
 }
 
-// Whether the marks stand where a date has them.
+// Whether the separators stand where a date has them.
 fn has_separators(text: &[u8]) -> bool
     ensures is { result ≡ spec.has_separators text.now }
     ensures long { IsTrue result → 20 ≤ length text.now }

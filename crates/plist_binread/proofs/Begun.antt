@@ -32,7 +32,7 @@ use Rattle.std.proofs.lemmas.Option.{IfSome_then}
 use Rattle.plist_binread.proofs.OverKnown.{IfSome-all, IfSome-both}
 use Rattle.std.proofs.lemmas.List.{nil_from_length}
 
--- something is wanted only where something is owed
+-- memory is wanted only where some items remain
 remaining_if_wanted : (items : List Item) → AllocatesFirst items → SomeRemain items
 remaining_if_wanted [] h = absurd h
 remaining_if_wanted (item ∷ items) h = omega arith

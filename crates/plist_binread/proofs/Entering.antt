@@ -25,7 +25,7 @@ use Rattle.plist_binread.proofs.Steps.{yields_scalar}
 use Rattle.std.proofs.lemmas.Option.{IfSome_then}
 use Rattle.plist_binread.proofs.OverKnown.{IfSome-both}
 
--- what is owed where an object is to be entered goes on with this event
+-- what remains where an object is to be entered begins with this event
 abbrev pub EnteredCurrent : (bytes : List ℕ) (bounds : Bounds) (tags : List ℕ) (n : ℕ)
     (fs : List Frame) (number : ℕ) → PlainEvent → (after : List Frame) → Type 0
 EnteredCurrent bytes bounds tags n fs number current after =
@@ -101,8 +101,8 @@ known_small known bounds number current outcome X there kept =
 
 -- ---- a child that is entered
 
--- the child of this index has been entered, from the collection at this place: what was owed with
--- it begins with what is told and goes on with what is owed now, and it is cached if it is small
+-- the child of this index has been entered, from the collection at this place: what remained with
+-- it begins with what is given and goes on with what remains now, and it is cached if it is small
 abbrev EntersChild : {A : Type 0} → List TableEntry → Object → (at index count : ℕ)
     → (old : List Frame) → Result A Error → (current : PlainEvent) → (tags : List ℕ)
     → (new : List Frame) → Type 0
@@ -129,7 +129,7 @@ known_goes (Some bytes) now bounds tags contents new fs after n place index numb
     depth k reads kept yields =
     (number, reads k.within, rw same at kept, rw depth at (rw same at yields))
 
--- what the walk tells is the first that it owed, and cached if it is small
+-- what the walk gives is the first that remained, and cached if it is small
 abbrev pub GoesOn : (known : Option (List ℕ)) → Bounds → (old : Walk) → Result (Unit {0}) Error
     → EventSlot → (new : Walk) → Type 0
 GoesOn known bounds old answer slot new = IfSome known (λ bytes.

@@ -214,7 +214,7 @@ pub second : (known : Option (List ℕ)) (P Q : List ℕ → Type 0)
     → IfSome known (λ bytes. P bytes × Q bytes) → IfSome known Q
 second known P Q h = IfSome_then known h (λ bytes h. h.1)
 
--- what is owed where an object is to be entered
+-- what remains where an object is to be entered
 abbrev pub Entered : {A : Type 0} → (bytes : List ℕ) (bounds : Bounds) (tags : List ℕ) (n : ℕ)
     (fs : List Frame) (at number : ℕ) → Result A Error → PlainEvent → (after : List Frame) → Type 0
 Entered bytes bounds tags n fs at number answer current after =

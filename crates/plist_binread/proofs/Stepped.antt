@@ -53,7 +53,7 @@ pub not_fresh : {E : Type 0} (item : Option (Result (Unit {0}) E)) (after : Walk
     → after ≡ state_after item → is_fresh after ≡ true → ⊥
 not_fresh item after is fresh = absurd (cc (never_fresh item after is))
 
--- it walks only where an event was told
+-- it walks only where an event was given
 pub walks_on_ok : {E : Type 0} (answer : Result (Unit {0}) E) (after : WalkState) (P : Type 0)
     → after ≡ state_after (Some answer) → OnOk answer P → is_walking after ≡ true → P
 walks_on_ok (Ok value) after P is known walking = known

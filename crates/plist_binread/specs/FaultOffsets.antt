@@ -25,14 +25,14 @@ MatchReader InvalidUtf8String read memory other = other
 MatchReader InvalidUtf16String read memory other = other
 MatchReader kind read memory other = ⊥
 
--- there is a place
+-- there is an offset
 abbrev pub HasOffset : Option ℕ → Type 0
 HasOffset None = ⊥
 HasOffset (Some place) = ⊤
 
 -- what lies from `start` on and before `end` was not read: one of the reads there failed or gave
--- nothing, and the fault has the place of that read; or memory was wanted, and the fault has no
--- place; or it is another fault of a reader, and has one
+-- nothing, and the fault's offset is the place of that read; or memory was wanted, and the fault
+-- has no offset; or it is another fault of a reader, and has one
 pub record FailsWithin (start end : ℕ) (fault : Fault) : Type 0 where
   pub placed : MatchReader fault.kind (IsOffsetWithin start end fault.offset) (fault.offset ≡ None)
       (HasOffset fault.offset)
@@ -50,7 +50,7 @@ abbrev pub MatchGiven : FaultKind → (read memory other limit : Type 0) → Typ
 MatchGiven (LimitReached reached) read memory other limit = limit
 MatchGiven kind read memory other limit = MatchReader kind read memory other
 
--- A fault that a reader gives: as above; or that of a limit, which has no place, where there are
+-- A fault that a reader gives: as above; or that of a limit, which has no offset, where there are
 -- limits.
 pub record IsGivenWithin (start end : ℕ) (limited : Bool) (fault : Fault) : Type 0 where
   pub placed : MatchGiven fault.kind (IsOffsetWithin start end fault.offset) (fault.offset ≡ None)

@@ -19,7 +19,7 @@ use crate::walk::{NextChild, Walk};
 use plist_base::Source;
 use std::alloc::Global;
 
-/// Tells the next item of the walk. A text or data of more than `left` bytes is refused before
+/// Sets the next item of the walk. A text or data of more than `left` bytes is refused before
 /// memory is taken for it, unless it is short.
 #[inline(always)]
 pub fn advance<S: Source, C: DecodeCounter>(

@@ -26,7 +26,7 @@ fn no_tags(alloc: Global, count: usize) -> Result<Vec<u8>, Error>
     Ok(tags)
 }
 
-/// Tells the first item of all, unless it is a text or data of more than `left` bytes that isn't
+/// Sets the first item of all, unless it is a text or data of more than `left` bytes that isn't
 /// short.
 #[cold]
 #[inline(never)]

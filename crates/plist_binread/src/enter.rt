@@ -91,8 +91,8 @@ fn open_frame(frames: &mut Frames, object: u64, count: u64) -> bool
     frames.push(object, count).is_ok()
 }
 
-// Keeps what was decoded and told where it is a small scalar, and opens it where it is a
-// collection. It answers no, and nothing has changed, where memory for that is wanted.
+// Keeps what was decoded where it is a small scalar, and opens it where it is a collection. It
+// answers no, and nothing has changed, where there is no memory for that.
 #[inline(always)]
 fn keep_or_open(walk: &mut Walk, number: u64, outcome: Outcome, slot: &EventSlot) -> bool
     requires below { number < walk_objects walk.old }
@@ -142,7 +142,7 @@ fn keep_or_open(walk: &mut Walk, number: u64, outcome: Outcome, slot: &EventSlot
     }
 }
 
-/// Tells the first item of an object, referred to from `at`. A collection is then open. A text or
+/// Sets the first item of an object, referred to from `at`. A collection is then open. A text or
 /// data of more than `left` bytes is refused before memory is taken for it, unless it is short.
 #[inline(always)]
 pub fn enter<S: Source, C: DecodeCounter>(

@@ -81,7 +81,7 @@ pub enum Refused {
 /// The current event, or the error. The memory for its text and data serves all events in turn.
 #[derive(Drop)]
 pub struct EventSlot {
-    /// Which of the others it is.
+    /// The event in its compact form, which names one of the others where it lies there.
     pub current: CompactEvent,
     /// An event.
     pub held: OwnedEvent,

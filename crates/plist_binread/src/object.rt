@@ -117,7 +117,7 @@ fn weigh<S: Source>(
     }
 }
 
-// Reads the text or data whose content is held, of the object at a place, and tells it, unless it
+// Reads the text or data whose content is held, of the object at a place, and holds it, unless it
 // has more than `left` bytes.
 #[cold]
 #[inline(never)]
@@ -152,7 +152,7 @@ fn decode_long<S: Source>(
     }
 }
 
-/// Tells the object at a place, and counts it where it is small. A text or data of more than `left`
+/// Decodes the object at a place, and counts it if it is small. A text or data of more than `left`
 /// bytes is refused before memory is taken for it, unless it is short.
 #[inline(always)]
 pub fn decode<S: Source, C: DecodeCounter>(

@@ -1,4 +1,4 @@
-//! What is wrong with an object, and which of its faults is told: that its place doesn't lie before
+//! What is wrong with an object, and which of its faults comes: that its place doesn't lie before
 //! the trailer (`decode`), else its marker's, else that it doesn't end before the trailer, else its
 //! content's.
 

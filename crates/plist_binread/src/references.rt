@@ -1,4 +1,4 @@
-//! The reference of one child, among those of its collection.
+//! Where the references of a collection stand, and the one of a child.
 
 ghost use Rattle.std.specs.Prelude.{◌≡◌, ◌+◌, ◌-◌, ◌^◌, ◌<◌, ◌≤◌, IfErr, IfNone, IfOk, IfSome, OnOk};
 ghost use Rattle.plist_binread.specs.DecodeOutcome.{reference_place, reference_index};

@@ -1,4 +1,4 @@
--- The classes met are the numbers of a plan: as many, and of as many bytes.
+-- The classes of a tree's positions are the numbers of a plan: as many, and of as many bytes.
 use Rattle.std.proofs.Common.{◌≡◌, ℕ, ◌<◌, true, eqb, List, length, get_or, map, ap, sym, ◌∙◌}
 use Rattle.std.specs.List.{AllByRecursion}
 use Rattle.std.specs.Set.{is_member, unique_keys}
@@ -54,7 +54,7 @@ module _ {es : List PlainEvent} {plan : Plan} (planned : IsPlanned es plan) {cla
       (get_or (firsts_of plan) q 0) f.0 f.2 in
       unique_member eqb eqb_tells given q ∙ ap (λ k. is_member eqb given k) (sym f.1) ∙ m)
 
-  -- and one for each class met
+  -- and one for each class of a position
   kept_numbers : map number (kept class whole)
       ≡ unique_keys eqb given
   kept_numbers =

@@ -159,7 +159,7 @@ module _ (es : List PlainEvent) where
       → HasKeysOnce t
   all_once t is each = once_tree each t 0 (occurs_whole is)
 
-  -- of all that is met in such a tree each dictionary has
+  -- of all positions of such a tree each dictionary has
   abbrev Once : ℕ → Type 0
   Once p = (t : Tree) × OccursAt es t p × IfDictionary t
 

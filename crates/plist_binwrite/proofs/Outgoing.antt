@@ -1,4 +1,4 @@
--- Steps of sending through a room.
+-- Steps of sending through a buffer.
 use Rattle.std.proofs.Common.{◌≡◌, ◌+◌, ◌<◌, ◌≤◌, ℕ, List, [], ◌++◌, length, get_or, map, take, drop, Option, Result, Ok, Err, refl, sym, ap, ◌∙◌, append_assoc, append-nil, arith}
 use Rattle.std.specs.Result.{IsErrAnd, OnOk}
 use Rattle.std.specs.List.{flat_map}
@@ -156,7 +156,7 @@ module _ (f : ℕ → List ℕ) (xs : List ℕ) (i : ℕ) (lt : i < length xs) w
 
 -- ---- the end
 
--- an empty room, and then the bytes
+-- an empty buffer, and then the bytes
 is_out : (a : Option (List ℕ)) → IsSplit a a [] []
 is_out a = record { sent = []; went = Appends-nil a; is = refl }
 

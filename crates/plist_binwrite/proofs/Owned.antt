@@ -60,7 +60,7 @@ module _ {es : List PlainEvent} {class : ℕ → ℕ} {count : ℕ} (o : AreOwne
   owners_classes =
       record { object = λ t u p q s r e. same_owner class u t q p (class_owner t u p q s r e) r s }
 
--- ---- what is met
+-- ---- positions
 
 abbrev One : Type 0
 One = ℕ × Tree
@@ -127,7 +127,7 @@ text_member [] p x = refl
 text_member ((q, Leaf y) ∷ ones) p x = ap (λ b. scalar_eq x y || b) (text_member ones p x)
 text_member ((q, t) ∷ ones) p x = text_member ones p x
 
--- a collection isn't met again
+-- a collection has no other position
 no_other : (ones : List One) (p : ℕ) → AllByRecursion (λ later. p < later.0) ones
     → list_any (λ one. owner_eq (alone p) (own_tree one.1 one.0)) ones ≡ false
 no_other [] p a = refl

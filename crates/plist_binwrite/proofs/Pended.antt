@@ -68,7 +68,7 @@ pub stack_shown : (ws : List Expect) (n : ℕ) (b : Bool) → n ≡ length ws �
     → (reverse ws ≡ expected_now b (reverse ws)) × (b ≡ is_nothing (reverse ws))
 stack_shown ws n b h e = root_shown (reverse ws) n b (omega (arith, h, length-reverse ws)) e
 
--- nothing more is wanted exactly behind a tree's events
+-- nothing more is expected exactly behind a tree's events
 pub tests_whole : (es : List PlainEvent) (s : List Expect) (b : Bool) → expected_after es ≡ Some s
     → b ≡ is_nothing s → TestsWhole b es
 tests_whole es [] true w n = complete_of_whole es (bracketed es w)

@@ -22,7 +22,7 @@ module _ (class : ℕ → ℕ) where
   abbrev pub same_class : ℕ × Tree → ℕ × Tree → Bool
   same_class a b = nat_eq (class a.0) (class b.0)
 
-  -- one of each class that is met
+  -- one position of each class, with its tree
   abbrev pub kept : Tree → List (ℕ × Tree)
   kept tree = unique_keys same_class (positions tree 0)
 
@@ -60,7 +60,7 @@ module _ (class : ℕ → ℕ) where
   abbrev pub IsOversized : List PlainEvent → Type 0
   IsOversized es = (tree : Tree) → es ≡ lengthless tree → 2 ^ 64 ≤ size_by tree
 
-  -- what sending the file of whole events does
+  -- what sending the file of a tree's events does
   module _ {W : Type 0} (contents : W → Option (List ℕ)) where
     abbrev pub SendsBy : List PlainEvent → Answer → (old new : W) → Type 0
     SendsBy events answer old new = SendsAs IsFileBy size_by contents events answer old new

@@ -12,6 +12,6 @@ module _ {W : Type 0} (contents : W → Option (List ℕ)) where
   abbrev pub FailsWith : FaultKind → (events : List PlainEvent) (old new : W) → Type 0
   FailsWith kind events old new = any.FailsAs IsFileOf file_size contents kind events old new
 
-  -- what sending the file of whole events does
+  -- what sending the file of a tree's events does
   abbrev pub Sends : (events : List PlainEvent) → Answer → (old new : W) → Type 0
   Sends events answer old new = any.SendsAs IsFileOf file_size contents events answer old new

@@ -36,7 +36,7 @@ module _ (IsFile : Tree → List ℕ → Type 0) (size : Tree → ℕ) where
     FailsAs OutOfMemory events old new = new ≡ old
     FailsAs kind events old new = ⊥
 
-    -- what sending the file of whole events does
+    -- what sending the file of a tree's events does
     abbrev pub SendsAs : (events : List PlainEvent) → Answer → (old new : W) → Type 0
     SendsAs events (Ok done) old new = SendsFileAs events old new
     SendsAs events (Err fault) old new =

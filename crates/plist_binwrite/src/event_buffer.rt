@@ -81,8 +81,8 @@ impl EventBuffer {
         Ok(())
     }
 
-    /// Holds an event, or refuses one that can't follow those held: then its fault,
-    /// `UnexpectedEventType` without an offset, is told, and nothing changes.
+    /// Holds an event, or refuses one that can't follow those held: then the answer is its fault,
+    /// `UnexpectedEventType` without an offset, and nothing changes.
     ///
     /// # Errors
     /// `OutOfMemory`, without an offset, for an event that can follow those held.

@@ -6,7 +6,7 @@ ghost use Rattle.plist_binwrite.specs.inner.Stacks.{change_on_top, ChangesTo};
 
 use plist_base::{Change, Event, Expect};
 
-/// What an event does to the topmost one, or to the value that is wanted where the stack is empty.
+/// What an event does to the topmost expectation; where the stack is empty, a value is expected.
 pub fn change_on(expects: &[Expect], event: &Event<'_>) -> Change
     ensures { result ≡ change_on_top (reverse expects.now) (event_of event.now) }
 {

@@ -54,7 +54,7 @@ fn size_of_object(file: &Planned<'_, '_>, index: usize) -> Option<u64>
     }
 }
 
-// A place that is told, and 0 where none is.
+// A place, or 0 where there is none.
 fn place_or_none(told: Option<u64>) -> usize
     ensures { IfSome told (λ place. result ≡ place) }
 {

@@ -1,4 +1,4 @@
--- What is held of the items that a reader has told.
+-- What is held of the items that a reader has given.
 use Rattle.std.specs.Prelude.{⊤}
 use Rattle.std.proofs.Common.{◌≡◌, ◌↔◌, ℕ, Bool, true, false, List, [], ◌∷◌, ◌++◌, Option, Some, None, Result, Ok, Err, IfSome, map, refl, sym, ap, ◌∙◌, append-nil}
 use Rattle.std.specs.Option.{option_map}

@@ -1,4 +1,4 @@
--- What a writer holds after some of the bytes were sent.
+-- Lines that are held back: what of them went out, and what waits.
 use Rattle.std.specs.Prelude.{◌≡◌, ◌⊎◌, ℕ, List, ◌++◌, Option, Result, OnOk}
 use Rattle.std.specs.Io.KnownBytes.{Appends}
 use Rattle.std.specs.declared.alloc.Global.{Global}

@@ -17,7 +17,7 @@ use std::alloc::Global;
 pub(crate) trait EventSink {
     /// The events.
     ghost held: { Self → List PlainEvent };
-    /// Are they told to be those of a whole property list?
+    /// What `is_whole` answers: are they those of a whole property list?
     ghost whole: { Self → Bool };
 
     /// Holds the next event, or tells that it can't come here. So many different scalars can come:

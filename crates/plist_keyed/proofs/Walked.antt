@@ -1,4 +1,5 @@
--- What a walk owes, and that its path stays one, as objects are entered and left and events taken.
+-- What remains of a walk, and that its path stays one, as objects are entered and left and events
+-- taken.
 use Rattle.std.proofs.Common.{◌≡◌, ℕ, zero, suc, ◌-◌, ◌<◌, Bool, true, false, ◌||◌, nat_eq, List, [], ◌∷◌, ◌++◌, length, map, reverse, Option, Some, None, Result, Ok, Err, OnOk, OnErr, refl, ap, sym, ◌∙◌, append_assoc, append-nil, arith, true≢false}
 use Rattle.std.specs.Prelude.{slice_get, option_map, option_to_list, IsSome, ◌↔◌, ⊤, if◌then◌else◌}
 use Rattle.std.specs.List.{list_any}

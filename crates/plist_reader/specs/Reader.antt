@@ -181,7 +181,7 @@ abbrev pub IsSourceRefusal : Option (Result Event Error) → Type 0
 IsSourceRefusal item = MatchOption item ⊥ (λ answer. MatchResult answer (λ _. ⊥)
     (λ error. IsRefusedKind (kind_of (error_kind_of error))))
 
--- a fact for want of memory and the fault of a limit, which have no place, and one for every other
+-- a fact for want of memory and the fault of a limit, which have no offset, and one for every other
 -- fault of a reader
 abbrev pub MatchOffset : FaultKind → (nowhere placed : Type 0) → Type 0
 MatchOffset OutOfMemory nowhere placed = nowhere
@@ -191,7 +191,7 @@ MatchOffset kind nowhere placed = placed
 abbrev pub FaultHasOffset : Fault → Type 0
 FaultHasOffset fault = MatchOffset fault.kind (fault.offset ≡ None) (HasOffset fault.offset)
 
--- an item's fault has a place, but for those two
+-- an item's fault has an offset, but for those two
 abbrev pub ItemHasOffset : Option (Result Event Error) → Type 0
 ItemHasOffset item = MatchOption item ⊤ (λ answer. IfErr answer (λ error. FaultHasOffset (fault_of error)))
 

@@ -21,7 +21,7 @@ use Rattle.plist_share.proofs.Telling.{tree_same, tree_other}
 abbrev tree_positions : ℕ × Tree → Tree
 tree_positions a = a.1
 
--- what is met are the subtrees
+-- the positions are those of the subtrees
 mutual
   trees_positions : (t : Tree) (p : ℕ) → map tree_positions (positions t p) ≡ subtrees t
   trees_positions (Leaf x) p = refl

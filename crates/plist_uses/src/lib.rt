@@ -1,6 +1,6 @@
 //! Examples to copy: small callers of the library, each with a contract of its own that follows
-//! from the contracts of what it calls. Only the two with a loop, `counting` and `generated`, have
-//! a proof: what the loop keeps. `callers` has proved callers of theirs.
+//! from the contracts of what it calls. Three have a proof: `counting` and `generated`, of what
+//! their loop keeps, and `convert`, of a refusal. `callers` has proved callers of theirs.
 #![tactic(auto)]
 
 pub mod archive;

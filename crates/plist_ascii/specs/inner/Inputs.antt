@@ -115,7 +115,7 @@ module _ {R : Type 0} (known : R → Option (List ℕ)) where
   TakesPlain stop old byte new = IfKnown (unread known old) (λ xs.
       (ys : List ℕ) × (xs ≡ byte ∷ ys) × (unread known new ≡ Some ys) × (stops stop byte ≡ false))
 
-  -- a fault from outside; or the text isn't closed, where nothing is left
+  -- a device's fault or want of memory; or the text isn't closed, where nothing is left
   abbrev pub IsUnclosedText : Input R → Input R → Error → Type 0
   IsUnclosedText old new error = IsFaultAt (fault_of error) new.taken
       × (is_io_or_memory (kind_of (error_kind_of error)) ≡ false
@@ -160,7 +160,7 @@ module _ {R : Type 0} (known : R → Option (List ℕ)) where
       × (part : List ℕ) × Parts quote xs closed n part × (longer.items ≡ text.items ++ part)
       × (unread known new ≡ Some (drop n xs)) × (new.taken ≡ old.taken + n))
 
-  -- a fault from outside; or one that n bytes have, which were taken
+  -- a device's fault or want of memory; or a fault that n bytes have, which were taken
   abbrev pub FailsBehind : (fails : List ℕ → FaultKind → ℕ → Type 0) → Input R → Input R → Error
       → Type 0
   FailsBehind fails old new error = IsFaultAt (fault_of error) new.taken

@@ -24,7 +24,8 @@ open_from (event ∷ events) index begun =
 abbrev pub open_after : List PlainEvent → List ℕ
 open_after events = open_from events 0 []
 
--- the index behind the tree that begins at q, where this was known before the event at an index came
+-- the index behind the tree that begins at q, where this one was known before the event at an index
+-- came
 abbrev pub skip_behind : PlainEvent → (index : ℕ) → (begun : List ℕ) → (q told : ℕ) → ℕ
 skip_behind EndCollection index (innermost ∷ outer) q told =
     if q == innermost then index + 1 else told

@@ -1,4 +1,4 @@
--- The stack of what is expected, as the code holds it: without the value that is wanted where
+-- The stack of what is expected, as the code holds it: without the value that is expected where
 -- nothing is held. In these lists the topmost one comes first.
 use Rattle.std.specs.Prelude.{◌≡◌, Bool, true, false, List, [], ◌∷◌, Some, IfSome, reverse, ⊤}
 use Rattle.plist_base.specs.Events.{PlainEvent}
@@ -8,7 +8,7 @@ use Rattle.plist_base.specs.declared.expects.Expect.TheVariants.{OneValue}
 use Rattle.plist_base.specs.declared.expects.Change.{Change}
 use Rattle.plist_base.specs.declared.expects.Change.TheVariants.{Popped, Replaced}
 
--- with the value that is wanted where nothing is held
+-- with the value that is expected where nothing is held
 abbrev pub with_root : List Expect → List Expect
 with_root [] = OneValue ∷ []
 with_root (top ∷ rest) = top ∷ rest
@@ -25,17 +25,17 @@ ChangesTo [] (Replaced expect) new = new ≡ expect ∷ []
 ChangesTo [] change new = ⊤
 ChangesTo (top ∷ rest) change new = IfSome (changed change top rest) (λ after. new ≡ after)
 
--- nothing more is wanted
+-- nothing more is expected
 abbrev pub is_nothing : List Expect → Bool
 is_nothing [] = true
 is_nothing (expect ∷ expects) = false
 
--- what is wanted, where the code holds this stack, and whether a root is complete
+-- what is expected, where the code holds this stack, and whether a root is complete
 abbrev pub expected_now : (complete : Bool) → List Expect → List Expect
 expected_now true stack = []
 expected_now false stack = with_root stack
 
--- the code holds what is wanted behind these events
+-- the code holds what is expected behind these events
 abbrev pub AreExpected : List PlainEvent → (complete : Bool) → List Expect → Type 0
 AreExpected events complete expects =
     expected_after events ≡ Some (expected_now complete (reverse expects))
