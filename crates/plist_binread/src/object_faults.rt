@@ -67,6 +67,7 @@ impl Outcome {
 /// The object behind a marker, or the first of its faults: the marker's; that it doesn't end before
 /// the trailer; and then that of its content. A text or data of more than `left` bytes isn't all
 /// read, unless it is short.
+#[inline(always)]
 pub fn front_behind(
     marker: u8,
     rest: &[u8],

@@ -214,6 +214,7 @@ fn push_number(line: &mut Vec<u8>, word: &[u8], number: u64) -> Result<(), Alloc
 }
 
 // An integer behind its word.
+#[inline(always)]
 fn push_integer(line: &mut Vec<u8>, integer: Integer) -> Result<(), AllocError>
     ensures { OnOk result (line.new.items
         ≡ line.old.items ++ codes "Integer " ++ signed_decimal integer) }
@@ -253,6 +254,7 @@ fn push_string(line: &mut Vec<u8>, text: &str) -> Result<(), AllocError>
     Ok(())
 }
 
+#[inline(always)]
 fn push_words(line: &mut Vec<u8>, event: &Event<'_>) -> Result<(), AllocError>
     ensures { OnOk result (line.new.items ≡ line.old.items ++ event_text (event_of event.now)) }
 {
@@ -291,6 +293,7 @@ pub fn line_bound(event: &Event<'_>) -> usize {
 ///
 /// # Errors
 /// Where memory is refused. The buffer may then hold a part of the line.
+#[inline(always)]
 pub fn push_line(line: &mut Vec<u8>, event: &Event<'_>) -> Result<(), AllocError>
     ensures { OnOk result (line.new.items ≡ line.old.items ++ line_of (event_of event.now)) }
 {
