@@ -56,14 +56,14 @@ fn wide_text_event(alloc: Global, units: &[u16], place: u64) -> Result<OwnedEven
     }
 }
 
-// The units in these bytes, two a unit.
-fn units_in(alloc: Global, bytes: &[u8]) -> Result<Vec<u16>, Error>
-    requires { AreUnits 2 bytes.now }
-    ensures units { IfOk result (λ units. units.items ≡ numbers_spelled 2 bytes.now) }
+// The units in these bytes, two a unit. The bytes go before the text is made of the units.
+fn units_in(alloc: Global, bytes: Vec<u8>) -> Result<Vec<u16>, Error>
+    requires { AreUnits 2 bytes.items }
+    ensures units { IfOk result (λ units. units.items ≡ numbers_spelled 2 bytes.items) }
     ensures memory { OnlyMemory result }
 {
     let mut units = vec![in alloc; 0u16; bytes.len() / 2]?;
-    write_units(bytes, &mut units);
+    write_units(&bytes, &mut units);
     Ok(units)
 }
 
@@ -84,7 +84,7 @@ fn content_event(
         ContentKind::Data => large(Event::Data(CowSlice::Owned(bytes))),
         ContentKind::Text => text_event(bytes, place),
         ContentKind::WideText => {
-            let units = units_in(alloc, &bytes)?;
+            let units = units_in(alloc, bytes)?;
             wide_text_event(alloc, &units, place)
         }
     }
