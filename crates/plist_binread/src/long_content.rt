@@ -109,8 +109,6 @@ pub fn read_long<S: Source>(
 {
     let start = place + content.start;
     let size = content.count * content.kind.unit_size();
-    match read_bytes(alloc, source, start, size as usize) {
-        Ok(bytes) => content_event(alloc, content.kind, bytes, place),
-        Err(error) => Err(error),
-    }
+    let bytes = read_bytes(alloc, source, start, size as usize)?;
+    content_event(alloc, content.kind, bytes, place)
 }
