@@ -7,7 +7,8 @@ Beside it stand `BinaryReader` alone over the same bytes in memory, without thes
 `tests/outside/items`, which is proved and built in a copy of its crates where it isn't named).
 
 The second table is of `convert` and `keyed`, which have no limits: what the dearest files take of
-memory for each event and for each byte. Each runs again under `ulimit -v` of 4 MiB and half its peak:
+memory for each event and for each byte. Each that takes more than 4 MiB runs again under `ulimit -v` of
+4 MiB and half its peak:
 then it has to tell want of memory with status 1, and OUT of `convert` stays as it was. So do files that
 unfold to 2^42 events, under 256 MiB.
 
@@ -235,7 +236,8 @@ class Tables:
         if ended.status:
             self.bad += 1
             name += f", OTHERWISE: {ended}, {self.error.read_bytes()!r}"
-        short = self.ends_short(self.words(command), START + max(0, peak) // 2048)
+        # what takes less than the start has room in it
+        short = self.ends_short(self.words(command), START + peak // 2048) if peak > START << 10 else "-"
         print(f"| `{command}`, {name} | {len(content):,} | {events:,} | {peak / 1e6:.1f} MB | {peak / events:.1f} "
               f"| {peak / len(content):,.1f} | {ended.seconds:.2f} | {short} |", flush=True)
 
