@@ -16,7 +16,9 @@ use Rattle.plist_binread.specs.DecodeOutcome.{IsOutcomeOf, YieldsAnswer}
 use Rattle.plist_binread.specs.Step.{AllocatesFor}
 use Rattle.plist_binread.specs.declared.head.Bounds.{Bounds}
 use Rattle.plist_format.specs.Object.{Object, object_in}
-use Rattle.plist_binread.specs.Packed.{is_marked, unmarked, scalar_of, cached, scalar_event, IsTextOrData, MayAllocate, TagChanged, MarkChanged}
+use Rattle.plist_binread.specs.Packed.{is_marked, unmarked, unpacked, cached, scalar_event, IsTextOrData, MayAllocate, KindChanged, MarkChanged}
+use Rattle.plist_binread.specs.declared.packed.PackedKind.{PackedKind}
+use Rattle.plist_binread.proofs.Packing.{kind_of_tag-some}
 use Rattle.plist_format.specs.Unfolding.{TableEntry, unfolding_of, until_fault}
 use Rattle.plist_binread.specs.Remaining.{place_at, scalar_at, path_of, MarksOpenPath, HoldsPlaceOr, IsHeld, MatchesFile, places_of, entries_of, remaining_items, Explains}
 use Rattle.plist_binread.specs.Decoding.{IsCollection, IsDecodedAs, IsRefusedAs, scalar_in}
@@ -119,12 +121,12 @@ module _ (bytes : List ℕ) (bounds : Bounds) where
       }
 
       -- one more object is cached
-      pub known_kept : (number tag content : ℕ) (new : List ℕ) (event : PlainEvent)
-          → number < length tags → length contents ≡ length tags → 0 < tag
-          → TagChanged number tag tags new → scalar_event (scalar_of tag content) ≡ Some event
+      pub known_kept : (number : ℕ) (kind : PackedKind) (content : ℕ) (new : List ℕ)
+          (event : PlainEvent) → number < length tags → length contents ≡ length tags
+          → KindChanged number kind tags new → scalar_event (unpacked kind content) ≡ Some event
           → scalar_event (scalar_at (slice_get table number)) ≡ Some event
           → MatchesFile bytes bounds new (slice_set contents number content) fs
-      known_kept number tag content new event h same some m packs is = record {
+      known_kept number kind content new event h same m packs is = record {
         head = k.head;
         within = k.within;
         size = k.size ∙ sym m.size;
@@ -135,8 +137,8 @@ module _ (bytes : List ℕ) (bounds : Bounds) where
           here : IsHeld (slice_get table number) (get_or new number 0)
               (get_or (slice_set contents number content) number 0)
           here = from_scalar _ _ _ _ _
-              (cc (not_zero tag some))
-              (cc (get_or-set_same contents number content 0 (rw same h)))
+              (not_zero _ (kind_of_tag-some _ kind m.here))
+              (cc (get_or-set_same contents number content 0 (rw same h), m.here))
               is
 
           held : (q : ℕ) → q < length tags

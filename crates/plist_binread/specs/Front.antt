@@ -3,7 +3,7 @@ use Rattle.std.specs.Prelude.{◌≡◌, ℕ, ◌+◌, ◌-◌, ◌*◌, ◌^◌
 use Rattle.std.specs.Borrow.{Bor}
 use Rattle.plist_base.specs.declared.error.Error.{Error}
 use Rattle.plist_base.specs.Events.{PlainEvent}
-use Rattle.plist_base.specs.Trees.{String}
+use Rattle.plist_base.specs.Trees.{Scalar}
 use Rattle.plist_format.specs.Container.{number_of, numbers_spelled}
 use Rattle.plist_binread.specs.Decoding.{Decodes, DecodesCurrent, IsRefusedAs}
 use Rattle.plist_binread.specs.FaultOffsets.{ErrWithin}
@@ -12,7 +12,8 @@ use Rattle.plist_binread.specs.Reading.{data_of_content, object_at}
 use Rattle.plist_binread.specs.declared.head.Bounds.{Bounds}
 use Rattle.plist_binread.specs.DecodeOutcome.{IsOutcomeOf, small_outcome}
 use Rattle.plist_format.specs.Object.{Array, Object, dictionary, length_in, meaning_counted, meaning_of_front, text, text_of_units, wide_text}
-use Rattle.plist_binread.specs.Packed.{content_bytes, is_small_event, scalar_of, scalar_event}
+use Rattle.plist_binread.specs.Packed.{FitsContent, is_small_event, unpacked, scalar_event}
+use Rattle.plist_binread.specs.declared.packed.PackedKind.{PackedKind}
 use Rattle.plist_binread.specs.Slot.{answer_in, event_in}
 use Rattle.plist_binread.specs.declared.event_slot.Refused.{Refused}
 use Rattle.plist_binread.specs.declared.object_faults.Outcome.{Outcome}
@@ -244,21 +245,15 @@ FailsInContent place content answer =
 
 -- ---- what is packed
 
--- at most eight bytes, with the tag of their number
-abbrev pub PacksBytes : (first : ℕ) (bytes : List ℕ) → Option (ℕ × ℕ) → Type 0
-PacksBytes first bytes packed = MatchOption packed (8 < length bytes)
-    (λ p. (p.0 ≡ first + length bytes) × (length bytes ≤ 8)
-    × (take (length bytes) (content_bytes p.1) ≡ bytes))
-
--- a text of at most eight bytes, under a tag without its mark
-abbrev pub PacksText : (text : List ℕ) → Option (ℕ × ℕ) → Type 0
-PacksText text packed = MatchOption packed (8 < length text)
-    (λ p. (scalar_of p.0 p.1 ≡ Some (String text)) × (0 < p.0) × (p.0 < 128) × (length text ≤ 8))
+-- a text or data of these bytes, if they are at most eight
+abbrev pub PacksBytes : Scalar → (bytes : List ℕ) → Option (PackedKind × ℕ) → Type 0
+PacksBytes scalar bytes packed = MatchOption packed (8 < length bytes)
+    (λ p. (unpacked p.0 p.1 ≡ Some scalar) × FitsContent p.0 × (length bytes ≤ 8))
 
 -- a scalar's event, if it is small
-abbrev pub PacksEvent : PlainEvent → Option (ℕ × ℕ) → Type 0
+abbrev pub PacksEvent : PlainEvent → Option (PackedKind × ℕ) → Type 0
 PacksEvent event packed = MatchOption packed (is_small_event event ≡ false)
-    (λ p. scalar_event (scalar_of p.0 p.1) ≡ Some event)
+    (λ p. scalar_event (unpacked p.0 p.1) ≡ Some event)
 
 -- ---- what is decoded
 

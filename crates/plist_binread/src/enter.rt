@@ -18,7 +18,7 @@ use crate::frames::Frames;
 use crate::head::Bounds;
 use crate::object::decode;
 use crate::object_faults::Outcome;
-use crate::packed::{cache, mark_open};
+use crate::packed::{PackedKind, cache, is_open, mark_open};
 use crate::walk::Walk;
 use plist_base::{ErrorKind, Source};
 use std::alloc::Global;
@@ -70,16 +70,18 @@ fn look_up(
     }
     let tag = tags[number as usize];
     let content = contents[number as usize];
-    if tag >= 128 {
+    if is_open(tag) {
         return Err(refuse_open(slot, content));
     }
-    if tag == 0 {
-        return Ok(Some(content));
+    match PackedKind::of_tag(tag) {
+        None => Ok(Some(content)),
+        Some(kind) => {
+            if slot.unpack(kind, content) {
+                return Ok(None);
+            }
+            Err(slot.refuse_memory())
+        }
     }
-    if slot.unpack(tag, content) {
-        return Ok(None);
-    }
-    Err(slot.refuse_memory())
 }
 
 // Opens a collection of so many children, if there is memory.
@@ -120,12 +122,12 @@ fn keep_or_open(walk: &mut Walk, number: u64, outcome: Outcome, slot: &EventSlot
         | Outcome::NotUtf16
         | Outcome::NoMemory => false,
         Outcome::Scalar => match slot.pack() {
-            Some((tag, content)) => {
+            Some((kind, content)) => {
                 cache(
                     &mut walk.tags,
                     &mut walk.contents,
                     number as usize,
-                    tag,
+                    kind,
                     content,
                 );
                 true

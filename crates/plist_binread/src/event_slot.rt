@@ -1,6 +1,6 @@
 //! The current event of a reader, in a slot that holds its text or data.
 
-ghost use Rattle.std.specs.Prelude.{◌≡◌, ◌<◌, Some, true, false, IfErr, IfSome};
+ghost use Rattle.std.specs.Prelude.{◌≡◌, Some, true, false, IfErr, IfSome};
 ghost use Rattle.plist_base.specs.Events.{ScalarEvent, event_of};
 ghost use Rattle.plist_base.specs.Faults.{LimitReached, ObjectOffsetTooLarge, OutOfMemory, fault_at, fault_nowhere, fault_of};
 ghost use Rattle.plist_base.specs.declared.limits.Limit.TheVariants.{Bytes};
@@ -8,13 +8,13 @@ ghost use Rattle.plist_base.specs.Trees.{Boolean as BooleanScalar, Integer as In
 ghost use Rattle.plist_binread.specs.declared.event_slot.Refused.TheVariants.{Fault};
 ghost use Rattle.plist_binread.specs.declared.object_faults.Outcome.TheVariants.{Scalar as ScalarOutcome};
 ghost use Rattle.plist_format.specs.Object.{signed};
-ghost use Rattle.plist_binread.specs.Packed.{MayAllocate, cached, is_small_event, scalar_event};
+ghost use Rattle.plist_binread.specs.Packed.{FitsContent, MayAllocate, is_small_event, scalar_event, unpacked};
 ghost use Rattle.plist_binread.specs.Slot.{answer_in, event_in, compact_event_of, is_in_slot};
 ghost use Rattle.plist_binread.specs.Front.{PacksEvent, DecodesData, DecodesText, DecodesUnits};
 
 use crate::front::{Content, ContentKind};
 use crate::object_faults::Outcome;
-use crate::packed::{is_small, pack};
+use crate::packed::{PackedKind, is_small, pack};
 use plist_base::{Error, ErrorKind, Event, Integer, Limit, OwnedEvent, RealBits, Uid};
 use std::alloc::Global;
 use std::borrow::{CowSlice, CowStr};
@@ -291,44 +291,42 @@ impl EventSlot {
         is_small(&self.lend())
     }
 
-    /// The tag and the content of a scalar, if it is small enough.
+    /// The kind and the content of a scalar, if it is small enough.
     #[inline(always)]
-    pub fn pack(&self) -> Option<(u8, u64)>
+    pub fn pack(&self) -> Option<(PackedKind, u64)>
         ensures scalar { PacksEvent (event_in self.now) result }
         ensures small { IfSome result (λ packed. is_small_event (event_in self.now) ≡ true) }
-        ensures tag { IfSome result (λ packed. (0 < packed.0) × (packed.0 < 128)) }
+        ensures fits { IfSome result (λ packed. FitsContent packed.0) }
     {
         pack(&self.lend())
     }
 
-    /// Unpacks the scalar of a tag and a content, if they hold one and there is memory for it.
-    pub fn unpack(&mut self, tag: u8, content: u64) -> bool
-        ensures current { result ≡ true → scalar_event (cached tag content) ≡ Some
+    /// Unpacks the scalar of a kind and a content, if they hold one and there is memory for it.
+    pub fn unpack(&mut self, kind: PackedKind, content: u64) -> bool
+        ensures current { result ≡ true → scalar_event (unpacked kind content) ≡ Some
             (event_in self.new) }
-        ensures wanted { result ≡ false → MayAllocate (cached tag content) }
+        ensures wanted { result ≡ false → MayAllocate (unpacked kind content) }
     {
         let bytes = content.to_be_bytes();
-        match tag % 128 {
-            packed @ 8..=16 => {
-                let current = self.set_data(&bytes[..usize::from(packed - 8)]);
-                return current.is_scalar();
+        match kind {
+            PackedKind::Data(size) => {
+                return size <= 8 && self.set_data(&bytes[..usize::from(size)]).is_scalar();
             }
-            packed @ 17..=25 => {
-                let current = self.set_text(&bytes[..usize::from(packed - 17)]);
-                return current.is_scalar();
+            PackedKind::Text(size) => {
+                return size <= 8 && self.set_text(&bytes[..usize::from(size)]).is_scalar();
             }
-            1 => self.set(CompactEvent::Boolean(false)),
-            2 => self.set(CompactEvent::Boolean(true)),
-            3 => self.set(CompactEvent::Unsigned(content)),
-            4 => self.hold(Event::Integer(Integer::from(content.cast_signed()))),
-            5 => self.hold(Event::Real(RealBits::Eight(bytes))),
-            6 => {
+            PackedKind::Boolean(value) => self.set(CompactEvent::Boolean(value)),
+            PackedKind::Unsigned => self.set(CompactEvent::Unsigned(content)),
+            PackedKind::Negative => {
+                self.hold(Event::Integer(Integer::from(content.cast_signed())));
+            }
+            PackedKind::Real => self.hold(Event::Real(RealBits::Eight(bytes))),
+            PackedKind::ShortReal => {
                 let mut four = [0; 4];
                 four.copy_from_slice(&bytes[..4]);
                 self.hold(Event::Real(RealBits::Four(four)));
             }
-            7 => self.set(CompactEvent::Uid(content)),
-            _ => return false,
+            PackedKind::Uid => self.set(CompactEvent::Uid(content)),
         }
         true
     }

@@ -7,14 +7,19 @@ use Rattle.plist_binread.specs.Slot.{event_in}
 use Rattle.plist_binread.proofs.Steps.{yields_scalar, yields_collection, collection_large, reverse-push, start_falls, steps_positive}
 use Rattle.plist_binread.proofs.Opened.{IsOpen-push, not_open, admits_more, cached_count-keep, cached_count-mark}
 use Rattle.plist_binread.proofs.Known.{as_many, known_kept, known_opened}
+use Rattle.plist_binread.proofs.Packing.{kind_of_tag-some}
 use Rattle.plist_binread.proofs.enter.keep_or_open.Goals as goal
 
 pub returns-in-Some-clause-counted : goal.returns-in-Some-clause-counted
 returns-in-Some-clause-counted c =
     rw c.in-Scalar.is (cached_count-keep _ _ _ _ c.requires.below
-    (ap unmarked c.requires.new) c.in-Some.ensures.tag.0 c.cache.ensures.tags
+    (ap unmarked c.requires.new) c.cache.ensures.tags
     ∙ ap (λ b. cached_count c.args.walk.now.tags.items + cond b 1 0)
     (sym c.in-Some.ensures.small))
+
+pub returns-in-Some-clause-kept : goal.returns-in-Some-clause-kept
+returns-in-Some-clause-kept c = λ _ object outcome small.
+    kind_of_tag-some _ _ c.cache.ensures.tags.here
 
 pub returns-in-Some-clause-falls : goal.returns-in-Some-clause-falls
 returns-in-Some-clause-falls c = λ _. omega (arith, steps_positive)
@@ -26,9 +31,9 @@ returns-in-Some-clause-yields c = λ _ bytes bounds entry k is decoded.
           (length-reverse _))
           c.args.walk.now.path c.requires.below is
           (not_open c.args.walk.now.path c.requires.below c.requires.new) _ scalar),
-      rw c.cache.ensures.contents (known_kept bytes bounds _ _ _ k _ c.in-Some.tag
+      rw c.cache.ensures.contents (known_kept bytes bounds _ _ _ k _ c.in-Some.kind
           c.in-Some.content _ (event_in c.args.slot.now) c.requires.below c.args.walk.now.same
-          c.in-Some.ensures.tag.0 c.cache.ensures.tags c.in-Some.ensures.scalar
+          c.cache.ensures.tags c.in-Some.ensures.scalar
           (ap (λ found. scalar_event (scalar_at found)) is ∙ scalar)),
     )
 

@@ -1,5 +1,6 @@
-use Rattle.std.proofs.Common.{refl}
+use Rattle.std.proofs.Common.{refl, ap, ◌∙◌}
 use Rattle.std.proofs.lemmas.List.{get_or_read_under}
+use Rattle.plist_binread.specs.Packed.{kind_of_tag}
 use Rattle.plist_binread.proofs.Marks.{retagged, tag_kept, mark_kept}
 use Rattle.plist_binread.proofs.packed.cache.Goals as goal
 
@@ -7,4 +8,5 @@ pub returns-clause-tags : goal.returns-clause-tags
 returns-clause-tags c =
     let read = get_or_read_under _ _ _ _ 0 c.index.ensures c.requires.number refl in
     rw read (retagged _ _ _ c.requires.number _
-    (tag_kept _ _ c.requires.tag) (mark_kept _ _ c.requires.tag))
+    (ap kind_of_tag (tag_kept _ _ c.tag.ensures.unmarked) ∙ c.tag.ensures.decoded)
+    (mark_kept _ _ c.tag.ensures.unmarked))
