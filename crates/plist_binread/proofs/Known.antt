@@ -156,14 +156,14 @@ module _ (bytes : List ℕ) (bounds : Bounds) where
 
       -- ---- a number that isn't entered
 
-      module _ (o : MarksOpenPath tags fs) (at number : ℕ) where
+      module _ (n : ℕ) (depth : n ≡ length fs) (o : MarksOpenPath tags fs) (at number : ℕ) where
         abbrev before : List Item
-        before = unfolding_of table (length tags - length fs) (path_of fs) at number
+        before = unfolding_of table (length tags - n) (path_of fs) at number
             ++ remaining_items table fs
 
         explained : (kind : FaultKind) (offset : Option ℕ) (e : Error)
             → fault_of e ≡ record { kind = kind; offset = offset } → MatchFault kind ⊥ ⊥ ⊤
-            → unfolding_of table (length tags - length fs) (path_of fs) at number
+            → unfolding_of table (length tags - n) (path_of fs) at number
             ≡ Err (record { kind = kind; offset = offset }) ∷ [] → Explains (until_fault before) e
         explained kind offset e is inside only =
             MatchFault-at _ _ _ _ _ (ap (λ (f : Fault). f.kind) is)
@@ -200,7 +200,7 @@ module _ (bytes : List ℕ) (bounds : Bounds) where
             → MayAllocate (cached (get_or tags number 0) (get_or contents number 0))
             → Explains (until_fault before) e
         unfound_memory e h free some memory wanted =
-            yields_refused _ _ as_many _ fs at number _ refl o h
+            yields_refused _ _ as_many n fs at number _ depth o h
             (entry_there number h) (sym (o.marks number h) ∙ free) e
             (refused_cached (entry_of number).object (entry_of number).place e _ memory
             (held_scalar number h some)

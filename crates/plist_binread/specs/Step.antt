@@ -55,18 +55,9 @@ WalkWeightFalls old turn new = (count : ℕ) → WeightFalls count (open_in old)
 
 -- ---- what is looked up
 
-abbrev pub IsFoundAt : (number : ℕ) (tags contents : List ℕ) → EventSlot → Option ℕ → Type 0
-IsFoundAt number tags contents slot found =
-    IsFound (get_or tags number 0) (get_or contents number 0) (event_in slot) found
-
--- no object of this number can be entered
-abbrev pub ExplainsEntering : (tags contents : List ℕ) (at number : ℕ) → Error → Type 0
-ExplainsEntering tags contents at number error =
-    (bytes : List ℕ) (bounds : Bounds) (frames : List Frame) →
-    MarksOpenPath tags frames → MatchesFile bytes bounds tags contents frames →
-    Explains (until_fault
-    (unfolding_of (entries_of bytes bounds) (length tags - length frames) (path_of frames)
-    at number ++ remaining_items (entries_of bytes bounds) frames)) error
+abbrev pub IsFoundAt : (number : ℕ) → Walk → EventSlot → Option ℕ → Type 0
+IsFoundAt number walk slot found = IsFound (get_or walk.tags.items number 0)
+    (get_or walk.contents.items number 0) (event_in slot) found
 
 -- a child's number is found, or the error is held
 abbrev pub FindsChild : Result ℕ Refused → EventSlot → (known : Option (List ℕ)) → Bounds
@@ -81,9 +72,10 @@ RefusesEach known bounds place slot refused =
     (index : ℕ) → ReadsChildAt (Err slot.fault) known bounds place index
 
 -- the error of a number that isn't entered is held, and no device failed
-abbrev pub RefusesEntering : (tags contents : List ℕ) (at number : ℕ) → EventSlot → Refused → Type 0
-RefusesEntering tags contents at number slot refused =
-    ExplainsEntering tags contents at number slot.fault
+abbrev pub RefusesEntering : Walk → (at number : ℕ) → EventSlot → Refused → Type 0
+RefusesEntering walk at number slot refused =
+    (bytes : List ℕ) (bounds : Bounds) → IsWalkOf bytes bounds walk →
+    Explains (until_fault (remaining_entering bytes bounds walk at number)) slot.fault
 
 abbrev pub RefusesInside : EventSlot → Refused → Type 0
 RefusesInside slot refused = MatchFault (kind_of (error_kind_of slot.fault)) ⊥ ⊤ ⊤

@@ -46,30 +46,23 @@ fn refuse_open(slot: &mut EventSlot, place: u64) -> Refused
 // The place of an object that is about to be entered, referred to from `at`. There is none where it
 // is cached: then it is the current event.
 #[inline(always)]
-fn look_up(
-    tags: &[u8],
-    contents: &[u64],
-    slot: &mut EventSlot,
-    at: u64,
-    number: u64,
-) -> Result<Option<u64>, Refused>
-    requires { length contents.now ≡ length tags.now }
+fn look_up(walk: &Walk, slot: &mut EventSlot, at: u64, number: u64) -> Result<Option<u64>, Refused>
     // The answer.
-    ensures found { IfOk result (IsFoundAt number tags.now contents.now slot.new) }
+    ensures found { IfOk result (IsFoundAt number walk.now slot.new) }
     // A refusal.
-    ensures refused { IfErr result (RefusesEntering tags.now contents.now at number slot.new) }
+    ensures refused { IfErr result (RefusesEntering walk.now at number slot.new) }
     ensures kinds { IfErr result (RefusesInside slot.new) }
     ensures held { IfErr result (λ refused. refused ≡ Fault) }
     ensures fault { ErrWithin 0 0 (answer_in result slot.new) }
     // The state after it.
-    ensures below { IfOk result (λ _. number < length tags.now) }
-    ensures new { IfOk result (λ _. is_marked (get_or tags.now number 0) ≡ false) }
+    ensures below { IfOk result (λ _. number < walk_objects walk.now) }
+    ensures new { IfOk result (λ _. is_marked (get_or walk.now.tags.items number 0) ≡ false) }
 {
-    if number >= tags.len() as u64 {
+    if number >= walk.tags.len() as u64 {
         return Err(refuse_number(slot, at));
     }
-    let tag = tags[number as usize];
-    let content = contents[number as usize];
+    let tag = walk.tags[number as usize];
+    let content = walk.contents[number as usize];
     if is_open(tag) {
         return Err(refuse_open(slot, content));
     }
@@ -175,14 +168,7 @@ pub fn enter<S: Source, C: DecodeCounter>(
     ensures unchanged { S.known source.new ≡ S.known source.old }
     ensures failures { AnswersInSlot S.failures result slot.new source.old source.new }
 {
-    let found = look_up(
-        walk.tags.as_slice(),
-        walk.contents.as_slice(),
-        slot,
-        at,
-        number,
-    )?;
-    match found {
+    match look_up(walk, slot, at, number)? {
         None => Ok(()),
         Some(place) => {
             let outcome = decode(alloc, source, counter, bounds, place, left, slot)?;

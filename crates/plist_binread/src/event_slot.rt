@@ -14,7 +14,7 @@ ghost use Rattle.plist_binread.specs.Front.{PacksEvent, DecodesData, DecodesText
 
 use crate::front::{Content, ContentKind};
 use crate::object_faults::Outcome;
-use crate::packed::{PackedKind, is_small, pack};
+use crate::packed::{PackedKind, is_small, pack, pack_data, pack_text};
 use plist_base::{Error, ErrorKind, Event, Integer, Limit, OwnedEvent, RealBits, Uid};
 use std::alloc::Global;
 use std::borrow::{CowSlice, CowStr};
@@ -296,9 +296,17 @@ impl EventSlot {
     pub fn pack(&self) -> Option<(PackedKind, u64)>
         ensures scalar { PacksEvent (event_in self.now) result }
         ensures small { IfSome result (λ packed. is_small_event (event_in self.now) ≡ true) }
-        ensures fits { IfSome result (λ packed. FitsContent packed.0) }
+        ensures within { IfSome result (λ packed. FitsContent packed.0) }
     {
-        pack(&self.lend())
+        match self.current {
+            CompactEvent::Other => pack(&self.held),
+            CompactEvent::Text => pack_text(self.text.as_str()),
+            CompactEvent::Data => pack_data(self.data.as_slice()),
+            CompactEvent::Boolean(value) => Some((PackedKind::Boolean(value), 0)),
+            CompactEvent::Unsigned(number) => Some((PackedKind::Unsigned, number)),
+            CompactEvent::Uid(number) => Some((PackedKind::Uid, number)),
+            CompactEvent::Array(_) | CompactEvent::Dictionary(_) | CompactEvent::End => None,
+        }
     }
 
     /// Unpacks the scalar of a kind and a content, if they hold one and there is memory for it.

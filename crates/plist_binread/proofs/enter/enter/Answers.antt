@@ -20,12 +20,11 @@ returns-in-None-clause-falls g c =
 
 pub returns-in-None-clause-yields : goal.returns-in-None-clause-yields
 returns-in-None-clause-yields g c =
-    let found = rw (c.in-None.is, c.as_slice.ensures.value, c.as_slice-2.ensures.value) at
-    c.in_ok-found.ensures.found in
+    let found = rw c.in-None.is at c.in_ok-look_up.ensures.found in
     from_any _ _ _ (known_unpacked _ _ _ _ _ _ _ _
     (sym (length-reverse _)) c.args.walk.now.path c.requires.known
-    (rw c.as_slice.ensures.value at c.in_ok-found.ensures.below)
-    (rw c.as_slice.ensures.value at c.in_ok-found.ensures.new) found.0 found.1)
+    c.in_ok-look_up.ensures.below
+    c.in_ok-look_up.ensures.new found.0 found.1)
 
 pub returns-in_err-outcome-in-Some-clause-yields : goal.returns-in_err-outcome-in-Some-clause-yields
 returns-in_err-outcome-in-Some-clause-yields g c =
@@ -33,10 +32,9 @@ returns-in_err-outcome-in-Some-clause-yields g c =
     c.from_residual-in_err-outcome-in-Some.ensures.1 in
     rw p.1 (known_refused _ _ _ _ _ _ c.args.at c.args.number
     c.in-Some.place _ (sym (length-reverse c.args.walk.now.frames)) c.args.walk.now.path
-    c.requires.known (rw c.as_slice.ensures.value at c.in_ok-found.ensures.below)
-    (rw c.as_slice.ensures.value at c.in_ok-found.ensures.new)
-    (rw (c.in-Some.is, c.as_slice.ensures.value, c.as_slice-2.ensures.value) at
-    c.in_ok-found.ensures.found) c.in_err-outcome-in-Some.ensures.decoded)
+    c.requires.known c.in_ok-look_up.ensures.below
+    c.in_ok-look_up.ensures.new
+    (rw c.in-Some.is at c.in_ok-look_up.ensures.found) c.in_err-outcome-in-Some.ensures.decoded)
 
 pub returns-in_err-outcome-in-Some-clause-limit : goal.returns-in_err-outcome-in-Some-clause-limit
 returns-in_err-outcome-in-Some-clause-limit g c =
@@ -44,10 +42,9 @@ returns-in_err-outcome-in-Some-clause-limit g c =
     c.from_residual-in_err-outcome-in-Some.ensures.1 in
     rw (p.1, p.2) (entered_limits _ c.args.left c.decode.new.slot _ _ _ _ _ _ c.args.number c.in-Some.place
     (sym (length-reverse c.args.walk.now.frames)) c.args.walk.now.path c.requires.known
-    (rw c.as_slice.ensures.value at c.in_ok-found.ensures.below)
-    (rw c.as_slice.ensures.value at c.in_ok-found.ensures.new)
-    (rw (c.in-Some.is, c.as_slice.ensures.value, c.as_slice-2.ensures.value) at
-    c.in_ok-found.ensures.found) c.in_err-outcome-in-Some.ensures.limit)
+    c.in_ok-look_up.ensures.below
+    c.in_ok-look_up.ensures.new
+    (rw c.in-Some.is at c.in_ok-look_up.ensures.found) c.in_err-outcome-in-Some.ensures.limit)
 
 -- the object is what was decoded
 there : (g : _) (c : After-keep_or_open g)
@@ -55,9 +52,8 @@ there : (g : _) (c : After-keep_or_open g)
     c.args.number (event_in c.decode.new.slot) c.in_ok-outcome-in-Some.outcome)
 there g c =
     known_decoded _ _ _ _ _ _ _ _ _ c.requires.known
-    (rw c.as_slice.ensures.value at c.in_ok-found.ensures.below)
-    (rw (c.in-Some.is, c.as_slice.ensures.value, c.as_slice-2.ensures.value) at
-    c.in_ok-found.ensures.found) c.in_ok-outcome-in-Some.ensures.decoded
+    c.in_ok-look_up.ensures.below
+    (rw c.in-Some.is at c.in_ok-look_up.ensures.found) c.in_ok-outcome-in-Some.ensures.decoded
 
 pub returns-then-keep_or_open-clause-known : goal.returns-then-keep_or_open-clause-known
 returns-then-keep_or_open-clause-known g c =
@@ -82,10 +78,9 @@ pub returns-else-keep_or_open-clause-yields : goal.returns-else-keep_or_open-cla
 returns-else-keep_or_open-clause-yields g c =
     known_refused _ _ _ _ _ _ c.args.at c.args.number
     c.in-Some.place _ (sym (length-reverse c.args.walk.now.frames)) c.args.walk.now.path
-    c.requires.known (rw c.as_slice.ensures.value at c.in_ok-found.ensures.below)
-    (rw c.as_slice.ensures.value at c.in_ok-found.ensures.new)
-    (rw (c.in-Some.is, c.as_slice.ensures.value, c.as_slice-2.ensures.value) at
-    c.in_ok-found.ensures.found)
+    c.requires.known c.in_ok-look_up.ensures.below
+    c.in_ok-look_up.ensures.new
+    (rw c.in-Some.is at c.in_ok-look_up.ensures.found)
     (known_full _ c.args.bounds.now.trailer c.in-Some.place
     (object_at c.args.bounds.now c.in-Some.place) (event_in c.decode.new.slot)
     c.in_ok-outcome-in-Some.outcome c.refuse_memory.new.self.fault c.refuse_memory.ensures.fault

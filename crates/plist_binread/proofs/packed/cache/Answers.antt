@@ -8,5 +8,5 @@ pub returns-clause-tags : goal.returns-clause-tags
 returns-clause-tags c =
     let read = get_or_read_under _ _ _ _ 0 c.index.ensures c.requires.number refl in
     rw read (retagged _ _ _ c.requires.number _
-    (ap kind_of_tag (tag_kept _ _ c.tag.ensures.unmarked) ∙ c.tag.ensures.decoded)
-    (mark_kept _ _ c.tag.ensures.unmarked))
+    (ap kind_of_tag (tag_kept _ _ c.tag.ensures.small) ∙ c.tag.ensures.back)
+    (mark_kept _ _ c.tag.ensures.small))
