@@ -8,7 +8,7 @@ use Rattle.plist_base.specs.Limits.{bytes_in}
 use Rattle.plist_format.specs.Object.{Object}
 use Rattle.plist_format.specs.Unfolding.{unfolding_of, until_fault}
 use Rattle.plist_binread.specs.declared.frames.Frame.{Frame}
-use Rattle.plist_binread.specs.declared.front.Content.{Content}
+use Rattle.plist_binread.specs.declared.counted_content.Content.{Content}
 use Rattle.plist_binread.specs.declared.object_faults.Outcome.{Outcome}
 use Rattle.plist_binread.specs.declared.head.Bounds.{Bounds}
 use Rattle.plist_binread.specs.declared.event_slot.EventSlot.{EventSlot}
@@ -17,7 +17,7 @@ use Rattle.plist_binread.specs.declared.event_slot.Refused.TheVariants.{Fault, T
 use Rattle.plist_binread.specs.declared.walk.NextChild.TheVariants.{Child}
 use Rattle.plist_binread.specs.Remaining.{MatchesFile, MarksOpenPath, children_at, entries_of, remaining_items, path_of}
 use Rattle.plist_binread.specs.Decoding.{IsRefusedAs, scalar_event_in}
-use Rattle.plist_binread.specs.Front.{content_means, unit_size}
+use Rattle.plist_binread.specs.CountedContent.{content_means, unit_size}
 use Rattle.plist_binread.specs.TooLong.{BeginsTooLong, IsLongerThan, LimitsContent, LimitsObject, RefusesLong, object_of_content}
 use Rattle.plist_binread.specs.Measuring.{Measures, MeasuresContent}
 use Rattle.plist_binread.specs.Packed.{is_marked, unmarked}

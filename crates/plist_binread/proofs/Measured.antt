@@ -17,7 +17,7 @@ use Rattle.plist_base.specs.Trees.{Data, String}
 use Rattle.plist_base.specs.Events.{ScalarEvent}
 use Rattle.plist_base.specs.Faults.{InvalidUtf16String}
 use Rattle.plist_binread.specs.Decoding.{scalar_event_in}
-use Rattle.plist_binread.specs.declared.front.ContentKind.TheVariants.{Data as DataKind, Text, WideText}
+use Rattle.plist_binread.specs.declared.counted_content.ContentKind.TheVariants.{Data as DataKind, Text, WideText}
 use Rattle.plist_binread.specs.Reading.{data_of_content}
 use Rattle.plist_binread.specs.Measuring.{IsHigh, IsTextFront, IsTextPart, Measures, TakesUnit, counted, longer, waiting_units, wide_size}
 use Rattle.plist_binread.proofs.Columns.{numbers_of-reads}

@@ -3,9 +3,11 @@ use Rattle.std.proofs.Common.{◌≡◌, ℕ, suc, ◌+◌, ◌-◌, ◌*◌, �
 use Rattle.std.proofs.lemmas.List.{take-take, length-append, drop-append-le, drop-drop, length-drop, length-take-le, take-append-drop}
 use Rattle.std.proofs.Math.Seq.{take-length}
 use Rattle.plist_base.specs.Sources.{LiesAt}
-use Rattle.plist_binread.specs.Reading.{HasPairs, object_at, object_with}
-use Rattle.plist_binread.specs.Front.{IfUnseen, LeavesUnseen, DecodesWhole, LongBehind, content_means, is_fault, unit_size}
+use Rattle.plist_binread.specs.Reading.{HasPairs, object_at, object_counted, object_with}
+use Rattle.plist_binread.specs.CountedContent.{content_means, unit_size}
+use Rattle.plist_binread.specs.Front.{IfUnseen, LeavesUnseen, DecodesWhole, LongBehind, is_fault}
 use Rattle.plist_base.specs.declared.error.Error.{Error}
+use Rattle.plist_format.specs.declared.marker.CountedKind.{CountedKind}
 use Rattle.plist_binread.specs.declared.event_slot.EventSlot.{EventSlot}
 use Rattle.plist_binread.specs.Slot.{event_in}
 use Rattle.plist_binread.specs.declared.object_faults.Outcome.{Outcome}
@@ -18,7 +20,7 @@ use Rattle.plist_binread.proofs.Columns.{take-drop-take}
 use Rattle.std.proofs.lemmas.Option.{IfSome_then}
 use Rattle.plist_binread.proofs.OverKnown.{IfSome-both}
 use Rattle.plist_binread.specs.Decoding.{DecodesCurrent, IsRefusedAs}
-use Rattle.plist_binread.specs.declared.front.Content.{Content}
+use Rattle.plist_binread.specs.declared.counted_content.Content.{Content}
 
 -- the object behind a marker
 pub object_front : (w m : ℕ) (xs ys : List ℕ) → xs ≡ m ∷ ys
@@ -59,16 +61,24 @@ known_seen known t w p seen P buffered is means = IfSome_then known is (λ bytes
 
 -- what its marker and what lies behind it tell of an object whose content isn't all seen
 pub long_behind : (w m extent : ℕ) (seen rest : List ℕ) (slot : EventSlot) (outcome : Outcome) → seen ≡ m ∷ rest
-    → 0 < extent → LongBehind m (extent - 1) (object_with w m) rest slot outcome
+    → 0 < extent → LongBehind (extent - 1) (object_with w m) rest slot outcome
     → LeavesUnseen extent (object_in w) seen slot outcome
 long_behind w m extent seen rest slot tag.Unseen is some h =
     let sum : extent - 1 + 1 ≡ extent = omega arith in (
-      omega (arith, h.0),
+      omega (arith, (h m).0),
       λ more whole.
           object_front w m (seen ++ more) (rest ++ more) (ap (λ xs. xs ++ more) is)
-          ∙ rw is (h.1 more (ap (λ xs. length (xs ++ more)) (sym is) ∙ whole ∙ sym sum)),
+          ∙ rw is ((h m).1 more (ap (λ xs. length (xs ++ more)) (sym is) ∙ whole ∙ sym sum)),
     )
 long_behind w m extent seen rest slot outcome is some h = tt
+
+-- the same by other words for the object
+pub long_as : (extent : ℕ) (object same : List ℕ → Object) (rest : List ℕ) (slot : EventSlot)
+    (outcome : Outcome) → ((xs : List ℕ) → same xs ≡ object xs)
+    → LongBehind extent object rest slot outcome → LongBehind extent same rest slot outcome
+long_as extent object same rest slot tag.Unseen is h =
+    λ first. ((h first).0, λ more whole. is _ ∙ (h first).1 more whole)
+long_as extent object same rest slot outcome is h = λ first. tt
 
 -- a beginning of bytes that lie there lies there
 pub known_prefix : (known : Option (List ℕ)) (p k : ℕ) (buffered : List ℕ) → k ≤ length buffered
@@ -163,16 +173,17 @@ long_decodes known now bounds place content current answer same long read =
     rw (is fits) (read (omega (arith, long.0, fits))))
 
 -- where the references of a collection stand whose length is seen
-pub front_slots : (w m count pairs start : ℕ) (seen rest behind more : List ℕ)
-    → HasPairs m count pairs → 0 < w → seen ≡ m ∷ rest → length behind ≤ length rest
-    → start ≡ length seen - length behind
-    → length_in m (rest ++ more) ≡ Some (count, behind ++ more)
+pub front_slots : (w m low : ℕ) (k : CountedKind) (count pairs start : ℕ)
+    (seen rest behind more : List ℕ) → HasPairs k count pairs → 0 < w
+    → object_with w m (rest ++ more) ≡ object_counted w k low (rest ++ more)
+    → seen ≡ m ∷ rest → length behind ≤ length rest → start ≡ length seen - length behind
+    → length_in low (rest ++ more) ≡ Some (count, behind ++ more)
     → drop (length rest - length behind) rest ≡ behind → AreReferencesAt w (seen ++ more) start pairs
-front_slots w m count pairs start seen rest behind more has some is short at counted lies =
+front_slots w m low k count pairs start seen rest behind more has some same is short at counted lies =
     let whole = ap length is in
     let next : start ≡ suc (length rest - length behind) = omega arith in
     let cut : drop start seen ≡ behind = rw (next, is) lies in
-    has w start (seen ++ more) _ some (omega (arith, length-append seen more))
-    (object_front w m (seen ++ more) (rest ++ more) (ap (λ xs. xs ++ more) is))
+    has w low start (seen ++ more) _ some (omega (arith, length-append seen more))
+    (object_front w m (seen ++ more) (rest ++ more) (ap (λ xs. xs ++ more) is) ∙ same)
     (counted ∙ ap (λ ys. Some (count, ys))
     (sym (drop-append-le start seen more (omega arith) ∙ ap (λ ys. ys ++ more) cut)))

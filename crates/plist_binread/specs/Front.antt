@@ -1,26 +1,24 @@
 -- Words for what is decoded of the bytes at an object's front, whatever lies behind them.
-use Rattle.std.specs.Prelude.{◌≡◌, ℕ, ◌+◌, ◌-◌, ◌*◌, ◌^◌, ◌<◌, ◌≤◌, Bool, true, false, List, ◌∷◌, ◌++◌, length, take, drop, Option, None, Some, Result, Ok, Err, IfOk, IfSome, MatchOption, MatchResult, ⊤}
-use Rattle.std.specs.Borrow.{Bor}
+use Rattle.std.specs.Prelude.{◌≡◌, ℕ, ◌+◌, ◌*◌, ◌^◌, ◌<◌, ◌≤◌, Bool, true, false, List, ◌∷◌, ◌++◌, length, take, drop, Option, Some, Result, Ok, Err, IfOk, IfSome, MatchOption, MatchResult, ⊤}
 use Rattle.plist_base.specs.declared.error.Error.{Error}
 use Rattle.plist_base.specs.Events.{PlainEvent}
 use Rattle.plist_base.specs.Trees.{Scalar}
-use Rattle.plist_format.specs.Container.{number_of, numbers_spelled}
+use Rattle.plist_format.specs.Container.{number_of}
 use Rattle.plist_binread.specs.Decoding.{Decodes, DecodesCurrent, IsRefusedAs}
 use Rattle.plist_binread.specs.FaultOffsets.{ErrWithin}
 use Rattle.plist_base.specs.declared.event.Event.{Event}
+use Rattle.plist_binread.specs.CountedContent.{content_means, unit_size}
 use Rattle.plist_binread.specs.Reading.{data_of_content, object_at}
 use Rattle.plist_binread.specs.declared.head.Bounds.{Bounds}
 use Rattle.plist_binread.specs.DecodeOutcome.{IsOutcomeOf, small_outcome}
-use Rattle.plist_format.specs.Object.{Array, Object, dictionary, length_in, meaning_counted, meaning_of_front, text, text_of_units, wide_text}
+use Rattle.plist_format.specs.Object.{Object, meaning_of_front, text, text_of_units}
 use Rattle.plist_binread.specs.Packed.{FitsContent, is_small_event, unpacked, scalar_event}
 use Rattle.plist_binread.specs.declared.packed.PackedKind.{PackedKind}
 use Rattle.plist_binread.specs.Slot.{answer_in, event_in}
 use Rattle.plist_binread.specs.declared.event_slot.Refused.{Refused}
 use Rattle.plist_binread.specs.declared.object_faults.Outcome.{Outcome}
 use Rattle.plist_binread.specs.declared.object_faults.Outcome.TheVariants as outcome
-use Rattle.plist_binread.specs.declared.front.ContentKind.{ContentKind}
-use Rattle.plist_binread.specs.declared.front.ContentKind.TheVariants as kind
-use Rattle.plist_binread.specs.declared.front.Content.{Content}
+use Rattle.plist_binread.specs.declared.counted_content.Content.{Content}
 use Rattle.plist_binread.specs.declared.event_slot.EventSlot.{EventSlot}
 
 -- ---- what stands at the front of bytes
@@ -34,18 +32,6 @@ abbrev pub IsContent : (size : ℕ) (rest content : List ℕ) → Type 0
 IsContent size rest content = (more : List ℕ) (meaning : List ℕ → Object) →
     meaning_of_front size meaning (rest ++ more) ≡ meaning content
 
--- an object's length, and the bytes behind it
-abbrev pub IsLength : (marker : ℕ) (rest : List ℕ) → ℕ × Bor (List ℕ) → Type 0
-IsLength marker rest found =
-    (more : List ℕ) → length_in marker (rest ++ more) ≡ Some (found.0, found.1.now ++ more)
-
--- a length that isn't all there
-abbrev pub IsLengthCut : (marker : ℕ) (rest : List ℕ) → Type 0
-IsLengthCut marker rest = (length rest < 9) × (length_in marker rest ≡ None)
-
-abbrev pub LiesBehind : (rest : List ℕ) → ℕ × Bor (List ℕ) → Type 0
-LiesBehind rest found = drop (length rest - length found.1.now) rest ≡ found.1.now
-
 -- bytes that reach so far, or are as many as a number and a length need
 abbrev pub ReachesFar : (extent : ℕ) (rest : List ℕ) → Type 0
 ReachesFar extent rest = length rest < 16 → extent ≤ length rest
@@ -53,28 +39,6 @@ ReachesFar extent rest = length rest < 16 → extent ≤ length rest
 -- and those of the whole front of an object
 abbrev pub ShowsFront : (extent : ℕ) (seen : List ℕ) → Type 0
 ShowsFront extent seen = length seen < 26 → extent ≤ length seen
-
--- the content of a text or data, whose elements have this size
-abbrev pub IsCounted : (marker size extent : ℕ) (rest : List ℕ) → Bor (List ℕ) → Type 0
-IsCounted marker size extent rest found = (more : List ℕ) → length (rest ++ more) ≡ extent →
-    (meaning : List ℕ → Object) →
-    meaning_counted size (λ _. meaning) (length_in marker (rest ++ more)) ≡ meaning found.now
-
--- bytes that are whole elements
-abbrev pub AreUnits : (size : ℕ) (bytes : List ℕ) → Type 0
-AreUnits size bytes = (count : ℕ) × (length bytes ≡ count * size)
-
-abbrev pub HasUnits : (size : ℕ) → Bor (List ℕ) → Type 0
-HasUnits size found = AreUnits size found.now
-
--- a length, where so many elements lie before the trailer, and what is seen behind it
-abbrev pub IsCount : (marker size extent : ℕ) (rest : List ℕ) → ℕ × Bor (List ℕ) → Type 0
-IsCount marker size extent rest found = (more : List ℕ) → length (rest ++ more) ≡ extent →
-    (length_in marker (rest ++ more) ≡ Some (found.0, found.1.now ++ more))
-    × (found.0 * size ≤ length (found.1.now ++ more))
-
-abbrev pub EndsBefore : (size extent : ℕ) (rest : List ℕ) → ℕ × Bor (List ℕ) → Type 0
-EndsBefore size extent rest found = length rest - length found.1.now + found.0 * size ≤ extent
 
 -- ---- what is decoded
 
@@ -90,38 +54,6 @@ abbrev pub DecodesFront : (extent size : ℕ) → (List ℕ → Object) → (res
     → Type 0
 DecodesFront extent size meaning rest slot outcome =
     DecodesWhole extent (meaning_of_front size meaning) rest slot outcome
-
--- how many bytes an element of the content has, and what the content means
-abbrev pub unit_size : ContentKind → ℕ
-unit_size kind.Data = 1
-unit_size kind.Text = 1
-unit_size kind.WideText = 2
-
-abbrev pub content_means : ContentKind → List ℕ → Object
-content_means kind.Data = data_of_content
-content_means kind.Text = text
-content_means kind.WideText = wide_text
-
--- an object that has as many elements as its length says
-abbrev pub counted_with : ContentKind → (marker : ℕ) → List ℕ → Object
-counted_with kind marker rest =
-    meaning_counted (unit_size kind) (λ _. content_means kind) (length_in marker rest)
-
-abbrev pub array_with : (width marker : ℕ) → List ℕ → Object
-array_with width marker rest =
-    meaning_counted width (λ _ content. Array (numbers_spelled width content))
-    (length_in marker rest)
-
-abbrev pub pairs_with : (width marker : ℕ) → List ℕ → Object
-pairs_with width marker rest = meaning_counted (2 * width)
-    (λ count content. dictionary count (numbers_spelled width content)) (length_in marker rest)
-
--- a collection whose length isn't all there, or which doesn't end before the trailer
-abbrev pub RefusesCounted : (marker size extent : ℕ) (rest : List ℕ) → Outcome → Type 0
-RefusesCounted marker size extent rest outcome =
-    (meaning : ℕ → List ℕ → Object) (current : PlainEvent) (more : List ℕ)
-    → length (rest ++ more) ≡ extent
-    → IsOutcomeOf (meaning_counted size meaning (length_in marker (rest ++ more))) current outcome
 
 -- it isn't a text or data whose content isn't all seen
 abbrev pub IsAllSeen : Outcome → Type 0
@@ -142,18 +74,11 @@ LeavesUnseen extent object seen slot outcome = IfUnseen outcome slot (λ content
     ≡ content_means content.kind (take (content.count * unit_size content.kind)
     (drop content.start (seen ++ more)))))
 
--- the same by what lies behind the marker
-abbrev pub LongBehind : (marker extent : ℕ) → (List ℕ → Object) → (rest : List ℕ) → EventSlot
-    → Outcome
+-- the same by what lies behind the first byte, whatever this is
+abbrev pub LongBehind : (extent : ℕ) → (List ℕ → Object) → (rest : List ℕ) → EventSlot → Outcome
     → Type 0
-LongBehind marker extent object rest slot outcome =
-    LeavesUnseen (extent + 1) (λ bytes. object (drop 1 bytes)) (marker ∷ rest) slot outcome
-
--- the same of a text or data
-abbrev pub LongCounted : ContentKind → (marker extent : ℕ) → (rest : List ℕ) → EventSlot → Outcome
-    → Type 0
-LongCounted kind marker extent rest slot outcome =
-    LongBehind marker extent (counted_with kind marker) rest slot outcome
+LongBehind extent object rest slot outcome = (first : ℕ) →
+    LeavesUnseen (extent + 1) (λ bytes. object (drop 1 bytes)) (first ∷ rest) slot outcome
 
 -- one for a small object that is decoded, by which the counter rises
 abbrev pub small_decoded : Outcome → EventSlot → ℕ

@@ -6,6 +6,7 @@ pub mod Decoding
 pub mod FaultOffsets
 pub mod Frames
 pub mod DecodeOutcome
+pub mod CountedContent
 pub mod Front
 pub mod TooLong
 pub mod Measuring

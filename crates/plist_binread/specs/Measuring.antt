@@ -7,10 +7,10 @@ use Rattle.plist_base.specs.Events.{PlainEvent}
 use Rattle.plist_base.specs.Faults.{InvalidUtf8String, InvalidUtf16String, IsIo, error_kind_of, kind_of}
 use Rattle.plist_base.specs.Limits.{bytes_in}
 use Rattle.plist_binread.specs.Decoding.{scalar_event_in}
-use Rattle.plist_binread.specs.Front.{content_means, unit_size}
-use Rattle.plist_binread.specs.declared.front.Content.{Content}
-use Rattle.plist_binread.specs.declared.front.ContentKind.{ContentKind}
-use Rattle.plist_binread.specs.declared.front.ContentKind.TheVariants as kind
+use Rattle.plist_binread.specs.CountedContent.{content_means, unit_size}
+use Rattle.plist_binread.specs.declared.counted_content.Content.{Content}
+use Rattle.plist_binread.specs.declared.counted_content.ContentKind.{ContentKind}
+use Rattle.plist_binread.specs.declared.counted_content.ContentKind.TheVariants as kind
 use Rattle.plist_format.specs.Object.{Object, Faulty}
 
 -- so many bytes, or all that 64 bits can count

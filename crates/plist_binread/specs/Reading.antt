@@ -12,6 +12,8 @@ use Rattle.plist_format.specs.Container.{number_at, number_of, numbers_spelled}
 use Rattle.plist_binread.specs.Decoding.{children_in}
 use Rattle.plist_binread.specs.DecodeOutcome.{AreReferences, AreReferencesAt}
 use Rattle.plist_format.specs.Object.{Object, Scalar, layout_of, length_in, object_behind, object_in}
+use Rattle.plist_format.specs.Marker.{counted_layout}
+use Rattle.plist_format.specs.declared.marker.CountedKind.{CountedKind}
 use Rattle.plist_binread.specs.Turns.{ReadsChild}
 use Rattle.plist_binread.specs.declared.references.References.{References}
 use Rattle.std.specs.declared.alloc.Global.{Global}
@@ -79,6 +81,10 @@ data_of_content content = Scalar (Data content)
 abbrev pub object_with : (width marker : ℕ) → List ℕ → Object
 object_with width marker rest = object_behind marker (layout_of width marker) rest
 
+-- the same of an object that has a length, by the low half of its marker
+abbrev pub object_counted : (width : ℕ) → CountedKind → (low : ℕ) → List ℕ → Object
+object_counted width kind low rest = object_behind low (counted_layout width kind) rest
+
 -- the object at a place
 abbrev pub object_at : Bounds → (place : ℕ) → List ℕ → Object
 object_at bounds place bytes =
@@ -108,17 +114,17 @@ abbrev pub AreReferencesBehind : (width : ℕ) → (seen : List ℕ) → Referen
 AreReferencesBehind width seen references =
     (more : List ℕ) → AreReferencesAt width (seen ++ more) references.start references.pairs
 
--- an object with this marker and length is a collection of so many pairs, or none since it is an
+-- an object of this kind and length is a collection of so many pairs, or none since it is an
 -- array, and the references of its children stand behind the length
-abbrev pub HasPairs : (marker count pairs : ℕ) → Type 0
-HasPairs marker count pairs = (width start : ℕ) (object rest : List ℕ) → 0 < width
-    → start ≤ length object → object_in width object ≡ object_with width marker rest
-    → length_in marker rest ≡ Some (count, drop start object) → AreReferencesAt width object start pairs
+abbrev pub HasPairs : CountedKind → (count pairs : ℕ) → Type 0
+HasPairs kind count pairs = (width low start : ℕ) (object rest : List ℕ) → 0 < width
+    → start ≤ length object → object_in width object ≡ object_counted width kind low rest
+    → length_in low rest ≡ Some (count, drop start object) → AreReferencesAt width object start pairs
 
--- no object with this marker has children
-abbrev pub HasNoChildren : (marker : ℕ) → Type 0
-HasNoChildren marker =
-    (width : ℕ) (rest : List ℕ) → children_in (object_with width marker rest) ≡ []
+-- no object of this kind has children
+abbrev pub HasNoChildren : CountedKind → Type 0
+HasNoChildren kind =
+    (width low : ℕ) (rest : List ℕ) → children_in (object_counted width kind low rest) ≡ []
 
 -- no object that begins with these bytes has children
 abbrev pub HasNoChild : (width extent : ℕ) → (seen : List ℕ) → Type 0

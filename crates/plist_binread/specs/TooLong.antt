@@ -5,10 +5,10 @@ use Rattle.plist_base.specs.Faults.{OutOfMemory, fault_nowhere, fault_of}
 use Rattle.plist_base.specs.Limits.{bytes_in, bytes_left}
 use Rattle.plist_base.specs.declared.limits.Limiter.{Limiter}
 use Rattle.plist_binread.specs.Decoding.{IsRefusedAs, scalar_event_in}
-use Rattle.plist_binread.specs.Front.{content_means, unit_size}
+use Rattle.plist_binread.specs.CountedContent.{content_means, unit_size}
 use Rattle.plist_binread.specs.Reading.{object_at}
 use Rattle.plist_binread.specs.Walking.{remaining_entering, remaining_in}
-use Rattle.plist_binread.specs.declared.front.Content.{Content}
+use Rattle.plist_binread.specs.declared.counted_content.Content.{Content}
 use Rattle.plist_binread.specs.declared.head.Bounds.{Bounds}
 use Rattle.plist_binread.specs.declared.event_slot.EventSlot.{EventSlot}
 use Rattle.plist_binread.specs.declared.event_slot.Refused.{Refused}

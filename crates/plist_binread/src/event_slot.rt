@@ -12,7 +12,7 @@ ghost use Rattle.plist_binread.specs.Packed.{FitsContent, MayAllocate, is_small_
 ghost use Rattle.plist_binread.specs.Slot.{answer_in, event_in, compact_event_of, is_in_slot};
 ghost use Rattle.plist_binread.specs.Front.{PacksEvent, DecodesData, DecodesText, DecodesUnits};
 
-use crate::front::{Content, ContentKind};
+use crate::counted_content::{Content, ContentKind};
 use crate::object_faults::Outcome;
 use crate::packed::{PackedKind, is_small, pack, pack_data, pack_text};
 use plist_base::{Error, ErrorKind, Event, Integer, Limit, OwnedEvent, RealBits, Uid};

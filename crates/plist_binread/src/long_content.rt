@@ -9,9 +9,10 @@ ghost use Rattle.plist_format.specs.Container.{numbers_spelled};
 ghost use Rattle.plist_format.specs.Object.{text, text_of_units};
 ghost use Rattle.plist_binread.specs.Decoding.{Decodes, DecodesEvent, IsLarge};
 ghost use Rattle.plist_binread.specs.FaultOffsets.{ErrWithin};
-ghost use Rattle.plist_binread.specs.Front.{AreUnits, EndsIn64Bits, FailsInContent, ReadsContent, content_means, unit_size};
+ghost use Rattle.plist_binread.specs.CountedContent.{AreUnits, content_means, unit_size};
+ghost use Rattle.plist_binread.specs.Front.{EndsIn64Bits, FailsInContent, ReadsContent};
 
-use crate::front::{Content, ContentKind};
+use crate::counted_content::{Content, ContentKind};
 use crate::numbers::{read_bytes, write_units};
 use crate::packed::is_small;
 use plist_base::{Error, ErrorKind, Event, OwnedEvent, Source};

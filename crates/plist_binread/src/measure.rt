@@ -3,12 +3,12 @@
 ghost use Rattle.std.specs.Prelude.{◌≡◌, ◌+◌, ◌*◌, ◌^◌, ◌<◌, ◌≤◌, length, take, drop, None, IfOk, IfSome};
 ghost use Rattle.plist_base.specs.Outcomes.{IfRead, IfRefused};
 ghost use Rattle.plist_base.specs.Sources.{AnswersIo, IsIoWithin};
-ghost use Rattle.plist_binread.specs.declared.front.ContentKind.TheVariants.{Text as KindText, WideText as KindWideText};
+ghost use Rattle.plist_binread.specs.declared.counted_content.ContentKind.TheVariants.{Text as KindText, WideText as KindWideText};
 ghost use Rattle.plist_binread.specs.FaultOffsets.{ErrWithin};
 ghost use Rattle.plist_binread.specs.Front.{EndsIn64Bits, FailsInContent};
 ghost use Rattle.plist_binread.specs.Measuring.{IsHigh, IsTextFront, IsTextPart, MeasuresAt, MeasuresContent, TakesUnit};
 
-use crate::front::{Content, ContentKind};
+use crate::counted_content::{Content, ContentKind};
 use crate::numbers::read_number;
 use plist_base::{Error, Source, read_exact_at};
 use std::str;

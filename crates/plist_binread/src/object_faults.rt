@@ -16,13 +16,13 @@ ghost use Rattle.plist_binread.specs.Reading.{object_with};
 ghost use Rattle.plist_binread.specs.declared.object_faults.Outcome.TheVariants.{Scalar as ScalarOutcome};
 ghost use Rattle.plist_binread.specs.declared.event_slot.Refused.TheVariants.{Fault};
 
+use crate::counted_content::{ContentKind, front_counted};
 use crate::event_slot::{EventSlot, Refused};
-use crate::front::{
-    ContentKind, front_array, front_data, front_date, front_dictionary, front_real,
-    front_short_real, front_signed, front_text, front_uid, front_unsigned, front_wide,
-    front_wide_text,
+use crate::fixed_content::{
+    front_date, front_real, front_short_real, front_signed, front_uid, front_unsigned, front_wide,
 };
 use plist_base::{Error, ErrorKind};
+use plist_format::Marker;
 
 /// What was decoded of the bytes at an object's front, or what is wrong with it.
 ///
@@ -80,28 +80,23 @@ pub fn front_behind(
     requires far { ReachesFar extent rest.now }
     requires width { (0 < width) × (width ≤ 8) }
     ensures outcome { DecodesWhole extent (object_with width marker) rest.now slot.new result }
-    ensures long { LongBehind marker extent (object_with width marker) rest.now slot.new result }
+    ensures long { LongBehind extent (object_with width marker) rest.now slot.new result }
 {
-    match marker {
-        0x00 => Outcome::Null,
-        0x08 => slot.set_boolean(false),
-        0x09 => slot.set_boolean(true),
-        0x0f => Outcome::Fill,
-        0x10 => front_unsigned(rest, extent, 1, slot),
-        0x11 => front_unsigned(rest, extent, 2, slot),
-        0x12 => front_unsigned(rest, extent, 4, slot),
-        0x13 => front_signed(rest, extent, slot),
-        0x14 => front_wide(rest, extent, slot),
-        0x22 => front_short_real(rest, extent, slot),
-        0x23 => front_real(rest, extent, slot),
-        0x33 => front_date(rest, extent, slot),
-        0x40..=0x4f => front_data(marker, rest, extent, left, slot),
-        0x50..=0x5f => front_text(marker, rest, extent, left, slot),
-        0x60..=0x6f => front_wide_text(marker, rest, extent, slot),
-        0x80..=0x87 => front_uid(rest, extent, usize::from(marker - 0x7f), slot),
-        0xa0..=0xaf => front_array(marker, rest, extent, width, slot),
-        0xd0..=0xdf => front_dictionary(marker, rest, extent, width, slot),
-        other => Outcome::Unknown(other),
+    match Marker::decode(marker) {
+        Marker::Null => Outcome::Null,
+        Marker::Boolean(value) => slot.set_boolean(value),
+        Marker::Fill => Outcome::Fill,
+        Marker::Integer1 => front_unsigned(rest, extent, 1, slot),
+        Marker::Integer2 => front_unsigned(rest, extent, 2, slot),
+        Marker::Integer4 => front_unsigned(rest, extent, 4, slot),
+        Marker::Integer8 => front_signed(rest, extent, slot),
+        Marker::Integer16 => front_wide(rest, extent, slot),
+        Marker::Real4 => front_short_real(rest, extent, slot),
+        Marker::Real8 => front_real(rest, extent, slot),
+        Marker::Date => front_date(rest, extent, slot),
+        Marker::Counted(kind, low) => front_counted(kind, low, rest, extent, width, left, slot),
+        Marker::Uid(size) => front_uid(rest, extent, size, slot),
+        Marker::Unknown(byte) => Outcome::Unknown(byte),
     }
 }
 

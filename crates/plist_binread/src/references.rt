@@ -7,11 +7,12 @@ ghost use Rattle.plist_binread.specs.Reading.{HasNoChild, FindsReferences, HasNo
 ghost use Rattle.plist_binread.specs.Step.{FindsChild, RefusesEach};
 ghost use Rattle.plist_binread.specs.Slot.{AnswersInSlot, answer_in};
 
+use crate::counted_content::front_length;
 use crate::event_slot::{EventSlot, Refused};
-use crate::front::front_length;
 use crate::head::Bounds;
 use crate::numbers::{buffered_number, read_far_number};
 use plist_base::{Source, read_exact_at};
+use plist_format::{CountedKind, Marker};
 
 /// Where the references of a collection stand.
 #[derive(Clone, Copy)]
@@ -39,16 +40,16 @@ impl References {
     }
 }
 
-// How many pairs a collection of this marker and length has: none if it is an array.
+// How many pairs a collection of this kind and length has: none if it is an array.
 #[inline(always)]
-fn pairs_in(marker: u8, count: u64) -> Option<u64>
-    ensures slots { IfSome result (HasPairs marker count) }
-    ensures none { IfNone result (HasNoChildren marker) }
+fn pairs_in(kind: CountedKind, count: u64) -> Option<u64>
+    ensures slots { IfSome result (HasPairs kind count) }
+    ensures none { IfNone result (HasNoChildren kind) }
 {
-    match marker {
-        0xa0..=0xaf => Some(0),
-        0xd0..=0xdf => Some(count),
-        _ => None,
+    match kind {
+        CountedKind::Array => Some(0),
+        CountedKind::Dictionary => Some(count),
+        CountedKind::Data | CountedKind::Text | CountedKind::WideText => None,
     }
 }
 
@@ -61,9 +62,10 @@ fn references_in(seen: &[u8], extent: u64, width: usize, place: u64) -> Option<R
     ensures slots { IfSome result (AreReferencesBehind width seen.now) }
     ensures none { IfNone result (HasNoChild width extent seen.now) }
 {
-    let (marker, rest) = seen.split_first()?;
-    let (count, behind) = front_length(*marker, rest)?;
-    let pairs = pairs_in(*marker, count)?;
+    let (byte, rest) = seen.split_first()?;
+    let (kind, low) = Marker::decode(*byte).counted()?;
+    let (count, behind) = front_length(low, rest)?;
+    let pairs = pairs_in(kind, count)?;
     let start = (seen.len() - behind.len()) as u64;
     Some(References {
         place,

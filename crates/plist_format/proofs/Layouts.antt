@@ -1,8 +1,8 @@
--- The layouts that go by more than one marker.
-use Rattle.std.proofs.Common.{rules, ◌≡◌, ℕ, ◌-◌, ◌*◌, ◌≤◌}
+-- The layouts that go by more than one marker, and lengths by the low half of a marker.
+use Rattle.std.proofs.Common.{rules, refl, ap, ◌≡◌, ℕ, ◌-◌, ◌*◌, ◌%◌, ◌≤◌, List}
 use Rattle.plist_base.specs.Trees.{Data, Uid}
 use Rattle.plist_format.specs.Container.{number_of, numbers_spelled}
-use Rattle.plist_format.specs.Object.{Scalar, Array, Fixed, Counted, text, wide_text, dictionary, layout_of}
+use Rattle.plist_format.specs.Object.{Scalar, Array, Layout, Refused, Fixed, Counted, text, wide_text, dictionary, layout_of, length_in, meaning_counted, object_behind}
 
 pub layout-data : (w m : ℕ) → 64 ≤ m → m ≤ 79
     → layout_of w m ≡ Counted 1 (λ _ content. Scalar (Data content))
@@ -26,3 +26,14 @@ pub layout-dictionary : (w m : ℕ) → 208 ≤ m → m ≤ 223
     → layout_of w m ≡ Counted (2 * w) (λ count content. dictionary count
     (numbers_spelled w content))
 layout-dictionary w m low high = search rules
+
+-- a length goes by the low half of its marker
+length_by_half : (m low : ℕ) (rest : List ℕ) → m % 16 ≡ low % 16 → length_in m rest ≡ length_in low rest
+length_by_half m low rest half = rw half refl
+
+pub behind_by_half : (m low : ℕ) (layout : Layout) (rest : List ℕ) → m % 16 ≡ low % 16
+    → object_behind m layout rest ≡ object_behind low layout rest
+behind_by_half m low (Refused kind) rest half = refl
+behind_by_half m low (Fixed size meaning) rest half = refl
+behind_by_half m low (Counted size meaning) rest half =
+    ap (meaning_counted size meaning) (length_by_half m low rest half)

@@ -1,5 +1,6 @@
 pub mod Container
 pub mod Object
+pub mod Marker
 pub mod Unfolding
 pub mod Visits
 pub mod Examples

@@ -1,11 +1,8 @@
-use Rattle.std.proofs.Common.{arith}
 use Rattle.plist_binread.proofs.Children.{array_pairs, dictionary_pairs}
 use Rattle.plist_binread.proofs.references.pairs_in.Goals as goal
 
-pub returns-in-160-to-175-clause-slots : goal.returns-in-160-to-175-clause-slots
-returns-in-160-to-175-clause-slots c =
-    array_pairs _ _ (omega arith) (omega arith)
+pub returns-in-Array-clause-slots : goal.returns-in-Array-clause-slots
+returns-in-Array-clause-slots c = rw c.in-Array.is (array_pairs _)
 
-pub returns-in-208-to-223-clause-slots : goal.returns-in-208-to-223-clause-slots
-returns-in-208-to-223-clause-slots c =
-    dictionary_pairs _ _ (omega arith) (omega arith)
+pub returns-in-Dictionary-clause-slots : goal.returns-in-Dictionary-clause-slots
+returns-in-Dictionary-clause-slots c = rw c.in-Dictionary.is (dictionary_pairs _)

@@ -1,0 +1,73 @@
+-- Words for objects that have a length: by the low half of the marker, and the bytes behind that.
+use Rattle.std.specs.Prelude.{◌≡◌, ℕ, ◌+◌, ◌-◌, ◌*◌, ◌<◌, ◌≤◌, List, ◌++◌, length, drop, None, Some}
+use Rattle.std.specs.Borrow.{Bor}
+use Rattle.plist_base.specs.Events.{PlainEvent}
+use Rattle.plist_format.specs.Object.{Object, length_in, meaning_counted, text, wide_text}
+use Rattle.plist_binread.specs.DecodeOutcome.{IsOutcomeOf}
+use Rattle.plist_binread.specs.Reading.{data_of_content}
+use Rattle.plist_binread.specs.declared.counted_content.ContentKind.{ContentKind}
+use Rattle.plist_binread.specs.declared.counted_content.ContentKind.TheVariants as kind
+use Rattle.plist_binread.specs.declared.object_faults.Outcome.{Outcome}
+
+-- ---- what the content is
+
+-- how many bytes an element of the content has, and what the content means
+abbrev pub unit_size : ContentKind → ℕ
+unit_size kind.Data = 1
+unit_size kind.Text = 1
+unit_size kind.WideText = 2
+
+abbrev pub content_means : ContentKind → List ℕ → Object
+content_means kind.Data = data_of_content
+content_means kind.Text = text
+content_means kind.WideText = wide_text
+
+-- ---- what stands at the front of bytes
+
+-- an object's length, and the bytes behind it
+abbrev pub IsLength : (low : ℕ) (rest : List ℕ) → ℕ × Bor (List ℕ) → Type 0
+IsLength low rest found =
+    (more : List ℕ) → length_in low (rest ++ more) ≡ Some (found.0, found.1.now ++ more)
+
+-- a length that isn't all there
+abbrev pub IsLengthCut : (low : ℕ) (rest : List ℕ) → Type 0
+IsLengthCut low rest = (length rest < 9) × (length_in low rest ≡ None)
+
+abbrev pub LiesBehind : (rest : List ℕ) → ℕ × Bor (List ℕ) → Type 0
+LiesBehind rest found = drop (length rest - length found.1.now) rest ≡ found.1.now
+
+-- the content of a text or data, whose elements have this size
+abbrev pub IsCounted : (low size extent : ℕ) (rest : List ℕ) → Bor (List ℕ) → Type 0
+IsCounted low size extent rest found = (more : List ℕ) → length (rest ++ more) ≡ extent →
+    (meaning : List ℕ → Object) →
+    meaning_counted size (λ _. meaning) (length_in low (rest ++ more)) ≡ meaning found.now
+
+-- bytes that are whole elements
+abbrev pub AreUnits : (size : ℕ) (bytes : List ℕ) → Type 0
+AreUnits size bytes = (count : ℕ) × (length bytes ≡ count * size)
+
+abbrev pub HasUnits : (size : ℕ) → Bor (List ℕ) → Type 0
+HasUnits size found = AreUnits size found.now
+
+-- a length, where so many elements lie before the trailer, and what is seen behind it
+abbrev pub IsCount : (low size extent : ℕ) (rest : List ℕ) → ℕ × Bor (List ℕ) → Type 0
+IsCount low size extent rest found = (more : List ℕ) → length (rest ++ more) ≡ extent →
+    (length_in low (rest ++ more) ≡ Some (found.0, found.1.now ++ more))
+    × (found.0 * size ≤ length (found.1.now ++ more))
+
+abbrev pub EndsBefore : (size extent : ℕ) (rest : List ℕ) → ℕ × Bor (List ℕ) → Type 0
+EndsBefore size extent rest found = length rest - length found.1.now + found.0 * size ≤ extent
+
+-- ---- what is decoded
+
+-- a text or data of as many elements as its length says
+abbrev pub counted_with : ContentKind → (low : ℕ) → List ℕ → Object
+counted_with kind low rest =
+    meaning_counted (unit_size kind) (λ _. content_means kind) (length_in low rest)
+
+-- a collection whose length isn't all there, or which doesn't end before the trailer
+abbrev pub RefusesCounted : (low size extent : ℕ) (rest : List ℕ) → Outcome → Type 0
+RefusesCounted low size extent rest outcome =
+    (meaning : ℕ → List ℕ → Object) (current : PlainEvent) (more : List ℕ)
+    → length (rest ++ more) ≡ extent
+    → IsOutcomeOf (meaning_counted size meaning (length_in low (rest ++ more))) current outcome

@@ -1,0 +1,253 @@
+//! The marker of an object: the byte at its front, which says what stands behind it.
+
+ghost use Rattle.std.specs.Prelude.{◌≡◌, ℕ, ◌%◌, ◌<◌, ◌≤◌, IfNone, IfSome};
+ghost use Rattle.plist_format.specs.Marker.{byte_of, counted_in, high_half, layout_behind};
+ghost use Rattle.plist_format.specs.Object.{layout_of};
+
+use std::marker::Model;
+
+/// The low half of the marker of an object that has a length: the length, where it is below 15, or
+/// that it follows.
+#[derive(Clone, Copy)]
+pub struct LowHalf {
+    value: u8,
+}
+
+impl Model for LowHalf {
+    ghost use Rattle.std.specs.Prelude.{ℕ, ◌<◌};
+
+    ghost Value = { ℕ };
+
+    ghost view = { λ a. a.value };
+
+    ghost invariant = { λ a. a.value < 16 };
+
+    ghost inverse = { λ n. record { value = n } };
+}
+
+impl LowHalf {
+    // That of a marker.
+    #[inline(always)]
+    fn of_byte(byte: u8) -> LowHalf
+        ensures { result ≡ byte % 16 }
+    {
+        LowHalf { value: byte % 16 }
+    }
+
+    /// That of a length, unless this has to follow.
+    #[inline(always)]
+    pub fn of_length(length: u64) -> Option<LowHalf>
+        ensures short { IfSome result (λ low. (low ≡ length) × (length < 15)) }
+        ensures long { IfNone result (15 ≤ length) }
+    {
+        if length < 15 {
+            Some(LowHalf {
+                value: length as u8,
+            })
+        } else {
+            None
+        }
+    }
+
+    /// A length follows.
+    #[inline(always)]
+    pub fn follows() -> LowHalf
+        ensures { result ≡ 15 }
+    {
+        LowHalf { value: 15 }
+    }
+
+    /// The length, unless it follows.
+    #[inline(always)]
+    pub fn length(self) -> Option<u64>
+        ensures short { IfSome result (λ length. (length ≡ self) × (self < 15)) }
+        ensures follows { IfNone result (self ≡ 15) }
+    {
+        if self.value < 15 {
+            Some(u64::from(self.value))
+        } else {
+            None
+        }
+    }
+}
+
+/// How many bytes the number of a Uid has: 1 to 8.
+#[derive(Clone, Copy)]
+pub struct UidWidth {
+    bytes: u8,
+}
+
+impl Model for UidWidth {
+    ghost use Rattle.std.specs.Prelude.{ℕ, ◌<◌, ◌≤◌};
+
+    ghost Value = { ℕ };
+
+    ghost view = { λ a. a.bytes };
+
+    ghost invariant = { λ a. (0 < a.bytes) × (a.bytes ≤ 8) };
+
+    ghost inverse = { λ n. record { bytes = n } };
+}
+
+impl UidWidth {
+    /// So many bytes.
+    #[inline(always)]
+    pub fn new(bytes: usize) -> UidWidth
+        requires { (1 ≤ bytes) × (bytes ≤ 8) }
+        ensures { result ≡ bytes }
+    {
+        UidWidth { bytes: bytes as u8 }
+    }
+
+    /// The number of bytes.
+    #[inline(always)]
+    pub fn get(self) -> usize
+        ensures value { result ≡ self }
+        ensures small { result ≤ 8 }
+    {
+        usize::from(self.bytes)
+    }
+}
+
+/// What has a length behind its marker.
+#[derive(Clone, Copy)]
+pub enum CountedKind {
+    /// Data.
+    Data,
+    /// A text in UTF-8.
+    Text,
+    /// A text in UTF-16.
+    WideText,
+    /// An array.
+    Array,
+    /// A dictionary.
+    Dictionary,
+}
+
+impl CountedKind {
+    // The high half of its marker.
+    #[inline(always)]
+    fn high_half(self) -> u8
+        ensures value { result ≡ high_half self }
+        ensures small { result < 16 }
+    {
+        match self {
+            CountedKind::Data => 0x4,
+            CountedKind::Text => 0x5,
+            CountedKind::WideText => 0x6,
+            CountedKind::Array => 0xa,
+            CountedKind::Dictionary => 0xd,
+        }
+    }
+}
+
+/// The marker of an object. No other code knows the bytes.
+#[derive(Clone, Copy)]
+pub enum Marker {
+    /// A null, which no property list has.
+    Null,
+    /// A truth value.
+    Boolean(bool),
+    /// A fill byte, which is no object.
+    Fill,
+    /// An integer of one byte, without sign.
+    Integer1,
+    /// An integer of two bytes, without sign.
+    Integer2,
+    /// An integer of four bytes, without sign.
+    Integer4,
+    /// An integer of eight bytes.
+    Integer8,
+    /// An integer of sixteen bytes.
+    Integer16,
+    /// A real of four bytes.
+    Real4,
+    /// A real of eight bytes.
+    Real8,
+    /// A date.
+    Date,
+    /// Text, data or a collection, with its length.
+    Counted(CountedKind, LowHalf),
+    /// A Uid.
+    Uid(UidWidth),
+    /// A byte that is no marker.
+    Unknown(u8),
+}
+
+impl Marker {
+    /// The marker that is this byte.
+    #[inline(always)]
+    pub fn decode(byte: u8) -> Marker
+        ensures byte { byte_of result ≡ byte }
+        ensures layout { (width : ℕ) → layout_of width byte ≡ layout_behind width result }
+    {
+        match byte {
+            0x00 => Marker::Null,
+            0x08 => Marker::Boolean(false),
+            0x09 => Marker::Boolean(true),
+            0x0f => Marker::Fill,
+            0x10 => Marker::Integer1,
+            0x11 => Marker::Integer2,
+            0x12 => Marker::Integer4,
+            0x13 => Marker::Integer8,
+            0x14 => Marker::Integer16,
+            0x22 => Marker::Real4,
+            0x23 => Marker::Real8,
+            0x33 => Marker::Date,
+            0x40..=0x4f => Marker::Counted(CountedKind::Data, LowHalf::of_byte(byte)),
+            0x50..=0x5f => Marker::Counted(CountedKind::Text, LowHalf::of_byte(byte)),
+            0x60..=0x6f => Marker::Counted(CountedKind::WideText, LowHalf::of_byte(byte)),
+            0x80..=0x87 => Marker::Uid(UidWidth { bytes: byte - 0x7f }),
+            0xa0..=0xaf => Marker::Counted(CountedKind::Array, LowHalf::of_byte(byte)),
+            0xd0..=0xdf => Marker::Counted(CountedKind::Dictionary, LowHalf::of_byte(byte)),
+            other => Marker::Unknown(other),
+        }
+    }
+
+    /// What has a length by this marker, and the low half of that.
+    #[inline(always)]
+    pub fn counted(self) -> Option<(CountedKind, LowHalf)>
+        ensures { result ≡ counted_in self }
+    {
+        match self {
+            Marker::Counted(kind, low) => Some((kind, low)),
+            Marker::Null
+            | Marker::Boolean(_)
+            | Marker::Fill
+            | Marker::Integer1
+            | Marker::Integer2
+            | Marker::Integer4
+            | Marker::Integer8
+            | Marker::Integer16
+            | Marker::Real4
+            | Marker::Real8
+            | Marker::Date
+            | Marker::Uid(_)
+            | Marker::Unknown(_) => None,
+        }
+    }
+
+    /// Its byte.
+    #[inline(always)]
+    pub fn encode(self) -> u8
+        ensures { result ≡ byte_of self }
+    {
+        match self {
+            Marker::Null => 0x00,
+            Marker::Boolean(false) => 0x08,
+            Marker::Boolean(true) => 0x09,
+            Marker::Fill => 0x0f,
+            Marker::Integer1 => 0x10,
+            Marker::Integer2 => 0x11,
+            Marker::Integer4 => 0x12,
+            Marker::Integer8 => 0x13,
+            Marker::Integer16 => 0x14,
+            Marker::Real4 => 0x22,
+            Marker::Real8 => 0x23,
+            Marker::Date => 0x33,
+            Marker::Counted(kind, low) => kind.high_half() * 16 + low.value,
+            Marker::Uid(width) => 0x7f + width.bytes,
+            Marker::Unknown(byte) => byte,
+        }
+    }
+}
