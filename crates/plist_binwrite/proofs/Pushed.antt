@@ -16,14 +16,14 @@ pub length_long : (high count : ℕ) → 15 ≤ count
 unfolding length_form
 length_long high count h = rw (le-ltb _ 15 h) refl
 
--- the marker, the width of the length, and its digits
-pub length_told : (high count width doubled : ℕ) (digits : List ℕ) → 15 ≤ count
-    → width ≡ least_width count → width ≤ 8 → doubled ≡ doublings width
+-- the marker, that of the length, and its digits
+pub length_told : (high count width marker : ℕ) (digits : List ℕ) → 15 ≤ count
+    → width ≡ least_width count → width ≤ 8 → marker ≡ 0x10 + doublings width
     → digits ≡ big_endian 8 count
-    → (high * 16 + 15) ∷ (0x10 + doubled) ∷ take (8 - (8 - width)) (drop (8 - width) digits)
+    → (high * 16 + 15) ∷ marker ∷ take (8 - (8 - width)) (drop (8 - width) digits)
     ≡ length_form high count
-length_told high count width doubled digits long least h twice is =
-    let told : (0x10 + doubled) ∷ big_endian width count ≡ unsigned_form count = cc in
+length_told high count width marker digits long least h number is =
+    let told : marker ∷ big_endian width count ≡ unsigned_form count = cc in
     cc (tail_of_digits digits width count is h, length_long high count long)
 
 high_zero : (k n : ℕ) → n < 256 ^ k → byte_at k n ≡ 0

@@ -4,8 +4,9 @@
 //! Each function puts its bytes through a buffer to a writer, as [`put`](crate::output_buffer::put)
 //! does. The one refusal is `Io` without an offset; a beginning of all that was put went out then.
 
-ghost use Rattle.std.specs.Prelude.{◌≡◌, ◌∷◌, [], ◌≤◌, ◌<◌};
+ghost use Rattle.std.specs.Prelude.{◌≡◌, ◌+◌, ◌∷◌, [], ◌≤◌, ◌<◌};
 ghost use Rattle.plist_binwrite.specs.Forms.{big_endian, doublings, unsigned_form, integer_form, uid_form, length_form, boolean_form, data_form, date_form, real_form, table_form, marker_and_number};
+ghost use Rattle.plist_format.specs.Marker.{byte_of, high_half};
 ghost use Rattle.plist_binwrite.specs.OutputBuffer.{Puts};
 ghost use Rattle.plist_binwrite.specs.Written.{table_and_trailer, trailer_of};
 
@@ -15,18 +16,20 @@ pub use crate::scalar::put_scalar;
 pub use crate::text::put_text;
 use crate::widths::{least_width, offset_width, reference_width};
 use plist_base::{Date, Error, Integer, RealBits, Uid};
+pub use plist_format::CountedKind;
+use plist_format::{LowHalf, Marker, UidWidth};
 use std::io::Write;
 
-// How often 1 is doubled to give a width.
-fn doublings(width: usize) -> u8
-    ensures value { result ≡ doublings width }
-    ensures small { result ≤ 3 }
+// The marker of a number of this width.
+#[inline(always)]
+fn number_marker(width: usize) -> Marker
+    ensures { byte_of result ≡ 0x10 + doublings width }
 {
     match width {
-        1 => 0,
-        2 => 1,
-        4 => 2,
-        _ => 3,
+        1 => Marker::Integer1,
+        2 => Marker::Integer2,
+        4 => Marker::Integer4,
+        _ => Marker::Integer8,
     }
 }
 
@@ -41,12 +44,13 @@ pub fn put_byte<W: Write>(out: &mut W, buffer: &mut Vec<u8>, byte: u8) -> Result
 fn put_marked<W: Write>(
     out: &mut W,
     buffer: &mut Vec<u8>,
-    marker: u8,
+    marker: Marker,
     bytes: &[u8],
 ) -> Result<(), Error>
-    ensures { Puts W.contents out.old buffer.old (marker ∷ bytes.now) result out.new buffer.new }
+    ensures { Puts W.contents out.old buffer.old (byte_of marker ∷ bytes.now) result out.new
+        buffer.new }
 {
-    put_both(out, buffer, &[marker], bytes)
+    put_both(out, buffer, &[marker.encode()], bytes)
 }
 
 /// Puts the lowest `width` bytes of a number, the highest of them first.
@@ -68,17 +72,18 @@ pub fn put_number<W: Write>(
 fn put_marked_number<W: Write>(
     out: &mut W,
     buffer: &mut Vec<u8>,
-    byte: u8,
+    marker: Marker,
     width: usize,
     number: u64,
 ) -> Result<(), Error>
     requires width { width ≤ 8 }
-    ensures { Puts W.contents out.old buffer.old (marker_and_number byte width number) result
+    ensures { Puts W.contents out.old buffer.old (marker_and_number (byte_of marker) width number)
+        result
         out.new
         buffer.new }
 {
     let digits = number.to_be_bytes();
-    put_both(out, buffer, &[byte], &digits[8 - width..])
+    put_both(out, buffer, &[marker.encode()], &digits[8 - width..])
 }
 
 /// Puts a number without sign, in the least of 1, 2, 4 and 8 bytes.
@@ -86,29 +91,29 @@ pub fn put_unsigned<W: Write>(out: &mut W, buffer: &mut Vec<u8>, number: u64) ->
     ensures { Puts W.contents out.old buffer.old (unsigned_form number) result out.new buffer.new }
 {
     let width = least_width(number);
-    put_marked_number(out, buffer, 0x10 + doublings(width), width, number)
+    put_marked_number(out, buffer, number_marker(width), width, number)
 }
 
-/// Puts a marker of this high half with a length: in its low half below 15, else behind it.
+/// Puts a marker of this kind with a length: in its low half below 15, else behind it.
 pub fn put_length<W: Write>(
     out: &mut W,
     buffer: &mut Vec<u8>,
-    high: u8,
+    kind: CountedKind,
     count: u64,
 ) -> Result<(), Error>
-    requires half { high < 16 }
-    ensures { Puts W.contents out.old buffer.old (length_form high count) result out.new
+    ensures { Puts W.contents out.old buffer.old (length_form (high_half kind) count) result out.new
         buffer.new }
 {
-    if count < 15 {
-        return put_byte(out, buffer, high * 16 + count as u8);
+    if let Some(low) = LowHalf::of_length(count) {
+        return put_byte(out, buffer, Marker::Counted(kind, low).encode());
     }
+    let marker = Marker::Counted(kind, LowHalf::follows());
     let width = least_width(count);
     let digits = count.to_be_bytes();
     put_both(
         out,
         buffer,
-        &[high * 16 + 15, 0x10 + doublings(width)],
+        &[marker.encode(), number_marker(width).encode()],
         &digits[8 - width..],
     )
 }
@@ -117,7 +122,7 @@ pub fn put_length<W: Write>(
 pub fn put_boolean<W: Write>(out: &mut W, buffer: &mut Vec<u8>, value: bool) -> Result<(), Error>
     ensures { Puts W.contents out.old buffer.old (boolean_form value) result out.new buffer.new }
 {
-    put_byte(out, buffer, if value { 0x09 } else { 0x08 })
+    put_byte(out, buffer, Marker::Boolean(value).encode())
 }
 
 /// Puts data.
@@ -125,7 +130,7 @@ pub fn put_data<W: Write>(out: &mut W, buffer: &mut Vec<u8>, content: &[u8]) -> 
     ensures { Puts W.contents out.old buffer.old (data_form content.now) result out.new buffer.new }
 {
     let count = content.len();
-    put_length(out, buffer, 0x4, count as u64)?;
+    put_length(out, buffer, CountedKind::Data, count as u64)?;
     put(out, buffer, content)
 }
 
@@ -133,7 +138,7 @@ pub fn put_data<W: Write>(out: &mut W, buffer: &mut Vec<u8>, content: &[u8]) -> 
 pub fn put_date<W: Write>(out: &mut W, buffer: &mut Vec<u8>, date: Date) -> Result<(), Error>
     ensures { Puts W.contents out.old buffer.old (date_form date) result out.new buffer.new }
 {
-    put_marked(out, buffer, 0x33, &date.to_plist_real())
+    put_marked(out, buffer, Marker::Date, &date.to_plist_real())
 }
 
 /// Puts a real in the width that it has.
@@ -141,8 +146,8 @@ pub fn put_real<W: Write>(out: &mut W, buffer: &mut Vec<u8>, bits: RealBits) -> 
     ensures { Puts W.contents out.old buffer.old (real_form bits) result out.new buffer.new }
 {
     match bits {
-        RealBits::Four(digits) => put_marked(out, buffer, 0x22, &digits),
-        RealBits::Eight(digits) => put_marked(out, buffer, 0x23, &digits),
+        RealBits::Four(digits) => put_marked(out, buffer, Marker::Real4, &digits),
+        RealBits::Eight(digits) => put_marked(out, buffer, Marker::Real8, &digits),
     }
 }
 
@@ -151,7 +156,13 @@ pub fn put_uid<W: Write>(out: &mut W, buffer: &mut Vec<u8>, uid: Uid) -> Result<
     ensures { Puts W.contents out.old buffer.old (uid_form uid) result out.new buffer.new }
 {
     let width = least_width(uid.get());
-    put_marked_number(out, buffer, 0x7f + width as u8, width, uid.get())
+    put_marked_number(
+        out,
+        buffer,
+        Marker::Uid(UidWidth::new(width)),
+        width,
+        uid.get(),
+    )
 }
 
 // Puts an integer above `i64::MAX`, in sixteen bytes.
@@ -159,7 +170,7 @@ fn put_wide_integer<W: Write>(out: &mut W, buffer: &mut Vec<u8>, number: u64) ->
     ensures { Puts W.contents out.old buffer.old (marker_and_number 0x14 16 number) result out.new
         buffer.new }
 {
-    put_marked_number(out, buffer, 0x14, 8, 0)?;
+    put_marked_number(out, buffer, Marker::Integer16, 8, 0)?;
     put_number(out, buffer, 8, number)
 }
 
@@ -171,7 +182,9 @@ pub fn put_integer<W: Write>(out: &mut W, buffer: &mut Vec<u8>, value: Integer) 
     match (value.as_unsigned(), value.as_signed()) {
         (Some(number), Some(_)) => put_unsigned(out, buffer, number),
         (Some(number), None) => put_wide_integer(out, buffer, number),
-        (None, Some(number)) => { put_marked_number(out, buffer, 0x13, 8, number.cast_unsigned()) }
+        (None, Some(number)) => {
+            put_marked_number(out, buffer, Marker::Integer8, 8, number.cast_unsigned())
+        }
         (None, None) => Ok(()),
     }
 }

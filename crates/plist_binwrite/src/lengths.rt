@@ -9,6 +9,7 @@ ghost use Rattle.plist_binwrite.specs.Sizes.{IsSizeOrNone, marked_size, scalar_s
 use crate::text::{count_units, is_ascii_text};
 use crate::widths::least_width;
 use plist_base::{Date, Event, Integer, RealBits, Uid};
+use plist_format::LowHalf;
 
 /// So many bytes, and so many more.
 pub fn add(length: Option<u64>, more: Option<u64>) -> Option<u64>
@@ -32,10 +33,9 @@ pub fn length_of_count(count: u64) -> u64
     ensures value { (high : ℕ) → result ≡ length (length_form high count) }
     ensures small { result ≤ 10 }
 {
-    if count < 15 {
-        1
-    } else {
-        1 + length_of_unsigned(count)
+    match LowHalf::of_length(count) {
+        Some(_) => 1,
+        None => 1 + length_of_unsigned(count),
     }
 }
 

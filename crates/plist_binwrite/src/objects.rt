@@ -6,7 +6,7 @@ ghost use Rattle.plist_binwrite.specs.inner.Planning.{CanPut, count_of, events_i
 ghost use Rattle.plist_binwrite.specs.inner.Putting.{PutsArray, PutsDictionary, PutsHalf, PutsItems, PutsObject, PutsOrder};
 
 use crate::compact_numbers::Numbers;
-use crate::forms::{put_length, put_number, put_scalar};
+use crate::forms::{CountedKind, put_length, put_number, put_scalar};
 use crate::kinds::{EntryKind, key_or_value};
 use crate::plan::Planned;
 use crate::size::count_items;
@@ -68,7 +68,7 @@ fn put_array<W: Write>(
     ensures { PutsArray W.contents out.old buffer.old file.now index result out.new buffer.new }
 {
     let count = count_items(file.events, index + 1) as u64;
-    put_length(out, buffer, 0xa, count)?;
+    put_length(out, buffer, CountedKind::Array, count)?;
     put_items(out, buffer, file, index + 1)
 }
 
@@ -84,7 +84,7 @@ fn put_dictionary<W: Write>(
         buffer.new }
 {
     let count = count_items(file.events, index + 1) as u64;
-    put_length(out, buffer, 0xd, count / 2)?;
+    put_length(out, buffer, CountedKind::Dictionary, count / 2)?;
     put_keys_or_values(out, buffer, file, index + 1, false)?;
     put_keys_or_values(out, buffer, file, index + 1, true)
 }

@@ -5,7 +5,7 @@ ghost use Rattle.std.specs.Char.Escape.{encode_utf16};
 ghost use Rattle.plist_binwrite.specs.Forms.{units_of, is_ascii_text, text_form, ascii_form, char_units, text_units, wide_form};
 ghost use Rattle.plist_binwrite.specs.OutputBuffer.{Puts};
 
-use crate::forms::{put_length, put_number};
+use crate::forms::{CountedKind, put_length, put_number};
 use crate::output_buffer::put;
 use plist_base::Error;
 use std::io::Write;
@@ -66,7 +66,7 @@ fn put_ascii<W: Write>(out: &mut W, buffer: &mut Vec<u8>, text: &str) -> Result<
     ensures { Puts W.contents out.old buffer.old (ascii_form text.now) result out.new buffer.new }
 {
     let count = text.len();
-    put_length(out, buffer, 0x5, count as u64)?;
+    put_length(out, buffer, CountedKind::Text, count as u64)?;
     put(out, buffer, text.as_bytes())
 }
 
@@ -74,7 +74,7 @@ fn put_wide<W: Write>(out: &mut W, buffer: &mut Vec<u8>, text: &str) -> Result<(
     ensures { Puts W.contents out.old buffer.old (wide_form text.now) result out.new buffer.new }
 {
     let count = count_units(text);
-    put_length(out, buffer, 0x6, count as u64)?;
+    put_length(out, buffer, CountedKind::WideText, count as u64)?;
     put_units(out, buffer, text)
 }
 

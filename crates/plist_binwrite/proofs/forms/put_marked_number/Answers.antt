@@ -3,5 +3,8 @@ use Rattle.plist_binwrite.proofs.forms.put_marked_number.Goals as goal
 
 pub returns : goal.returns
 returns g c =
-    rw (tail_of_digits c.to_be_bytes-digits.result c.args.width c.args.number
-    c.to_be_bytes-digits.ensures c.requires.width) at c.put_both.ensures
+    rw (
+      tail_of_digits c.to_be_bytes-digits.result c.args.width c.args.number
+          c.to_be_bytes-digits.ensures c.requires.width,
+      c.encode.ensures,
+    ) at c.put_both.ensures

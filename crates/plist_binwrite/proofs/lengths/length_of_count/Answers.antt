@@ -2,15 +2,14 @@ use Rattle.std.proofs.Common.{length, arith, sym, ap}
 use Rattle.plist_binwrite.proofs.Pushed.{length_short, length_long}
 use Rattle.plist_binwrite.proofs.lengths.length_of_count.Goals as goal
 
-pub returns-then-count-lt15-clause-value : goal.returns-then-count-lt15-clause-value
-returns-then-count-lt15-clause-value c =
-    λ high. sym (ap length (length_short high _ c.if-count-lt15.true))
+pub returns-in-Some-clause-value : goal.returns-in-Some-clause-value
+returns-in-Some-clause-value c =
+    λ high. sym (ap length (length_short high _ c.in-Some.ensures.short.1))
 
-pub returns-else-count-lt15-clause-value : goal.returns-else-count-lt15-clause-value
-returns-else-count-lt15-clause-value c =
+pub returns-in-None-clause-value : goal.returns-in-None-clause-value
+returns-in-None-clause-value c =
     λ high. omega (
       arith,
       c.length_of_unsigned.ensures.value,
-      ap length
-          (length_long high c.args.count (omega (arith, c.if-count-lt15.false))),
+      ap length (length_long high c.args.count c.in-None.ensures.long),
     )
