@@ -1,11 +1,11 @@
 -- Where the faults of a reader are.
 use Rattle.std.proofs.Common.{◌≡◌, ℕ, ◌+◌, ◌≤◌, Option, None, Some, Result, Ok, Err, arith, ap}
-use Rattle.std.specs.Prelude.{⊤}
+use Rattle.std.specs.Prelude.{⊤, IsErrAnd}
 use Rattle.plist_base.specs.declared.error.Error.{Error}
-use Rattle.plist_base.specs.Faults.{FaultKind, Fault, MatchFault, UnexpectedEof, Io, OutOfMemory, error_kind_of, fault_at, fault_of, kind_of}
+use Rattle.plist_base.specs.Faults.{FaultKind, Fault, LimitReached, MatchFault, UnexpectedEof, Io, OutOfMemory, error_kind_of, fault_at, fault_of, kind_of}
 use Rattle.plist_base.specs.Sources.{CountsIo, FailsReading, IsOffsetWithin, IsReadFault}
 use Rattle.plist_base.proofs.Refusals.{MatchFault-at, MatchFault-weaker}
-use Rattle.plist_binread.specs.FaultOffsets.{MatchReader, FailsWithin, ErrWithin}
+use Rattle.plist_binread.specs.FaultOffsets.{MatchGiven, MatchReader, FailsWithin, ErrWithin}
 
 place_wider : (offset : Option ℕ) (s e s' e' : ℕ) → s' ≤ s → e ≤ e' → IsOffsetWithin s e offset
     → IsOffsetWithin s' e' offset
@@ -13,49 +13,45 @@ place_wider None s e s' e' low high h = absurd h
 place_wider (Some place) s e s' e' low high h = (omega arith, omega arith)
 
 -- what follows for the fault of a read
-MatchReader-read : (kind : FaultKind) {A A' : Type 0} (B C : Type 0) → (A → A')
-    → MatchReader kind A B C → MatchReader kind A' B C
-MatchReader-read UnexpectedEof B C f h = f h
-MatchReader-read Io B C f h = f h
-MatchReader-read kind B C f h = h
+MatchGiven-read : (kind : FaultKind) {A A' : Type 0} (B C D : Type 0) → (A → A')
+    → MatchGiven kind A B C D → MatchGiven kind A' B C D
+MatchGiven-read UnexpectedEof B C D f h = f h
+MatchGiven-read Io B C D f h = f h
+MatchGiven-read kind B C D f h = h
 
 -- a smaller range
 pub from_within : (fault : Fault) (p q s e : ℕ) → FailsWithin p q fault → s ≤ p → q ≤ e
     → FailsWithin s e fault
-from_within fault p q s e h low high =
-    record {
-      placed = MatchReader-read fault.kind _ _ (place_wider fault.offset p q s e low high)
-          h.placed;
-    }
+from_within fault p q s e h low high = record {
+  placed = MatchGiven-read fault.kind _ _ _ (place_wider fault.offset p q s e low high) h.placed;
+}
 
 -- the fault of a read is one of a reader's
-MatchReader-from_read : (kind : FaultKind) {A : Type 0} (B C : Type 0) → IsReadFault kind → A
-    → MatchReader kind A B C
-MatchReader-from_read UnexpectedEof B C h a = a
-MatchReader-from_read Io B C h a = a
-MatchReader-from_read kind B C h a = absurd h
+MatchGiven-from_read : (kind : FaultKind) {A : Type 0} (B C D : Type 0) → IsReadFault kind → A
+    → MatchGiven kind A B C D
+MatchGiven-from_read UnexpectedEof B C D h a = a
+MatchGiven-from_read Io B C D h a = a
+MatchGiven-from_read kind B C D h a = absurd h
 
 -- a read within the range
 pub from_reading : (fault : Fault) (p n s e : ℕ) → FailsReading p n fault → s ≤ p → p + n ≤ e
     → FailsWithin s e fault
-from_reading fault p n s e h low high =
-    record {
-      placed = MatchReader-from_read fault.kind _ _ h.kind
-          (place_wider fault.offset p (p + n) s e low high h.at);
-    }
+from_reading fault p n s e h low high = record {
+  placed = MatchGiven-from_read fault.kind _ _ _ h.kind
+      (place_wider fault.offset p (p + n) s e low high h.at);
+}
 
 -- a fault of the bytes, which has a place
 pub from_fault : (fault : Fault) (kind : FaultKind) (place s e : ℕ) → fault ≡ fault_at kind place
     → MatchReader kind ⊥ ⊥ ⊤ → FailsWithin s e fault
-from_fault fault kind place s e is other =
-    rw is (record { placed = MatchReader-other kind _ _ other })
+from_fault fault kind place s e is other = rw is (record { placed = by kind _ _ _ other })
   where
-    MatchReader-other : (kind : FaultKind) (A B : Type 0) → MatchReader kind ⊥ ⊥ ⊤
-        → MatchReader kind A B ⊤
-    MatchReader-other UnexpectedEof A B h = absurd h
-    MatchReader-other Io A B h = absurd h
-    MatchReader-other OutOfMemory A B h = absurd h
-    MatchReader-other kind A B h = h
+    by : (kind : FaultKind) (A B D : Type 0) → MatchReader kind ⊥ ⊥ ⊤ → MatchGiven kind A B ⊤ D
+    by UnexpectedEof A B D h = absurd h
+    by Io A B D h = absurd h
+    by OutOfMemory A B D h = absurd h
+    by (LimitReached limit) A B D h = absurd h
+    by kind A B D h = h
 
 -- nor was memory wanted
 pub counts_fault : (error : Error) (old new : ℕ)
@@ -77,3 +73,9 @@ pub err_within : {A : Type 0} (answer : Result A Error) (p q s e : ℕ) → ErrW
     → s ≤ p → q ≤ e → ErrWithin s e answer
 err_within (Ok value) p q s e within low high = tt
 err_within (Err error) p q s e within low high = from_within _ p q s e within low high
+
+-- the error that a `?` returns
+pub passed : {A E : Type 0} (answer : Result A E) {error : E} → IsErrAnd answer (λ e. e ≡ error)
+    → answer ≡ Err error
+passed (Ok value) h = absurd h
+passed (Err error) h = ap Err h

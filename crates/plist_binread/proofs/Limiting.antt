@@ -1,6 +1,6 @@
 -- What limits make of one call.
 use Rattle.std.proofs.lemmas.Bool.Decides.{nat_tests}
-use Rattle.std.proofs.Common.{◌≡◌, ℕ, ◌-◌, ◌^◌, ◌<◌, Bool, true, false, List, [], ◌∷◌, length, Option, None, Some, Ok, Err, IfSome, MatchBool, refl, sym, ap, ◌∙◌, arith}
+use Rattle.std.proofs.Common.{◌≡◌, ℕ, ◌-◌, ◌^◌, ◌<◌, Bool, true, false, List, [], ◌∷◌, length, Option, None, Some, Result, Ok, Err, IfSome, MatchBool, refl, sym, ap, ◌∙◌, arith}
 use Rattle.std.specs.Prelude.{nat_lt}
 use Rattle.std.specs.Option.{is_some}
 use Rattle.plist_base.specs.declared.error.Error.{Error}
@@ -17,39 +17,38 @@ use Rattle.plist_binread.specs.TooLong.{BeginsTooLong, left_under}
 use Rattle.plist_binread.specs.Advancing.{GivesCurrent}
 use Rattle.plist_binread.proofs.OverKnown.{IfSome-both}
 use Rattle.plist_binread.specs.Remaining.{SomeRemain, AllocatesFirst}
-use Rattle.plist_binread.specs.FaultOffsets.{FailsWithin, HasOffset, IsGivenWithin, MatchGiven, MatchReader}
+use Rattle.plist_binread.specs.FaultOffsets.{HasOffset, IsGivenWithin, MatchGiven}
 use Rattle.plist_base.proofs.Refusals.{MatchFault-weaker}
 use Rattle.std.proofs.lemmas.Option.{IfSome_then}
 
 -- ---- where a fault is
 
-pub given-within : (start end : ℕ) (limited : Bool) (fault : Fault) → FailsWithin start end fault
-    → IsGivenWithin start end limited fault
-given-within start end limited fault h = record { placed = by fault.kind h.placed }
-  where
-    by : (kind : FaultKind) → MatchReader kind (IsOffsetWithin start end fault.offset)
-        (fault.offset ≡ None) (HasOffset fault.offset)
-        → MatchGiven kind (IsOffsetWithin start end fault.offset) (fault.offset ≡ None)
-        (HasOffset fault.offset) ((limited ≡ true) × (fault.offset ≡ None))
-    by (LimitReached limit) h = absurd h
-    by kind h = h
+-- a refusal comes of a limit, whose fault is the one item that comes then
+by-limit : (limiter : Option Limiter) (event : PlainEvent) (fault : Fault)
+    → RefusesAny limiter event fault → (is_some limiter ≡ true) × (limit : Limit)
+    × (fault ≡ fault_nowhere (LimitReached limit))
+    × ((items : List Item) → limited_by_any limiter (Ok event ∷ items) ≡ Err fault ∷ [])
+by-limit None event fault r = absurd r
+by-limit (Some limiter) event fault r = (refl, r.0, r.1, r.2)
 
 -- the fault of a limit is neither a device's nor want of memory
+limit-fault : (fault : Fault) (limit : Limit) (X Y Z : Type 0)
+    → fault ≡ fault_nowhere (LimitReached limit) → Z → MatchFault fault.kind X Y Z
+limit-fault fault limit X Y Z is z = rw is z
+
 pub refused-other : (limiter : Option Limiter) (event : PlainEvent) (fault : Fault) (X Y Z : Type 0)
     → RefusesAny limiter event fault → Z → MatchFault fault.kind X Y Z
-refused-other None event fault X Y Z r z = absurd r
-refused-other (Some limiter) event fault X Y Z r z =
-    rw r.1 z
+refused-other limiter event fault X Y Z r z =
+    let by = by-limit limiter event fault r in limit-fault fault by.1 X Y Z by.2 z
 
 pub limit-given : (start end : ℕ) (limited : Bool) (fault : Fault) (limit : Limit) → limited ≡ true
     → fault ≡ fault_nowhere (LimitReached limit) → IsGivenWithin start end limited fault
-limit-given start end limited fault limit e is =
-    rw is (record { placed = (e, refl) })
+limit-given start end limited fault limit e is = rw is (record { placed = (e, refl) })
 
 pub refused-given : (start end : ℕ) (limiter : Option Limiter) (event : PlainEvent) (fault : Fault)
     → RefusesAny limiter event fault → IsGivenWithin start end (is_some limiter) fault
-refused-given start end None event fault h = absurd h
-refused-given start end (Some limiter) event fault h = limit-given _ end _ _ h.0 refl h.1
+refused-given start end limiter event fault r =
+    let by = by-limit limiter event fault r in limit-given start end _ fault by.1 by.0 by.2
 
 pub still-given : (start end : ℕ) (limited : Bool) (fault : Fault)
     → IsGivenWithin start end false fault → IsGivenWithin start end limited fault
@@ -111,69 +110,11 @@ remaining-under =
 
 either-under : (new : Bool) (limiter : Option Limiter) (items : List Item)
     → MatchBool new (SomeRemain items) (AllocatesFirst items)
-    → MatchBool new (SomeRemain (limited_by_any limiter items)) (AllocatesFirst (limited_by_any limiter items))
+    → MatchBool new (SomeRemain (limited_by_any limiter items)) (AllocatesFirst (limited_by_any
+    limiter items))
 either-under true limiter items h = remaining-under limiter items h
 either-under false limiter items h =
     under-of AllocatesFirst event-wants (λ fault items h. h) (λ limit. tt) limiter items h
-
-limit-refused : (kind : FaultKind) (limit : Limit) (X Y Z : Type 0) → kind ≡ LimitReached limit
-    → Z → MatchFault kind X Y Z
-limit-refused kind limit X Y Z e z = rw e z
-
-module _ (new : Bool) (current : PlainEvent) where
-  pub none-current : (known : Option (List ℕ)) (old now : Option Limiter)
-      (before after : List ℕ → List Item)
-      → IfSome known (λ bytes. GivesCurrent {A = Unit {0}} new (before bytes) None current
-      (after bytes))
-      → IfSome known (λ bytes. GivesCurrent {A = Unit {0}} new (limited_by_any old
-      (before bytes)) None current
-      (limited_by_any now (after bytes)))
-  none-current known old now before after h = IfSome_then known h (λ bytes h.
-      (cc (none-under old), cc (none-under now)))
-
-  pub fault-current : (known : Option (List ℕ)) (old now : Option Limiter)
-      (before after : List ℕ → List Item) (error : Error)
-      → IfSome known (λ bytes. GivesCurrent {A = Unit {0}} new (before bytes) (Some
-      (Err error)) current
-      (after bytes))
-      → IfSome known (λ bytes. GivesCurrent {A = Unit {0}} new (limited_by_any old (before bytes))
-      (Some (Err error)) current (limited_by_any now (after bytes)))
-  fault-current known old now before after error h = IfSome_then known h (λ bytes h. (
-    cc (none-under now),
-    MatchFault-weaker (kind_of (error_kind_of error))
-        (remaining-under old (before bytes)) (either-under new old (before bytes))
-        (λ b. ap (limited_by_any old) b ∙ fault-under old _) h.1,
-  ))
-
-  pub event-current : (known : Option (List ℕ)) (old now : Option Limiter)
-      (before after : List ℕ → List Item) (x : Unit {0}) → AdmitsAny old current now
-      → IfSome known (λ bytes. GivesCurrent {A = Unit {0}} new (before bytes) (Some (Ok x)) current
-      (after bytes))
-      → IfSome known (λ bytes. GivesCurrent {A = Unit {0}} new (limited_by_any old (before bytes))
-      (Some (Ok x)) current (limited_by_any now (after bytes)))
-  event-current known old now before after x a h =
-      IfSome_then known h (λ bytes h. cc (a (after bytes)))
-
-  limit-item : (old now : Option Limiter) (before after : List Item) (error : Error)
-      → RefusesAny old current (fault_of error) → before ≡ Ok current ∷ after
-      → GivesCurrent {A = Unit {0}} new (limited_by_any old before) (Some (Err error)) current
-      (limited_by_any now [])
-  limit-item None now before after error r h = absurd r
-  limit-item (Some limiter) now before after error r h = (
-    none-under now,
-    limit-refused _ r.0 _ _ _
-        (ap (λ (f : Fault). f.kind) r.1) (cc (r.2 after)),
-  )
-
-  pub limit-current : (known : Option (List ℕ)) (old now : Option Limiter)
-      (before after : List ℕ → List Item) (x : Unit {0}) (error : Error)
-      → RefusesAny old current (fault_of error)
-      → IfSome known (λ bytes. GivesCurrent {A = Unit {0}} new (before bytes) (Some (Ok x)) current
-      (after bytes))
-      → IfSome known (λ bytes. GivesCurrent {A = Unit {0}} new (limited_by_any old (before bytes))
-      (Some (Err error)) current (limited_by_any now []))
-  limit-current known old now before after x error r h =
-      IfSome_then _ h (λ bytes h. limit-item old now (before bytes) _ _ r h)
 
 -- ---- a text or data that is refused for its length
 
@@ -200,22 +141,53 @@ long-under (Some limiter) (Ok event ∷ items) small long =
     long-at limiter.left limiter.limits limiter.came limiter.level event _ small long
 long-under (Some limiter) (Err fault ∷ items) small long = absurd long
 
--- the fault of the limit comes in its place
-pub long-current : (new : Bool) (current mid : PlainEvent) (known : Option (List ℕ))
-    (old now : Option Limiter) (before after : List ℕ → List Item) (error held : Error)
-    → fault_of error ≡ fault_nowhere (LimitReached limit.Bytes)
-    → left_under old < 2 ^ 64 - 1
-    → IfSome known (λ bytes. GivesCurrent {A = Unit {0}} new (before bytes) (Some (Err held)) mid
-    (after bytes))
-    → IfSome known (λ bytes. BeginsTooLong (left_under old) (before bytes))
-    → IfSome known (λ bytes. GivesCurrent {A = Unit {0}} new (limited_by_any old (before bytes))
-    (Some (Err error)) current (limited_by_any now (after bytes)))
-long-current new current mid known old now before after error held is small h long =
-    IfSome-both known h long (λ bytes h long. (
-      ap (limited_by_any now) h.0 ∙ none-under now,
-      limit-refused _ limit.Bytes _ _ _ (ap (λ (f : Fault). f.kind) is)
-          (long-under old (before bytes) small long ∙ ap (λ f. Err f ∷ []) (sym is)),
-    ))
+-- ---- what a call gives
+
+-- what a call gives of the items before, and what it gives of them behind limits
+module _ (new : Bool) (current : PlainEvent) (known : Option (List ℕ)) (old now : Option Limiter)
+    (before after : List ℕ → List Item) where
+  abbrev Gave : Option (Result (Unit {0}) Error) → Type 0
+  Gave item = IfSome known (λ bytes. GivesCurrent new (before bytes) item current (after bytes))
+
+  abbrev GivesUnder : Option (Result (Unit {0}) Error) → (List ℕ → List Item) → Type 0
+  GivesUnder item rest = IfSome known (λ bytes. GivesCurrent new
+      (limited_by_any old (before bytes)) item current (limited_by_any now (rest bytes)))
+
+  pub none-current : Gave None → GivesUnder None after
+  none-current h = IfSome_then known h (λ bytes h. (cc (none-under old), cc (none-under now)))
+
+  pub fault-current : (error : Error) → Gave (Some (Err error))
+      → GivesUnder (Some (Err error)) after
+  fault-current error h = IfSome_then known h (λ bytes h. (
+    cc (none-under now),
+    MatchFault-weaker (kind_of (error_kind_of error))
+        (remaining-under old (before bytes)) (either-under new old (before bytes))
+        (λ b. ap (limited_by_any old) b ∙ fault-under old _) h.1,
+  ))
+
+  pub event-current : AdmitsAny old current now → Gave (Some (Ok tt))
+      → GivesUnder (Some (Ok tt)) after
+  event-current a h = IfSome_then known h (λ bytes h. cc (a (after bytes)))
+
+  pub limit-current : (error : Error) → RefusesAny old current (fault_of error)
+      → Gave (Some (Ok tt)) → GivesUnder (Some (Err error)) (λ bytes. [])
+  limit-current error r h = IfSome_then known h (λ bytes h.
+      let by = by-limit old current (fault_of error) r in (
+        none-under now,
+        limit-fault (fault_of error) by.1 _ _ _ by.2 (cc (by.3 (after bytes))),
+      ))
+
+  -- the fault of the limit comes in the place of a text or data that is too long
+  pub long-current : (error held : Error)
+      → fault_of error ≡ fault_nowhere (LimitReached limit.Bytes)
+      → left_under old < 2 ^ 64 - 1 → Gave (Some (Err held))
+      → IfSome known (λ bytes. BeginsTooLong (left_under old) (before bytes))
+      → GivesUnder (Some (Err error)) after
+  long-current error held is small h long = IfSome-both known h long (λ bytes h long. (
+    ap (limited_by_any now) h.0 ∙ none-under now,
+    limit-fault (fault_of error) limit.Bytes _ _ _ is
+        (long-under old (before bytes) small long ∙ ap (λ f. Err f ∷ []) (sym is)),
+  ))
 
 -- no device failed, since want of memory was held
 pub limit-counts : (error held : Error) (old now : ℕ)
@@ -223,4 +195,4 @@ pub limit-counts : (error held : Error) (old now : ℕ)
     → fault_of held ≡ fault_nowhere OutOfMemory → CountsIo held old now → CountsIo error old now
 limit-counts error held old now is want h =
     let kind = ap (λ (f : Fault). f.kind) want in
-    limit-refused _ limit.Bytes _ _ _ (ap (λ (f : Fault). f.kind) is) (rw kind at h)
+    limit-fault (fault_of error) limit.Bytes _ _ _ is (rw kind at h)

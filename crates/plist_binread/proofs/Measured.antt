@@ -6,7 +6,8 @@ use Rattle.std.specs.Char.Utf16.{has_unpaired_surrogate, lone_unit_char, surroga
 use Rattle.std.specs.List.{list_any, range_with_len}
 use Rattle.std.specs.Option.{unwrap_or}
 use Rattle.std.specs.Str.{IsCharBoundary, IsUtf8, IsValidUpTo, encode_utf8_all}
-use Rattle.std.proofs.lemmas.Bool.{lt-ltb, le-ltb, lt-leb, le-leb}
+use Rattle.std.proofs.lemmas.Bool.{lt-ltb, le-leb}
+use Rattle.std.proofs.lemmas.Bool.Decides.{nat_tests}
 use Rattle.std.proofs.lemmas.List.{drop-drop, drop-take, length-append, length-drop, length-take, take-take}
 use Rattle.std.proofs.Math.Seq.{take-add, take-length}
 use Rattle.std.proofs.lemmas.Option.{IfSome_then}
@@ -19,7 +20,7 @@ use Rattle.plist_base.specs.Faults.{InvalidUtf16String}
 use Rattle.plist_binread.specs.Decoding.{scalar_event_in}
 use Rattle.plist_binread.specs.declared.counted_content.ContentKind.TheVariants.{Data as DataKind, Text, WideText}
 use Rattle.plist_binread.specs.Reading.{data_of_content}
-use Rattle.plist_binread.specs.Measuring.{IsHigh, IsTextFront, IsTextPart, Measures, TakesUnit, counted, longer, waiting_units, wide_size}
+use Rattle.plist_binread.specs.Measuring.{IsHigh, IsTextFront, IsTextPart, Measures, TakesUnit, behind_unit, counted, longer, waiting_units, wide_size}
 use Rattle.plist_binread.proofs.Columns.{numbers_of-reads}
 use Rattle.plist_binread.proofs.Contents.{text-not_utf8, text-utf8}
 use Rattle.plist_binread.proofs.OverKnown.{IfSome-all, IfSome-both}
@@ -60,125 +61,83 @@ whole_piece piece some is = (
 pub valid_piece : (piece : List ℕ) (size : ℕ) → IsValidUpTo piece size → IsTextFront piece size
 valid_piece piece size valid = (valid.front, λ nothing more m. valid.longest more (omega arith))
 
--- where no character is whole in a piece of what is left, that is no text
-no_text : (xs : List ℕ) (left size : ℕ) → 0 < length (take left xs) → size ≡ min left 1024
-    → ((more : ℕ) → 0 < more → IsUtf8 (take more (take size xs)) → ⊥)
-    → IsUtf8 (take left xs) → ⊥
-no_text xs left size some is_size none is =
-    let first = first_character (take left xs) is some in
-    let most : length (take left xs) ≤ left = omega (arith, length-take left xs) in
-    let e : take first.0 (take left xs) ≡ take first.0 xs =
-    take-take first.0 left xs (omega (arith, first.3)) in
-    let e' : take first.0 (take size xs) ≡ take first.0 xs =
-    take-take first.0 size xs (omega (arith, first.2, first.3)) in
-    none first.0 first.1 (subst IsUtf8 (e ∙ sym e') first.4)
-
-part_of_piece : (bytes piece : List ℕ) (place left size : ℕ) → 0 < left
-    → length piece ≡ min left 1024 → LiesAt bytes place piece → size ≤ length piece
-    → IsTextFront piece size → IsTextPart (take left (drop place bytes)) size
-part_of_piece bytes piece place left size some is_size lies within front =
-    let e : take size (take left (drop place bytes)) ≡ take size piece =
-    take-take size left (drop place bytes) (omega arith)
-    ∙ sym (take-take size (length piece) (drop place bytes) within) ∙ ap (take size) (sym lies) in
-    let there : 0 < length (take left (drop place bytes)) =
-    omega (
-      arith,
-      ap length lies,
-      length-take (length piece) (drop place bytes),
-      length-take left (drop place bytes),
-    ) in
-    let back : (more : ℕ) → IsUtf8 (take more (take (length piece) (drop place bytes)))
-    → IsUtf8 (take more piece) = λ more u. subst (λ l. IsUtf8 (take more l)) (sym lies) u in (
-      subst IsUtf8 (sym e) front.0,
-      λ nothing. no_text (drop place bytes) left (length piece) there
-          is_size (λ more m u. front.1 nothing more m (back more u)),
+-- a piece that is read is part of what is left
+part_of_piece : (rest piece : List ℕ) (left size : ℕ) → 0 < length piece → length rest ≤ left
+    → length piece ≡ min left 1024 → piece ≡ take (length piece) rest → size ≤ length piece
+    → IsTextFront piece size → IsTextPart rest size
+part_of_piece rest piece left size some most whole lies within front =
+    let fronts : (n : ℕ) → n ≤ length piece → take n rest ≡ take n piece =
+    λ n h. sym (take-take n (length piece) rest h) ∙ ap (take n) (sym lies) in (
+      subst IsUtf8 (sym (fronts size within)) front.0,
+      λ nothing is.
+          let first = first_character rest is
+          (omega (arith, ap length lies, length-take (length piece) rest)) in
+          front.1 nothing first.0 first.1
+          (subst IsUtf8 (fronts first.0 (omega (arith, first.2, first.3))) first.4),
     )
 
--- a piece that is read is part of what is left
 pub piece_read : (known : Option (List ℕ)) (piece : List ℕ) (place left size : ℕ) → 0 < left
     → length piece ≡ min left 1024 → size ≤ length piece → IsTextFront piece size
     → IfSome known (λ bytes. LiesAt bytes place piece)
     → IfSome known (λ bytes. IsTextPart (take left (drop place bytes)) size)
-piece_read known piece place left size some is_size within front lies =
-    IfSome_then known lies (λ bytes lies. part_of_piece bytes piece place left size some is_size
-    lies within front)
-
-behind : (bytes : List ℕ) (start done : ℕ)
-    → drop (start + done) bytes ≡ drop done (drop start bytes)
-behind bytes start done = sym (drop-drop done start bytes)
+piece_read known piece place left size some whole within front lies =
+    IfSome_then known lies (λ bytes lies. part_of_piece (take left (drop place bytes)) piece left
+    size (omega arith) (omega (arith, length-take left (drop place bytes))) whole
+    (lies ∙ sym (take-take (length piece) left (drop place bytes) (omega arith))) within front)
 
 -- where so much of a text has passed
-module _ (bytes : List ℕ) (start size done : ℕ) (within : done ≤ size)
-    (passed : IsUtf8 (take done (drop start bytes))) where
-  -- the next piece
-  pass_piece : (more : ℕ) → more ≤ size - done
-      → IsTextPart (take (size - done) (drop (start + done) bytes)) more
-      → IsUtf8 (take (done + more) (drop start bytes))
-  pass_piece more few part =
-      let e : take more (take (size - done) (drop (start + done) bytes))
-      ≡ take more (drop done (drop start bytes)) =
-      take-take more (size - done) (drop (start + done) bytes) few
-      ∙ ap (take more) (behind bytes start done) in
-      subst IsUtf8 (sym (take-add done more (drop start bytes)))
-      (IsUtf8-append (take done (drop start bytes)) (take more (drop done (drop start bytes)))
-      passed (subst IsUtf8 e part.0))
+module _ (text : List ℕ) (size done : ℕ) (within : done ≤ size) (passed : IsUtf8 (take done text))
+  where
+    -- the next piece
+    pass_piece : (more : ℕ) → more ≤ size - done
+        → IsUtf8 (take more (take (size - done) (drop done text)))
+        → IsUtf8 (take (done + more) text)
+    pass_piece more few part = subst IsUtf8 (sym (take-add done more text))
+        (IsUtf8-append (take done text) (take more (drop done text)) passed
+        (subst IsUtf8 (take-take more (size - done) (drop done text) few) part))
 
-  -- or nothing more
-  pass_nothing : start + size ≤ length bytes
-      → (IsUtf8 (take (size - done) (drop (start + done) bytes)) → ⊥)
-      → Measures Text (text (take size (drop start bytes))) None
-  pass_nothing fits none = text-not_utf8 (take size (drop start bytes)) (λ is.
-      let long : length (take size (drop start bytes)) ≡ size =
-      omega (arith, length-take size (drop start bytes), length-drop start bytes) in
-      let front : IsUtf8 (take done (take size (drop start bytes))) =
-      subst IsUtf8 (sym (take-take done size (drop start bytes) within)) passed in
-      let cut =
-      IsCharBoundary-from_take (take size (drop start bytes)) done is (omega arith) front in
-      let n : size ≡ done + (size - done) = omega arith in
-      let e : drop done (take size (drop start bytes))
-      ≡ take (size - done) (drop (start + done) bytes) =
-      ap (λ k. drop done (take k (drop start bytes))) n
-      ∙ drop-take done (size - done) (drop start bytes)
-      ∙ ap (take (size - done)) (sym (behind bytes start done)) in
-      none (subst IsUtf8 e (IsUtf8-drop (take size (drop start bytes)) done is cut)))
+    -- or nothing more
+    pass_nothing : size ≤ length text → (IsUtf8 (take (size - done) (drop done text)) → ⊥)
+        → IsUtf8 (take size text) → ⊥
+    pass_nothing fits none is =
+        let front = subst IsUtf8 (sym (take-take done size text within)) passed in
+        let cut = IsCharBoundary-from_take (take size text) done is
+        (omega (arith, length-take size text)) front in
+        let n : size ≡ done + (size - done) = omega arith in
+        none (subst IsUtf8 (ap (λ k. drop done (take k text)) n ∙ drop-take done (size - done) text)
+        (IsUtf8-drop (take size text) done is cut))
 
 -- so much of a text has passed
 abbrev pub HasPassed : (known : Option (List ℕ)) (start done : ℕ) → Type 0
 HasPassed known start done = IfSome known (λ bytes. IsUtf8 (take done (drop start bytes)))
 
 -- what is known of all of it
-abbrev pub MeasuresText : (known : Option (List ℕ)) (start size : ℕ) → Option ℕ → Type 0
+abbrev MeasuresText : (known : Option (List ℕ)) (start size : ℕ) → Option ℕ → Type 0
 MeasuresText known start size answer = IfSome known (λ bytes. start + size ≤ length bytes
     → Measures Text (text (take size (drop start bytes))) answer)
 
-pub text_more : (known now : Option (List ℕ)) (start size done more : ℕ) → now ≡ known
-    → done ≤ size → more ≤ size - done → HasPassed known start done
-    → IfSome now (λ bytes. IsTextPart (take (size - done) (drop (start + done) bytes)) more)
-    → HasPassed known start (done + more)
-text_more known now start size done more same within few passed part =
-    let part' = rw same at part in
-    IfSome-both known passed part' (λ bytes passed part.
-    pass_piece bytes start size done within passed more few part)
+module _ (known now : Option (List ℕ)) (start size done more : ℕ) (same : now ≡ known)
+    (within : done ≤ size) (passed : HasPassed known start done)
+    (part : IfSome now (λ bytes. IsTextPart (take (size - done) (drop (start + done) bytes)) more))
+  where
+    pub text_more : more ≤ size - done → HasPassed known start (done + more)
+    text_more few = IfSome-both known passed (rw same at part) (λ bytes passed part.
+        pass_piece (drop start bytes) size done within passed more few
+        (rw (← drop-drop done start bytes) at part.0))
 
-pub text_fails : (known now : Option (List ℕ)) (start size done more : ℕ) → now ≡ known
-    → done ≤ size → more ≡ 0 → HasPassed known start done
-    → IfSome now (λ bytes. IsTextPart (take (size - done) (drop (start + done) bytes)) more)
-    → MeasuresText known start size None
-text_fails known now start size done more same within nothing passed part =
-    let part' = rw same at part in
-    IfSome-both known passed part' (λ bytes passed part fits.
-    pass_nothing bytes start size done within passed fits (part.1 nothing))
+    pub text_fails : more ≡ 0 → MeasuresText known start size None
+    text_fails nothing = IfSome-both known passed (rw same at part) (λ bytes passed part fits.
+        text-not_utf8 (take size (drop start bytes)) (pass_nothing (drop start bytes) size done within
+        passed (omega (arith, length-drop start bytes))
+        (λ is. part.1 nothing (rw (drop-drop done start bytes) at is))))
 
 pub text_done : (known : Option (List ℕ)) (start size done : ℕ) → done ≡ size → size < 2 ^ 64
     → HasPassed known start done → MeasuresText known start size (Some size)
 text_done known start size done end small passed =
-    let passed' = rw end at passed in
-    IfSome_then known passed' (λ bytes passed fits.
-    let e : size ≡ counted (length (take size (drop start bytes))) =
-    omega (arith, length-take size (drop start bytes), length-drop start bytes) in (
+    IfSome_then known (rw end at passed) (λ bytes passed fits. (
       ScalarEvent (String (take size (drop start bytes))),
       ap scalar_event_in (text-utf8 (take size (drop start bytes)) passed),
-      e,
+      omega (arith, length-take size (drop start bytes), length-drop start bytes),
     ))
 
 -- data has as many bytes as its content has elements
@@ -188,13 +147,15 @@ pub current_data : (known : Option (List ℕ)) (place start count : ℕ)
     → Measures DataKind (data_of_content (take (count * 1) (drop (place + start) bytes)))
     (Some count))
 current_data known place start count small = IfSome-all known (λ bytes fits.
-    let e : count ≡ counted (length (take (count * 1) (drop (place + start) bytes))) =
-    omega (
-      arith,
-      length-take (count * 1) (drop (place + start) bytes),
-      length-drop (place + start) bytes,
-    ) in
-    (ScalarEvent (Data (take (count * 1) (drop (place + start) bytes))), refl, e))
+    let content = take (count * 1) (drop (place + start) bytes) in (
+      ScalarEvent (Data content),
+      refl,
+      omega (
+        arith,
+        length-take (count * 1) (drop (place + start) bytes),
+        length-drop (place + start) bytes,
+      ),
+    ))
 
 -- ---- units of a text
 
@@ -250,36 +211,31 @@ longer_none units =
 abbrev ArePair : ℕ → ℕ → Type 0
 ArePair u v = (0xD800 ≤ u) × (u < 0xDC00) × (0xDC00 ≤ v) × (v < 0xE000)
 
-unit_below : (unit : ℕ) → unit < 0xD800 → lone_unit_char unit ≡ Some unit
-unit_below unit h = rw (lt-leb 0xD800 unit h) refl
+four : (c : ℕ) → 0x1_0000 ≤ c → len_utf8 c ≡ 4
+four c h = grind (arith, nat_tests)
 
-unit_above : (unit : ℕ) → 0xE000 ≤ unit → lone_unit_char unit ≡ Some unit
-unit_above unit h =
-    let past : 0xD800 ≤ unit = omega arith in
-    rw (le-leb 0xD800 unit past, le-ltb unit 0xE000 h) refl
-
-no_unit : (unit : ℕ) → 0xD800 ≤ unit → unit < 0xE000 → lone_unit_char unit ≡ None
-no_unit unit low high = rw (le-leb 0xD800 unit low, lt-ltb unit 0xE000 high) refl
-
--- a unit in no pair, which is a character or a surrogate
-lone : (unit size : ℕ) (units : List ℕ) → (ArePair unit (get_or units 0 0) → ⊥)
-    → lone_unit_char unit ≡ Some unit → len_utf8 unit ≡ size
-    → wide_size (unit ∷ units) ≡ longer size (wide_size units)
-lone unit size units apart is long =
-    ap size_of (utf16_chars_lone unit units apart ∙ ap (λ c. c ∷ utf16_chars units) is)
+-- a unit that is a character
+pub takes_lone : (unit size : ℕ) → (unit < 0xD800) ⊎ (0xE000 ≤ unit) → len_utf8 unit ≡ size
+    → TakesUnit None unit (Some (size, None))
+takes_lone unit size out long units =
+    ap size_of (utf16_chars_lone unit units (apart out) ∙ ap (λ c. c ∷ utf16_chars units) (is out))
     ∙ one_more unit (utf16_chars units) ∙ ap (λ n. longer n (wide_size units)) long
+  where
+    apart : (unit < 0xD800) ⊎ (0xE000 ≤ unit) → ArePair unit (get_or units 0 0) → ⊥
+    apart (inl h) pair = omega (arith, pair.0)
+    apart (inr h) pair = omega (arith, pair.1)
 
+    is : (unit < 0xD800) ⊎ (0xE000 ≤ unit) → lone_unit_char unit ≡ Some unit
+    is (inl h) = grind (arith, nat_tests)
+    is (inr h) = grind (arith, nat_tests)
+
+-- or a surrogate without its partner
 lone_surrogate : (unit : ℕ) (units : List ℕ) → (ArePair unit (get_or units 0 0) → ⊥)
     → 0xD800 ≤ unit → unit < 0xE000 → wide_size (unit ∷ units) ≡ None
 lone_surrogate unit units apart low high =
-    ap size_of (utf16_chars_lone unit units apart
-    ∙ ap (λ c. c ∷ utf16_chars units) (no_unit unit low high))
-
-four : (c : ℕ) → 0x1_0000 ≤ c → len_utf8 c ≡ 4
-four c h =
-    let past : 0x80 ≤ c = omega arith in
-    let past' : 0x800 ≤ c = omega arith in
-    rw (le-ltb c 0x80 past, le-ltb c 0x800 past', le-ltb c 0x1_0000 h) refl
+    let none : lone_unit_char unit ≡ None =
+    rw (le-leb 0xD800 unit low, lt-ltb unit 0xE000 high) refl in
+    ap size_of (utf16_chars_lone unit units apart ∙ ap (λ c. c ∷ utf16_chars units) none)
 
 pub takes_pair : (high unit : ℕ) → IsHigh (Some high) → 0xDC00 ≤ unit → unit < 0xE000
     → TakesUnit (Some high) unit (Some (4, None))
@@ -301,36 +257,6 @@ pub lacks_first : (unit : ℕ) → 0xDC00 ≤ unit → unit < 0xE000 → TakesUn
 lacks_first unit low high units =
     lone_surrogate unit units (λ pair. omega (arith, pair.1)) (omega arith) high
 
-pub takes_first : (unit : ℕ) → TakesUnit None unit (Some (0, Some unit))
-takes_first unit units = sym (longer_none (unit ∷ units))
-
-pub takes_one : (unit : ℕ) → unit < 0x80 → TakesUnit None unit (Some (1, None))
-takes_one unit small units = lone unit 1 units (λ pair. omega (arith, pair.0))
-    (unit_below unit (omega arith)) (rw (lt-ltb unit 0x80 small) refl)
-
-pub takes_two : (unit : ℕ) → 0x80 ≤ unit → unit < 0x800 → TakesUnit None unit (Some (2, None))
-takes_two unit low high units = lone unit 2 units (λ pair. omega (arith, pair.0))
-    (unit_below unit (omega arith))
-    (rw (le-ltb unit 0x80 low, lt-ltb unit 0x800 high) refl)
-
-three : (unit : ℕ) → 0x800 ≤ unit → unit < 0x1_0000 → len_utf8 unit ≡ 3
-three unit low high =
-    let past : 0x80 ≤ unit = omega arith in
-    rw (le-ltb unit 0x80 past, le-ltb unit 0x800 low, lt-ltb unit 0x1_0000 high) refl
-
-pub takes_three : (unit : ℕ) → 0x800 ≤ unit → (unit < 0xD800) ⊎ (0xE000 ≤ unit) → unit < 0x1_0000
-    → TakesUnit None unit (Some (3, None))
-takes_three unit low (inl h) high units = lone unit 3 units
-    (λ pair. omega (arith, pair.0)) (unit_below unit h) (three unit low high)
-takes_three unit low (inr h) high units = lone unit 3 units
-    (λ pair. omega (arith, pair.1)) (unit_above unit h) (three unit low high)
-
-none_gone : (count : ℕ) → count ≡ count - 0
-none_gone count = omega arith
-
-none_left : (i count : ℕ) → i ≡ count → count - i ≡ 0
-none_left i count end = omega arith
-
 -- the units from one on
 abbrev pub units_from : (bytes : List ℕ) (start i n : ℕ) → List ℕ
 units_from bytes start i n = map (λ k. number_at bytes (start + k * 2) 2) (range_with_len i n)
@@ -342,36 +268,15 @@ IsMeasured known start count i size high = IfSome known (λ bytes.
     wide_size (units_from bytes start 0 count)
     ≡ longer size (wide_size (waiting_units high ++ units_from bytes start i (count - i))))
 
--- nothing at first
-pub measure_begun : (known : Option (List ℕ)) (start count : ℕ)
-    → IsMeasured known start count 0 0 None
-measure_begun known start count =
-    IfSome-all known (λ bytes. sym (longer_none (units_from bytes start 0 count))
-    ∙ ap (λ n. longer 0 (wide_size (units_from bytes start 0 n))) (none_gone count))
-
+-- the units from the next one on
 first_left : (bytes : List ℕ) (start count i : ℕ) → i < count → units_from bytes start i (count - i)
     ≡ number_at bytes (start + i * 2) 2 ∷ units_from bytes start (i + 1) (count - (i + 1))
 first_left bytes start count i h =
     let n : count - i ≡ suc (count - (i + 1)) = omega arith in
     ap (units_from bytes start i) n
 
--- one unit more
-pub measure_more : (known now : Option (List ℕ)) (start count i size more unit : ℕ)
-    (high next : Option ℕ) → now ≡ known → i < count
-    → IsMeasured known start count i size high
-    → IfSome now (λ bytes. unit ≡ number_at bytes (start + i * 2) 2)
-    → TakesUnit high unit (Some (more, next))
-    → IsMeasured known start count (i + 1) (counted (size + more)) next
-measure_more known now start count i size more unit high next same h so_far reads takes =
-    let reads' = rw same at reads in
-    IfSome-both known so_far reads' (λ bytes so_far is. so_far
-    ∙ ap (λ us. longer size (wide_size (waiting_units high ++ us)))
-    (first_left bytes start count i h)
-    ∙ ap (λ u. longer size (wide_size (waiting_units high
-    ++ u ∷ units_from bytes start (i + 1) (count - (i + 1))))) (sym is)
-    ∙ ap (longer size) (takes (units_from bytes start (i + 1) (count - (i + 1))))
-    ∙ longer_twice size more (wide_size (waiting_units next
-    ++ units_from bytes start (i + 1) (count - (i + 1)))))
+none_left : (i count : ℕ) → i ≡ count → count - i ≡ 0
+none_left i count end = omega arith
 
 -- the size of all units is that of their text
 measures_units : (units : List ℕ) → Measures WideText (text_of_units units) (wide_size units)
@@ -394,28 +299,47 @@ whole bytes start count answer fits is =
     (subst (Measures WideText (text_of_units (units_from bytes start 0 count))) is
     (measures_units (units_from bytes start 0 count)))
 
--- a unit without its partner
-pub measure_fails : (known now : Option (List ℕ)) (start count i size unit : ℕ) (high : Option ℕ)
-    → now ≡ known → i < count → IsMeasured known start count i size high
-    → IfSome now (λ bytes. unit ≡ number_at bytes (start + i * 2) 2)
-    → TakesUnit high unit None
-    → IfSome known (λ bytes. start + count * 2 ≤ length bytes
-    → Measures WideText (wide_text (take (count * 2) (drop start bytes))) None)
-measure_fails known now start count i size unit high same h so_far reads takes =
-    let reads' = rw same at reads in
-    IfSome-both known so_far reads' (λ bytes so_far is fits.
-    whole bytes start count None fits (so_far
-    ∙ ap (λ us. longer size (wide_size (waiting_units high ++ us)))
-    (first_left bytes start count i h)
-    ∙ ap (λ u. longer size (wide_size (waiting_units high
-    ++ u ∷ units_from bytes start (i + 1) (count - (i + 1))))) (sym is)
-    ∙ ap (longer size) (takes (units_from bytes start (i + 1) (count - (i + 1))))))
+-- what is known of all of them
+abbrev MeasuresUnits : (known : Option (List ℕ)) (start count : ℕ) → Option ℕ → Type 0
+MeasuresUnits known start count answer = IfSome known (λ bytes. start + count * 2 ≤ length bytes
+    → Measures WideText (wide_text (take (count * 2) (drop start bytes))) answer)
+
+-- nothing at first
+pub measure_begun : (known : Option (List ℕ)) (start count : ℕ)
+    → IsMeasured known start count 0 0 None
+measure_begun known start count =
+    let all : count ≡ count - 0 = omega arith in
+    IfSome-all known (λ bytes. sym (longer_none (units_from bytes start 0 count))
+    ∙ ap (λ n. longer 0 (wide_size (units_from bytes start 0 n))) all)
+
+module _ (known now : Option (List ℕ)) (start count i size unit : ℕ) (high : Option ℕ)
+    (same : now ≡ known) (h : i < count) (so_far : IsMeasured known start count i size high)
+    (reads : IfSome now (λ bytes. unit ≡ number_at bytes (start + i * 2) 2)) where
+  unit_measured : (answer : Option (ℕ × Option ℕ)) → TakesUnit high unit answer
+      → IfSome known (λ bytes. wide_size (units_from bytes start 0 count)
+      ≡ longer size (behind_unit answer (units_from bytes start (i + 1) (count - (i + 1)))))
+  unit_measured answer takes = IfSome-both known so_far (rw same at reads) (λ bytes so_far is.
+      let rest = units_from bytes start (i + 1) (count - (i + 1)) in
+      so_far ∙ ap (λ us. longer size (wide_size (waiting_units high ++ us)))
+      (first_left bytes start count i h ∙ ap (λ u. u ∷ rest) (sym is))
+      ∙ ap (longer size) (takes rest))
+
+  -- one unit more
+  pub measure_more : (more : ℕ) (next : Option ℕ) → TakesUnit high unit (Some (more, next))
+      → IsMeasured known start count (i + 1) (counted (size + more)) next
+  measure_more more next takes = IfSome_then known (unit_measured (Some (more, next)) takes)
+      (λ bytes is. is ∙ longer_twice size more (wide_size (waiting_units next
+      ++ units_from bytes start (i + 1) (count - (i + 1)))))
+
+  -- a unit without its partner
+  pub measure_fails : TakesUnit high unit None → MeasuresUnits known start count None
+  measure_fails takes = IfSome_then known (unit_measured None takes)
+      (λ bytes is fits. whole bytes start count None fits is)
 
 -- all of them
 pub measure_done : (known : Option (List ℕ)) (start count i size : ℕ) → i ≡ count
     → size < 2 ^ 64 → IsMeasured known start count i size None
-    → IfSome known (λ bytes. start + count * 2 ≤ length bytes
-    → Measures WideText (wide_text (take (count * 2) (drop start bytes))) (Some size))
+    → MeasuresUnits known start count (Some size)
 measure_done known start count i size end small so_far =
     IfSome_then known so_far (λ bytes so_far fits. whole bytes start count (Some size) fits (so_far
     ∙ ap (λ n. longer size (wide_size (units_from bytes start i n))) (none_left i count end)
@@ -424,8 +348,7 @@ measure_done known start count i size end small so_far =
 
 pub measure_waits : (known : Option (List ℕ)) (start count i size high : ℕ) → i ≡ count
     → IsHigh (Some high) → IsMeasured known start count i size (Some high)
-    → IfSome known (λ bytes. start + count * 2 ≤ length bytes
-    → Measures WideText (wide_text (take (count * 2) (drop start bytes))) None)
+    → MeasuresUnits known start count None
 measure_waits known start count i size high end is so_far =
     IfSome_then known so_far (λ bytes so_far fits. whole bytes start count None fits (so_far
     ∙ ap (λ n. longer size (wide_size (high ∷ units_from bytes start i n))) (none_left i count end)

@@ -7,6 +7,11 @@ pub IfSome-all : {X : Type 0} (known : Option X) {P : X → Type 0} → ((bytes 
 IfSome-all None f = tt
 IfSome-all (Some bytes) f = f _
 
+-- what follows from what is never so
+pub IfSome-never : {X : Type 0} (known : Option X) {A : Type 0} (P : X → Type 0) → (A → ⊥)
+    → IfSome known (λ bytes. A → P bytes)
+IfSome-never known P f = IfSome-all known (λ bytes a. absurd (f a))
+
 -- what follows from two facts
 pub IfSome-both : {X : Type 0} (known : Option X) {P Q S : X → Type 0} → IfSome known P
     → IfSome known Q → ((bytes : X) → P bytes → Q bytes → S bytes) → IfSome known S

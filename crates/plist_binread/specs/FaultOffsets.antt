@@ -1,5 +1,5 @@
 -- Where the faults of a reader are.
-use Rattle.std.specs.Prelude.{◌≡◌, ℕ, Bool, true, Option, None, Some, Result, IfErr, MatchOption, ⊤}
+use Rattle.std.specs.Prelude.{◌≡◌, ℕ, Bool, true, false, Option, None, Some, Result, IfErr, MatchOption, ⊤}
 use Rattle.plist_base.specs.declared.error.Error.{Error}
 use Rattle.plist_base.specs.Faults.{FaultKind, Fault, LimitReached, UnexpectedEof, InvalidMagic, InvalidTrailerObjectOffsetSize, InvalidTrailerObjectReferenceSize, ObjectOffsetTooLarge, ObjectReferenceTooLarge, RecursiveObject, NullObjectUnimplemented, FillObjectUnimplemented, UnknownObjectType, IntegerOutOfRange, OverflowOrNanDate, InvalidUtf8String, InvalidUtf16String, Io, OutOfMemory, fault_of}
 use Rattle.plist_base.specs.Sources.{IsOffsetWithin}
@@ -30,28 +30,15 @@ abbrev pub HasOffset : Option ℕ → Type 0
 HasOffset None = ⊥
 HasOffset (Some place) = ⊤
 
--- what lies from `start` on and before `end` was not read: one of the reads there failed or gave
--- nothing, and the fault's offset is the place of that read; or memory was wanted, and the fault
--- has no offset; or it is another fault of a reader, and has one
-pub record FailsWithin (start end : ℕ) (fault : Fault) : Type 0 where
-  pub placed : MatchReader fault.kind (IsOffsetWithin start end fault.offset) (fault.offset ≡ None)
-      (HasOffset fault.offset)
-
--- the same of an answer's error, if there is one
-abbrev pub ErrWithin : {A : Type 0} → (start end : ℕ) → Result A Error → Type 0
-ErrWithin start end answer = IfErr answer (λ e. FailsWithin start end (fault_of e))
-
--- and of an item
-abbrev pub ItemWithin : {A : Type 0} → (start end : ℕ) → Option (Result A Error) → Type 0
-ItemWithin start end item = MatchOption item ⊤ (λ answer. ErrWithin start end answer)
-
 -- the same, and one fact more for the fault of a limit
 abbrev pub MatchGiven : FaultKind → (read memory other limit : Type 0) → Type 0
 MatchGiven (LimitReached reached) read memory other limit = limit
 MatchGiven kind read memory other limit = MatchReader kind read memory other
 
--- A fault that a reader gives: as above; or that of a limit, which has no offset, where there are
--- limits.
+-- A fault that a reader gives. What lies from `start` on and before `end` was not read: one of the
+-- reads there failed or gave nothing, and the fault's offset is the place of that read. Or memory
+-- was wanted, and the fault has no offset. Or a limit was reached, where there are limits: that
+-- fault has none. Or it is another fault of a reader, and has one.
 pub record IsGivenWithin (start end : ℕ) (limited : Bool) (fault : Fault) : Type 0 where
   pub placed : MatchGiven fault.kind (IsOffsetWithin start end fault.offset) (fault.offset ≡ None)
       (HasOffset fault.offset) ((limited ≡ true) × (fault.offset ≡ None))
@@ -61,3 +48,13 @@ abbrev pub ItemGivenWithin : {A : Type 0} → (start end : ℕ) → (limited : B
     → Option (Result A Error) → Type 0
 ItemGivenWithin start end limited item =
     MatchOption item ⊤ (λ answer. IfErr answer (λ e. IsGivenWithin start end limited (fault_of e)))
+
+-- and where there are no limits: of a fault, of an answer, and of an item
+abbrev pub FailsWithin : (start end : ℕ) → Fault → Type 0
+FailsWithin start end fault = IsGivenWithin start end false fault
+
+abbrev pub ErrWithin : {A : Type 0} → (start end : ℕ) → Result A Error → Type 0
+ErrWithin start end answer = IfErr answer (λ e. FailsWithin start end (fault_of e))
+
+abbrev pub ItemWithin : {A : Type 0} → (start end : ℕ) → Option (Result A Error) → Type 0
+ItemWithin start end item = ItemGivenWithin start end false item

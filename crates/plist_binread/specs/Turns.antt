@@ -1,5 +1,5 @@
 -- What one turn of the walk does: which child of the innermost frame comes next, and which object.
-use Rattle.std.specs.Prelude.{◌≡◌, ℕ, ◌+◌, ◌-◌, ◌<◌, Bool, true, false, not, List, [], ◌∷◌, ◌++◌, length, reverse, nat_lt, get_or, Result, Ok, Err, Option, None, Some, MatchResult, MatchOption, IfOk, ⊤}
+use Rattle.std.specs.Prelude.{◌≡◌, ℕ, ◌+◌, ◌-◌, ◌<◌, Bool, true, false, not, List, [], ◌∷◌, ◌++◌, length, reverse, nat_lt, get_or, Result, Ok, Err, Option, None, Some, MatchResult, MatchOption, IfOk, IfSome, ⊤}
 use Rattle.std.specs.List.{slice_get}
 use Rattle.plist_base.specs.declared.error.Error.{Error}
 use Rattle.plist_base.specs.Faults.{Fault, IsIo, kind_of, error_kind_of}
@@ -58,8 +58,6 @@ abbrev pub closes : List Frame → Bool
 closes [] = false
 closes (frame ∷ below) = not (nat_lt frame.next frame.count)
 
--- does an end come next?
-
 -- ---- what is looked up and read
 
 -- what was found by a tag and a content: the place of an object that isn't cached, or none, and
@@ -98,13 +96,11 @@ upcoming_number bytes Ended bounds frames = None
 -- the object is cached if the event that its answer shows is small
 abbrev pub IsCachedIfSmall : {A : Type 0} → (shown : A → PlainEvent) → Option ℕ
     → Option (Result A Error) → (tags : List ℕ) → Type 0
-IsCachedIfSmall shown None item tags = ⊤
-IsCachedIfSmall shown (Some number) item tags =
-    MatchOption item ⊤ (λ answer. IfOk answer
-    (λ value. is_small_event (shown value) ≡ true → 0 < unmarked (get_or tags number 0)))
+IsCachedIfSmall shown number item tags = MatchOption item ⊤ (λ answer. IfOk answer (λ value.
+    IfSome number (λ number.
+    is_small_event (shown value) ≡ true → 0 < unmarked (get_or tags number 0))))
 
 -- the same of the current event
 abbrev pub IsCurrentCached : {A : Type 0} → Option ℕ → Option (Result A Error)
-    → (current : PlainEvent)
-    → (tags : List ℕ) → Type 0
+    → (current : PlainEvent) → (tags : List ℕ) → Type 0
 IsCurrentCached number item current tags = IsCachedIfSmall (λ _. current) number item tags

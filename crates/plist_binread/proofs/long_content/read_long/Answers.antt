@@ -1,8 +1,7 @@
 use Rattle.std.proofs.Common.{arith}
-use Rattle.std.proofs.lemmas.Result.{err_from_is_err_and}
 use Rattle.plist_base.specs.Faults.{fault_of}
 use Rattle.plist_binread.proofs.Contents.{content_read, content_refused, counts_answer}
-use Rattle.plist_binread.proofs.Failing.{err_within, from_within}
+use Rattle.plist_binread.proofs.Failing.{err_within, from_within, passed}
 use Rattle.plist_binread.proofs.long_content.read_long.Goals as goal
 
 pub returns-clause-decoded : goal.returns-clause-decoded
@@ -13,9 +12,9 @@ returns-clause-decoded g c =
 
 pub returns-in_err-bytes-clause-decoded : goal.returns-in_err-bytes-clause-decoded
 returns-in_err-bytes-clause-decoded g c =
-    let p = err_from_is_err_and c.from_residual.result c.from_residual.ensures.1 in
-    rw (p.1, p.2) (content_refused (g.S.Source.known c.args.source.now) c.args.content.kind
-    c.args.place _ _ c.in_err-bytes.field-0.0 (rw c.unit_size.ensures.value at c.in_err-bytes.ensures.refused))
+    rw (passed _ c.from_residual.ensures.1) (content_refused (g.S.Source.known c.args.source.now)
+    c.args.content.kind c.args.place _ _ c.in_err-bytes.field-0.0 (rw c.unit_size.ensures.value at
+    c.in_err-bytes.ensures.refused))
 
 pub returns-clause-fault : goal.returns-clause-fault
 returns-clause-fault g c =
@@ -24,10 +23,11 @@ returns-clause-fault g c =
 
 pub returns-in_err-bytes-clause-fault : goal.returns-in_err-bytes-clause-fault
 returns-in_err-bytes-clause-fault g c =
-    let p = err_from_is_err_and c.from_residual.result c.from_residual.ensures.1 in
-    rw (p.1, p.2) (from_within (fault_of c.in_err-bytes.field-0.0) _ _ c.args.place _
+    rw (passed _ c.from_residual.ensures.1) (from_within (fault_of c.in_err-bytes.field-0.0) _ _
+    c.args.place _
     (rw c.unit_size.ensures.value at c.in_err-bytes.ensures.fault) (omega arith) (omega arith))
 
 pub returns-clause-failures : goal.returns-clause-failures
 returns-clause-failures g c =
-    counts_answer c.content_event.result _ _ c.content_event.ensures.kinds c.in_ok-bytes.ensures.failures
+    counts_answer c.content_event.result _ _ c.content_event.ensures.kinds
+    c.in_ok-bytes.ensures.failures

@@ -8,15 +8,15 @@ loop-done-preserved g c = record {
   same = search rules;
   counts = search rules;
   passed = text_more _ _ c.args.start c.args.size c.loop-done.done _ c.loop-done.invariant.same
-      c.loop-done.invariant.within c.in_ok-passed.ensures.within
-      c.loop-done.invariant.passed c.in_ok-passed.ensures.part;
+      c.loop-done.invariant.within c.loop-done.invariant.passed c.in_ok-passed.ensures.part
+      c.in_ok-passed.ensures.within;
 }
 
 pub returns-then-passed-eq0-clause-size : goal.returns-then-passed-eq0-clause-size
 returns-then-passed-eq0-clause-size g c =
     text_fails _ _ c.args.start c.args.size c.loop-done.done _ c.loop-done.invariant.same
-    c.loop-done.invariant.within c.if-passed-eq0.true c.loop-done.invariant.passed
-    c.in_ok-passed.ensures.part
+    c.loop-done.invariant.within c.loop-done.invariant.passed c.in_ok-passed.ensures.part
+    c.if-passed-eq0.true
 
 pub returns-clause-size : goal.returns-clause-size
 returns-clause-size g c =

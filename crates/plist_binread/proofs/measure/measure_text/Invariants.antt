@@ -1,5 +1,5 @@
-use Rattle.std.proofs.Common.{◌≡◌, ◌-◌, ◌≤◌, take, drop, IfSome}
-use Rattle.std.specs.Str.{IsUtf8}
+use Rattle.std.proofs.Common.{◌≡◌, ◌-◌, ◌≤◌}
+use Rattle.plist_binread.proofs.Measured.{HasPassed}
 use Rattle.plist_binread.proofs.measure.measure_text.Given as goal
 
 abbrev pub invariant-loop-done : goal.invariant-loop-done
@@ -7,8 +7,7 @@ invariant-loop-done g l = record {
   within : l.done ≤ l.size;
   same : g.S.Source.known l.source ≡ g.S.Source.known l.initial.source;
   counts : g.S.Source.failures l.source ≡ g.S.Source.failures l.initial.source;
-  passed : IfSome (g.S.Source.known l.initial.source)
-      (λ bytes. IsUtf8 (take l.done (drop l.start bytes)));
+  passed : HasPassed (g.S.Source.known l.initial.source) l.start l.done;
 }
 
 abbrev pub decreases-loop-done : goal.decreases-loop-done

@@ -18,8 +18,8 @@ loop-i-preserved g c = record {
   small = omega (arith, c.saturating_add-size.ensures);
   waits = c.in-Some.ensures.waits;
   measured = rw c.saturating_add-size.ensures (measure_more _ _ c.args.start c.args.count c.loop-i.i
-      c.loop-i.size _ _ c.loop-i.high _ c.loop-i.invariant.same (omega arith)
-      c.loop-i.invariant.measured c.in_ok-number.ensures.value c.in-Some.ensures.step);
+      c.loop-i.size _ c.loop-i.high c.loop-i.invariant.same (omega arith)
+      c.loop-i.invariant.measured c.in_ok-number.ensures.value _ _ c.in-Some.ensures.step);
 }
 
 pub returns-in-None-clause-size : goal.returns-in-None-clause-size

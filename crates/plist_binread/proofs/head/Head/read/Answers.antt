@@ -3,9 +3,9 @@ use Rattle.std.specs.Prelude.{⊤}
 use Rattle.plist_base.specs.Faults.{Fault, MatchFault, error_kind_of, fault_of, kind_of}
 use Rattle.plist_format.specs.Container.{Head, head_of}
 use Rattle.plist_binread.specs.inner.Heads.{head_seen}
-use Rattle.std.proofs.lemmas.Result.{IfOk-weaker, IfErr-weaker, err_from_is_err_and}
+use Rattle.std.proofs.lemmas.Result.{IfOk-weaker, IfErr-weaker}
 use Rattle.plist_binread.proofs.Heads.{refused_short, refused_io, refused_magic, refused_cut, HeadSaid, head_whole}
-use Rattle.plist_binread.proofs.Failing.{err_within, from_reading}
+use Rattle.plist_binread.proofs.Failing.{err_within, from_reading, passed}
 use Rattle.plist_binread.proofs.head.Head.read.Goals as goal
 use Rattle.plist_binread.proofs.head.Head.read.Goals.{After-read_before}
 
@@ -17,41 +17,37 @@ returns-then-size-lt-MAGIC_SIZE-clause-refused g c =
 
 pub returns-in_err-has_magic-clause-refused : goal.returns-in_err-has_magic-clause-refused
 returns-in_err-has_magic-clause-refused g c =
-    let p = err_from_is_err_and c.from_residual-in_err-has_magic.result
-    c.from_residual-in_err-has_magic.ensures.1 in
-    rw (p.1, p.2) (refused_io _ _ _ _ c.in_ok-size.ensures.unchanged c.in_ok-size.ensures.length
-    c.if-size-lt-MAGIC_SIZE.false c.in_err-has_magic.ensures.refused)
+    rw (passed _ c.from_residual-in_err-has_magic.ensures.1) (refused_io _ _ _
+    c.in_ok-size.ensures.unchanged c.in_ok-size.ensures.length c.if-size-lt-MAGIC_SIZE.false _
+    c.in_err-has_magic.ensures.refused)
 
 pub returns-in_err-has_magic-clause-fault : goal.returns-in_err-has_magic-clause-fault
 returns-in_err-has_magic-clause-fault g c =
-    let p = err_from_is_err_and c.from_residual-in_err-has_magic.result
-    c.from_residual-in_err-has_magic.ensures.1 in
-    rw (p.1, p.2) (from_reading _ 0 8 0 (2 ^ 64) c.in_err-has_magic.ensures.fault (omega arith)
-    (omega arith))
+    rw (passed _ c.from_residual-in_err-has_magic.ensures.1) (from_reading _ 0 8 0 (2 ^ 64)
+    c.in_err-has_magic.ensures.fault (omega arith) (omega arith))
 
 pub returns-then-not-branch-clause-refused : goal.returns-then-not-branch-clause-refused
 returns-then-not-branch-clause-refused g c =
-    refused_magic _ _ _ _ _ c.with_byte_offset-then-not-branch.ensures.fault
-    c.in_ok-size.ensures.unchanged
-    c.in_ok-size.ensures.length c.in_ok-has_magic.ensures.value c.if-not-branch.true
-    c.if-size-lt-MAGIC_SIZE.false
+    refused_magic _ _ _ c.in_ok-size.ensures.unchanged c.in_ok-size.ensures.length
+    c.if-size-lt-MAGIC_SIZE.false _ c.in_ok-has_magic.ensures.value _
+    c.with_byte_offset-then-not-branch.ensures.fault c.if-not-branch.true
 
 pub returns-then-size-lt-TRAILER_SIZE-clause-refused
     : goal.returns-then-size-lt-TRAILER_SIZE-clause-refused
 returns-then-size-lt-TRAILER_SIZE-clause-refused g c =
-    refused_cut _ _ _ _ _ c.with_byte_offset-then-size-lt-TRAILER_SIZE.ensures.fault
-    c.in_ok-size.ensures.unchanged
-    c.in_ok-size.ensures.length c.in_ok-has_magic.ensures.value c.if-not-branch.false
-    c.if-size-lt-MAGIC_SIZE.false c.if-size-lt-TRAILER_SIZE.true
+    refused_cut _ _ _ c.in_ok-size.ensures.unchanged c.in_ok-size.ensures.length
+    c.if-size-lt-MAGIC_SIZE.false _ c.in_ok-has_magic.ensures.value _
+    c.with_byte_offset-then-size-lt-TRAILER_SIZE.ensures.fault c.if-not-branch.false
+    c.if-size-lt-TRAILER_SIZE.true
 
 -- what is said of the head before its trailer is said of the head
 said : (g : _) (c : After-read_before g) (P : Result Head Fault → Type 0)
     → IfSome (g.S.Source.known c.has_magic.new.source) (HeadSaid P (c.in_ok-size.size - 32))
     → IfSome (g.S.Source.known c.args.source.now) (λ bytes. P (head_of bytes))
 said g c P =
-    head_whole P _ _ _ _ _ c.in_ok-size.ensures.unchanged
-    (c.in_ok-has_magic.ensures.unchanged ∙ c.in_ok-size.ensures.unchanged)
-    c.in_ok-size.ensures.length c.in_ok-has_magic.ensures.value c.if-not-branch.false
+    head_whole _ _ _ c.in_ok-size.ensures.unchanged c.in_ok-size.ensures.length
+    c.if-size-lt-MAGIC_SIZE.false _ c.in_ok-has_magic.ensures.value P _
+    (c.in_ok-has_magic.ensures.unchanged ∙ c.in_ok-size.ensures.unchanged) c.if-not-branch.false
     c.if-size-lt-TRAILER_SIZE.false
 
 pub returns-clause-fault : goal.returns-clause-fault
@@ -61,14 +57,11 @@ returns-clause-fault g c =
 
 pub returns-clause-value : goal.returns-clause-value
 returns-clause-value g c =
-    IfOk-weaker c.read_before.result _ _
-    (λ head. said g (goal.at.returns-clause-value g c).After-read_before
-    (λ answer. answer ≡ Ok (head_seen head)))
-    c.read_before.ensures.value
+    IfOk-weaker c.read_before.result _ _ (λ head. said g (goal.at.returns-clause-value g
+    c).After-read_before (λ answer. answer ≡ Ok (head_seen head))) c.read_before.ensures.value
 
 pub returns-clause-refused : goal.returns-clause-refused
 returns-clause-refused g c =
-    IfErr-weaker c.read_before.result _ _
-    (λ e. said g (goal.at.returns-clause-refused g c).After-read_before
-    (λ answer. MatchFault (kind_of (error_kind_of e)) ⊤ ⊤ (answer ≡ Err (fault_of e))))
-    c.read_before.ensures.refused
+    IfErr-weaker c.read_before.result _ _ (λ e. said g (goal.at.returns-clause-refused g
+    c).After-read_before (λ answer. MatchFault (kind_of (error_kind_of e)) ⊤ ⊤ (answer ≡ Err
+    (fault_of e)))) c.read_before.ensures.refused

@@ -1,8 +1,8 @@
-use Rattle.std.proofs.Common.{refl, None, Some}
+use Rattle.std.proofs.Common.{refl, Some}
 use Rattle.plist_binread.specs.Slot.{event_in}
-use Rattle.plist_binread.proofs.Taken.{walking-ended, holds_none, left_behind, nothing_ended, kept_end}
+use Rattle.plist_binread.proofs.Taken.{left_behind, nothing_ended}
 use Rattle.plist_binread.proofs.Children.{known_no_references}
-use Rattle.plist_binread.proofs.OverKnown.{IfSome-all}
+use Rattle.plist_binread.proofs.OverKnown.{IfSome-all, IfSome-never}
 use Rattle.plist_binread.proofs.Stepped.{first_walks, item_counts, item_walks, not_fresh, walks_on_ok}
 use Rattle.plist_binread.proofs.reader.BinaryReader.step.Goals as goal
 
@@ -10,19 +10,15 @@ pub returns-in-Ended-clause-walks : goal.returns-in-Ended-clause-walks
 returns-in-Ended-clause-walks g c = record {
   gives = record {
     unchanged = refl;
-    items = rw c.in-Ended.is (nothing_ended _ c.args.self.now.bounds
-        c.args.self.now.walk.frames);
+    items = rw c.in-Ended.is (nothing_ended _ (event_in c.args.self.now.slot));
     failures = refl;
     ended = λ _. refl;
     ends = c.in-Ended.is;
     begun = rw c.in-Ended.is refl;
     faults = tt;
-    head = holds_none _ c.args.self.now.bounds c.args.self.now.walk.tags.items _
-        (λ w. walking-ended _ c.in-Ended.is w);
-    cached = rw c.in-Ended.is (kept_end _ (λ bytes. None) c.args.self.now.walk.tags.items
-        (event_in c.args.self.now.slot));
-    leaves = left_behind _ _ _ _ _ c.args.self.now.walk.path c.args.self.now.walk.same
-        c.args.self.now.counted c.args.self.now.bounded;
+    head = rw c.in-Ended.is (IfSome-never _ _ (λ w. absurd (cc)));
+    cached = IfSome-all _ (λ bytes. tt);
+    leaves = left_behind _ _ _ _ _ c.args.self.now.counted c.args.self.now.bounded;
     objects = IfSome-all _ (λ bytes. tt);
     kept = (refl, λ _. refl);
   };
@@ -32,16 +28,17 @@ returns-in-Ended-clause-walks g c = record {
 pub returns-in-Fresh-clause-walks : goal.returns-in-Fresh-clause-walks
 returns-in-Fresh-clause-walks g c =
     first_walks _ _ _ _ c.args.self.now _ c.begin.ensures.unchanged c.begin.ensures.counted refl
-    c.begin.result c.in-Fresh.is c.state_after-self.ensures c.begin.ensures.yields c.begin.ensures.fault
-    c.begin.ensures.bounded c.begin.ensures.objects c.begin.ensures.known c.begin.ensures.kept
-    c.begin.ensures.falls c.begin.ensures.failures
+    c.begin.result c.in-Fresh.is c.state_after-self.ensures c.begin.ensures.yields
+    c.begin.ensures.fault c.begin.ensures.bounded c.begin.ensures.objects c.begin.ensures.known
+    c.begin.ensures.kept c.begin.ensures.falls c.begin.ensures.failures
 
 pub returns-in-Walking-clause-walks : goal.returns-in-Walking-clause-walks
 returns-in-Walking-clause-walks g c =
-    item_walks _ _ _ _ c.args.self.now _ c.advance-item.ensures.unchanged c.advance-item.ensures.counted refl
-    c.advance-item.result c.in-Walking.is c.state_after-self-in-Walking.ensures c.advance-item.ensures.yields
-    c.advance-item.ensures.fault c.advance-item.ensures.size c.args.self.now.bounded c.advance-item.ensures.known c.advance-item.ensures.kept
-    c.advance-item.ensures.falls c.advance-item.ensures.failures
+    item_walks _ _ _ _ c.args.self.now _ c.advance-item.ensures.unchanged
+    c.advance-item.ensures.counted refl c.advance-item.result c.in-Walking.is
+    c.state_after-self-in-Walking.ensures c.advance-item.ensures.yields c.advance-item.ensures.fault
+    c.advance-item.ensures.size c.args.self.now.bounded c.advance-item.ensures.known
+    c.advance-item.ensures.kept c.advance-item.ensures.falls c.advance-item.ensures.failures
 
 pub returns-in-Fresh-clause-objects : goal.returns-in-Fresh-clause-objects
 returns-in-Fresh-clause-objects g c = c.begin.ensures.objects
@@ -65,7 +62,8 @@ invariant_of-self g c = record {
 
 pub invariant_of-self-in-Walking : goal.invariant_of-self-in-Walking
 invariant_of-self-in-Walking g c = record {
-  fresh = λ fresh. absurd (not_fresh c.advance-item.result _ c.state_after-self-in-Walking.ensures fresh);
+  fresh = λ fresh. absurd (not_fresh c.advance-item.result _ c.state_after-self-in-Walking.ensures
+      fresh);
   counted = c.advance-item.ensures.counted;
   bounded = rw (c.advance-item.ensures.unchanged, c.advance-item.ensures.size)
       c.args.self.now.bounded;

@@ -1,13 +1,12 @@
-use Rattle.std.proofs.Common.{◌≡◌, ◌^◌, ◌∙◌, refl, subst, arith}
+use Rattle.std.proofs.Common.{◌^◌, ◌∙◌, refl, subst, arith}
 use Rattle.plist_base.specs.declared.limits.Limit.TheVariants as limit
 use Rattle.plist_base.specs.Faults.{fault_of}
 use Rattle.plist_base.specs.Limits.{AdmitsAny, RefusesAny}
-use Rattle.plist_base.specs.Sources.{Rises}
-use Rattle.plist_binread.specs.BinaryReader.{has_limits, is_new, number_to_come, binary_source, walk_to_come}
+use Rattle.plist_binread.specs.BinaryReader.{has_limits, is_new, binary_source, walk_to_come}
 use Rattle.plist_binread.specs.Slot.{event_in}
 use Rattle.plist_binread.proofs.Limiting.{event-current, fault-current, limit-counts, limit-given, limit-current, limited-below, long-current, none-current, refused-given, refused-other, still-given}
+use Rattle.plist_binread.proofs.OverKnown.{IfSome-all, IfSome-never}
 use Rattle.plist_binread.proofs.Stepped.{tells_fault}
-use Rattle.plist_binread.proofs.Taken.{holds_none, kept_fault}
 use Rattle.plist_binread.proofs.reader.BinaryReader.step_within.Goals as goal
 
 pub returns-in-Ok : goal.returns-in-Ok
@@ -22,7 +21,7 @@ returns-in-Ok g c =
     c.step.ensures.limiter (rw (← same) at c.in-Ok.ensures.admitted) in
     let items = event-current (is_new old) current (g.R.Source.known (binary_source old))
     old.limiter c.admit.new.limiter (λ bytes. walk_to_come bytes old)
-    (λ bytes. walk_to_come bytes mid) tt admitted (rw (← same) at w.items) in
+    (λ bytes. walk_to_come bytes mid) admitted (rw (← same) at w.items) in
     let cached = rw (← same) at w.cached in
     let limited = c.admit.ensures.limited ∙ w.kept.0 in
     search (walks, items, cached, limited)
@@ -31,32 +30,27 @@ pub returns-in-Err : goal.returns-in-Err
 returns-in-Err g c =
     let old = c.args.self.now in
     let mid = c.step.new.self in
+    let error = c.admit.new.slot.fault in
     let walks = rw c.in-Some-Ok.field-0-is at c.in-Some-Ok.ensures.walks in
     let w = walks.gives in
-    let fault = fault_of c.admit.new.slot.fault in
-    let r = subst (λ l. RefusesAny l (event_in mid.slot) fault) c.step.ensures.limiter
+    let r = subst (λ l. RefusesAny l (event_in mid.slot) (fault_of error)) c.step.ensures.limiter
     c.in-Err.ensures.refused in
     record {
       gives = record {
         unchanged = w.unchanged;
         items = limit-current (is_new old) (event_in mid.slot)
             (g.R.Source.known (binary_source old)) old.limiter c.admit.new.limiter
-            (λ bytes. walk_to_come bytes old) (λ bytes. walk_to_come bytes mid) tt c.admit.new.slot.fault r w.items;
-        failures = refused-other old.limiter (event_in mid.slot) fault
-            (Rises (g.R.Source.failures (binary_source old)) (g.R.Source.failures
-            (binary_source mid)))
-            (g.R.Source.failures (binary_source mid) ≡ g.R.Source.failures (binary_source old))
-            (g.R.Source.failures (binary_source mid) ≡ g.R.Source.failures
-            (binary_source old)) r w.failures;
+            (λ bytes. walk_to_come bytes old) (λ bytes. walk_to_come bytes mid) error r w.items;
+        failures = refused-other old.limiter (event_in mid.slot) (fault_of error) _ _ _ r
+            w.failures;
         ended = λ e. (let no = w.ended e in absurd (cc));
         ends = refl;
         begun = refl;
-        faults = refused-given 0 (2 ^ 64) old.limiter (event_in mid.slot) fault r;
-        head = holds_none _ mid.bounds mid.walk.tags.items _ (λ v. absurd (cc));
-        cached = kept_fault _ (λ bytes. number_to_come bytes old) mid.walk.tags.items
-            c.admit.new.slot.fault (event_in c.admit.new.slot);
+        faults = refused-given 0 (2 ^ 64) old.limiter (event_in mid.slot) (fault_of error) r;
+        head = IfSome-never _ _ (λ v. absurd (cc));
+        cached = IfSome-all _ (λ bytes. tt);
         leaves = search w.leaves;
-        objects = tells_fault _ c.admit.new.slot.fault _ w.objects;
+        objects = tells_fault _ error _ w.objects;
         kept = (c.admit.ensures.limited ∙ w.kept.0, w.kept.1);
       };
       falls = let falls = walks.falls in omega (arith, falls);
@@ -68,10 +62,9 @@ returns-in-Some-Err-Fault g c =
     let new = c.step.new.self in
     let walks = rw c.in-Some-Err-Fault.field-0-is at c.in-Some-Err-Fault.ensures.walks in
     let w = walks.gives in
-    let items = fault-current (is_new old) (event_in new.slot) (g.R.Source.known
-    (binary_source old))
-    old.limiter new.limiter (λ bytes. walk_to_come bytes old) (λ bytes. walk_to_come bytes new)
-    new.slot.fault w.items in
+    let items = fault-current (is_new old) (event_in new.slot)
+    (g.R.Source.known (binary_source old)) old.limiter new.limiter (λ bytes. walk_to_come bytes old)
+    (λ bytes. walk_to_come bytes new) new.slot.fault w.items in
     search (
       walks,
       items,
@@ -83,32 +76,30 @@ returns-in-Some-Err-TooLong g c =
     let old = c.args.self.now in
     let mid = c.step.new.self in
     let error = c.refuse_limit.new.self.fault in
-    let walks = rw c.in-Some-Err-TooLong.field-0-is at c.in-Some-Err-TooLong.ensures.walks in
+    let answer = c.in-Some-Err-TooLong.field-0-is in
+    let long = c.in-Some-Err-TooLong.field-0-0-is in
+    let walks = rw answer at c.in-Some-Err-TooLong.ensures.walks in
     let w = walks.gives in
-    let long = rw (c.in-Some-Err-TooLong.field-0-is, c.in-Some-Err-TooLong.field-0-0-is) at
-    c.in-Some-Err-TooLong.ensures.limit in
+    let reached = rw (answer, long) at c.in-Some-Err-TooLong.ensures.limit in
     record {
       gives = record {
         unchanged = w.unchanged;
-        items = long-current (is_new old) (event_in c.refuse_limit.new.self) (event_in mid.slot)
+        items = long-current (is_new old) (event_in c.refuse_limit.new.self)
             (g.R.Source.known (binary_source old)) old.limiter mid.limiter
             (λ bytes. walk_to_come bytes old) (λ bytes. walk_to_come bytes mid) error mid.slot.fault
-            c.refuse_limit.ensures.fault long.1 w.items long.2;
-        failures = limit-counts error mid.slot.fault _ _ c.refuse_limit.ensures.fault long.0
+            c.refuse_limit.ensures.fault reached.1 w.items reached.2;
+        failures = limit-counts error mid.slot.fault _ _ c.refuse_limit.ensures.fault reached.0
             w.failures;
         ended = λ e. (let no = w.ended e in absurd (cc));
         ends = w.ends;
         begun = w.begun;
         faults = limit-given 0 (2 ^ 64) (has_limits old) (fault_of error) limit.Bytes
-            (limited-below old.limiter long.1) c.refuse_limit.ensures.fault;
+            (limited-below old.limiter reached.1) c.refuse_limit.ensures.fault;
         head = w.head;
-        cached = kept_fault _ (λ bytes. number_to_come bytes old) mid.walk.tags.items error
-            (event_in c.refuse_limit.new.self);
+        cached = IfSome-all _ (λ bytes. tt);
         leaves = search w.leaves;
-        objects = tells_fault _ error _ (rw (
-          c.in-Some-Err-TooLong.field-0-is,
-          c.in-Some-Err-TooLong.field-0-0-is,
-        ) at c.in-Some-Err-TooLong.ensures.objects);
+        objects = tells_fault _ error _
+            (rw (answer, long) at c.in-Some-Err-TooLong.ensures.objects);
         kept = w.kept;
       };
       falls = walks.falls;
