@@ -55,11 +55,11 @@ pub fn is_ascii_text(text: &str) -> bool
     ensures value { result ≡ is_ascii_text text.now }
 {
     // without a stop, so that many bytes are looked at together
-    let mut ascii = true;
+    let mut greatest = 0u8;
     for byte in text.as_bytes() {
-        ascii &= *byte < 128;
+        greatest = greatest.max(*byte);
     }
-    ascii
+    greatest < 128
 }
 
 fn put_ascii<W: Write>(out: &mut W, buffer: &mut Vec<u8>, text: &str) -> Result<(), Error>
