@@ -35,6 +35,11 @@ puts_waiting {held} {xs} e w = record {
   waits = λ _. w;
 }
 
+-- what waited before is named otherwise
+pub puts_from : {a b : Option (List ℕ)} {held h k xs : List ℕ} {answer : Answer} → h ≡ held
+    → PutsBytes a h xs answer b k → PutsBytes a held xs answer b k
+puts_from e p = rw e at p
+
 -- bytes, and then more
 pub puts_then : {a b c : Option (List ℕ)} {held h k xs ys : List ℕ} {answer : Answer}
     → PutsBytes a held xs (Ok tt) b h → PutsBytes b h ys answer c k

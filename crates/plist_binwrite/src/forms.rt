@@ -11,7 +11,7 @@ ghost use Rattle.plist_binwrite.specs.OutputBuffer.{Puts};
 ghost use Rattle.plist_binwrite.specs.Written.{table_and_trailer, trailer_of};
 
 use crate::compact_numbers::Numbers;
-use crate::output_buffer::{put, put_both};
+use crate::output_buffer::{hold_number, put, put_both};
 pub use crate::scalar::put_scalar;
 pub use crate::text::put_text;
 use crate::widths::{least_width, offset_width, reference_width};
@@ -201,7 +201,10 @@ pub fn put_numbers<W: Write>(
         buffer.new }
 {
     for index in 0..list.len() {
-        put_number(out, buffer, width, list.get(index) as u64)?;
+        let number = list.get(index) as u64;
+        if !hold_number(buffer, width, number) {
+            put_number(out, buffer, width, number)?;
+        }
     }
     Ok(())
 }

@@ -8,6 +8,7 @@ ghost use Rattle.plist_binwrite.specs.inner.Putting.{PutsArray, PutsDictionary, 
 use crate::compact_numbers::Numbers;
 use crate::forms::{CountedKind, put_length, put_number, put_scalar};
 use crate::kinds::{EntryKind, key_or_value};
+use crate::output_buffer::hold_number;
 use crate::plan::Planned;
 use crate::size::count_items;
 use plist_base::Error;
@@ -25,8 +26,10 @@ fn put_items<W: Write>(
 {
     let mut index = from;
     'walk: while file.events.has_item(index) {
-        let number = file.plan.number(index);
-        put_number(out, buffer, file.width, number as u64)?;
+        let number = file.plan.number(index) as u64;
+        if !hold_number(buffer, file.width, number) {
+            put_number(out, buffer, file.width, number)?;
+        }
         index = file.events.index_behind(index);
     }
     Ok(())
@@ -50,8 +53,10 @@ fn put_keys_or_values<W: Write>(
         if value >= file.events.len() {
             return Ok(());
         }
-        let number = file.plan.number(key_or_value(key, value, values));
-        put_number(out, buffer, file.width, number as u64)?;
+        let number = file.plan.number(key_or_value(key, value, values)) as u64;
+        if !hold_number(buffer, file.width, number) {
+            put_number(out, buffer, file.width, number)?;
+        }
         key = file.events.index_behind(value);
     }
     Ok(())

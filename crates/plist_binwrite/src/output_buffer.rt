@@ -2,6 +2,7 @@
 
 ghost use Rattle.std.specs.Prelude.{◌≡◌, ◌≤◌, ◌++◌, true, false, length, OnOk};
 ghost use Rattle.plist_base.specs.Outcomes.{OnlyDevice};
+ghost use Rattle.plist_binwrite.specs.Forms.{big_endian};
 ghost use Rattle.plist_binwrite.specs.OutputBuffer.{Puts, SendsRest, SendsRestInPart, buffer_size};
 
 use plist_base::Error;
@@ -11,7 +12,22 @@ use std::io::Write;
 /// How many bytes wait together at most.
 pub const BUFFER: usize = 1 << 16;
 
+// Appends bytes. For a few that are as many as a number has, no call copies memory.
+#[inline(always)]
+fn append(buffer: &mut Vec<u8>, bytes: &[u8]) -> bool
+    ensures yes { result ≡ true → buffer.new.items ≡ buffer.old.items ++ bytes.now }
+    ensures no { result ≡ false → buffer.new.items ≡ buffer.old.items }
+{
+    match bytes {
+        [a] => buffer.push(*a).is_ok(),
+        [a, b] => buffer.extend_from_slice(&[*a, *b]).is_ok(),
+        [a, b, c, d] => buffer.extend_from_slice(&[*a, *b, *c, *d]).is_ok(),
+        _ => buffer.extend_from_slice(bytes).is_ok(),
+    }
+}
+
 // Has bytes wait, where they fit into the buffer.
+#[inline(always)]
 fn hold(buffer: &mut Vec<u8>, bytes: &[u8]) -> bool
     ensures yes { result ≡ true → buffer.new.items ≡ buffer.old.items ++ bytes.now }
     ensures waits { result ≡ true → length buffer.new.items ≤ buffer_size }
@@ -21,7 +37,20 @@ fn hold(buffer: &mut Vec<u8>, bytes: &[u8]) -> bool
     if waiting > BUFFER || bytes.len() > BUFFER - waiting {
         return false;
     }
-    buffer.extend_from_slice(bytes).is_ok()
+    append(buffer, bytes)
+}
+
+/// Has the lowest `width` bytes of a number wait, the highest of them first, where they fit. A loop
+/// asks this before it puts a number, since the answer of that is cleared at each call.
+#[inline(always)]
+pub fn hold_number(buffer: &mut Vec<u8>, width: usize, number: u64) -> bool
+    requires width { width ≤ 8 }
+    ensures yes { result ≡ true → buffer.new.items ≡ buffer.old.items ++ big_endian width number }
+    ensures waits { result ≡ true → length buffer.new.items ≤ buffer_size }
+    ensures no { result ≡ false → buffer.new.items ≡ buffer.old.items }
+{
+    let digits = number.to_be_bytes();
+    hold(buffer, &digits[8 - width..])
 }
 
 // Sends what waits, and then these bytes. It stands apart, since most bytes fit into the buffer.
