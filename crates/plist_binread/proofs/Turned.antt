@@ -1,5 +1,5 @@
 -- What the innermost collection asks for.
-use Rattle.std.proofs.Common.{◌≡◌, cond, ℕ, suc, ◌+◌, ◌-◌, ◌*◌, ◌<◌, ◌≤◌, List, [], ◌∷◌, ◌++◌, length, drop, get_or, not, true, Ok, Err, refl, ap, sym, ◌∙◌, arith, append_assoc, add-one, None, Some, false}
+use Rattle.std.proofs.Common.{◌≡◌, cond, ℕ, suc, ◌+◌, ◌-◌, ◌*◌, ◌<◌, ◌≤◌, List, [], ◌∷◌, ◌++◌, length, drop, get_or, Ok, Err, refl, ap, sym, ◌∙◌, arith, append_assoc, add-one, None, Some, false}
 use Rattle.std.specs.List.{flat_map, slice_get}
 use Rattle.std.proofs.lemmas.Bool.{lt-ltb}
 use Rattle.std.proofs.Math.Seq.{drop-cons}
@@ -9,7 +9,6 @@ use Rattle.plist_binread.specs.Packed.{MarkChanged}
 use Rattle.plist_format.specs.Unfolding.{TableEntry, unfolding_of, until_fault}
 use Rattle.plist_binread.specs.declared.head.Bounds.{Bounds}
 use Rattle.plist_binread.specs.Remaining.{path_of, MarksOpenPath, MatchesFile, children_at, place_at, entries_of, remaining_items, SomeRemain, next_number, walk_steps, walk_weight}
-use Rattle.plist_binread.specs.Turns.{closes}
 use Rattle.std.proofs.lemmas.List.{drop_all, get_or_default}
 
 -- the frame with another number of its next child
@@ -104,15 +103,3 @@ pub closed_weight : (n : ℕ) (f : Frame) (fs : List Frame) → f.count ≤ f.ne
     → walk_weight n (f ∷ fs) ≡ walk_weight n fs + 1
 closed_weight n f fs h =
     let none : f.count - f.next ≡ 0 = omega arith in rw none (omega arith)
-
--- nothing closes where nothing is open
-pub closes-none : (xs : List Frame) → xs ≡ [] → closes xs ≡ true → ⊥
-closes-none xs none e = let no = ap closes none in absurd (cc)
-
--- nor where a child is left
-pub closes-child : (xs : List Frame) (f : Frame) (below : List Frame) → xs ≡ f ∷ below
-    → f.next < f.count → closes xs ≡ true → ⊥
-closes-child xs f below whole h e =
-    let no = ap not (lt-ltb _ _ h) in
-    let yes = sym (ap closes whole) ∙ e in
-    absurd (cc)

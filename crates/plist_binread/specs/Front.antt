@@ -1,8 +1,7 @@
 -- Words for what is decoded of the bytes at an object's front, whatever lies behind them.
-use Rattle.std.specs.Prelude.{◌≡◌, ℕ, ◌+◌, ◌*◌, ◌^◌, ◌<◌, ◌≤◌, Bool, true, false, List, ◌∷◌, ◌++◌, length, take, drop, Option, Some, Result, Ok, Err, IfOk, IfSome, MatchOption, MatchResult, ⊤}
+use Rattle.std.specs.Prelude.{◌≡◌, ℕ, ◌+◌, ◌*◌, ◌^◌, ◌<◌, ◌≤◌, Bool, true, false, List, ◌∷◌, ◌++◌, length, take, drop, Option, Some, Result, Ok, Err, IfOk, IfSome, MatchResult, ⊤}
 use Rattle.plist_base.specs.declared.error.Error.{Error}
 use Rattle.plist_base.specs.Events.{PlainEvent}
-use Rattle.plist_base.specs.Trees.{Scalar}
 use Rattle.plist_format.specs.Container.{number_of}
 use Rattle.plist_binread.specs.Decoding.{Decodes, DecodesCurrent, IsRefusedAs}
 use Rattle.plist_binread.specs.FaultOffsets.{ErrWithin}
@@ -12,8 +11,6 @@ use Rattle.plist_binread.specs.Reading.{data_of_content, object_at}
 use Rattle.plist_binread.specs.declared.head.Bounds.{Bounds}
 use Rattle.plist_binread.specs.DecodeOutcome.{IsOutcomeOf, small_outcome}
 use Rattle.plist_format.specs.Object.{Object, meaning_of_front, text, text_of_units}
-use Rattle.plist_binread.specs.Packed.{FitsContent, is_small_event, unpacked, scalar_event}
-use Rattle.plist_binread.specs.declared.packed.PackedKind.{PackedKind}
 use Rattle.plist_binread.specs.Slot.{answer_in, event_in}
 use Rattle.plist_binread.specs.declared.event_slot.Refused.{Refused}
 use Rattle.plist_binread.specs.declared.object_faults.Outcome.{Outcome}
@@ -167,18 +164,6 @@ IsLargeScalar slot outcome = small_decoded outcome slot ≡ 0
 abbrev pub FailsInContent : {A : Type 0} → (place : ℕ) → Content → Result A Error → Type 0
 FailsInContent place content answer =
     ErrWithin place (place + content.start + content.count * unit_size content.kind) answer
-
--- ---- what is packed
-
--- a text or data of these bytes, if they are at most eight
-abbrev pub PacksBytes : Scalar → (bytes : List ℕ) → Option (PackedKind × ℕ) → Type 0
-PacksBytes scalar bytes packed = MatchOption packed (8 < length bytes)
-    (λ p. (unpacked p.0 p.1 ≡ Some scalar) × FitsContent p.0 × (length bytes ≤ 8))
-
--- a scalar's event, if it is small
-abbrev pub PacksEvent : PlainEvent → Option (PackedKind × ℕ) → Type 0
-PacksEvent event packed = MatchOption packed (is_small_event event ≡ false)
-    (λ p. scalar_event (unpacked p.0 p.1) ≡ Some event)
 
 -- ---- what is decoded
 

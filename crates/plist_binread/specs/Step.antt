@@ -1,10 +1,9 @@
 -- Words for what a step does to the walk, to the current event and to the remaining items.
-use Rattle.std.specs.Prelude.{◌≡◌, ℕ, ◌-◌, ◌<◌, true, List, ◌++◌, length, get_or, Option, Some, Result, Err, IfSome, OnOk, ⊤}
+use Rattle.std.specs.Prelude.{◌≡◌, ℕ, ◌<◌, true, List, get_or, Option, Some, Result, Err, IfSome, OnOk, ⊤}
 use Rattle.std.specs.List.{slice_get}
-use Rattle.plist_base.specs.declared.error.Error.{Error}
 use Rattle.plist_base.specs.Events.{PlainEvent}
 use Rattle.plist_binread.specs.Reading.{ReadsChildAt}
-use Rattle.plist_binread.specs.Remaining.{Explains, MatchesFile, MarksOpenPath, entries_of, next_number, remaining_items, path_of, walk_weight}
+use Rattle.plist_binread.specs.Remaining.{Explains, entries_of, next_number, walk_weight}
 use Rattle.plist_binread.specs.DecodeOutcome.{IsOutcomeOf, YieldsAnswer, YieldsNext, YieldsCurrent}
 use Rattle.plist_binread.specs.Packed.{is_small_event, unmarked}
 use Rattle.plist_binread.specs.declared.event_slot.Refused.{Refused}
@@ -13,9 +12,8 @@ use Rattle.plist_base.specs.Limits.{RefusesAny}
 use Rattle.plist_base.specs.declared.limits.Limiter.{Limiter}
 use Rattle.plist_binread.specs.Slot.{answer_in, event_in, item_in}
 use Rattle.plist_binread.specs.Turns.{IsFound, IsCurrentCached, WeightFalls, IsTurn}
-use Rattle.plist_format.specs.Unfolding.{TableEntry, unfolding_of, until_fault}
+use Rattle.plist_format.specs.Unfolding.{TableEntry, until_fault}
 use Rattle.plist_binread.specs.Walking.{IsWalkOf, walk_objects, open_in, remaining_entering, remaining_in, weight_entering, weight_in}
-use Rattle.plist_binread.specs.declared.frames.Frame.{Frame}
 use Rattle.plist_binread.specs.declared.object_faults.Outcome.{Outcome}
 use Rattle.plist_binread.specs.declared.object_faults.Outcome.TheVariants as outcome
 use Rattle.plist_binread.specs.declared.head.Bounds.{Bounds}

@@ -1,8 +1,7 @@
 //! Entering an object: its first item.
 
-ghost use Rattle.std.specs.Prelude.{◌≡◌, ◌+◌, ◌^◌, ◌<◌, [], ◌∷◌, ◌++◌, length, get_or, true, false, IfOk, IfErr, OnOk, IfSome};
+ghost use Rattle.std.specs.Prelude.{◌≡◌, ◌+◌, ◌<◌, get_or, true, false, IfOk, IfErr, OnOk, IfSome};
 ghost use Rattle.plist_base.specs.Faults.{ObjectReferenceTooLarge, RecursiveObject, fault_at, fault_of};
-ghost use Rattle.plist_binread.specs.Frames.{frame_of};
 ghost use Rattle.plist_binread.specs.Packed.{is_marked};
 ghost use Rattle.plist_binread.specs.Walking.{IsWalkOf, cached_in, walk_objects};
 ghost use Rattle.plist_binread.specs.FaultOffsets.{ErrWithin};
@@ -14,7 +13,6 @@ ghost use Rattle.plist_binread.specs.declared.event_slot.Refused.TheVariants.{Fa
 
 use crate::counter::DecodeCounter;
 use crate::event_slot::{EventSlot, Refused};
-use crate::frames::Frames;
 use crate::head::Bounds;
 use crate::object::decode;
 use crate::object_faults::Outcome;
@@ -77,15 +75,6 @@ fn look_up(walk: &Walk, slot: &mut EventSlot, at: u64, number: u64) -> Result<Op
     }
 }
 
-// Opens a collection of so many children, if there is memory.
-fn open_frame(frames: &mut Frames, object: u64, count: u64) -> bool
-    ensures pushed { result ≡ true → frames.new ≡ frames.old ++ frame_of object 0 count ∷ [] }
-    ensures unchanged { result ≡ false → frames.new ≡ frames.old }
-    ensures small { count < 2 ^ 64 }
-{
-    frames.push(object, count).is_ok()
-}
-
 // Keeps what was decoded where it is a small scalar, and opens it where it is a collection. It
 // answers no, and nothing has changed, where there is no memory for that.
 #[inline(always)]
@@ -127,13 +116,13 @@ fn keep_or_open(walk: &mut Walk, number: u64, outcome: Outcome, slot: &EventSlot
             }
             None => true,
         },
-        Outcome::Collection(count) => {
-            if open_frame(&mut walk.frames, number, count) {
+        Outcome::Collection(count) => match walk.frames.push(number, count) {
+            Ok(()) => {
                 mark_open(&mut walk.tags, number as usize);
-                return true;
+                true
             }
-            false
-        }
+            Err(_) => false,
+        },
     }
 }
 

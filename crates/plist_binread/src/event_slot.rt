@@ -8,13 +8,13 @@ ghost use Rattle.plist_base.specs.Trees.{Boolean as BooleanScalar, Integer as In
 ghost use Rattle.plist_binread.specs.declared.event_slot.Refused.TheVariants.{Fault};
 ghost use Rattle.plist_binread.specs.declared.object_faults.Outcome.TheVariants.{Scalar as ScalarOutcome};
 ghost use Rattle.plist_format.specs.Object.{signed};
-ghost use Rattle.plist_binread.specs.Packed.{FitsContent, MayAllocate, is_small_event, scalar_event, unpacked};
+ghost use Rattle.plist_binread.specs.Packed.{FitsContent, MayAllocate, PacksEvent, is_small_event, scalar_event, unpacked};
 ghost use Rattle.plist_binread.specs.Slot.{answer_in, event_in, compact_event_of, is_in_slot};
-ghost use Rattle.plist_binread.specs.Front.{PacksEvent, DecodesData, DecodesText, DecodesUnits};
+ghost use Rattle.plist_binread.specs.Front.{DecodesData, DecodesText, DecodesUnits};
 
 use crate::counted_content::{Content, ContentKind};
 use crate::object_faults::Outcome;
-use crate::packed::{PackedKind, is_small, pack, pack_data, pack_text};
+use crate::packed::{PackedKind, pack, pack_data, pack_text};
 use plist_base::{Error, ErrorKind, Event, Integer, Limit, OwnedEvent, RealBits, Uid};
 use std::alloc::Global;
 use std::borrow::{CowSlice, CowStr};
@@ -288,7 +288,7 @@ impl EventSlot {
     pub fn is_small(&self) -> bool
         ensures { result ≡ is_small_event (event_in self.now) }
     {
-        is_small(&self.lend())
+        self.pack().is_some()
     }
 
     /// The kind and the content of a scalar, if it is small enough.

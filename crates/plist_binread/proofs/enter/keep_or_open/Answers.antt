@@ -49,40 +49,40 @@ returns-in-None-clause-yields c = λ _ bytes bounds entry k is decoded. (
   k,
 )
 
-pub invariant_of-walk-then-open_frame : goal.invariant_of-walk-then-open_frame
-invariant_of-walk-then-open_frame c = record {
+pub invariant_of-walk-in-Ok : goal.invariant_of-walk-in-Ok
+invariant_of-walk-in-Ok c = record {
   same = c.args.walk.now.same ∙ sym c.mark_open.ensures.size;
-  path = rw (reverse-push _ _ _ (c.open_frame.ensures.pushed c.if-open_frame.true))
+  path = rw (reverse-push _ _ _ c.in-Ok.ensures.value)
       (IsOpen-push _ _ _ _ c.args.walk.now.path c.requires.below
       (not_open c.args.walk.now.path c.requires.below c.requires.new)
       (ap unmarked c.requires.new) c.mark_open.ensures);
 }
 
-pub returns-then-open_frame-clause-counted : goal.returns-then-open_frame-clause-counted
-returns-then-open_frame-clause-counted c =
+pub returns-in-Ok-clause-counted : goal.returns-in-Ok-clause-counted
+returns-in-Ok-clause-counted c =
     let same = cached_count-mark _ _ _ _ c.mark_open.ensures in
     rw c.in-Collection.is (omega arith)
 
-pub returns-then-open_frame-clause-kept : goal.returns-then-open_frame-clause-kept
-returns-then-open_frame-clause-kept c = λ _ object outcome small.
+pub returns-in-Ok-clause-kept : goal.returns-in-Ok-clause-kept
+returns-in-Ok-clause-kept c = λ _ object outcome small.
     absurd (false≢true (cc (collection_large object (event_in c.args.slot.now) c.in-Collection.count
     (rw c.in-Collection.is at outcome))))
 
-pub returns-then-open_frame-clause-falls : goal.returns-then-open_frame-clause-falls
-returns-then-open_frame-clause-falls c = λ _.
-    rw (reverse-push _ _ _ (c.open_frame.ensures.pushed c.if-open_frame.true))
+pub returns-in-Ok-clause-falls : goal.returns-in-Ok-clause-falls
+returns-in-Ok-clause-falls c = λ _.
+    rw (reverse-push _ _ _ c.in-Ok.ensures.value)
     (start_falls _ _ _ _ (sym (length-reverse _)) (admits_more _ _ _ c.args.walk.now.path
     c.requires.below (not_open c.args.walk.now.path c.requires.below c.requires.new))
     (omega arith))
 
-pub returns-then-open_frame-clause-yields : goal.returns-then-open_frame-clause-yields
-returns-then-open_frame-clause-yields c = λ _ bytes bounds entry k is outcome.
+pub returns-in-Ok-clause-yields : goal.returns-in-Ok-clause-yields
+returns-in-Ok-clause-yields c = λ _ bytes bounds entry k is outcome.
     let collection = rw c.in-Collection.is at outcome in (
       (λ at. yields_collection _ _ (as_many _ _ _ _ _ k) _ _ at _ _
           (sym (length-reverse _)) c.args.walk.now.path c.requires.below is
           (not_open c.args.walk.now.path c.requires.below c.requires.new) _ _ _
-          (reverse-push _ _ _ (c.open_frame.ensures.pushed c.if-open_frame.true)) refl refl
+          (reverse-push _ _ _ c.in-Ok.ensures.value) refl refl
           collection),
-      rw (reverse-push _ _ _ (c.open_frame.ensures.pushed c.if-open_frame.true))
+      rw (reverse-push _ _ _ c.in-Ok.ensures.value)
           (known_opened bytes bounds _ _ _ k _ _ _ entry c.mark_open.ensures is collection),
     )

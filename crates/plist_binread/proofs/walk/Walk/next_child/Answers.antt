@@ -1,11 +1,14 @@
-use Rattle.std.proofs.Common.{sym, ◌∙◌}
+use Rattle.std.proofs.Common.{ap, not, sym, ◌∙◌}
+use Rattle.std.proofs.lemmas.Bool.{lt-ltb}
 use Rattle.plist_binread.specs.Frames.{frame_of}
-use Rattle.plist_binread.proofs.Turned.{next_path, child_remaining, closed_remaining, child_weight, closed_weight, closes-none, closes-child}
+use Rattle.plist_binread.specs.Turns.{closes}
+use Rattle.plist_binread.proofs.Turned.{next_path, child_remaining, closed_remaining, child_weight, closed_weight}
 use Rattle.plist_binread.proofs.Opened.{IsOpen-pop, first_below, first_uncached, cached_count-mark}
 use Rattle.plist_binread.proofs.walk.Walk.next_child.Goals as goal
 
 pub returns-in-Nothing-clause-closes : goal.returns-in-Nothing-clause-closes
-returns-in-Nothing-clause-closes c = λ e. absurd (closes-none _ c.in-Nothing.ensures.0 e)
+returns-in-Nothing-clause-closes c =
+    let no = ap closes c.in-Nothing.ensures.0 in λ e. absurd (cc)
 
 pub returns-in-Nothing-clause-remaining : goal.returns-in-Nothing-clause-remaining
 returns-in-Nothing-clause-remaining c =
@@ -60,7 +63,8 @@ returns-in-Child-clause-within c =
 
 pub returns-in-Child-clause-closes : goal.returns-in-Child-clause-closes
 returns-in-Child-clause-closes c =
-    let is = c.in-Child.ensures in λ e. absurd (closes-child _ _ _ is.2 is.4 e)
+    let is = c.in-Child.ensures in
+    let no = ap closes is.2 ∙ ap not (lt-ltb _ _ is.4) in λ e. absurd (cc)
 
 pub returns-in-Child-clause-remaining : goal.returns-in-Child-clause-remaining
 returns-in-Child-clause-remaining c =
