@@ -144,7 +144,7 @@ pub known_begun : (known now : Option (List ℕ)) (head : code.Head) (bounds : B
     → bounds.reference_width ≡ head.reference_width
     → IfSome known (λ bytes. head_of bytes ≡ Ok (head_seen head))
     → IfSome now (λ bytes. YieldsAnswer (unfolding_of (entries_of bytes bounds)
-    (length tags - length fs) (path_of (reverse fs)) head.trailer head.root
+    (length tags - length (reverse fs)) (path_of (reverse fs)) head.trailer head.root
     ++ remaining_items (entries_of bytes bounds) (reverse fs)) answer current
     (remaining_items (entries_of bytes bounds) (reverse gs)))
     → IfSome known (λ bytes. Begins bytes answer current
@@ -166,7 +166,8 @@ pub first_limits : (answer : Result (Unit {0}) Refused) (left : ℕ) (slot : Eve
     → bounds.trailer ≡ head.trailer → bounds.reference_width ≡ head.reference_width
     → IfSome known (λ bytes. head_of bytes ≡ Ok (head_seen head))
     → RefusesLong answer left slot now (λ bytes. (at : ℕ) → BeginsTooLong left (until_fault
-    (unfolding_of (entries_of bytes bounds) (length tags - length fs) (path_of (reverse fs)) at
+    (unfolding_of (entries_of bytes bounds) (length tags - length (reverse fs))
+    (path_of (reverse fs)) at
     head.root ++ remaining_items (entries_of bytes bounds) (reverse fs))))
     → RefusesLong answer left slot known (λ bytes. BeginsTooLong left (items_of_file bytes))
 first_limits (Ok answer) left slot known now head bounds tags fs same len count trailer width value r

@@ -1,5 +1,5 @@
 -- What is known of the file's bytes, and how it changes.
-use Rattle.std.proofs.Common.{◌≡◌, ℕ, ◌-◌, ◌<◌, ◌≤◌, inl, inr, Bool, true, false, nat_eq, List, [], ◌∷◌, ◌++◌, length, take, drop, get_or, slice_set, Option, None, Some, Result, Err, IfSome, refl, ap, sym, ◌∙◌, arith}
+use Rattle.std.proofs.Common.{◌≡◌, ℕ, ◌-◌, ◌<◌, ◌≤◌, inl, inr, Bool, true, false, nat_eq, List, [], ◌∷◌, ◌++◌, length, take, drop, get_or, slice_set, Option, None, Some, Ok, Err, IfSome, refl, ap, sym, ◌∙◌, arith}
 use Rattle.std.specs.Prelude.{⊤}
 use Rattle.std.specs.List.{slice_get}
 use Rattle.std.proofs.lemmas.Bool.Decides.{eqb_tells, nat_tests}
@@ -12,8 +12,10 @@ use Rattle.plist_base.proofs.Refusals.{MatchFault-at, MatchFault-weaker}
 use Rattle.plist_binread.specs.declared.frames.Frame.{Frame}
 use Rattle.plist_binread.specs.declared.object_faults.Outcome.{Outcome}
 use Rattle.plist_binread.specs.declared.object_faults.Outcome.TheVariants.{Scalar as ScalarOutcome, Collection}
-use Rattle.plist_binread.specs.DecodeOutcome.{IsOutcomeOf, YieldsAnswer}
+use Rattle.plist_binread.specs.DecodeOutcome.{IsOutcomeOf}
 use Rattle.plist_binread.specs.Step.{AllocatesFor}
+use Rattle.plist_binread.specs.Walking.{IsWalkOf, open_in, walk_objects}
+use Rattle.plist_binread.specs.declared.walk.Walk.{Walk}
 use Rattle.plist_binread.specs.declared.head.Bounds.{Bounds}
 use Rattle.plist_format.specs.Object.{Object, object_in}
 use Rattle.plist_binread.specs.Packed.{is_marked, unmarked, unpacked, cached, scalar_event, IsTextOrData, MayAllocate, KindChanged, MarkChanged}
@@ -21,8 +23,8 @@ use Rattle.plist_binread.specs.declared.packed.PackedKind.{PackedKind}
 use Rattle.plist_binread.proofs.Packing.{kind_of_tag-some}
 use Rattle.plist_format.specs.Unfolding.{TableEntry, unfolding_of, until_fault}
 use Rattle.plist_binread.specs.Remaining.{place_at, scalar_at, path_of, MarksOpenPath, HoldsPlaceOr, IsHeld, MatchesFile, places_of, entries_of, remaining_items, Explains}
-use Rattle.plist_binread.specs.Decoding.{IsCollection, IsDecodedAs, IsRefusedAs, scalar_in}
-use Rattle.plist_binread.proofs.Steps.{collection_count, items_beyond, items_open, yields_refused, refused_cached, refused_memory}
+use Rattle.plist_binread.specs.Decoding.{IsCollection, IsDecodedAs, IsRefusedAs, scalar_event_in, scalar_in}
+use Rattle.plist_binread.proofs.Steps.{collection_count, items_beyond, items_open, yields_refused, yields_scalar, refused_cached, refused_memory}
 use Rattle.plist_format.proofs.Tables.{slice_get-within, slice_get-beyond, length-table_of}
 use Rattle.std.proofs.lemmas.Option.{IfSome_then}
 use Rattle.plist_binread.proofs.OverKnown.{IfSome-both}
@@ -156,14 +158,14 @@ module _ (bytes : List ℕ) (bounds : Bounds) where
 
       -- ---- a number that isn't entered
 
-      module _ (n : ℕ) (depth : n ≡ length fs) (o : MarksOpenPath tags fs) (at number : ℕ) where
+      module _ (o : MarksOpenPath tags fs) (at number : ℕ) where
         abbrev before : List Item
-        before = unfolding_of table (length tags - n) (path_of fs) at number
+        before = unfolding_of table (length tags - length fs) (path_of fs) at number
             ++ remaining_items table fs
 
         explained : (kind : FaultKind) (offset : Option ℕ) (e : Error)
             → fault_of e ≡ record { kind = kind; offset = offset } → MatchFault kind ⊥ ⊥ ⊤
-            → unfolding_of table (length tags - n) (path_of fs) at number
+            → unfolding_of table (length tags - length fs) (path_of fs) at number
             ≡ Err (record { kind = kind; offset = offset }) ∷ [] → Explains (until_fault before) e
         explained kind offset e is inside only =
             MatchFault-at _ _ _ _ _ (ap (λ (f : Fault). f.kind) is)
@@ -193,18 +195,29 @@ module _ (bytes : List ℕ) (bounds : Bounds) where
             (sym (held_place _ h (o.uncached _ marked)
             ∙ ap place_at (entry_there _ h))))
 
-        -- memory was wanted for the scalar that is held
-        pub unfound_memory : (e : Error) → number < length tags
-            → is_marked (get_or tags number 0) ≡ false → 0 < unmarked (get_or tags number 0)
-            → fault_of e ≡ fault_nowhere OutOfMemory
-            → MayAllocate (cached (get_or tags number 0) (get_or contents number 0))
-            → Explains (until_fault before) e
-        unfound_memory e h free some memory wanted =
-            yields_refused _ _ as_many n fs at number _ depth o h
-            (entry_there number h) (sym (o.marks number h) ∙ free) e
-            (refused_cached (entry_of number).object (entry_of number).place e _ memory
-            (held_scalar number h some)
-            (to_wanted _ _ _ (slice_get table number) (not_zero _ some) (k.held number h) wanted))
+        module _ (h : number < length tags) (free : is_marked (get_or tags number 0) ≡ false) where
+          -- it is found, and is a scalar, or refused
+          pub found_scalar : (event : PlainEvent)
+              → scalar_event_in (entry_of number).object ≡ Some event
+              → until_fault before ≡ Ok event ∷ until_fault (remaining_items table fs)
+          found_scalar = yields_scalar table tags as_many fs at number (entry_of number) o h
+              (entry_there number h) (sym (o.marks number h) ∙ free)
+
+          pub found_refused : (e : Error)
+              → IsRefusedAs (entry_of number).object (entry_of number).place e
+              → Explains (until_fault before) e
+          found_refused = yields_refused table tags as_many fs at number (entry_of number) o h
+              (entry_there number h) (sym (o.marks number h) ∙ free)
+
+          -- memory was wanted for the scalar that is held
+          pub unfound_memory : (e : Error) → 0 < unmarked (get_or tags number 0)
+              → fault_of e ≡ fault_nowhere OutOfMemory
+              → MayAllocate (cached (get_or tags number 0) (get_or contents number 0))
+              → Explains (until_fault before) e
+          unfound_memory e some memory wanted = found_refused e
+              (refused_cached (entry_of number).object (entry_of number).place e _ memory
+              (held_scalar number h some)
+              (to_wanted _ _ _ (slice_get table number) (not_zero _ some) (k.held number h) wanted))
 
 -- ---- over bytes that may be unknown
 
@@ -216,41 +229,18 @@ pub second : (known : Option (List ℕ)) (P Q : List ℕ → Type 0)
     → IfSome known (λ bytes. P bytes × Q bytes) → IfSome known Q
 second known P Q h = IfSome_then known h (λ bytes h. h.1)
 
--- what remains where an object is to be entered
-abbrev pub Entered : {A : Type 0} → (bytes : List ℕ) (bounds : Bounds) (tags : List ℕ) (n : ℕ)
-    (fs : List Frame) (at number : ℕ) → Result A Error → PlainEvent → (after : List Frame) → Type 0
-Entered bytes bounds tags n fs at number answer current after =
-    YieldsAnswer (unfolding_of (entries_of bytes bounds) (length tags - n) (path_of fs) at number
-    ++ remaining_items (entries_of bytes bounds) fs) answer current (remaining_items
-    (entries_of bytes bounds) after)
+-- the object isn't cached, and this is its place
+abbrev pub IsPlaceIn : Walk → (number place : ℕ) → Type 0
+IsPlaceIn walk number place = (unmarked (get_or walk.tags.items number 0) ≡ 0)
+    × (place ≡ get_or walk.contents.items number 0)
 
--- the place of an object that isn't cached
-pub place_is : (bytes : List ℕ) (bounds : Bounds) (tags contents : List ℕ) (fs : List Frame)
-    (k : MatchesFile bytes bounds tags contents fs) (number place : ℕ) → number < length tags
-    → (unmarked (get_or tags number 0) ≡ 0) × (place ≡ get_or contents number 0)
+pub place_is : (bytes : List ℕ) (bounds : Bounds) (walk : Walk) → IsWalkOf bytes bounds walk
+    → (number place : ℕ) → number < walk_objects walk → IsPlaceIn walk number place
     → place ≡ (entry_of bytes bounds number).place
-place_is bytes bounds tags contents fs k number place h is =
-    cc (
-      held_place bytes bounds tags contents fs k number h is.0,
-      entry_there bytes bounds tags
-          contents fs k number h,
-    )
-
-pub known_refused : (known : Option (List ℕ)) (bounds : Bounds) (tags contents : List ℕ)
-    (fs : List Frame) (n at number place : ℕ) (e : Error) → n ≡ length fs → MarksOpenPath tags fs
-    → IfSome known (λ bytes. MatchesFile bytes bounds tags contents fs) → number < length tags
-    → is_marked (get_or tags number 0) ≡ false
-    → (unmarked (get_or tags number 0) ≡ 0) × (place ≡ get_or contents number 0)
-    → IfSome known (λ bytes. bounds.trailer ≤ length bytes
-    → IsRefusedAs (object_in bounds.reference_width (drop place (take bounds.trailer bytes)))
-    place e)
-    → IfSome known (λ bytes. Explains (until_fault (unfolding_of (entries_of bytes bounds)
-    (length tags - n) (path_of fs) at number ++ remaining_items (entries_of bytes bounds) fs)) e)
-known_refused known bounds tags contents fs n at number place e depth o k h free is refused =
-    IfSome-both known k refused (λ bytes k refused. yields_refused (entries_of bytes bounds) tags
-    (as_many bytes bounds tags contents fs k) n fs at number (entry_of bytes bounds number) depth o
-    h (entry_there bytes bounds tags contents fs k number h) (sym (o.marks number h) ∙ free) e
-    (rw (place_is bytes bounds tags contents fs k number place h is) at (refused k.within)))
+place_is bytes bounds walk k number place h is = cc (
+  held_place bytes bounds walk.tags.items walk.contents.items (open_in walk) k number h is.0,
+  entry_there bytes bounds walk.tags.items walk.contents.items (open_in walk) k number h,
+)
 
 -- what was decoded without a fault
 pub outcome_as : (object : Object) (current : PlainEvent) (outcome : Outcome) → IsDecodedAs object current outcome

@@ -1,74 +1,95 @@
 -- What is known after a turn of the walk.
-use Rattle.std.proofs.Common.{◌≡◌, ℕ, ◌<◌, ◌≤◌, List, length, take, drop, get_or, Option, Result, Err, IfSome, MatchResult, ap, ◌∙◌}
+use Rattle.std.proofs.Common.{◌≡◌, ℕ, ◌<◌, List, get_or, Option, Some, Result, Ok, Err, IfSome, MatchResult, ap, ◌∙◌}
 use Rattle.std.specs.List.{slice_get}
 use Rattle.plist_base.specs.declared.error.Error.{Error}
+use Rattle.plist_base.specs.Events.{PlainEvent}
 use Rattle.plist_base.specs.Faults.{IsIo, kind_of, error_kind_of}
 use Rattle.plist_base.proofs.Refusals.{MatchFault-weaker}
-use Rattle.plist_binread.specs.declared.frames.Frame.{Frame}
+use Rattle.plist_binread.specs.Beginning.{IsKnownWalk}
+use Rattle.plist_binread.specs.DecodeOutcome.{YieldsAnswer}
 use Rattle.plist_binread.specs.declared.walk.NextChild.{NextChild}
 use Rattle.plist_binread.specs.declared.walk.NextChild.TheVariants.{Child}
+use Rattle.plist_binread.specs.declared.walk.Walk.{Walk}
 use Rattle.plist_binread.specs.declared.head.Bounds.{Bounds}
-use Rattle.plist_format.specs.Object.{object_in}
 use Rattle.plist_binread.specs.Packed.{unmarked}
 use Rattle.plist_format.specs.Unfolding.{until_fault}
-use Rattle.plist_binread.specs.Remaining.{place_at, children_at, MatchesFile, entries_of, remaining_items, Explains}
-use Rattle.plist_binread.specs.Turns.{ReadsChild, IsTurn}
-use Rattle.plist_binread.proofs.Known.{entry_there, held_place}
+use Rattle.plist_binread.specs.Reading.{ReadsChildAt}
+use Rattle.plist_binread.specs.Remaining.{place_at, children_at, entries_of, next_number, Explains}
+use Rattle.plist_binread.specs.Step.{IsTurnOfWalk}
+use Rattle.plist_binread.specs.Turns.{IsCurrentCached, IsTurn}
+use Rattle.plist_binread.specs.Walking.{IsWalkOf, open_in, remaining_entering, remaining_in, walk_objects}
+use Rattle.plist_binread.proofs.Known.{as_many, entry_there, held_place}
 use Rattle.std.proofs.lemmas.Option.{IfSome_then}
 use Rattle.plist_binread.proofs.OverKnown.{IfSome-both}
 
 -- ---- one turn of the walk
 
-abbrev pub Turned : (bytes : List ℕ) (bounds : Bounds) (tags contents : List ℕ) (old : List Frame)
-    → NextChild → (new : List Frame) → Type 0
-Turned bytes bounds tags contents old turn new =
-    IsTurn (entries_of bytes bounds) old turn new × MatchesFile bytes bounds tags contents new
+abbrev pub Turned : (bytes : List ℕ) → Bounds → (old : Walk) → NextChild → (new : Walk) → Type 0
+Turned bytes bounds old turn new =
+    IsTurn (entries_of bytes bounds) (open_in old) turn (open_in new) × IsWalkOf bytes bounds new
 
-pub known_turned : (known : Option (List ℕ)) (bounds : Bounds) (tags new contents others : List ℕ)
-    (fs gs : List Frame) (turn : NextChild)
-    → IfSome known (λ bytes. MatchesFile bytes bounds tags contents fs)
-    → ((bytes : List ℕ) (bounds : Bounds) → MatchesFile bytes bounds tags contents fs
-    → Turned bytes bounds new others fs turn gs)
-    → IfSome known (λ bytes. Turned bytes bounds new others fs turn gs)
-known_turned known bounds tags new contents others fs gs turn k turns =
-    IfSome_then _ k (λ bytes k. turns _ _ k)
+pub known_turned : (known : Option (List ℕ)) (bounds : Bounds) (old new : Walk) (turn : NextChild)
+    → IsKnownWalk known bounds old → IsTurnOfWalk old turn new
+    → IfSome known (λ bytes. Turned bytes bounds old turn new)
+known_turned known bounds old new turn k turns =
+    IfSome_then known k (λ bytes k. turns bytes bounds k)
 
--- the number that was read is that of the child
-pub child_is : (bytes : List ℕ) (bounds : Bounds) (tags contents : List ℕ) (fs gs : List Frame)
-    (object index : ℕ) → object < length tags → unmarked (get_or tags object 0) ≡ 0
-    → Turned bytes bounds tags contents fs (Child object index) gs
-    → (answer : Result ℕ Error) → (bounds.trailer ≤ length bytes
-    → ReadsChild (object_in bounds.reference_width
-    (drop (get_or contents object 0) (take bounds.trailer bytes))) index answer)
-    → MatchResult answer (λ number. number
-    ≡ get_or (children_at (slice_get (entries_of bytes bounds) object)) index 0)
-    (λ error. IsIo (kind_of (error_kind_of error)))
-child_is bytes bounds tags contents fs gs object index h none turned answer reads =
-    let k = turned.1 in
-    let there = entry_there _ _ _ _ gs k _ h in
-    let place = held_place _ _ _ _ gs k _ h
-    none ∙ ap place_at there in
-    rw there ((rw place at (reads k.within)) (rw there at turned.0.1))
+-- the number of the child of an object
+abbrev pub child_of : (bytes : List ℕ) → Bounds → (object index : ℕ) → ℕ
+child_of bytes bounds object index =
+    get_or (children_at (slice_get (entries_of bytes bounds) object)) index 0
 
-module _ (known : Option (List ℕ)) (bounds : Bounds) (tags contents : List ℕ)
-    (fs gs : List Frame) where
-  abbrev HasTurned : NextChild → Type 0
-  HasTurned turn = IfSome known (λ bytes. Turned bytes bounds tags contents fs turn gs)
-
-  pub known_after : (turn : NextChild) → HasTurned turn
-      → IfSome known (λ bytes. MatchesFile bytes bounds tags contents gs)
-  known_after turn turned = IfSome_then known turned (λ bytes turned. turned.1)
+module _ (known : Option (List ℕ)) (bounds : Bounds) (old mid : Walk) (object index : ℕ)
+    (h : object < walk_objects mid) (none : unmarked (get_or mid.tags.items object 0) ≡ 0)
+    (turned : IfSome known (λ bytes. Turned bytes bounds old (Child object index) mid)) where
+  -- the number that was read is that of the child
+  pub child_read : (answer : Result ℕ Error)
+      → ReadsChildAt answer known bounds (get_or mid.contents.items object 0) index
+      → IfSome known (λ bytes. Turned bytes bounds old (Child object index) mid
+      × MatchResult answer (λ number. number ≡ child_of bytes bounds object index)
+      (λ error. IsIo (kind_of (error_kind_of error))))
+  child_read answer reads = IfSome-both known turned reads (λ bytes turned reads.
+      let k = turned.1 in
+      let there = entry_there bytes bounds mid.tags.items mid.contents.items (open_in mid) k object
+      h in
+      let place = held_place bytes bounds mid.tags.items mid.contents.items (open_in mid) k object h
+      none ∙ ap place_at there in
+      (turned, rw there ((rw place at (reads k.within)) (rw there at turned.0.1))))
 
   -- a read of the reference failed
-  pub known_child_failed : (object index : ℕ) (e : Error) → object < length tags
-      → unmarked (get_or tags object 0) ≡ 0 → HasTurned (Child object index)
-      → IfSome known (λ bytes. bounds.trailer ≤ length bytes
-      → ReadsChild (object_in bounds.reference_width
-      (drop (get_or contents object 0) (take bounds.trailer bytes))) index (Err e))
-      → IfSome known (λ bytes. Explains (until_fault (remaining_items
-      (entries_of bytes bounds) fs)) e)
-  known_child_failed object index e h none turned reads =
-      IfSome-both _ turned reads (λ bytes turned reads.
-      MatchFault-weaker (kind_of (error_kind_of e)) (λ _. turned.0.2) (λ none. absurd none)
-      (λ none. absurd none) (child_is bytes bounds tags contents fs gs object index h none turned
-      (Err e) reads))
+  pub child_failed : (e : Error)
+      → ReadsChildAt (Err e) known bounds (get_or mid.contents.items object 0) index
+      → IfSome known (λ bytes. Explains (until_fault (remaining_in bytes bounds old)) e)
+  child_failed e reads = IfSome_then known (child_read (Err e) reads) (λ bytes child.
+      MatchFault-weaker (kind_of (error_kind_of e)) (λ _. child.0.0.2) (λ none. absurd none)
+      (λ none. absurd none) child.1)
+
+  -- the child is entered, where the source is read no more
+  module _ (now : Option (List ℕ)) (same : now ≡ known) (number : ℕ)
+      (reads : ReadsChildAt (Ok number) known bounds (get_or mid.contents.items object 0) index)
+    where
+      -- the items of the child come first
+      pub child_first : IfSome known (λ bytes. remaining_in bytes bounds old
+          ≡ remaining_entering bytes bounds mid (get_or mid.contents.items object 0) number)
+      child_first = IfSome_then known (child_read (Ok number) reads) (λ bytes child.
+          let k = child.0.1 in
+          let place = held_place bytes bounds mid.tags.items mid.contents.items (open_in mid) k object
+          h none in
+          let many = as_many bytes bounds mid.tags.items mid.contents.items (open_in mid) k in
+          rw (child.1, ← many, place) child.0.0.0)
+
+      pub child_yields : (answer : Result (Unit {0}) Error) (current : PlainEvent) (new : Walk)
+          → IfSome now (λ bytes. YieldsAnswer (remaining_entering bytes bounds mid
+          (get_or mid.contents.items object 0) number) answer current (remaining_in bytes bounds new))
+          → IfSome known (λ bytes. YieldsAnswer (remaining_in bytes bounds old) answer current
+          (remaining_in bytes bounds new))
+      child_yields answer current new yields = IfSome-both known child_first (rw same at yields)
+          (λ bytes first yields. rw first yields)
+
+      -- and it is cached if it is small
+      pub child_kept : (answer : Result (Unit {0}) Error) (current : PlainEvent) (tags : List ℕ)
+          → IfSome now (λ bytes. IsCurrentCached (Some number) (Some answer) current tags)
+          → IfSome known (λ bytes. IsCurrentCached
+          (next_number (entries_of bytes bounds) (open_in old)) (Some answer) current tags)
+      child_kept answer current tags kept = IfSome-both known (child_read (Ok number) reads)
+          (rw same at kept) (λ bytes child kept. rw (child.0.0.3, ← child.1) kept)

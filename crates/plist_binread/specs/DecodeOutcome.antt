@@ -32,18 +32,8 @@ IsOutcomeOf object current (outcome.Collection count) = IsCollection object curr
 
 -- how many small objects were decoded
 abbrev pub small_outcome : Outcome → (current : PlainEvent) → ℕ
-small_outcome outcome.Unseen current = 0
-small_outcome outcome.Overrun current = 0
-small_outcome outcome.Null current = 0
-small_outcome outcome.Fill current = 0
-small_outcome (outcome.Unknown marker) current = 0
-small_outcome outcome.OutOfRange current = 0
-small_outcome outcome.NoDate current = 0
-small_outcome outcome.NotUtf8 current = 0
-small_outcome outcome.NotUtf16 current = 0
-small_outcome outcome.NoMemory current = 0
 small_outcome outcome.Scalar current = cond (is_small_event current) 1 0
-small_outcome (outcome.Collection count) current = 0
+small_outcome outcome current = 0
 
 -- the number of a child's reference among all those of its collection, where that has so many
 -- pairs, or none since it is an array

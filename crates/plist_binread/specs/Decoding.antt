@@ -42,18 +42,9 @@ scalar_event_in object = scalar_event (scalar_in object)
 
 -- what was decoded is this object: a scalar or a collection, whose event is the current one
 abbrev pub IsDecodedAs : Object → (current : PlainEvent) → Outcome → Type 0
-IsDecodedAs object current outcome.Unseen = ⊥
-IsDecodedAs object current outcome.Overrun = ⊥
-IsDecodedAs object current outcome.Null = ⊥
-IsDecodedAs object current outcome.Fill = ⊥
-IsDecodedAs object current (outcome.Unknown marker) = ⊥
-IsDecodedAs object current outcome.OutOfRange = ⊥
-IsDecodedAs object current outcome.NoDate = ⊥
-IsDecodedAs object current outcome.NotUtf8 = ⊥
-IsDecodedAs object current outcome.NotUtf16 = ⊥
-IsDecodedAs object current outcome.NoMemory = ⊥
 IsDecodedAs object current outcome.Scalar = scalar_event_in object ≡ Some current
 IsDecodedAs object current (outcome.Collection count) = IsCollection object current count
+IsDecodedAs object current outcome = ⊥
 
 -- the event isn't one of a small scalar
 abbrev pub IsLarge : Result Event Error → Type 0

@@ -22,7 +22,7 @@ open_in walk = reverse walk.frames
 
 -- how many objects aren't open
 abbrev pub fuel_in : Walk → ℕ
-fuel_in walk = length walk.tags.items - length walk.frames
+fuel_in walk = length walk.tags.items - length (open_in walk)
 
 -- it is a walk over a file of these bytes
 abbrev pub IsWalkOf : (bytes : List ℕ) → Bounds → Walk → Type 0

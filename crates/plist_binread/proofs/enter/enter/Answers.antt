@@ -1,8 +1,7 @@
-use Rattle.std.proofs.Common.{arith, sym, length, ◌-◌, IfSome}
-use Rattle.std.proofs.lemmas.List.{length-reverse}
-use Rattle.std.proofs.lemmas.Result.{err_from_is_err_and}
-use Rattle.plist_binread.proofs.Entering.{OutcomeAt, from_any, known_decoded, known_gains, known_unpacked, known_small}
-use Rattle.plist_binread.proofs.Known.{first, second, known_refused, known_full}
+use Rattle.std.proofs.Common.{arith, IfSome}
+use Rattle.plist_binread.proofs.Entering.{OutcomeAt, from_any, known_decoded, known_opens, known_refused, known_small, known_unpacked}
+use Rattle.plist_binread.proofs.Failing.{passed}
+use Rattle.plist_binread.proofs.Known.{first, second, known_full}
 use Rattle.plist_binread.proofs.Lengths.{entered_limits}
 use Rattle.plist_binread.proofs.Steps.{steps_positive}
 use Rattle.plist_binread.specs.Reading.{object_at}
@@ -11,39 +10,26 @@ use Rattle.plist_binread.proofs.enter.enter.Goals as goal
 use Rattle.plist_binread.proofs.enter.enter.Goals.{After-keep_or_open}
 
 pub returns-in-None-clause-falls : goal.returns-in-None-clause-falls
-returns-in-None-clause-falls g c =
-    omega (
-      arith,
-      steps_positive (length c.args.walk.now.tags.items - length
-          c.args.walk.now.frames),
-    )
+returns-in-None-clause-falls g c = omega (arith, steps_positive)
 
 pub returns-in-None-clause-yields : goal.returns-in-None-clause-yields
 returns-in-None-clause-yields g c =
     let found = rw c.in-None.is at c.in_ok-look_up.ensures.found in
-    from_any _ _ _ (known_unpacked _ _ _ _ _ _ _ _
-    (sym (length-reverse _)) c.args.walk.now.path c.requires.known
-    c.in_ok-look_up.ensures.below
-    c.in_ok-look_up.ensures.new found.0 found.1)
+    known_unpacked _ _ c.args.walk.now c.args.number c.requires.known c.in_ok-look_up.ensures.below
+    c.args.at _ c.in_ok-look_up.ensures.new found.0 found.1
 
 pub returns-in_err-outcome-in-Some-clause-yields : goal.returns-in_err-outcome-in-Some-clause-yields
 returns-in_err-outcome-in-Some-clause-yields g c =
-    let p = err_from_is_err_and c.from_residual-in_err-outcome-in-Some.result
-    c.from_residual-in_err-outcome-in-Some.ensures.1 in
-    rw p.1 (known_refused _ _ _ _ _ _ c.args.at c.args.number
-    c.in-Some.place _ (sym (length-reverse c.args.walk.now.frames)) c.args.walk.now.path
-    c.requires.known c.in_ok-look_up.ensures.below
-    c.in_ok-look_up.ensures.new
+    rw (passed _ c.from_residual-in_err-outcome-in-Some.ensures.1) (known_refused _ _
+    c.args.walk.now c.args.number c.requires.known c.in_ok-look_up.ensures.below c.args.at
+    c.in-Some.place _ c.in_ok-look_up.ensures.new
     (rw c.in-Some.is at c.in_ok-look_up.ensures.found) c.in_err-outcome-in-Some.ensures.decoded)
 
 pub returns-in_err-outcome-in-Some-clause-limit : goal.returns-in_err-outcome-in-Some-clause-limit
 returns-in_err-outcome-in-Some-clause-limit g c =
-    let p = err_from_is_err_and c.from_residual-in_err-outcome-in-Some.result
-    c.from_residual-in_err-outcome-in-Some.ensures.1 in
-    rw (p.1, p.2) (entered_limits _ c.args.left c.decode.new.slot _ _ _ _ _ _ c.args.number c.in-Some.place
-    (sym (length-reverse c.args.walk.now.frames)) c.args.walk.now.path c.requires.known
-    c.in_ok-look_up.ensures.below
-    c.in_ok-look_up.ensures.new
+    rw (passed _ c.from_residual-in_err-outcome-in-Some.ensures.1) (entered_limits _ c.args.left
+    c.decode.new.slot _ g.S.Source.known _ c.args.walk.now c.args.number c.in-Some.place
+    c.requires.known c.in_ok-look_up.ensures.below c.in_ok-look_up.ensures.new
     (rw c.in-Some.is at c.in_ok-look_up.ensures.found) c.in_err-outcome-in-Some.ensures.limit)
 
 -- the object is what was decoded
@@ -51,19 +37,18 @@ there : (g : _) (c : After-keep_or_open g)
     → IfSome (g.S.Source.known c.args.source.now) (λ bytes. OutcomeAt bytes c.args.bounds.now
     c.args.number (event_in c.decode.new.slot) c.in_ok-outcome-in-Some.outcome)
 there g c =
-    known_decoded _ _ _ _ _ _ _ _ _ c.requires.known
-    c.in_ok-look_up.ensures.below
+    known_decoded _ _ c.args.walk.now _ c.requires.known c.in_ok-look_up.ensures.below _ _ _
     (rw c.in-Some.is at c.in_ok-look_up.ensures.found) c.in_ok-outcome-in-Some.ensures.decoded
 
 pub returns-then-keep_or_open-clause-known : goal.returns-then-keep_or_open-clause-known
 returns-then-keep_or_open-clause-known g c =
-    second _ _ _ (known_gains _ _ _ _ _ _ _ _ _ _
-    c.requires.known (there g (goal.at.returns-then-keep_or_open-clause-known g c).After-keep_or_open)
+    second _ _ _ (known_opens _ _ c.args.walk.now c.keep_or_open.new.walk _ _ _ c.requires.known
+    (there g (goal.at.returns-then-keep_or_open-clause-known g c).After-keep_or_open)
     (c.keep_or_open.ensures.yields c.if-keep_or_open.true))
 
 pub returns-then-keep_or_open-clause-yields : goal.returns-then-keep_or_open-clause-yields
 returns-then-keep_or_open-clause-yields g c =
-    from_any _ _ _ (first _ _ _ (known_gains _ _ _ _ _ _ _ _ _ _
+    from_any _ _ _ (first _ _ _ (known_opens _ _ c.args.walk.now c.keep_or_open.new.walk _ _ _
     c.requires.known
     (there g (goal.at.returns-then-keep_or_open-clause-yields g c).After-keep_or_open)
     (c.keep_or_open.ensures.yields c.if-keep_or_open.true)))
@@ -76,10 +61,8 @@ returns-then-keep_or_open-clause-kept g c =
 
 pub returns-else-keep_or_open-clause-yields : goal.returns-else-keep_or_open-clause-yields
 returns-else-keep_or_open-clause-yields g c =
-    known_refused _ _ _ _ _ _ c.args.at c.args.number
-    c.in-Some.place _ (sym (length-reverse c.args.walk.now.frames)) c.args.walk.now.path
-    c.requires.known c.in_ok-look_up.ensures.below
-    c.in_ok-look_up.ensures.new
+    known_refused _ _ c.args.walk.now c.args.number c.requires.known
+    c.in_ok-look_up.ensures.below c.args.at c.in-Some.place _ c.in_ok-look_up.ensures.new
     (rw c.in-Some.is at c.in_ok-look_up.ensures.found)
     (known_full _ c.args.bounds.now.trailer c.in-Some.place
     (object_at c.args.bounds.now c.in-Some.place) (event_in c.decode.new.slot)

@@ -1,6 +1,5 @@
 use Rattle.std.proofs.Common.{arith, sym, refl, ap, ◌∙◌, ◌+◌, cond}
 use Rattle.std.proofs.lemmas.Bool.{false≢true}
-use Rattle.std.proofs.lemmas.List.{length-reverse}
 use Rattle.plist_binread.specs.Remaining.{cached_count, scalar_at}
 use Rattle.plist_binread.specs.Packed.{unmarked, scalar_event}
 use Rattle.plist_binread.specs.Slot.{event_in}
@@ -27,8 +26,7 @@ returns-in-Some-clause-falls c = λ _. omega (arith, steps_positive)
 pub returns-in-Some-clause-yields : goal.returns-in-Some-clause-yields
 returns-in-Some-clause-yields c = λ _ bytes bounds entry k is decoded.
     let scalar = rw c.in-Scalar.is at decoded in (
-      (λ at. yields_scalar _ _ (as_many bytes bounds _ _ _ k) _ _ at _ entry (sym
-          (length-reverse _))
+      (λ at. yields_scalar _ _ (as_many bytes bounds _ _ _ k) _ at _ entry
           c.args.walk.now.path c.requires.below is
           (not_open c.args.walk.now.path c.requires.below c.requires.new) _ scalar),
       rw c.cache.ensures.contents (known_kept bytes bounds _ _ _ k _ c.in-Some.kind
@@ -42,7 +40,7 @@ returns-in-None-clause-falls c = λ _. omega (arith, steps_positive)
 
 pub returns-in-None-clause-yields : goal.returns-in-None-clause-yields
 returns-in-None-clause-yields c = λ _ bytes bounds entry k is decoded. (
-  (λ at. yields_scalar _ _ (as_many _ _ _ _ _ k) _ _ at _ _ (sym (length-reverse _))
+  (λ at. yields_scalar _ _ (as_many _ _ _ _ _ k) _ at _ _
       c.args.walk.now.path c.requires.below is
       (not_open c.args.walk.now.path c.requires.below c.requires.new) _
       (rw c.in-Scalar.is at decoded)),
@@ -71,15 +69,15 @@ returns-in-Ok-clause-kept c = λ _ object outcome small.
 pub returns-in-Ok-clause-falls : goal.returns-in-Ok-clause-falls
 returns-in-Ok-clause-falls c = λ _.
     rw (reverse-push _ _ _ c.in-Ok.ensures.value)
-    (start_falls _ _ _ _ (sym (length-reverse _)) (admits_more _ _ _ c.args.walk.now.path
+    (start_falls _ _ _ (admits_more _ _ _ c.args.walk.now.path
     c.requires.below (not_open c.args.walk.now.path c.requires.below c.requires.new))
     (omega arith))
 
 pub returns-in-Ok-clause-yields : goal.returns-in-Ok-clause-yields
 returns-in-Ok-clause-yields c = λ _ bytes bounds entry k is outcome.
     let collection = rw c.in-Collection.is at outcome in (
-      (λ at. yields_collection _ _ (as_many _ _ _ _ _ k) _ _ at _ _
-          (sym (length-reverse _)) c.args.walk.now.path c.requires.below is
+      (λ at. yields_collection _ _ (as_many _ _ _ _ _ k) _ at _ _
+          c.args.walk.now.path c.requires.below is
           (not_open c.args.walk.now.path c.requires.below c.requires.new) _ _ _
           (reverse-push _ _ _ c.in-Ok.ensures.value) refl refl
           collection),
