@@ -1,12 +1,12 @@
 //! The bytes of texts: ASCII, or UTF-16.
 
-ghost use Rattle.std.specs.Prelude.{◌≡◌, length};
+ghost use Rattle.std.specs.Prelude.{◌≡◌, ◌≤◌, ◌++◌, true, false, length};
 ghost use Rattle.std.specs.Char.Escape.{encode_utf16};
 ghost use Rattle.plist_binwrite.specs.Forms.{units_of, is_ascii_text, text_form, ascii_form, char_units, text_units, wide_form};
-ghost use Rattle.plist_binwrite.specs.OutputBuffer.{Puts};
+ghost use Rattle.plist_binwrite.specs.OutputBuffer.{Puts, buffer_size};
 
 use crate::forms::{CountedKind, put_length, put_number};
-use crate::output_buffer::put;
+use crate::output_buffer::{hold_number, put};
 use plist_base::Error;
 use std::io::Write;
 
@@ -23,11 +23,27 @@ fn put_char<W: Write>(out: &mut W, buffer: &mut Vec<u8>, c: char) -> Result<(), 
     put_number(out, buffer, 2, 0xdc00 + above % 0x400)
 }
 
+// Has the unit of a character wait, where it has one alone and that fits into the buffer.
+#[inline(always)]
+fn hold_char(buffer: &mut Vec<u8>, c: char) -> bool
+    ensures yes { result ≡ true → buffer.new.items ≡ buffer.old.items ++ char_units c }
+    ensures waits { result ≡ true → length buffer.new.items ≤ buffer_size }
+    ensures no { result ≡ false → buffer.new.items ≡ buffer.old.items }
+{
+    let code = u64::from(c as u32);
+    if code < 0x1_0000 {
+        return hold_number(buffer, 2, code);
+    }
+    false
+}
+
 fn put_units<W: Write>(out: &mut W, buffer: &mut Vec<u8>, text: &str) -> Result<(), Error>
     ensures { Puts W.contents out.old buffer.old (text_units text.now) result out.new buffer.new }
 {
     for c in text.chars() {
-        put_char(out, buffer, c)?;
+        if !hold_char(buffer, c) {
+            put_char(out, buffer, c)?;
+        }
     }
     Ok(())
 }
