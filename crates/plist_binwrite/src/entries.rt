@@ -161,6 +161,7 @@ impl Entries {
     }
 
     /// Appends an entry.
+    #[inline(always)]
     pub fn push(&mut self, entry: EventEntry) -> Result<(), AllocError>
         ensures pushed { OnOk result (self.new ≡ self.old ++ entry ∷ []) }
         ensures unchanged { OnErr result (self.new ≡ self.old) }
