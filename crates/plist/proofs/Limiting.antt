@@ -11,7 +11,7 @@ use Rattle.plist_base.specs.declared.limits.Limit.TheVariants as limit
 use Rattle.plist_base.specs.declared.limits.Limits.{Limits}
 use Rattle.plist_base.specs.declared.limits.Limiter.{Limiter}
 use Rattle.plist_base.specs.Events as event
-use Rattle.plist_base.specs.Events.{Item, PlainEvent, event_of}
+use Rattle.plist_base.specs.Events.{Item, PlainEvent, event_of, shape_of}
 use Rattle.plist_base.specs.Faults.{Fault, kind_of, error_kind_of}
 use Rattle.plist_base.specs.Limits.{GivesLimited, PassesNext, items_admitted, event_or_limit, iterator_of, level_after, limit_at, limited_from, limited_items, is_too_long, left_after_event, opens, total_bytes, limited_by, bytes_in, HasBytesWithin}
 use Rattle.plist_base.specs.Trees.{Tree, Leaf, Array, Dictionary, Trees, NoTrees, TreeAnd, Members, NoMembers, MemberAnd, String}
@@ -137,7 +137,7 @@ module _ (limits : Limits) where
   abbrev Pass : (came level : ℕ) (left : Option ℕ) → List PlainEvent → Type 0
   Pass came level left [] = ⊤
   Pass came level left (e ∷ es) = (limit_at limits came level left e ≡ None)
-      × Pass (came + 1) (level_after e level) (left_after_event left e) es
+      × Pass (came + 1) (level_after (shape_of e) level) (left_after_event left e) es
 
   pass-choice : (o : Option Limit) (e : PlainEvent) (behind es : List Item)
       → event_or_limit o e behind ≡ Ok e ∷ es → (o ≡ None) × (behind ≡ es)
@@ -186,7 +186,7 @@ module _ (limits : Limits) where
   few came level left [] l h = omega arith
   few came level left (e ∷ es) l h =
       let less = below _ _ (allowed (is_too_long left e) (nat_le limits.items came)
-      (opens e && nat_le limits.depth level) h.0).1 in
+      (opens (shape_of e) && nat_le limits.depth level) h.0).1 in
       let more : came + 1 + length es
       ≤ limits.items = few (came + 1) _ _ es (omega arith) h.1 in
       omega arith
@@ -197,7 +197,7 @@ module _ (limits : Limits) where
   light came level left [] h = omega arith
   light came level left (e ∷ es) h =
       let fits : bytes_in e ≤ left = not-less _ _ (allowed (is_too_long (Some left) e)
-      (nat_le limits.items came) (opens e && nat_le limits.depth level) h.0).0 in
+      (nat_le limits.items came) (opens (shape_of e) && nat_le limits.depth level) h.0).0 in
       let more = light (came + 1) _ _ es h.1 in
       omega arith
     where
@@ -288,19 +288,18 @@ limited-twice : (limits : Limits) (came level : ℕ) (left : Option ℕ) (items 
     ≡ limited_from limits came level left items
 limited-twice limits came level left [] = refl
 limited-twice limits came level left (Ok e ∷ items) =
-    by (limit_at limits came level left e) refl
-    (limited-twice limits (came + 1) (level_after e level) (left_after_event left e) items)
+    by (limit_at limits came level left e) _ refl
+    (limited-twice limits (came + 1) (level_after (shape_of e) level) (left_after_event left e)
+    items)
   where
-    by : (reached : Option Limit) → limit_at limits came level left e ≡ reached
-        → limited_from limits (came + 1) (level_after e level) (left_after_event left e)
-        (limited_from limits (came + 1) (level_after e level) (left_after_event left e) items)
-        ≡ limited_from limits (came + 1) (level_after e level) (left_after_event left e) items
-        → limited_from limits came level left (event_or_limit reached e
-        (limited_from limits (came + 1) (level_after e level) (left_after_event left e) items))
-        ≡ event_or_limit reached e
-        (limited_from limits (came + 1) (level_after e level) (left_after_event left e) items)
-    by None is again = rw is (ap (λ items. Ok e ∷ items) again)
-    by (Some limit) is again = refl
+    by : (reached : Option Limit) (rest : List Item) → limit_at limits came level left e ≡ reached
+        → limited_from limits (came + 1) (level_after (shape_of e) level) (left_after_event left e)
+        rest
+        ≡ rest
+        → limited_from limits came level left (event_or_limit reached e rest)
+        ≡ event_or_limit reached e rest
+    by None rest is again = rw is (ap (λ items. Ok e ∷ items) again)
+    by (Some limit) rest is again = refl
 limited-twice limits came level left (Err fault ∷ items) = refl
 
 pub input-twice : (limits : Limits) (known : Option (List ℕ))

@@ -7,7 +7,8 @@ pub use builder::{AnyEvent, Builder};
 pub use events::Events;
 pub use plist_ascii::{AsciiReader, Bytes, Dialect};
 pub use plist_base::{
-    Event, Limited, OwnedEvent, Sealed, Seeking, Sequential, Source, Writer, read_exact_at,
+    Event, EventShape, Limited, OwnedEvent, Sealed, Seeking, Sequential, Source, Writer,
+    read_exact_at,
 };
 pub use plist_binread::{BinaryReader, CompactEvent, CountedDecodings, DecodeCounter, Uncounted};
 pub use plist_binwrite::{

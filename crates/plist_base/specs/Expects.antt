@@ -1,27 +1,29 @@
 -- What is still to come after some events: a stack by which an event is accepted or refused.
 use Rattle.std.specs.Prelude.{List, [], ◌∷◌, Option, Some, None, option_and_then}
-use Rattle.plist_base.specs.Events.{PlainEvent, StartArray, StartDictionary, EndCollection, ScalarEvent}
+use Rattle.plist_base.specs.Events.{PlainEvent, EndCollection, ScalarEvent, shape_of}
 use Rattle.plist_base.specs.Trees.{String}
+use Rattle.plist_base.specs.declared.event.EventShape.{EventShape}
+use Rattle.plist_base.specs.declared.event.EventShape.TheVariants as shape
 use Rattle.plist_base.specs.declared.expects.Expect.{Expect}
 use Rattle.plist_base.specs.declared.expects.Expect.TheVariants.{OneValue, Items, Pairs}
 use Rattle.plist_base.specs.declared.expects.Change.{Change}
 use Rattle.plist_base.specs.declared.expects.Change.TheVariants.{Refused, Popped, Kept, Pushed, Replaced}
 
--- what an event does where a value is to come
-abbrev pub change_of_value : PlainEvent → Change
-change_of_value (StartArray length) = Replaced Items
-change_of_value (StartDictionary length) = Replaced Pairs
-change_of_value EndCollection = Refused
-change_of_value (ScalarEvent scalar) = Popped
+-- what an event of this shape does where a value is to come
+abbrev pub change_of_value : EventShape → Change
+change_of_value shape.StartArray = Replaced Items
+change_of_value shape.StartDictionary = Replaced Pairs
+change_of_value shape.EndCollection = Refused
+change_of_value shape.Scalar = Popped
 
 -- where the items of an array or its end are to come
-abbrev pub change_of_items : PlainEvent → Change
-change_of_items (StartArray length) = Pushed Items
-change_of_items (StartDictionary length) = Pushed Pairs
-change_of_items EndCollection = Popped
-change_of_items (ScalarEvent scalar) = Kept
+abbrev pub change_of_items : EventShape → Change
+change_of_items shape.StartArray = Pushed Items
+change_of_items shape.StartDictionary = Pushed Pairs
+change_of_items shape.EndCollection = Popped
+change_of_items shape.Scalar = Kept
 
--- where the pairs of a dictionary or its end are to come
+-- what an event does where the pairs of a dictionary or its end are to come
 abbrev pub change_of_pairs : PlainEvent → Change
 change_of_pairs EndCollection = Popped
 change_of_pairs (ScalarEvent (String text)) = Pushed OneValue
@@ -29,8 +31,8 @@ change_of_pairs event = Refused
 
 -- what an event does to the topmost expectation
 abbrev pub change_of : Expect → PlainEvent → Change
-change_of OneValue event = change_of_value event
-change_of Items event = change_of_items event
+change_of OneValue event = change_of_value (shape_of event)
+change_of Items event = change_of_items (shape_of event)
 change_of Pairs event = change_of_pairs event
 
 -- the stack after a change, topmost first

@@ -3,43 +3,43 @@
 use Rattle.std.specs.Prelude.{◌≡◌, ℕ, ◌+◌, ◌-◌, ◌^◌, ◌≤◌, ⊤, Bool, true, false, ◌&&◌, not, nat_le, nat_lt, cond, length, List, [], ◌∷◌, Option, None, Some, Result, Ok, Err, MatchBool, MatchOption, MatchResult}
 use Rattle.plist_base.specs.declared.error.Error.{Error}
 use Rattle.plist_base.specs.declared.event.Event.{Event}
+use Rattle.plist_base.specs.declared.event.EventShape.{EventShape}
+use Rattle.plist_base.specs.declared.event.EventShape.TheVariants as shape
 use Rattle.plist_base.specs.declared.limited.Limited.{Limited}
 use Rattle.plist_base.specs.declared.limits.Limits.{Limits}
 use Rattle.plist_base.specs.declared.limits.Limit.{Limit}
 use Rattle.plist_base.specs.declared.limits.Limit.TheVariants as limit
 use Rattle.plist_base.specs.declared.limits.Limiter.{Limiter}
 use Rattle.plist_base.specs.Faults.{Fault, LimitReached, fault_nowhere, fault_of}
-use Rattle.plist_base.specs.Events.{PlainEvent, ScalarEvent, StartArray, StartDictionary, EndCollection, Item, event_of}
-use Rattle.plist_base.specs.Trees.{String, Data}
+use Rattle.plist_base.specs.Events.{PlainEvent, Item, event_of, shape_of, text_or_data}
 
 -- is it the start of a collection?
-abbrev pub opens : PlainEvent → Bool
-opens (StartArray length) = true
-opens (StartDictionary length) = true
-opens event = false
+abbrev pub opens : EventShape → Bool
+opens shape.StartArray = true
+opens shape.StartDictionary = true
+opens shape.EndCollection = false
+opens shape.Scalar = false
 
 -- how many collections are open behind an event, where so many were open before it
-abbrev pub level_after : PlainEvent → (level : ℕ) → ℕ
-level_after (StartArray length) level = level + 1
-level_after (StartDictionary length) level = level + 1
-level_after EndCollection level = level - 1
-level_after event level = level
+abbrev pub level_after : EventShape → (level : ℕ) → ℕ
+level_after shape.StartArray level = level + 1
+level_after shape.StartDictionary level = level + 1
+level_after shape.EndCollection level = level - 1
+level_after shape.Scalar level = level
 
 -- so many collections are open behind an event that isn't one collection too many
-abbrev pub IsLevelAfter : (depth level : ℕ) → PlainEvent → (behind : ℕ) → Type 0
-IsLevelAfter depth level event behind =
-    (behind ≡ level_after event level) × ((opens event && nat_le depth level) ≡ false)
+abbrev pub IsLevelAfter : (depth level : ℕ) → EventShape → (behind : ℕ) → Type 0
+IsLevelAfter depth level shape behind =
+    (behind ≡ level_after shape level) × ((opens shape && nat_le depth level) ≡ false)
 
 -- the event is one collection too many, which is the limit that it reaches
-abbrev pub IsTooDeep : (depth level : ℕ) → PlainEvent → Limit → Type 0
-IsTooDeep depth level event reached =
-    (reached ≡ limit.Depth) × ((opens event && nat_le depth level) ≡ true)
+abbrev pub IsTooDeep : (depth level : ℕ) → EventShape → Limit → Type 0
+IsTooDeep depth level shape reached =
+    (reached ≡ limit.Depth) × ((opens shape && nat_le depth level) ≡ true)
 
 -- how many bytes an event's text or data has
 abbrev pub bytes_in : PlainEvent → ℕ
-bytes_in (ScalarEvent (String text)) = length text
-bytes_in (ScalarEvent (Data bytes)) = length bytes
-bytes_in event = 0
+bytes_in event = length (text_or_data event)
 
 -- how many bytes the texts and data of these events have
 abbrev pub total_bytes : List PlainEvent → ℕ
@@ -83,7 +83,7 @@ abbrev pub limit_at : Limits → (came level : ℕ) → (left : Option ℕ) → 
 limit_at limits came level left event =
     cond (is_too_long left event) (Some limit.Bytes)
     (cond (nat_le limits.items came) (Some limit.Items)
-    (cond (opens event && nat_le limits.depth level) (Some limit.Depth) None))
+    (cond (opens (shape_of event) && nat_le limits.depth level) (Some limit.Depth) None))
 
 -- an event and what is behind it, or the fault of the limit that it reaches
 abbrev pub event_or_limit : Option Limit → PlainEvent → (behind : List Item) → List Item
@@ -95,7 +95,8 @@ abbrev pub limited_from : Limits → (came level : ℕ) → (left : Option ℕ) 
 limited_from limits came level left [] = []
 limited_from limits came level left (Ok event ∷ items) =
     event_or_limit (limit_at limits came level left event) event
-    (limited_from limits (came + 1) (level_after event level) (left_after_event left event) items)
+    (limited_from limits (came + 1) (level_after (shape_of event) level)
+    (left_after_event left event) items)
 limited_from limits came level left (Err fault ∷ items) = Err fault ∷ []
 
 -- The items up to their first fault, in which the first event that has a byte too many, or else is

@@ -1,7 +1,7 @@
 //! The events of a property list.
 
 ghost use Rattle.std.specs.Prelude.{◌≡◌, IfOk};
-ghost use Rattle.plist_base.specs.Events.{event_of};
+ghost use Rattle.plist_base.specs.Events.{event_of, shape_of, text_or_data};
 ghost use Rattle.plist_base.specs.Outcomes.{OnlyMemory};
 
 use crate::{Date, Error, Integer, RealBits, Uid};
@@ -39,6 +39,19 @@ pub enum Event<'a> {
 
 /// An event that owns its content.
 pub type OwnedEvent = Event<'static>;
+
+/// What an event does to the collections that are open: it opens one, ends one, or stands in one.
+#[derive(Clone, Copy, Debug, PartialEq, Eq)]
+pub enum EventShape {
+    /// An array begins.
+    StartArray,
+    /// A dictionary begins.
+    StartDictionary,
+    /// The innermost array or dictionary ends.
+    EndCollection,
+    /// A scalar of any kind. A text may be a key.
+    Scalar,
+}
 
 impl<'a> Event<'a> {
     /// The same event, which owns its content. A borrowed text or borrowed data is copied.
@@ -80,6 +93,44 @@ impl<'a> Event<'a> {
             Event::Real(bits) => Event::Real(*bits),
             Event::String(text) => Event::String(CowStr::Borrowed(text.as_str())),
             Event::Uid(uid) => Event::Uid(*uid),
+        }
+    }
+
+    /// What the event does to the collections that are open.
+    #[inline(always)]
+    pub fn shape(&self) -> EventShape
+        ensures { result ≡ shape_of (event_of self.now) }
+    {
+        match self {
+            Event::StartArray(_) => EventShape::StartArray,
+            Event::StartDictionary(_) => EventShape::StartDictionary,
+            Event::EndCollection => EventShape::EndCollection,
+            Event::Boolean(_)
+            | Event::Data(_)
+            | Event::Date(_)
+            | Event::Integer(_)
+            | Event::Real(_)
+            | Event::String(_)
+            | Event::Uid(_) => EventShape::Scalar,
+        }
+    }
+
+    /// The bytes of a text or data, which may be any number, and none of another event.
+    #[inline(always)]
+    pub fn text_or_data(&self) -> &[u8]
+        ensures { result.now ≡ text_or_data (event_of self.now) }
+    {
+        match self {
+            Event::String(text) => text.as_str().as_bytes(),
+            Event::Data(bytes) => bytes.as_slice(),
+            Event::StartArray(_)
+            | Event::StartDictionary(_)
+            | Event::EndCollection
+            | Event::Boolean(_)
+            | Event::Date(_)
+            | Event::Integer(_)
+            | Event::Real(_)
+            | Event::Uid(_) => &[],
         }
     }
 

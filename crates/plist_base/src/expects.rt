@@ -4,7 +4,7 @@ ghost use Rattle.std.specs.Prelude.{◌≡◌};
 ghost use Rattle.plist_base.specs.Events.{event_of};
 ghost use Rattle.plist_base.specs.Expects.{change_of, change_of_value, change_of_items, change_of_pairs};
 
-use crate::Event;
+use crate::{Event, EventShape};
 
 /// What is still to come.
 #[derive(Clone, Copy, Drop)]
@@ -32,57 +32,42 @@ pub enum Change {
     Replaced(Expect),
 }
 
-// What an event does where a value is to come.
-fn change_of_value(event: &Event<'_>) -> Change
-    ensures { result ≡ change_of_value (event_of event.now) }
+// What an event of this shape does where a value is to come.
+fn change_of_value(shape: EventShape) -> Change
+    ensures { result ≡ change_of_value shape }
 {
-    match event {
-        Event::StartArray(_) => Change::Replaced(Expect::Items),
-        Event::StartDictionary(_) => Change::Replaced(Expect::Pairs),
-        Event::EndCollection => Change::Refused,
-        Event::Boolean(_)
-        | Event::Data(_)
-        | Event::Date(_)
-        | Event::Integer(_)
-        | Event::Real(_)
-        | Event::String(_)
-        | Event::Uid(_) => Change::Popped,
+    match shape {
+        EventShape::StartArray => Change::Replaced(Expect::Items),
+        EventShape::StartDictionary => Change::Replaced(Expect::Pairs),
+        EventShape::EndCollection => Change::Refused,
+        EventShape::Scalar => Change::Popped,
     }
 }
 
 // What it does among the items of an array.
-fn change_of_items(event: &Event<'_>) -> Change
-    ensures { result ≡ change_of_items (event_of event.now) }
+fn change_of_items(shape: EventShape) -> Change
+    ensures { result ≡ change_of_items shape }
 {
-    match event {
-        Event::StartArray(_) => Change::Pushed(Expect::Items),
-        Event::StartDictionary(_) => Change::Pushed(Expect::Pairs),
-        Event::EndCollection => Change::Popped,
-        Event::Boolean(_)
-        | Event::Data(_)
-        | Event::Date(_)
-        | Event::Integer(_)
-        | Event::Real(_)
-        | Event::String(_)
-        | Event::Uid(_) => Change::Kept,
+    match shape {
+        EventShape::StartArray => Change::Pushed(Expect::Items),
+        EventShape::StartDictionary => Change::Pushed(Expect::Pairs),
+        EventShape::EndCollection => Change::Popped,
+        EventShape::Scalar => Change::Kept,
     }
 }
 
-// What it does among the pairs of a dictionary.
+// What an event does among the pairs of a dictionary.
 fn change_of_pairs(event: &Event<'_>) -> Change
     ensures { result ≡ change_of_pairs (event_of event.now) }
 {
-    match event {
-        Event::String(_) => Change::Pushed(Expect::OneValue),
-        Event::EndCollection => Change::Popped,
-        Event::StartArray(_)
-        | Event::StartDictionary(_)
-        | Event::Boolean(_)
-        | Event::Data(_)
-        | Event::Date(_)
-        | Event::Integer(_)
-        | Event::Real(_)
-        | Event::Uid(_) => Change::Refused,
+    if let Event::String(_) = event {
+        return Change::Pushed(Expect::OneValue);
+    }
+    match event.shape() {
+        EventShape::EndCollection => Change::Popped,
+        EventShape::StartArray | EventShape::StartDictionary | EventShape::Scalar => {
+            Change::Refused
+        }
     }
 }
 
@@ -93,8 +78,8 @@ impl Expect {
         ensures { result ≡ change_of self (event_of event.now) }
     {
         match self {
-            Expect::OneValue => change_of_value(event),
-            Expect::Items => change_of_items(event),
+            Expect::OneValue => change_of_value(event.shape()),
+            Expect::Items => change_of_items(event.shape()),
             Expect::Pairs => change_of_pairs(event),
         }
     }

@@ -4,9 +4,9 @@ ghost use Rattle.std.specs.Prelude.{◌≡◌, IfOk, IfErr, OnOk};
 ghost use Rattle.plist_base.specs.Events.{event_of};
 ghost use Rattle.plist_base.specs.Outcomes.{IfFault};
 ghost use Rattle.plist_base.specs.Faults.{LimitReached, limit_name};
-ghost use Rattle.plist_base.specs.Limits.{Admits, Refuses, bytes_in, level_after, limited_items, limited_by, IsLeftAfter, IsLevelAfter, IsTooDeep, IsTooLong, RefusesBy, bytes_left};
+ghost use Rattle.plist_base.specs.Limits.{Admits, Refuses, level_after, limited_items, limited_by, IsLeftAfter, IsLevelAfter, IsTooDeep, IsTooLong, RefusesBy, bytes_left};
 
-use crate::{Error, ErrorKind, Event};
+use crate::{Error, ErrorKind, Event, EventShape};
 
 /// The most that is read of a property list.
 #[derive(Clone, Copy, Debug, PartialEq, Eq)]
@@ -63,43 +63,19 @@ impl Limit {
 }
 
 // How many collections are open behind an event, where so many were open before it.
-fn level_after(depth: u64, level: u64, event: &Event<'_>) -> Result<u64, Limit>
-    ensures value { IfOk result (IsLevelAfter depth level (event_of event.now)) }
-    ensures refused { IfErr result (IsTooDeep depth level (event_of event.now)) }
+fn level_after(depth: u64, level: u64, shape: EventShape) -> Result<u64, Limit>
+    ensures value { IfOk result (IsLevelAfter depth level shape) }
+    ensures refused { IfErr result (IsTooDeep depth level shape) }
 {
-    match event {
-        Event::StartArray(_) | Event::StartDictionary(_) => {
+    match shape {
+        EventShape::StartArray | EventShape::StartDictionary => {
             if level >= depth {
                 return Err(Limit::Depth);
             }
             Ok(level + 1)
         }
-        Event::EndCollection => Ok(level.saturating_sub(1)),
-        Event::Boolean(_)
-        | Event::Data(_)
-        | Event::Date(_)
-        | Event::Integer(_)
-        | Event::Real(_)
-        | Event::String(_)
-        | Event::Uid(_) => Ok(level),
-    }
-}
-
-// How many bytes an event's text or data has.
-fn bytes_in(event: &Event<'_>) -> u64
-    ensures { result ≡ bytes_in (event_of event.now) }
-{
-    match event {
-        Event::String(text) => text.as_str().len() as u64,
-        Event::Data(bytes) => bytes.as_slice().len() as u64,
-        Event::StartArray(_)
-        | Event::StartDictionary(_)
-        | Event::EndCollection
-        | Event::Boolean(_)
-        | Event::Date(_)
-        | Event::Integer(_)
-        | Event::Real(_)
-        | Event::Uid(_) => 0,
+        EventShape::EndCollection => Ok(level.saturating_sub(1)),
+        EventShape::Scalar => Ok(level),
     }
 }
 
@@ -110,7 +86,7 @@ fn left_after_event(left: Option<u64>, event: &Event<'_>) -> Result<Option<u64>,
 {
     match left {
         None => Ok(None),
-        Some(left) => match left.checked_sub(bytes_in(event)) {
+        Some(left) => match left.checked_sub(event.text_or_data().len() as u64) {
             Some(left) => Ok(Some(left)),
             None => Err(Limit::Bytes),
         },
@@ -160,7 +136,7 @@ impl Limiter {
         if self.came >= self.limits.items {
             return Err(Limit::Items);
         }
-        self.level = level_after(self.limits.depth, self.level, event)?;
+        self.level = level_after(self.limits.depth, self.level, event.shape())?;
         self.left = left;
         self.came += 1;
         Ok(())

@@ -274,19 +274,13 @@ fn push_words(line: &mut Vec<u8>, event: &Event<'_>) -> Result<(), AllocError>
 }
 
 /// A bound on the bytes of an event's line; `usize::MAX` stands for any that is larger.
+#[inline(always)]
 pub fn line_bound(event: &Event<'_>) -> usize {
-    match event {
-        Event::String(text) => text.as_str().len().saturating_mul(4).saturating_add(64),
-        Event::Data(bytes) => bytes.as_slice().len().saturating_mul(2).saturating_add(64),
-        Event::StartArray(_)
-        | Event::StartDictionary(_)
-        | Event::EndCollection
-        | Event::Boolean(_)
-        | Event::Date(_)
-        | Event::Integer(_)
-        | Event::Real(_)
-        | Event::Uid(_) => 64,
-    }
+    event
+        .text_or_data()
+        .len()
+        .saturating_mul(4)
+        .saturating_add(64)
 }
 
 /// Appends the line of an event, with its LF.

@@ -147,21 +147,14 @@ fn pass_long<W: Write>(out: &mut W, lines: &mut Vec<u8>, event: &Event<'_>) -> R
     ensures fault { IfErr result IsWriterError }
     ensures prefix { OnErr result (SendsLineInPart W.contents out.old lines.old event.now out.new) }
 {
-    match event {
-        Event::String(text) => pass_text(out, lines, text.as_str()),
-        Event::Data(bytes) => pass_data(out, lines, bytes.as_slice()),
-        Event::StartArray(_)
-        | Event::StartDictionary(_)
-        | Event::EndCollection
-        | Event::Boolean(_)
-        | Event::Date(_)
-        | Event::Integer(_)
-        | Event::Real(_)
-        | Event::Uid(_) => {
-            push_line(lines, event)?;
-            Ok(())
-        }
+    if let Event::String(text) = event {
+        return pass_text(out, lines, text.as_str());
     }
+    if let Event::Data(bytes) = event {
+        return pass_data(out, lines, bytes.as_slice());
+    }
+    push_line(lines, event)?;
+    Ok(())
 }
 
 // Sends what is held back, and puts a line in its place.
@@ -320,7 +313,8 @@ pub fn print_events<S: Source, W: Write>(
     ensures printed { OnOk result (PrintsFile S.known W.contents source writer.old writer.new) }
     ensures answers { PrintsSource S.known S.failures source result (W.contents writer.old)
         (W.contents writer.new) }
-    ensures refused { IfErr result (PrintsFileUntil S.known W.contents source writer.old writer.new) }
+    ensures refused { IfErr result (λ error.
+        PrintsFileUntil S.known W.contents source writer.old writer.new error) }
     ensures prefix { SendsPrefixOfFile S.known W.contents source writer.old writer.new }
 {
     let mut reader = BinaryReader::new(alloc, source);

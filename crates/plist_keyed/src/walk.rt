@@ -31,18 +31,10 @@ enum Move<'a> {
 fn uid_of(event: &Event<'_>) -> Option<u64>
     ensures { result ≡ uid_of_event (event_of event.now) }
 {
-    match event {
-        Event::Uid(uid) => Some(uid.get()),
-        Event::StartArray(_)
-        | Event::StartDictionary(_)
-        | Event::EndCollection
-        | Event::Boolean(_)
-        | Event::Data(_)
-        | Event::Date(_)
-        | Event::Integer(_)
-        | Event::Real(_)
-        | Event::String(_) => None,
-    }
+    let Event::Uid(uid) = event else {
+        return None;
+    };
+    Some(uid.get())
 }
 
 // The events of an object's tree, as the readers of values give theirs: a Uid that names no object

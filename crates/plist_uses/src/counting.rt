@@ -6,7 +6,7 @@ ghost use Rattle.plist_reader.specs.Reader.{items_of_input};
 ghost use Rattle.plist_uses.specs.Counting.{AreCountedOf, CountsItem, CountsOne, IsRefusedBy, nothing};
 
 use plist::Error;
-use plist::stream::{OwnedEvent, Reader, Source};
+use plist::stream::{EventShape, OwnedEvent, Reader, Source};
 use std::alloc::Global;
 
 /// How many arrays, dictionaries, texts and other scalars there are. A dictionary's keys are texts
@@ -44,19 +44,15 @@ impl Counts {
     fn count(&mut self, event: &OwnedEvent)
         ensures { CountsOne (event_of event.now) self.old self.new }
     {
-        match event {
-            OwnedEvent::StartArray(_) => self.arrays = self.arrays.saturating_add(1),
-            OwnedEvent::StartDictionary(_) => {
-                self.dictionaries = self.dictionaries.saturating_add(1)
-            }
-            OwnedEvent::EndCollection => {}
-            OwnedEvent::String(_) => self.texts = self.texts.saturating_add(1),
-            OwnedEvent::Boolean(_)
-            | OwnedEvent::Data(_)
-            | OwnedEvent::Date(_)
-            | OwnedEvent::Integer(_)
-            | OwnedEvent::Real(_)
-            | OwnedEvent::Uid(_) => self.others = self.others.saturating_add(1),
+        if let OwnedEvent::String(_) = event {
+            self.texts = self.texts.saturating_add(1);
+            return;
+        }
+        match event.shape() {
+            EventShape::StartArray => self.arrays = self.arrays.saturating_add(1),
+            EventShape::StartDictionary => self.dictionaries = self.dictionaries.saturating_add(1),
+            EventShape::EndCollection => {}
+            EventShape::Scalar => self.others = self.others.saturating_add(1),
         }
     }
 }

@@ -156,16 +156,12 @@ impl Value {
 
     // Where a collection is stored.
     pub(crate) fn allocator(&self) -> Option<Global> {
-        match self {
-            Value::Array(items) => Some(*items.allocator()),
-            Value::Dictionary(pairs) => Some(pairs.allocator()),
-            Value::Boolean(_)
-            | Value::Data(_)
-            | Value::Date(_)
-            | Value::Integer(_)
-            | Value::Real(_)
-            | Value::String(_)
-            | Value::Uid(_) => None,
+        if let Value::Array(items) = self {
+            return Some(*items.allocator());
         }
+        let Value::Dictionary(pairs) = self else {
+            return None;
+        };
+        Some(pairs.allocator())
     }
 }
