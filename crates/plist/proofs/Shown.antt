@@ -15,7 +15,7 @@ use Rattle.plist_binread.specs.declared.reader.BinaryReader.{BinaryReader}
 use Rattle.plist_format.specs.Unfolding.{items_of_file}
 use Rattle.plist_reader.specs.Reader.{items_of_input}
 use Rattle.plist_reader.specs.Formats.{input_front, format_of}
-use Rattle.plist_reader.proofs.Giving.{ascii-goes}
+use Rattle.plist_reader.proofs.AsciiGiving.{ascii-goes}
 use Rattle.plist.specs.declared.stream.events.Events.{Events}
 use Rattle.plist.specs.Collecting.{item_by}
 use Rattle.plist.specs.ValueOfItems.{IsValueOf, IsReadIfKnown, BeginsWith, BeginsWithIfKnown}

@@ -1,110 +1,31 @@
--- What the chosen reader gives.
-use Rattle.std.proofs.Common.{◌≡◌, ℕ, ◌-◌, ◌^◌, ◌<◌, Bool, true, false, cond, List, [], ◌∷◌, ◌++◌, length, Option, None, Some, Ok, Err, IfSome, OnErr, MatchBool, MatchOption, refl, ap, sym, ◌∙◌, subst, arith}
+-- What the chosen reader gives: what both formats share, and a source that is refused.
+use Rattle.std.proofs.Common.{◌≡◌, ℕ, ◌<◌, Bool, List, [], ◌∷◌, length, Option, None, Some, Err, IfSome, refl, ap, sym, ◌∙◌, subst, arith}
 use Rattle.std.specs.Option.{is_some, option_map}
-use Rattle.std.specs.Prelude.{Result}
-use Rattle.std.proofs.lemmas.List.{take-take}
+use Rattle.std.specs.Prelude.{Result, ⊤}
 use Rattle.plist_base.specs.declared.error.Error.{Error}
 use Rattle.plist_base.specs.declared.event.Event.{Event}
 use Rattle.plist_base.specs.declared.source.Source.{Ghosts}
-use Rattle.plist_reader.specs.declared.bytes.SourceBytes.{SourceBytes}
-use Rattle.plist_base.specs.Events.{Item, PlainEvent, event_of}
-use Rattle.std.specs.Prelude.{⊤}
-use Rattle.plist_base.specs.declared.limited.Limited.{Limited}
-use Rattle.plist_base.specs.declared.limits.Limit.{Limit}
+use Rattle.plist_base.specs.Events.{Item}
 use Rattle.plist_base.specs.declared.limits.Limits.{Limits}
-use Rattle.plist_base.specs.declared.limits.Limiter.{Limiter}
-use Rattle.plist_base.specs.Limits.{GivesLimited, PassesNext, items_admitted, event_or_limit, iterator_of, limited_items, limited_by}
-use Rattle.plist_base.specs.Faults.{FaultKind, Fault, Io, UnexpectedEof, OutOfMemory, InvalidMagic, InvalidTrailerObjectOffsetSize, InvalidTrailerObjectReferenceSize, ObjectOffsetTooLarge, ObjectReferenceTooLarge, RecursiveObject, NullObjectUnimplemented, FillObjectUnimplemented, UnknownObjectType, IntegerOutOfRange, OverflowOrNanDate, InvalidUtf8String, InvalidUtf16String, UnclosedString, IncompleteComment, InvalidUtf8AsciiStream, InvalidOctalString, LimitReached, MatchFault, XmlUnsupported, IsIo, fault_at, fault_nowhere, kind_of, error_kind_of, fault_of}
-use Rattle.plist_base.specs.Sequential.{from_place}
-use Rattle.plist_reader.specs.Streams.{stream_bytes_left, stream_source, stream_place, held}
-use Rattle.plist_base.specs.Sources.{ItemCountsIo, IsOffsetWithin}
+use Rattle.plist_base.specs.Limits.{limited_items}
+use Rattle.plist_base.specs.Faults.{FaultKind, Fault, Io, InvalidUtf16String, UnclosedString, IncompleteComment, InvalidUtf8AsciiStream, InvalidOctalString, MatchFault, XmlUnsupported, IsIo, fault_at, kind_of, error_kind_of, fault_of}
+use Rattle.plist_base.specs.Sources.{ItemCountsIo}
 use Rattle.plist_base.proofs.Refusals.{MatchFault-weaker}
-use Rattle.plist_binread.specs.BinaryReader as binary
-use Rattle.plist_binread.specs.FaultOffsets.{HasOffset, MatchGiven, ItemGivenWithin}
-use Rattle.plist_binread.specs.Remaining.{SomeRemain, AllocatesFirst}
-use Rattle.plist_ascii.specs.Ascii.{items_of_ascii, items_in, BeginsWithText}
-use Rattle.plist_ascii.specs.AsciiReader as ascii
-use Rattle.plist_ascii.specs.Kinds.{IsAsciiFault, IsAsciiItem, IsFaultOfBytes}
-use Rattle.plist_ascii.specs.Incoming as incoming
-use Rattle.plist_ascii.specs.declared.dialect.Dialect.TheVariants.{Lax}
-use Rattle.plist_ascii.specs.Texts.{lax, ends_bare}
+use Rattle.plist_binread.specs.FaultOffsets.{HasOffset}
 use Rattle.plist_reader.specs.declared.reader.State.{State}
 use Rattle.plist_reader.specs.declared.reader.State.TheVariants as state
-use Rattle.plist_reader.specs.Reader.{BeginsInside, FileGives, MatchText, BinaryReaderOf, AsciiReaderOf, TextGives, state_items, file_within, input_within, is_limited_in, items_by, items_of_input, text_to_come, GivesItem, GivesIfKnown, EndsAfter, IsReaderFault, IsReaderItem, IsRefusedKind, StateGives, HoldsSource, ItemHasOffset, FaultHasOffset, MatchOffset, source_in}
+use Rattle.plist_reader.specs.Reader.{BeginsInside, MatchText, state_items, input_within, is_limited_in, items_by, GivesItem, GivesIfKnown, IsReaderFault, IsReaderItem, IsRefusedKind, StateGives, HoldsSource, ItemHasOffset, FaultHasOffset, MatchOffset, source_in}
 use Rattle.plist_reader.specs.declared.format.Format.TheVariants as format
-use Rattle.plist_reader.specs.Formats.{format_of, input_front}
-use Rattle.plist_reader.proofs.Fronts.{within-placed}
+use Rattle.plist_reader.specs.Formats.{format_of}
 
 abbrev pub Given : Type 0
 Given = Option (Result Event Error)
 
--- ---- where memory is wanted something is to come
-
-one-owed : {A : Type 0} (x : A) (xs : List A) → 0 < length (x ∷ xs)
+-- where memory is wanted something is to come
+pub one-owed : {A : Type 0} (x : A) (xs : List A) → 0 < length (x ∷ xs)
 one-owed x xs = omega arith
 
-wants-owed : (before : List Item) → AllocatesFirst before → SomeRemain before
-wants-owed [] h = absurd h
-wants-owed (x ∷ xs) h = one-owed x xs
-
-either-owed : (new : Bool) (before : List Item) → MatchBool new (SomeRemain before)
-    (AllocatesFirst before)
-    → SomeRemain before
-either-owed true before h = h
-either-owed false before h = wants-owed _ h
-
-text-owed : (before : List Item) → BeginsWithText before → SomeRemain before
-text-owed [] h = absurd h
-text-owed (x ∷ xs) h = one-owed x xs
-
--- ---- one call
-
-binary-item : (new : Bool) (before after : List Item) (item : Given)
-    → binary.GivesBinaryItem new before item after → GivesItem before item after
-binary-item new before after None h = h
-binary-item new before after (Some (Ok event)) h = h
-binary-item new before after (Some (Err error)) h =
-    MatchFault-weaker (kind_of (error_kind_of error)) (λ _. h.0)
-    (λ m. (h.0, either-owed new before m))
-    (λ e. e ∙ ap (λ l. Err (fault_of error) ∷ l) (sym h.0)) h.1
-
-none-left : (stops : ℕ → Bool) (bytes : List ℕ) (q : ℕ) → bytes ≡ []
-    → items_of_ascii stops bytes q ≡ []
-unfolding items_in
-none-left stops bytes q e = ap (λ l. items_of_ascii stops l q) e
-
-ascii-item : (stops : ℕ → Bool) (bytes rest : List ℕ) (p q : ℕ) (item : Given)
-    → ascii.GivesAsciiItem stops bytes p item rest q
-    → GivesItem (items_of_ascii stops bytes p) item (items_of_ascii stops rest q)
-ascii-item stops bytes rest p q None h = (h.0, none-left stops rest q h.1)
-ascii-item stops bytes rest p q (Some (Ok event)) h = h.items
-ascii-item stops bytes rest p q (Some (Err error)) h =
-    MatchFault-weaker (kind_of (error_kind_of error)) (λ e. none-left stops rest q e)
-    (λ m. (none-left stops rest q m.0, text-owed (items_of_ascii stops bytes p) m.1))
-    (λ b. b.items) h
-
-binary-goes : (k l : Option (List ℕ)) (f g : List ℕ → List Item) (new : Bool) (item : Given) → l ≡ k
-    → IfSome k (λ bytes. binary.GivesBinaryItem new (f bytes) item (g bytes))
-    → GivesIfKnown (option_map f k) item (option_map g l)
-binary-goes None l f g new item e h = tt
-binary-goes (Some bytes) l f g new item e h =
-    (g _, ap (option_map g) e, binary-item _ _ _ _ h)
-
-pub ascii-goes : (stops : ℕ → Bool) (k l : Option (List ℕ)) (p q : ℕ) (item : Given)
-    → ((bytes : List ℕ) → k ≡ Some bytes → (rest : List ℕ) × (l ≡ Some rest)
-    × ascii.GivesAsciiItem stops bytes p item rest q)
-    → GivesIfKnown (option_map (λ bytes. items_of_ascii stops bytes p) k) item
-    (option_map (λ bytes. items_of_ascii stops bytes q) l)
-ascii-goes stops None l p q item h = tt
-ascii-goes stops (Some bytes) l p q item h =
-    let r = h _ refl in (
-      items_of_ascii _ r.0 q,
-      ap
-          (option_map (λ b. items_of_ascii _ b q)) r.1,
-      ascii-item _ _ r.0 p q _ r.2,
-    )
-
-text-or-all : (kind : FaultKind) (E : Type 0) → E → MatchText kind ⊤ E
+pub text-or-all : (kind : FaultKind) (E : Type 0) → E → MatchText kind ⊤ E
 text-or-all UnclosedString E h = tt
 text-or-all IncompleteComment E h = tt
 text-or-all InvalidUtf8AsciiStream E h = tt
@@ -112,268 +33,11 @@ text-or-all InvalidOctalString E h = tt
 text-or-all InvalidUtf16String E h = tt
 text-or-all kind E h = h
 
-over-ends : (E : Type 0) (item : Given) → MatchOption item E (λ answer. OnErr answer E)
-    → EndsAfter item E
-over-ends E None h = h
-over-ends E (Some (Ok event)) h = tt
-over-ends E (Some (Err error)) h = text-or-all _ E h
-
-ascii-ends : (E : Type 0) (item : Given) → ascii.EndsAfterIoOrMemory item E → IsAsciiItem item
-    → EndsAfter item E
-ascii-ends E None h k = h
-ascii-ends E (Some (Ok event)) h k = tt
-ascii-ends E (Some (Err error)) h k = by (kind_of (error_kind_of error)) h k
-  where
-    by : (kind : FaultKind) → MatchFault kind E E ⊤ → IsAsciiFault kind → MatchText kind ⊤ E
-    by Io h k = h
-    by OutOfMemory h k = h
-    by UnclosedString h k = tt
-    by IncompleteComment h k = tt
-    by InvalidUtf8AsciiStream h k = tt
-    by InvalidOctalString h k = tt
-    by InvalidUtf16String h k = tt
-    by kind h k = absurd k
-
--- ---- which faults come
-
-binary-kinds : (limited : Bool) (item : Given) → ItemGivenWithin 0 (2 ^ 64) limited item
-    → IsReaderItem limited item
-binary-kinds limited None h = tt
-binary-kinds limited (Some (Ok event)) h = tt
-binary-kinds limited (Some (Err error)) h =
-    by (kind_of (error_kind_of error)) (fault_of error).offset h.placed
-  where
-    by : (kind : FaultKind) (offset : Option ℕ)
-        → MatchGiven kind (IsOffsetWithin 0 (2 ^ 64) offset) (offset ≡ None) (HasOffset offset)
-        ((limited ≡ true) × (offset ≡ None)) → IsReaderFault limited kind
-    by (LimitReached limit) offset h = h.0
-    by Io offset h = tt
-    by UnexpectedEof offset h = tt
-    by OutOfMemory offset h = tt
-    by InvalidMagic offset h = tt
-    by InvalidTrailerObjectOffsetSize offset h = tt
-    by InvalidTrailerObjectReferenceSize offset h = tt
-    by ObjectOffsetTooLarge offset h = tt
-    by ObjectReferenceTooLarge offset h = tt
-    by RecursiveObject offset h = tt
-    by NullObjectUnimplemented offset h = tt
-    by FillObjectUnimplemented offset h = tt
-    by (UnknownObjectType marker) offset h = tt
-    by IntegerOutOfRange offset h = tt
-    by OverflowOrNanDate offset h = tt
-    by InvalidUtf8String offset h = tt
-    by InvalidUtf16String offset h = tt
-    by kind offset h = absurd h
-
-ascii-kinds : (limited : Bool) (item : Given) → IsAsciiItem item → IsReaderItem limited item
-ascii-kinds limited None h = tt
-ascii-kinds limited (Some (Ok event)) h = tt
-ascii-kinds limited (Some (Err error)) h = by (kind_of (error_kind_of error)) h
-  where
-    by : (kind : FaultKind) → IsAsciiFault kind → IsReaderFault limited kind
-    by Io h = tt
-    by OutOfMemory h = tt
-    by UnclosedString h = tt
-    by IncompleteComment h = tt
-    by InvalidUtf8AsciiStream h = tt
-    by InvalidOctalString h = tt
-    by InvalidUtf16String h = tt
-    by kind h = absurd h
-
-same-count : (a b : ℕ) → Some b ≡ Some a → b ≡ a
-same-count a b e = cc
-
--- where the readers' own faults are
-binary-placed : (limited : Bool) (item : Given) → ItemGivenWithin 0 (2 ^ 64) limited item
-    → ItemHasOffset item
-binary-placed limited None h = tt
-binary-placed limited (Some (Ok event)) h = tt
-binary-placed limited (Some (Err error)) h = placed _ _ h.placed
-  where
-    placed : (kind : FaultKind) (offset : Option ℕ)
-        → MatchGiven kind (IsOffsetWithin 0 (2 ^ 64) offset) (offset ≡ None) (HasOffset offset)
-        ((limited ≡ true) × (offset ≡ None)) → MatchOffset kind (offset ≡ None) (HasOffset offset)
-    placed (LimitReached limit) offset p = p.1
-    placed Io offset p = within-placed 0 (2 ^ 64) offset p
-    placed UnexpectedEof offset p = within-placed 0 (2 ^ 64) offset p
-    placed OutOfMemory offset p = p
-    placed InvalidMagic offset p = p
-    placed InvalidTrailerObjectOffsetSize offset p = p
-    placed InvalidTrailerObjectReferenceSize offset p = p
-    placed ObjectOffsetTooLarge offset p = p
-    placed ObjectReferenceTooLarge offset p = p
-    placed RecursiveObject offset p = p
-    placed NullObjectUnimplemented offset p = p
-    placed FillObjectUnimplemented offset p = p
-    placed (UnknownObjectType marker) offset p = p
-    placed IntegerOutOfRange offset p = p
-    placed OverflowOrNanDate offset p = p
-    placed InvalidUtf8String offset p = p
-    placed InvalidUtf16String offset p = p
-    placed kind offset p = absurd p
-
-some-place : (offset : Option ℕ) (place : ℕ) → offset ≡ Some place → HasOffset offset
-some-place offset place is = rw is tt
-
-ascii-placed : (place : ℕ) (item : Given) → ascii.FaultIsAt item place → ItemHasOffset item
-ascii-placed place None h = tt
-ascii-placed place (Some (Ok event)) h = tt
-ascii-placed place (Some (Err error)) h = placed _ _ h
-  where
-    placed : (kind : FaultKind) (offset : Option ℕ)
-        → MatchFault kind (offset ≡ Some place) (offset ≡ None)
-        (IsFaultOfBytes kind × (offset ≡ Some place))
-        → MatchOffset kind (offset ≡ None) (HasOffset offset)
-    placed Io offset p = some-place offset place p
-    placed OutOfMemory offset p = p
-    placed UnclosedString offset p = some-place offset place p.1
-    placed IncompleteComment offset p = some-place offset place p.1
-    placed InvalidUtf8AsciiStream offset p = some-place offset place p.1
-    placed InvalidOctalString offset p = some-place offset place p.1
-    placed InvalidUtf16String offset p = some-place offset place p.1
-    placed kind offset p = absurd p.0
-
--- a count that is told
-told-failures : (a b : ℕ) (item : Given) → incoming.ItemCountsIoIfCounted item (Some a) (Some b)
-    → ItemCountsIo item a b
-told-failures a b None h = same-count a b h
-told-failures a b (Some (Ok event)) h = same-count a b h
-told-failures a b (Some (Err error)) h =
-    MatchFault-weaker (kind_of (error_kind_of error)) (λ r. r) (same-count a b) (same-count a b) h
-
 -- the items to come before the first one is asked for
-same-items : (k l : Option (List ℕ)) (f g : List ℕ → List Item) → l ≡ k
+pub same-items : (k l : Option (List ℕ)) (f g : List ℕ → List Item) → l ≡ k
     → IfSome k (λ bytes. f bytes ≡ g bytes) → option_map f l ≡ option_map g k
 same-items None l f g e h = rw e refl
 same-items (Some bytes) l f g e h = rw e (ap Some h)
-
-file-input : (limits : Option Limits) (bytes : List ℕ) → format.Binary ≡ format_of bytes
-    → file_within limits bytes ≡ input_within limits bytes
-file-input None bytes is = ap (λ f. items_by f bytes) is
-file-input (Some limits) bytes is = ap (λ f. limited_items limits (items_by f bytes)) is
-
-take-twice : (bytes : List ℕ) → input_front (input_front bytes) ≡ input_front bytes
-take-twice bytes = take-take (2 ^ 64 - 1) (2 ^ 64 - 1) bytes (omega arith)
-
-ascii-items : (k l : Option (List ℕ)) → l ≡ k → IfSome k (λ bytes. format.Ascii ≡ format_of bytes)
-    → option_map (λ bytes. items_of_ascii lax bytes 0)
-    (option_map input_front (option_map (λ bytes. [] ++ from_place 0 bytes) l))
-    ≡ option_map items_of_input k
-ascii-items None l e is = rw e refl
-ascii-items (Some bytes) l e is =
-    rw (e, take-twice bytes) (ap (λ f. Some (items_by f bytes)) is)
-
--- ---- under limits
-
-abbrev come : Bool → Limiter → List Item → List Item
-come ended limiter items = cond ended [] (limited_by limiter items)
-
-limit-other : (kind : FaultKind) (limit : Limit) (X Y Z : Type 0) → kind ≡ LimitReached limit → Z
-    → MatchFault kind X Y Z
-limit-other kind limit X Y Z is z = rw is z
-
-reached-owed : (reached : Option Limit) (event : PlainEvent) (behind : List Item)
-    → SomeRemain (event_or_limit reached event behind)
-reached-owed None event behind = one-owed {A = Item} (Ok event) behind
-reached-owed (Some limit) event behind =
-    one-owed {A = Item} (Err (fault_nowhere (LimitReached limit))) []
-
-limits-owed : (limiter : Limiter) (items : List Item) → SomeRemain items
-    → SomeRemain (limited_by limiter items)
-limits-owed limiter [] h = h
-limits-owed limiter (Ok event ∷ items) h = reached-owed _ _ _
-limits-owed limiter (Err fault ∷ items) h = one-owed {A = Item} (Err fault) []
-
-limited-item : (was now : Bool) (old new : Limiter) (before after : List Item) (asked item : Given)
-    → was ≡ false → GivesItem before asked after → PassesNext old asked item new now
-    → GivesItem (come was old before) item (come now new after)
-limited-item was now old new before after None item w g p =
-    rw (p.0, w, g.0, p.2) (refl, refl)
-limited-item was now old new before after (Some (Ok asked)) None w g p = absurd p
-limited-item was now old new before after (Some (Ok asked)) (Some (Ok passed)) w g p =
-    rw (w, p.2) (ap (limited_by old) g ∙ p.1 after
-    ∙ ap (λ v. Ok (event_of v) ∷ limited_by new after) (sym p.0))
-limited-item was now old new before after (Some (Ok asked)) (Some (Err error)) w g p =
-    rw (w, p.1) (limit-other (fault_of error).kind p.0.0 _ _ _ (ap (λ (f : Fault). f.kind) p.0.1)
-    (ap (limited_by old) g ∙ p.0.2 after))
-limited-item was now old new before after (Some (Err fault)) None w g p = absurd p
-limited-item was now old new before after (Some (Err fault)) (Some given) w g p =
-    rw (p.0, w, p.1) (MatchFault-weaker (kind_of (error_kind_of fault)) (λ _. refl)
-    (λ m. (refl, limits-owed old before m.1)) (λ b. ap (limited_by old) b) g)
-
-limited-goes : (was now : Bool) (old new : Limiter) (k l : Option (List Item)) (asked item : Given)
-    → was ≡ false → GivesIfKnown k asked l → PassesNext old asked item new now
-    → GivesIfKnown (option_map (come was old) k) item (option_map (come now new) l)
-limited-goes was now old new None l asked item w g p = tt
-limited-goes was now old new (Some all) l asked item w g p = (
-  come now new g.0,
-  ap (option_map (come now new)) g.1,
-  limited-item was now old new all g.0 asked item w g.2 p,
-)
-
-module _ (now : Bool) (old new : Limiter) where
-  passes-count : (asked item : Given) (a b : ℕ) → ItemCountsIo asked a b
-      → PassesNext old asked item new now → ItemCountsIo item a b
-  passes-count None item a b h p = rw p.0 h
-  passes-count (Some (Ok asked)) None a b h p = absurd p
-  passes-count (Some (Ok asked)) (Some (Ok passed)) a b h p = h
-  passes-count (Some (Ok asked)) (Some (Err error)) a b h p =
-      limit-other (fault_of error).kind p.0.0 _ _ _ (ap (λ (f : Fault). f.kind) p.0.1) h
-  passes-count (Some (Err fault)) None a b h p = absurd p
-  passes-count (Some (Err fault)) (Some given) a b h p = rw p.0 h
-
-  passes-placed : (asked item : Given) → ItemHasOffset asked → PassesNext old asked item new now
-      → ItemHasOffset item
-  passes-placed None item h p = rw p.0 tt
-  passes-placed (Some (Ok asked)) None h p = absurd p
-  passes-placed (Some (Ok asked)) (Some (Ok passed)) h p = tt
-  passes-placed (Some (Ok asked)) (Some (Err error)) h p = subst FaultHasOffset (sym p.0.1) refl
-  passes-placed (Some (Err fault)) None h p = absurd p
-  passes-placed (Some (Err fault)) (Some given) h p = rw p.0 h
-
-  passes-kinds : (asked item : Given) → IsReaderItem true asked
-      → PassesNext old asked item new now → IsReaderItem true item
-  passes-kinds None item h p = rw p.0 tt
-  passes-kinds (Some (Ok asked)) None h p = absurd p
-  passes-kinds (Some (Ok asked)) (Some (Ok passed)) h p = tt
-  passes-kinds (Some (Ok asked)) (Some (Err error)) h p =
-      rw (ap (λ (f : Fault). f.kind) p.0.1) refl
-  passes-kinds (Some (Err fault)) None h p = absurd p
-  passes-kinds (Some (Err fault)) (Some given) h p = rw p.0 h
-
-  passes-ends : (asked item : Given) → PassesNext old asked item new now
-      → EndsAfter item (now ≡ true)
-  passes-ends None item p = rw p.0 p.2
-  passes-ends (Some (Ok asked)) None p = absurd p
-  passes-ends (Some (Ok asked)) (Some (Ok passed)) p = tt
-  passes-ends (Some (Ok asked)) (Some (Err error)) p = text-or-all _ (now ≡ true) p.1
-  passes-ends (Some (Err fault)) None p = absurd p
-  passes-ends (Some (Err fault)) (Some given) p = rw p.0 (text-or-all _ (now ≡ true) p.1)
-
--- a reader of ASCII that has given nothing has all items of its source to give
-fresh-text : {R : Type 0} (known : R → Option (List ℕ)) (source : R) (sequence : SourceBytes R) (reader : AsciiReaderOf R)
-    → stream_source sequence ≡ source → stream_place sequence ≡ 0 → held sequence ≡ []
-    → IfSome (known source) (λ bytes. format.Ascii ≡ format_of bytes)
-    → ascii.untaken_bytes (stream_bytes_left known) reader
-    ≡ option_map input_front (stream_bytes_left known sequence)
-    → ascii.place_of reader ≡ 0 → ascii.dialect_of reader ≡ Lax
-    → text_to_come known reader ≡ option_map items_of_input (known source)
-fresh-text known source sequence reader from at none is bytes place dialect =
-    ap (λ d. option_map (λ b. items_of_ascii (ends_bare d) b (ascii.place_of reader))
-    (ascii.untaken_bytes (stream_bytes_left known) reader)) dialect
-    ∙ (λ i. option_map (λ b. items_of_ascii lax b (place i)) (bytes i))
-    ∙ ap (λ p. option_map (λ b. items_of_ascii lax b 0)
-    (option_map input_front (option_map (λ bytes. held sequence ++ from_place p bytes)
-    (known (stream_source sequence))))) at
-    ∙ ap (λ w. option_map (λ b. items_of_ascii lax b 0)
-    (option_map input_front (option_map (λ bytes. w ++ from_place 0 bytes)
-    (known (stream_source sequence))))) none
-    ∙ ascii-items _ (known (stream_source sequence)) (ap known from) is
-
-joined : (limits : Limits) (k : Option (List ℕ)) → option_map (limited_items limits)
-    (option_map items_of_input k) ≡ option_map (input_within (Some limits)) k
-joined limits None = refl
-joined limits (Some bytes) = refl
 
 refused-kind : (limited : Bool) (kind : FaultKind) → IsRefusedKind kind → IsReaderFault limited kind
 refused-kind limited XmlUnsupported h = tt
@@ -438,95 +102,8 @@ io-place error io place = placed _ _ io place
     placed kind offset io place = absurd io
 
 module _ {R : Type 0} {g : Ghosts R} (known : R → Option (List ℕ)) (failed : R → ℕ) where
-  pub binary-gives : (old new : BinaryReaderOf R g) (item : Given) → FileGives {g = g} known failed old item new
-      → StateGives known failed (state.Binary old) item (state.Binary new)
-  binary-gives old new item h = record {
-    items = binary-goes (known (binary.binary_source old)) (known (binary.binary_source new))
-        (λ bytes. binary.items_to_come bytes old) (λ bytes. binary.items_to_come bytes new)
-        (binary.is_new old)
-        item h.unchanged h.items;
-    failures = h.failures;
-    offset = binary-placed (binary.has_limits old) item h.faults;
-    ended = h.ended;
-    ends = over-ends (binary.HasEndedBinary new) item h.ends;
-    kinds = binary-kinds (binary.has_limits old) item h.faults;
-    limits = λ none. h.kept.0 ∙ none;
-    inside = (new, refl, h);
-  }
-
-  pub ascii-gives : (old new : AsciiReaderOf R) (item : Given)
-      → TextGives known failed old item new
-      → StateGives {R = R} {g = g} known failed (state.Ascii old) item (state.Ascii new)
-  ascii-gives old new item h = record {
-    items = subst (λ d. GivesIfKnown ((let before : State R g = state.Ascii old in state_items known
-        before))
-        item (option_map (λ bytes. items_of_ascii (ends_bare d) bytes (ascii.place_of new))
-        (ascii.untaken_bytes (stream_bytes_left known) new))) (sym h.dialect)
-        (ascii-goes (ascii.stops_of old) (ascii.untaken_bytes (stream_bytes_left known) old)
-        (ascii.untaken_bytes (stream_bytes_left known) new) (ascii.place_of old)
-        (ascii.place_of new) item
-        h.items);
-    failures = told-failures (failed (stream_source (ascii.device_of old)))
-        (failed (stream_source (ascii.device_of new))) item h.failures;
-    offset = ascii-placed (ascii.place_of new) item h.offset;
-    ended = h.ended;
-    ends = ascii-ends (ascii.HasEndedAscii new) item h.ends h.kinds;
-    kinds = ascii-kinds false item h.kinds;
-    limits = λ none. refl;
-    inside = (new, refl, h);
-  }
-
-  -- nothing more comes
-  over-gives : (old : Limited (AsciiReaderOf R)) → old.ended ≡ true
-      → StateGives {R = R} {g = g} known failed (state.Limited old) None (state.Limited old)
-  over-gives old over = record {
-    items = stays (text_to_come known (iterator_of old));
-    failures = refl;
-    offset = tt;
-    ended = λ _. refl;
-    ends = over;
-    kinds = tt;
-    limits = λ none. none;
-    inside = (old, refl, rw over (refl, refl));
-  }
-    where
-      stays : (k : Option (List Item))
-          → GivesIfKnown (option_map (items_admitted old) k) None (option_map (items_admitted old) k)
-      stays None = tt
-      stays (Some all) = (items_admitted old all, refl, rw over (refl, refl))
-
-  pub limited-gives : (old new : Limited (AsciiReaderOf R)) (item : Given)
-      → GivesLimited (TextGives known failed) old item new
-      → StateGives {R = R} {g = g} known failed (state.Limited old) item (state.Limited new)
-  limited-gives old new item h = by old.ended refl h
-    where
-      by : (b : Bool) → old.ended ≡ b → MatchBool b ((item ≡ None) × (new ≡ old))
-          ((asked : Given) × TextGives known failed old.inner asked new.inner
-          × PassesNext old.limiter asked item new.limiter new.ended)
-          → StateGives {R = R} {g = g} known failed (state.Limited old) item (state.Limited new)
-      by true over (none, same) = rw (same, none) (over-gives old over)
-      by false going (asked, gave, passes) =
-          let inner = ascii-gives old.inner new.inner asked gave in
-          record {
-            items = limited-goes old.ended new.ended old.limiter new.limiter
-                (text_to_come known old.inner) (text_to_come known new.inner) asked
-                item going inner.items passes;
-            failures = passes-count new.ended old.limiter new.limiter asked item
-                (failed (stream_source (ascii.device_of old.inner)))
-                (failed (stream_source (ascii.device_of new.inner))) inner.failures passes;
-            offset = passes-placed new.ended old.limiter new.limiter asked item inner.offset passes;
-            ended = λ over. (let no : false ≡ true → item ≡ None = λ q. cc in no (cc));
-            ends = passes-ends new.ended old.limiter new.limiter asked item passes;
-            kinds = passes-kinds new.ended old.limiter new.limiter asked item
-                (ascii-kinds true asked gave.kinds) passes;
-            limits = λ none. none;
-            inside = (new, refl, h);
-          }
-
-  -- ---- the first item
-
   -- a state that stands as the source before the choice goes on as that
-  chosen-gives : (source : R) (limits : Option Limits) (old new : State R g) (item : Given)
+  pub chosen-gives : (source : R) (limits : Option Limits) (old new : State R g) (item : Given)
       → state_items known old ≡ option_map (input_within limits) (known source)
       → is_limited_in old ≡ is_some limits
       → HoldsSource failed (Some source) item (source_in new)
@@ -556,70 +133,6 @@ module _ {R : Type 0} {g : Ghosts R} (known : R → Option (List ℕ)) (failed :
           → HoldsSource failed (Some source) item kept
       held None h = h
       held (Some kept) h = subst (λ n. ItemCountsIo item n (failed kept)) f h
-
-  binary-items : (limits : Option Limits) (k : Option (List ℕ)) (reader : BinaryReaderOf R g)
-      → IfSome k (λ bytes. format.Binary ≡ format_of bytes)
-      → IfSome k (λ bytes. binary.items_to_come bytes reader ≡ file_within limits bytes)
-      → IfSome k (λ bytes. binary.items_to_come bytes reader ≡ input_within limits bytes)
-  binary-items limits None reader is h = tt
-  binary-items limits (Some bytes) reader is h = h ∙ file-input limits bytes is
-
-  pub begun-binary : (source : R) (limits : Option Limits) (old new : BinaryReaderOf R g) (item : Given)
-      → binary.binary_source old ≡ source → binary.is_new old ≡ true
-      → binary.has_limits old ≡ is_some limits
-      → IfSome (known source) (λ bytes. format.Binary ≡ format_of bytes)
-      → IfSome (known source) (λ bytes. binary.items_to_come bytes old ≡ file_within limits bytes)
-      → FileGives {g = g} known failed old item new
-      → StateGives known failed (state.Unread source limits) item (state.Binary new)
-  begun-binary source limits old new item at fresh limited is begins h =
-      chosen-gives source limits (state.Binary old) (state.Binary new) item
-      (same-items (known source) (known (binary.binary_source old))
-      (λ bytes. binary.items_to_come bytes old)
-      (input_within limits) (ap known at) (binary-items limits (known source) old is begins))
-      limited
-      (subst (λ n. ItemCountsIo item n (failed (binary.binary_source new)))
-      (ap failed at) h.failures)
-      (old, fresh, limited, h) (binary-gives old new item h)
-
-  pub begun-ascii : (source : R) (sequence : SourceBytes R) (old new : AsciiReaderOf R) (item : Given)
-      → stream_source sequence ≡ source → ascii.device_of old ≡ sequence → stream_place sequence ≡ 0
-      → held sequence ≡ [] → IfSome (known source) (λ bytes. format.Ascii ≡ format_of bytes)
-      → ascii.untaken_bytes (stream_bytes_left known) old ≡ option_map input_front
-      (stream_bytes_left known sequence)
-      → ascii.place_of old ≡ 0 → ascii.dialect_of old ≡ Lax
-      → TextGives known failed old item new
-      → StateGives {R = R} {g = g} known failed (state.Unread source None) item (state.Ascii new)
-  begun-ascii source sequence old new item from inside at none is bytes place dialect h =
-      chosen-gives source None (state.Ascii old) (state.Ascii new) item
-      (fresh-text known source sequence old from at none is bytes place dialect) refl
-      (subst (λ n. ItemCountsIo item n (failed (stream_source (ascii.device_of new))))
-      (ap (λ s. failed (stream_source s)) inside ∙ ap failed from)
-      (told-failures _ _ item h.failures))
-      (old, place, refl, h) (ascii-gives old new item h)
-
-  pub begun-limited : (source : R) (limits : Limits) (sequence : SourceBytes R) (fresh : AsciiReaderOf R)
-      (old new : Limited (AsciiReaderOf R)) (item : Given) → items_admitted old ≡ limited_items limits
-      → iterator_of old ≡ fresh → stream_source sequence ≡ source → ascii.device_of fresh ≡ sequence
-      → stream_place sequence ≡ 0 → held sequence ≡ []
-      → IfSome (known source) (λ bytes. format.Ascii ≡ format_of bytes)
-      → ascii.untaken_bytes (stream_bytes_left known) fresh
-      ≡ option_map input_front (stream_bytes_left known sequence)
-      → ascii.place_of fresh ≡ 0 → ascii.dialect_of fresh ≡ Lax
-      → GivesLimited (TextGives known failed) old item new
-      → StateGives {R = R} {g = g} known failed (state.Unread source (Some limits)) item
-      (state.Limited new)
-  begun-limited source limits sequence fresh old new item come is-fresh from inside at none is bytes
-      place dialect h =
-      let gives = limited-gives old new item h in
-      chosen-gives source (Some limits) (state.Limited old) (state.Limited new) item
-      ((λ i. option_map (come i) (text_to_come known (is-fresh i)))
-      ∙ ap (option_map (limited_items limits))
-      (fresh-text known source sequence fresh from at none is bytes place dialect)
-      ∙ joined limits (known source)) refl
-      (subst (λ n. ItemCountsIo item n (failed (stream_source (ascii.device_of (iterator_of new)))))
-      (ap (λ r. failed (stream_source (ascii.device_of r))) is-fresh
-      ∙ ap (λ s. failed (stream_source s)) inside ∙ ap failed from) gives.failures)
-      (old, ap ascii.place_of is-fresh ∙ place, refl, h) gives
 
   -- the source is refused
   pub refused-gives : (source other : R) (limits : Option Limits) (error : Error)

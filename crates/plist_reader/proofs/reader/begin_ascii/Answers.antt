@@ -1,4 +1,4 @@
-use Rattle.plist_reader.proofs.Giving.{begun-ascii, begun-limited}
+use Rattle.plist_reader.proofs.AsciiGiving.{begun-ascii, begun-limited}
 use Rattle.plist_reader.proofs.reader.begin_ascii.Goals as goal
 
 pub returns-in-None-clause-gives : goal.returns-in-None-clause-gives

@@ -1,4 +1,4 @@
-use Rattle.plist_reader.proofs.Giving.{begun-binary}
+use Rattle.plist_reader.proofs.BinaryGiving.{begun-binary}
 use Rattle.plist_reader.proofs.reader.begin_binary.Goals as goal
 
 pub returns-clause-gives : goal.returns-clause-gives

@@ -1,7 +1,8 @@
 use Rattle.std.proofs.Common.{sym, subst}
 use Rattle.plist_reader.specs.Reader.{StateGives}
 use Rattle.plist_reader.specs.declared.reader.State.TheVariants.{Binary, Ascii, Limited}
-use Rattle.plist_reader.proofs.Giving.{binary-gives, ascii-gives, limited-gives}
+use Rattle.plist_reader.proofs.BinaryGiving.{binary-gives}
+use Rattle.plist_reader.proofs.AsciiGiving.{ascii-gives, limited-gives}
 use Rattle.plist_reader.proofs.reader.ReaderIterator.next.Goals as goal
 
 pub returns-in-Binary-clause-steps : goal.returns-in-Binary-clause-steps
