@@ -57,9 +57,9 @@ LimitsObject answer left slot known bounds place = RefusesLong answer left slot 
     bounds.trailer ≤ length bytes → IsLongerThan left (object_at bounds place bytes))
 
 -- the object of a number that is entered, the next item of a walk, and the first of a file
-abbrev pub LimitsEntered : {A S : Type 0} → (S → Option (List ℕ)) → S → Bounds → (old : Walk)
+abbrev pub LimitsEntry : {A S : Type 0} → (S → Option (List ℕ)) → S → Bounds → (old : Walk)
     → (number : ℕ) → Result A Refused → (left : ℕ) → EventSlot → Type 0
-LimitsEntered known source bounds old number answer left slot =
+LimitsEntry known source bounds old number answer left slot =
     RefusesLong answer left slot (known source) (λ bytes. (at : ℕ) →
     BeginsTooLong left (until_fault (remaining_entering bytes bounds old at number)))
 

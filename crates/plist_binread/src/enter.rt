@@ -6,7 +6,7 @@ ghost use Rattle.plist_binread.specs.Packed.{is_marked};
 ghost use Rattle.plist_binread.specs.Walking.{IsWalkOf, cached_in, walk_objects};
 ghost use Rattle.plist_binread.specs.FaultOffsets.{ErrWithin};
 ghost use Rattle.plist_binread.specs.Front.{small_decoded};
-ghost use Rattle.plist_binread.specs.TooLong.{LimitsEntered};
+ghost use Rattle.plist_binread.specs.TooLong.{LimitsEntry};
 ghost use Rattle.plist_binread.specs.Step.{IsFoundAt, IsLighterEntered, IsUnchanged, KeepsEntered, KeepsOutcome, EntersObject, OpensObject, RefusesEntering, RefusesInside, AllocatesFor};
 ghost use Rattle.plist_binread.specs.Slot.{AnswersInSlot, answer_in, event_in};
 ghost use Rattle.plist_binread.specs.declared.event_slot.Refused.TheVariants.{Fault};
@@ -146,7 +146,7 @@ pub fn enter<S: Source, C: DecodeCounter>(
     ensures yields { EntersObject S.known source.old bounds.now walk.old at number result slot.new
         walk.new }
     // A refusal.
-    ensures limit { LimitsEntered S.known source.old bounds.now walk.old number result left slot.new }
+    ensures limit { LimitsEntry S.known source.old bounds.now walk.old number result left slot.new }
     ensures fault { ErrWithin 0 bounds.now.trailer (answer_in result slot.new) }
     // The state after it.
     ensures size { walk_objects walk.new ≡ walk_objects walk.old }

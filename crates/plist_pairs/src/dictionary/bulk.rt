@@ -66,7 +66,8 @@ impl<V> Pairs<V> {
         V: Drop,
         requires asked { IterableEnds I.into_iter_gives I.IntoIter.can_next I.IntoIter.remaining
             pairs }
-        ensures pairs { IfOk result (IsMadeOfIterable I.into_iter_gives I.IntoIter.next_gives pairs) }
+        ensures pairs { IfOk result (λ made.
+            IsMadeOfIterable I.into_iter_gives I.IntoIter.next_gives pairs made) }
         ensures memory { OnlyMemory result }
     {
         let mut made = Pairs::new(alloc);
