@@ -1,6 +1,6 @@
 //! Writes a property list as a binary one.
 
-ghost use Rattle.std.specs.Prelude.{◌≡◌, true, false, IfErr, IfSome, None};
+ghost use Rattle.std.specs.Prelude.{◌≡◌, false, IfErr, IfSome, None};
 ghost use Rattle.plist_base.specs.Bracketing.{AreTreeEvents};
 ghost use Rattle.plist_base.specs.Faults.{offset_of};
 ghost use Rattle.plist_binwrite.specs.EventBuffers.{buffered_events, is_whole};
