@@ -17,7 +17,7 @@ use Rattle.plist_binread.specs.Beginning.{IsKnownWalk}
 use Rattle.plist_binread.specs.Walking.{open_in, remaining_entering, remaining_in, walk_objects}
 use Rattle.plist_binread.specs.Decoding.{IsRefusedAs, scalar_event_in}
 use Rattle.plist_binread.specs.CountedContent.{content_means, unit_size}
-use Rattle.plist_binread.specs.TooLong.{BeginsTooLong, IsLongerThan, LimitsContent, LimitsEntered, LimitsObject, RefusesLong, object_of_content}
+use Rattle.plist_binread.specs.TooLong.{BeginsTooLong, IsLongerThan, LimitsContent, LimitsEntry, LimitsObject, RefusesLong, object_of_content}
 use Rattle.plist_binread.specs.Measuring.{Measures, MeasuresContent}
 use Rattle.plist_binread.specs.Packed.{is_marked}
 use Rattle.plist_binread.specs.Reading.{object_at}
@@ -63,7 +63,7 @@ pub entered_limits : {A : Type 0} (refused : Refused) (left : ℕ) (slot : Event
     → IsKnownWalk (known source) bounds walk → number < walk_objects walk
     → is_marked (get_or walk.tags.items number 0) ≡ false → IsPlaceIn walk number place
     → LimitsObject {A = Outcome} (Err refused) left slot (known source) bounds place
-    → LimitsEntered {A = Unit {0}} known source bounds walk number (Err refused) left slot
+    → LimitsEntry {A = Unit {0}} known source bounds walk number (Err refused) left slot
 entered_limits Fault left slot source known bounds walk number place k h free is r = tt
 entered_limits TooLong left slot source known bounds walk number place k h free is r = (
   r.0,
