@@ -29,6 +29,7 @@ use Rattle.plist_format.proofs.Tables.{slice_get-within, slice_get-beyond}
 use Rattle.plist_binread.proofs.Opened.{get_or-zeros}
 use Rattle.plist_binread.proofs.Known.{found}
 use Rattle.std.proofs.lemmas.Option.{IfSome_then}
+use Rattle.plist_binread.proofs.Lengths.{weaker_long}
 use Rattle.plist_binread.proofs.OverKnown.{IfSome-all, IfSome-both}
 use Rattle.std.proofs.lemmas.List.{nil_from_length}
 
@@ -170,20 +171,17 @@ pub first_limits : (answer : Result (Unit {0}) Refused) (left : ℕ) (slot : Eve
     (path_of (reverse fs)) at
     head.root ++ remaining_items (entries_of bytes bounds) (reverse fs))))
     → RefusesLong answer left slot known (λ bytes. BeginsTooLong left (items_of_file bytes))
-first_limits (Ok answer) left slot known now head bounds tags fs same len count trailer width value r
-    = tt
-first_limits (Err refusal.Fault) left slot known now head bounds tags fs same len count trailer width value
-    r = tt
-first_limits (Err refusal.TooLong) left slot known now head bounds tags fs same len count trailer width
-    value r = (
-      r.0,
-      r.1,
-      let whole : length tags - 0 ≡ length head.places.items = omega arith in
-          IfSome-both known value (rw (same, nil_from_length fs len, whole) at r.2)
-          (λ bytes value limited. rw (file_walked bytes head bounds value trailer width
-          ∙ ap until_fault (sym (append-nil (unfolding_of (entries_of bytes bounds)
-          (length head.places.items) [] head.trailer head.root)))) (limited head.trailer)),
-    )
+first_limits answer left slot known now head bounds tags fs same len count trailer width value =
+    let whole : length tags - 0 ≡ length head.places.items = omega arith in
+    weaker_long answer left slot known now
+    (λ bytes. (at : ℕ) → BeginsTooLong left (until_fault
+    (unfolding_of (entries_of bytes bounds) (length tags - length (reverse fs))
+    (path_of (reverse fs)) at head.root ++ remaining_items (entries_of bytes bounds) (reverse fs))))
+    (λ bytes. BeginsTooLong left (items_of_file bytes)) same
+    (λ limited. IfSome-both known value (rw (nil_from_length fs len, whole) at limited)
+    (λ bytes value limited. rw (file_walked bytes head bounds value trailer width
+    ∙ ap until_fault (sym (append-nil (unfolding_of (entries_of bytes bounds)
+    (length head.places.items) [] head.trailer head.root)))) (limited head.trailer)))
 
 -- ---- how many objects there are
 

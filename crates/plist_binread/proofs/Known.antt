@@ -27,7 +27,6 @@ use Rattle.plist_binread.specs.Decoding.{IsCollection, IsDecodedAs, IsRefusedAs,
 use Rattle.plist_binread.proofs.Steps.{collection_count, items_beyond, items_open, yields_refused, yields_scalar, refused_cached, refused_memory}
 use Rattle.plist_format.proofs.Tables.{slice_get-within, slice_get-beyond, length-table_of}
 use Rattle.std.proofs.lemmas.Option.{IfSome_then}
-use Rattle.plist_binread.proofs.OverKnown.{IfSome-both}
 use Rattle.std.proofs.lemmas.Bool.{eqb-false}
 
 not_zero : (t : ℕ) → 0 < t → nat_eq t 0 ≡ false

@@ -1,5 +1,5 @@
 -- What is refused since a text or data has more bytes than may come.
-use Rattle.std.proofs.Common.{◌≡◌, ℕ, ◌+◌, ◌-◌, ◌*◌, ◌<◌, ◌≤◌, false, List, ◌∷◌, ◌++◌, length, take, drop, get_or, Option, None, Some, Result, Ok, Err, IfSome, MatchOption, refl, sym, ◌∙◌, arith}
+use Rattle.std.proofs.Common.{◌≡◌, ℕ, ◌+◌, ◌*◌, ◌<◌, ◌≤◌, false, List, ◌∷◌, length, get_or, Option, None, Some, Result, Ok, Err, IfSome, MatchOption, refl, arith}
 use Rattle.std.proofs.lemmas.Option.{IfSome_then}
 use Rattle.plist_base.specs.declared.error.Error.{Error}
 use Rattle.plist_base.specs.Events.{PlainEvent, Item}
@@ -16,31 +16,36 @@ use Rattle.plist_binread.specs.declared.walk.Walk.{Walk}
 use Rattle.plist_binread.specs.Beginning.{IsKnownWalk}
 use Rattle.plist_binread.specs.Walking.{open_in, remaining_entering, remaining_in, walk_objects}
 use Rattle.plist_binread.specs.Decoding.{IsRefusedAs, scalar_event_in}
-use Rattle.plist_binread.specs.CountedContent.{content_means, unit_size}
+use Rattle.plist_binread.specs.CountedContent.{unit_size}
 use Rattle.plist_binread.specs.TooLong.{BeginsTooLong, IsLongerThan, LimitsContent, LimitsEntry, LimitsObject, RefusesLong, object_of_content}
 use Rattle.plist_binread.specs.Measuring.{Measures, MeasuresContent}
 use Rattle.plist_binread.specs.Packed.{is_marked}
 use Rattle.plist_binread.specs.Reading.{object_at}
 use Rattle.plist_binread.proofs.Known.{IsPlaceIn, entry_of, found_scalar, place_is}
+use Rattle.plist_binread.proofs.Seen.{IsContentThere}
 use Rattle.plist_binread.proofs.OverKnown.{IfSome-both}
+
+-- what follows of a refusal for a length, where the source is read no more
+pub weaker_long : {A : Type 0} (answer : Result A Refused) (left : ℕ) (slot : EventSlot)
+    (known now : Option (List ℕ)) (P Q : List ℕ → Type 0) → now ≡ known
+    → (IfSome known P → IfSome known Q) → RefusesLong answer left slot now P
+    → RefusesLong answer left slot known Q
+weaker_long (Ok value) left slot known now P Q same f r = tt
+weaker_long (Err Fault) left slot known now P Q same f r = tt
+weaker_long (Err TooLong) left slot known now P Q same f r = (r.0, r.1, f (rw same at r.2))
 
 -- the object of a content that isn't all seen with its front
 pub long_limits : {A : Type 0} (answer : Result A Refused) (left : ℕ) (slot : EventSlot)
     (known now : Option (List ℕ)) (bounds : Bounds) (place : ℕ) (content : Content) → now ≡ known
-    → (place + content.start + content.count * unit_size content.kind ≤ bounds.trailer)
-    × IfSome known (λ bytes. bounds.trailer ≤ length bytes → object_at bounds place bytes
-    ≡ content_means content.kind (take (content.count * unit_size content.kind)
-    (drop (place + content.start) bytes)))
-    → LimitsContent answer left slot now place content
+    → IsContentThere known bounds place content → LimitsContent answer left slot now place content
     → LimitsObject answer left slot known bounds place
-long_limits (Ok value) left slot known now bounds place content same long h = tt
-long_limits (Err Fault) left slot known now bounds place content same long h = tt
-long_limits (Err TooLong) left slot known now bounds place content same long h = (
-  h.0,
-  h.1,
-  IfSome-both known long.1 (rw same at h.2) (λ bytes is limited fits.
-      rw (is fits) (limited (omega (arith, long.0, fits)))),
-)
+long_limits answer left slot known now bounds place content same long =
+    weaker_long answer left slot known now
+    (λ bytes. place + content.start + content.count * unit_size content.kind ≤ length bytes
+    → IsLongerThan left (object_of_content bytes place content))
+    (λ bytes. bounds.trailer ≤ length bytes → IsLongerThan left (object_at bounds place bytes)) same
+    (λ limited. IfSome-both known long.1 limited (λ bytes is limited fits.
+    rw (is fits) (limited (omega (arith, long.0, fits)))))
 
 -- the event of a text or data that is too long
 too-long-event : (left : ℕ) (object : Object) → IsLongerThan left object
@@ -94,10 +99,9 @@ pub child_limits : (answer : Result (Unit {0}) Refused) (left : ℕ) (slot : Eve
     BeginsTooLong left (until_fault (remaining_entering bytes bounds mid at number)))
     → RefusesLong answer left slot known (λ bytes.
     BeginsTooLong left (until_fault (remaining_in bytes bounds old)))
-child_limits (Ok value) left slot known now bounds old mid at number same first r = tt
-child_limits (Err Fault) left slot known now bounds old mid at number same first r = tt
-child_limits (Err TooLong) left slot known now bounds old mid at number same first r = (
-  r.0,
-  r.1,
-  IfSome-both known first (rw same at r.2) (λ bytes first limited. rw first (limited at)),
-)
+child_limits answer left slot known now bounds old mid at number same first =
+    weaker_long answer left slot known now
+    (λ bytes. (at : ℕ) → BeginsTooLong left
+    (until_fault (remaining_entering bytes bounds mid at number)))
+    (λ bytes. BeginsTooLong left (until_fault (remaining_in bytes bounds old))) same
+    (λ limited. IfSome-both known first limited (λ bytes first limited. rw first (limited at)))

@@ -95,53 +95,49 @@ fault_small outcome current fault = refl
 
 -- ---- what is seen of an object at a place
 
-module _ (known : Option (List ℕ)) (bounds : Bounds) (place : ℕ) (seen : List ℕ)
-    (buffered : place + length seen ≤ bounds.trailer)
-    (is : IfSome known (λ bytes. LiesAt bytes place seen)) (outcome : Outcome) where
-  pub seen_decodes : (slot : EventSlot)
-      → DecodesWhole (bounds.trailer - place) (object_in bounds.reference_width) seen slot outcome
-      → IfSome known (λ bytes. bounds.trailer ≤ length bytes
-      → IsOutcomeOf (object_at bounds place bytes) (event_in slot) outcome)
-  seen_decodes slot means =
-      known_seen known bounds.trailer bounds.reference_width place seen
-      (λ object. IsOutcomeOf object (event_in slot) outcome) buffered is means
+pub seen_decodes : (known : Option (List ℕ)) (bounds : Bounds) (place : ℕ) (seen : List ℕ)
+    → place + length seen ≤ bounds.trailer → IfSome known (λ bytes. LiesAt bytes place seen)
+    → (outcome : Outcome) (slot : EventSlot)
+    → DecodesWhole (bounds.trailer - place) (object_in bounds.reference_width) seen slot outcome
+    → IfSome known (λ bytes. bounds.trailer ≤ length bytes
+    → IsOutcomeOf (object_at bounds place bytes) (event_in slot) outcome)
+seen_decodes known bounds place seen buffered is outcome slot means =
+    known_seen known bounds.trailer bounds.reference_width place seen
+    (λ object. IsOutcomeOf object (event_in slot) outcome) buffered is means
 
-  pub seen_long : (slot : EventSlot)
-      → LeavesUnseen (bounds.trailer - place) (object_in bounds.reference_width) seen slot outcome
-      → IfUnseen outcome slot (λ content.
-      (place + content.start + content.count * unit_size content.kind ≤ bounds.trailer)
-      × IfSome known (λ bytes. bounds.trailer ≤ length bytes → object_at bounds place bytes
-      ≡ content_means content.kind (take (content.count * unit_size content.kind)
-      (drop (place + content.start) bytes))))
-  seen_long slot h = by outcome h
-    where
-      by : (outcome : Outcome)
-          → LeavesUnseen (bounds.trailer - place) (object_in bounds.reference_width) seen slot outcome
-          → IfUnseen outcome slot (λ content.
-          (place + content.start + content.count * unit_size content.kind ≤ bounds.trailer)
-          × IfSome known (λ bytes. bounds.trailer ≤ length bytes → object_at bounds place bytes
-          ≡ content_means content.kind (take (content.count * unit_size content.kind)
-          (drop (place + content.start) bytes))))
-      by tag.Unseen h = (
-        omega (arith, h.0, buffered),
-        IfSome_then known is (λ bytes is fits.
-            let content = slot.content in
-            let n = content.count * unit_size content.kind in
-            let front = drop place (take bounds.trailer bytes) in
-            let cut = known_front (Some bytes) seen seen bounds.trailer place _ buffered
-            (omega arith)
-            (sym (take-length _)) is fits in
-            let extent = ap length (sym cut.1) ∙ length-drop place (take bounds.trailer bytes)
-            ∙ ap (λ m. m - place) (length-take-le bounds.trailer bytes fits) in
-            ap (object_in bounds.reference_width) cut.1 ∙ h.1 cut.0 extent
-            ∙ ap (λ xs. content_means content.kind (take n (drop content.start xs))) (sym cut.1)
-            ∙ ap (λ xs. content_means content.kind (take n xs))
-            (drop-drop content.start place (take bounds.trailer bytes))
-            ∙ ap (content_means content.kind)
-            (take-drop-take (place + content.start) n bounds.trailer bytes
-            (omega (arith, h.0, buffered)))),
-      )
-      by outcome h = tt
+-- the content lies before the trailer, and is that of the object
+abbrev pub IsContentThere : (known : Option (List ℕ)) → Bounds → (place : ℕ) → Content → Type 0
+IsContentThere known bounds place content =
+    (place + content.start + content.count * unit_size content.kind ≤ bounds.trailer)
+    × IfSome known (λ bytes. bounds.trailer ≤ length bytes → object_at bounds place bytes
+    ≡ content_means content.kind (take (content.count * unit_size content.kind)
+    (drop (place + content.start) bytes)))
+
+pub seen_long : (known : Option (List ℕ)) (bounds : Bounds) (place : ℕ) (seen : List ℕ)
+    → place + length seen ≤ bounds.trailer → IfSome known (λ bytes. LiesAt bytes place seen)
+    → (outcome : Outcome) (slot : EventSlot)
+    → LeavesUnseen (bounds.trailer - place) (object_in bounds.reference_width) seen slot outcome
+    → IfUnseen outcome slot (IsContentThere known bounds place)
+seen_long known bounds place seen buffered is tag.Unseen slot h = (
+  omega (arith, h.0, buffered),
+  IfSome_then known is (λ bytes is fits.
+      let content = slot.content in
+      let n = content.count * unit_size content.kind in
+      let front = drop place (take bounds.trailer bytes) in
+      let cut = known_front (Some bytes) seen seen bounds.trailer place _ buffered
+      (omega arith)
+      (sym (take-length _)) is fits in
+      let extent = ap length (sym cut.1) ∙ length-drop place (take bounds.trailer bytes)
+      ∙ ap (λ m. m - place) (length-take-le bounds.trailer bytes fits) in
+      ap (object_in bounds.reference_width) cut.1 ∙ h.1 cut.0 extent
+      ∙ ap (λ xs. content_means content.kind (take n (drop content.start xs))) (sym cut.1)
+      ∙ ap (λ xs. content_means content.kind (take n xs))
+      (drop-drop content.start place (take bounds.trailer bytes))
+      ∙ ap (content_means content.kind)
+      (take-drop-take (place + content.start) n bounds.trailer bytes
+      (omega (arith, h.0, buffered)))),
+)
+seen_long known bounds place seen buffered is outcome slot h = tt
 
 -- what was decoded is a fault
 pub seen_refused : (known : Option (List ℕ)) (bounds : Bounds) (place : ℕ) (outcome : Outcome)
@@ -157,10 +153,7 @@ seen_refused known bounds place outcome current error means refused =
 -- or a content that was read
 pub long_decodes : (known now : Option (List ℕ)) (bounds : Bounds) (place : ℕ) (content : Content)
     (current : PlainEvent) (answer : Result Outcome Error) → now ≡ known
-    → (place + content.start + content.count * unit_size content.kind ≤ bounds.trailer)
-    × IfSome known (λ bytes. bounds.trailer ≤ length bytes → object_at bounds place bytes
-    ≡ content_means content.kind (take (content.count * unit_size content.kind)
-    (drop (place + content.start) bytes)))
+    → IsContentThere known bounds place content
     → IfSome now (λ bytes. place + content.start + content.count * unit_size content.kind
     ≤ length bytes → DecodesCurrent (content_means content.kind
     (take (content.count * unit_size content.kind) (drop (place + content.start) bytes))) place
