@@ -1,7 +1,7 @@
 -- What is known of the file's bytes, and how it changes.
 use Rattle.std.proofs.Common.{◌≡◌, ℕ, ◌-◌, ◌<◌, ◌≤◌, inl, inr, Bool, true, false, nat_eq, List, [], ◌∷◌, ◌++◌, length, take, drop, get_or, slice_set, Option, None, Some, Ok, Err, IfSome, refl, ap, sym, ◌∙◌, arith}
 use Rattle.std.specs.Prelude.{⊤}
-use Rattle.std.specs.List.{slice_get}
+use Rattle.std.specs.List.{AllByRecursion, slice_get}
 use Rattle.std.proofs.lemmas.Bool.Decides.{eqb_tells, nat_tests}
 use Rattle.std.proofs.lemmas.List.{get_or-set_same, get_or-set_other}
 use Rattle.plist_base.specs.declared.error.Error.{Error}
@@ -22,7 +22,7 @@ use Rattle.plist_binread.specs.Packed.{is_marked, unmarked, unpacked, cached, sc
 use Rattle.plist_binread.specs.declared.packed.PackedKind.{PackedKind}
 use Rattle.plist_binread.proofs.Packing.{kind_of_tag-some}
 use Rattle.plist_format.specs.Unfolding.{TableEntry, unfolding_of, until_fault}
-use Rattle.plist_binread.specs.Remaining.{place_at, scalar_at, path_of, MarksOpenPath, HoldsPlaceOr, IsHeld, MatchesFile, places_of, entries_of, remaining_items, Explains}
+use Rattle.plist_binread.specs.Remaining.{children_at, place_at, scalar_at, path_of, MarksOpenPath, HoldsPlaceOr, IsHeld, MatchesFile, places_of, entries_of, remaining_items, Explains}
 use Rattle.plist_binread.specs.Decoding.{IsCollection, IsDecodedAs, IsRefusedAs, scalar_event_in, scalar_in}
 use Rattle.plist_binread.proofs.Steps.{collection_count, items_beyond, items_open, yields_refused, yields_scalar, refused_cached, refused_memory}
 use Rattle.plist_format.proofs.Tables.{slice_get-within, slice_get-beyond, length-table_of}
@@ -32,20 +32,13 @@ use Rattle.std.proofs.lemmas.Bool.{eqb-false}
 not_zero : (t : ℕ) → 0 < t → nat_eq t 0 ≡ false
 not_zero t h = grind (arith, nat_tests)
 
-to_scalar : (b : Bool) (scalar : Option Scalar) (content : ℕ) (entry : Option TableEntry)
-    → b ≡ false
-    → HoldsPlaceOr b scalar content entry → scalar_at entry ≡ scalar
-to_scalar true scalar content entry b h = absurd (cc)
-to_scalar false None content entry b h = absurd h
-to_scalar false (Some s) content entry b h = h
-
--- memory is wanted for it, since something is held
-to_wanted : (b : Bool) (scalar : Option Scalar) (content : ℕ) (entry : Option TableEntry)
-    → b ≡ false
-    → HoldsPlaceOr b scalar content entry → MayAllocate scalar → IsTextOrData scalar
-to_wanted true scalar content entry b h wanted = absurd (cc)
-to_wanted false None content entry b h wanted = absurd h
-to_wanted false (Some s) content entry b h wanted = wanted
+-- what is held and isn't a place is this scalar, and memory is wanted for it where it may be
+held_as : (b : Bool) (scalar : Option Scalar) (content : ℕ) (entry : Option TableEntry) → b ≡ false
+    → HoldsPlaceOr b scalar content entry
+    → (scalar_at entry ≡ scalar) × (MayAllocate scalar → IsTextOrData scalar)
+held_as true scalar content entry b h = absurd (cc)
+held_as false None content entry b h = absurd h
+held_as false (Some s) content entry b h = (h, λ wanted. wanted)
 
 -- the scalar of this event
 abbrev unsingle : Option PlainEvent → Option Scalar
@@ -106,20 +99,29 @@ module _ (bytes : List ℕ) (bounds : Bounds) where
           ≡ cached (get_or tags number 0) (get_or contents number 0)
       held_scalar number h some =
           sym (ap scalar_at (entry_there number h))
-          ∙ to_scalar _ _ _ _
-          (not_zero _ some) (k.held number h)
+          ∙ (held_as _ _ _ _ (not_zero _ some) (k.held number h)).0
+
+      -- the same with other tags, contents and open collections
+      pub known_with : (new others : List ℕ) (gs : List Frame) → length new ≡ length tags
+          → ((q : ℕ) → q < length tags
+          → IsHeld (slice_get table q) (get_or new q 0) (get_or others q 0))
+          → AllByRecursion (λ f. length (children_at (slice_get table f.object)) ≡ f.count) gs
+          → MatchesFile bytes bounds new others gs
+      known_with new others gs size held counts = record {
+        head = k.head;
+        within = k.within;
+        size = k.size ∙ sym size;
+        held = λ q less. held q (rw size at less);
+        counts = counts;
+      }
 
       -- one more object is open
       pub known_opened : (new : List ℕ) (f : Frame) (start : PlainEvent) (entry : TableEntry)
           → MarkChanged f.object true tags new → slice_get table f.object ≡ Some entry
           → IsCollection entry.object start f.count → MatchesFile bytes bounds new contents (f ∷ fs)
-      known_opened new f start entry m is collection = record {
-        head = k.head;
-        within = k.within;
-        size = k.size ∙ sym m.size;
-        held = λ q less. rw (m.tags q) (k.held q (rw m.size at less));
-        counts = (rw is (collection_count entry.object start f.count collection), k.counts);
-      }
+      known_opened new f start entry m is collection =
+          known_with new contents (f ∷ fs) m.size (λ q less. rw (m.tags q) (k.held q less))
+          (rw is (collection_count entry.object start f.count collection), k.counts)
 
       -- one more object is cached
       pub known_kept : (number : ℕ) (kind : PackedKind) (content : ℕ) (new : List ℕ)
@@ -127,13 +129,8 @@ module _ (bytes : List ℕ) (bounds : Bounds) where
           → KindChanged number kind tags new → scalar_event (unpacked kind content) ≡ Some event
           → scalar_event (scalar_at (slice_get table number)) ≡ Some event
           → MatchesFile bytes bounds new (slice_set contents number content) fs
-      known_kept number kind content new event h same m packs is = record {
-        head = k.head;
-        within = k.within;
-        size = k.size ∙ sym m.size;
-        held = λ q less. held q (rw m.size at less);
-        counts = k.counts;
-      }
+      known_kept number kind content new event h same m packs is =
+          known_with new (slice_set contents number content) fs m.size held k.counts
         where
           here : IsHeld (slice_get table number) (get_or new number 0)
               (get_or (slice_set contents number content) number 0)
@@ -216,7 +213,8 @@ module _ (bytes : List ℕ) (bounds : Bounds) where
           unfound_memory e some memory wanted = found_refused e
               (refused_cached (entry_of number).object (entry_of number).place e _ memory
               (held_scalar number h some)
-              (to_wanted _ _ _ (slice_get table number) (not_zero _ some) (k.held number h) wanted))
+              ((held_as _ _ _ (slice_get table number) (not_zero _ some) (k.held number h)).1
+              wanted))
 
 -- ---- over bytes that may be unknown
 

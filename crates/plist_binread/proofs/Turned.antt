@@ -10,6 +10,7 @@ use Rattle.plist_format.specs.Unfolding.{TableEntry, unfolding_of, until_fault}
 use Rattle.plist_binread.specs.declared.head.Bounds.{Bounds}
 use Rattle.plist_binread.specs.Remaining.{path_of, MarksOpenPath, MatchesFile, children_at, place_at, entries_of, remaining_items, SomeRemain, next_number, walk_steps, walk_weight}
 use Rattle.std.proofs.lemmas.List.{drop_all, get_or_default}
+use Rattle.plist_binread.proofs.Known.{known_with}
 
 -- the frame with another number of its next child
 abbrev pub with_next : Frame → ℕ → Frame
@@ -65,14 +66,8 @@ module _ (bytes tags contents : List ℕ) (bounds : Bounds) (f : Frame) (fs : Li
       until_some _ _ _,
       ap (λ b. cond b (Some (get_or children f.next 0)) None) (lt-ltb _ _ h),
     ),
-    record {
-      head = k.head;
-      within = k.within;
-      size = k.size;
-      held = k.held;
-      counts =
-          (k.counts.0, k.counts.1);
-    },
+    known_with bytes bounds tags contents (f ∷ fs) k tags contents (after f ∷ fs) refl k.held
+        (k.counts.0, k.counts.1),
   )
 
   -- or its end
@@ -81,15 +76,8 @@ module _ (bytes tags contents : List ℕ) (bounds : Bounds) (f : Frame) (fs : Li
       × MatchesFile bytes bounds new contents fs
   closed_remaining new h m = (
     rw (drop_all f.next children (rw k.counts.0 h)) refl,
-    record {
-      head = k.head;
-      within = k.within;
-      size = k.size
-          ∙ sym m.size;
-      held = λ q less. rw (m.tags q) (k.held q (rw m.size at less));
-      counts =
-          k.counts.1;
-    },
+    known_with bytes bounds tags contents (f ∷ fs) k new contents fs m.size
+        (λ q less. rw (m.tags q) (k.held q less)) k.counts.1,
   )
 
 one_less : (l i s w : ℕ) → i < l → (l - i) * s + 1 + w ≡ (l - (i + 1)) * s + 1 + w + s
