@@ -16,7 +16,6 @@ pub mod Marks
 pub mod Opened
 pub mod OverKnown
 pub mod Packing
-pub mod Stacked
 pub mod Stepped
 pub mod Steps
 pub mod Taken
