@@ -11,7 +11,7 @@ ghost use Rattle.plist_binread.specs.declared.counted_content.ContentKind.TheVar
 use crate::event_slot::{CompactEvent, EventSlot};
 use crate::numbers::{number_from, write_units};
 use crate::object_faults::Outcome;
-use plist_format::{CountedKind, LowHalf};
+use plist_format::LowHalf;
 
 /// What the content of a text or data means.
 #[derive(Clone, Copy)]
@@ -134,8 +134,14 @@ fn front_content_of<'a>(
 // A text or data of at most so many bytes is decoded whatever number may come.
 const SHORT: u64 = 96;
 
-// Data.
-fn front_data(low: LowHalf, rest: &[u8], extent: u64, left: u64, slot: &mut EventSlot) -> Outcome
+/// Data.
+pub fn front_data(
+    low: LowHalf,
+    rest: &[u8],
+    extent: u64,
+    left: u64,
+    slot: &mut EventSlot,
+) -> Outcome
     requires extent { length rest.now ≤ extent }
     requires far { ReachesFar extent rest.now }
     ensures outcome { DecodesWhole extent (counted_with KindData low) rest.now slot.new result }
@@ -147,8 +153,14 @@ fn front_data(low: LowHalf, rest: &[u8], extent: u64, left: u64, slot: &mut Even
     }
 }
 
-// A text in UTF-8.
-fn front_text(low: LowHalf, rest: &[u8], extent: u64, left: u64, slot: &mut EventSlot) -> Outcome
+/// A text in UTF-8.
+pub fn front_text(
+    low: LowHalf,
+    rest: &[u8],
+    extent: u64,
+    left: u64,
+    slot: &mut EventSlot,
+) -> Outcome
     requires extent { length rest.now ≤ extent }
     requires far { ReachesFar extent rest.now }
     ensures outcome { DecodesWhole extent (counted_with KindText low) rest.now slot.new result }
@@ -163,8 +175,8 @@ fn front_text(low: LowHalf, rest: &[u8], extent: u64, left: u64, slot: &mut Even
 // A text of at most so many units is decoded without memory for its units.
 const UNITS: usize = 32;
 
-// A text in UTF-16.
-fn front_wide_text(low: LowHalf, rest: &[u8], extent: u64, slot: &mut EventSlot) -> Outcome
+/// A text in UTF-16.
+pub fn front_wide_text(low: LowHalf, rest: &[u8], extent: u64, slot: &mut EventSlot) -> Outcome
     requires extent { length rest.now ≤ extent }
     requires far { ReachesFar extent rest.now }
     ensures outcome { DecodesWhole extent (counted_with KindWideText low) rest.now slot.new
@@ -189,8 +201,8 @@ fn front_wide_text(low: LowHalf, rest: &[u8], extent: u64, slot: &mut EventSlot)
     }
 }
 
-// The start of an array, whose references lie before the trailer.
-fn front_array(
+/// The start of an array, whose references lie before the trailer.
+pub fn front_array(
     low: LowHalf,
     rest: &[u8],
     extent: u64,
@@ -212,8 +224,8 @@ fn front_array(
     }
 }
 
-// The start of a dictionary, whose references lie before the trailer.
-fn front_dictionary(
+/// The start of a dictionary, whose references lie before the trailer.
+pub fn front_dictionary(
     low: LowHalf,
     rest: &[u8],
     extent: u64,
@@ -232,31 +244,5 @@ fn front_dictionary(
             Outcome::Collection(2 * count)
         }
         Err(outcome) => outcome,
-    }
-}
-
-/// What has a length.
-#[inline(always)]
-pub fn front_counted(
-    kind: CountedKind,
-    low: LowHalf,
-    rest: &[u8],
-    extent: u64,
-    width: usize,
-    left: u64,
-    slot: &mut EventSlot,
-) -> Outcome
-    requires extent { length rest.now ≤ extent }
-    requires far { ReachesFar extent rest.now }
-    requires width { (0 < width) × (width ≤ 8) }
-    ensures outcome { DecodesWhole extent (object_counted width kind low) rest.now slot.new result }
-    ensures long { LongBehind extent (object_counted width kind low) rest.now slot.new result }
-{
-    match kind {
-        CountedKind::Data => front_data(low, rest, extent, left, slot),
-        CountedKind::Text => front_text(low, rest, extent, left, slot),
-        CountedKind::WideText => front_wide_text(low, rest, extent, slot),
-        CountedKind::Array => front_array(low, rest, extent, width, slot),
-        CountedKind::Dictionary => front_dictionary(low, rest, extent, width, slot),
     }
 }

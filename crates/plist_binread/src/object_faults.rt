@@ -16,13 +16,15 @@ ghost use Rattle.plist_binread.specs.Reading.{object_with};
 ghost use Rattle.plist_binread.specs.declared.object_faults.Outcome.TheVariants.{Scalar as ScalarOutcome};
 ghost use Rattle.plist_binread.specs.declared.event_slot.Refused.TheVariants.{Fault};
 
-use crate::counted_content::{ContentKind, front_counted};
+use crate::counted_content::{
+    ContentKind, front_array, front_data, front_dictionary, front_text, front_wide_text,
+};
 use crate::event_slot::{EventSlot, Refused};
 use crate::fixed_content::{
     front_date, front_real, front_short_real, front_signed, front_uid, front_unsigned, front_wide,
 };
 use plist_base::{Error, ErrorKind};
-use plist_format::Marker;
+use plist_format::{CountedKind, Marker};
 
 /// What was decoded of the bytes at an object's front, or what is wrong with it.
 ///
@@ -94,7 +96,13 @@ pub fn front_behind(
         Marker::Real4 => front_short_real(rest, extent, slot),
         Marker::Real8 => front_real(rest, extent, slot),
         Marker::Date => front_date(rest, extent, slot),
-        Marker::Counted(kind, low) => front_counted(kind, low, rest, extent, width, left, slot),
+        Marker::Counted(kind, low) => match kind {
+            CountedKind::Data => front_data(low, rest, extent, left, slot),
+            CountedKind::Text => front_text(low, rest, extent, left, slot),
+            CountedKind::WideText => front_wide_text(low, rest, extent, slot),
+            CountedKind::Array => front_array(low, rest, extent, width, slot),
+            CountedKind::Dictionary => front_dictionary(low, rest, extent, width, slot),
+        },
         Marker::Uid(size) => front_uid(rest, extent, size, slot),
         Marker::Unknown(byte) => Outcome::Unknown(byte),
     }

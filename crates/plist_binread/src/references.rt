@@ -55,6 +55,7 @@ fn pairs_in(kind: CountedKind, count: u64) -> Option<u64>
 
 // Finds the references of the collection that begins these bytes: all up to the trailer, or at
 // least a marker and a length.
+#[inline(always)]
 fn references_in(seen: &[u8], extent: u64, width: usize, place: u64) -> Option<References>
     requires width { 0 < width }
     requires far { ShowsLength extent seen.now }

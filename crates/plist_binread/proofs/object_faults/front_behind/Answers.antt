@@ -31,14 +31,50 @@ returns-in-Date-clause-outcome c = rw (c.in-Date.ensures.layout _) c.front_date.
 pub returns-in-Uid-clause-outcome : goal.returns-in-Uid-clause-outcome
 returns-in-Uid-clause-outcome c = rw (c.in-Uid.ensures.layout _) c.front_uid.ensures.outcome
 
-pub returns-in-Counted-clause-outcome : goal.returns-in-Counted-clause-outcome
-returns-in-Counted-clause-outcome c = λ more whole.
-    rw (object_by_half c.args.width c.args.marker
-    (Counted c.in-Counted.kind c.in-Counted.low) _ _
+pub returns-in-Data-clause-outcome : goal.returns-in-Data-clause-outcome
+returns-in-Data-clause-outcome c = λ more whole.
+    rw (object_by_half c.args.width c.args.marker (Counted c.in-Counted.kind c.in-Counted.low) _ _
     c.in-Counted.ensures.byte (c.in-Counted.ensures.layout _) refl)
-    (c.front_counted.ensures.outcome more whole)
+    (rw c.in-Data.is (c.front_data.ensures.outcome more whole))
 
-pub returns-in-Counted-clause-long : goal.returns-in-Counted-clause-long
-returns-in-Counted-clause-long c = long_as _ _ _ _ _ _ (λ xs.
-    object_by_half c.args.width c.args.marker (Counted c.in-Counted.kind c.in-Counted.low) _ xs
-    c.in-Counted.ensures.byte (c.in-Counted.ensures.layout _) refl) c.front_counted.ensures.long
+pub returns-in-Data-clause-long : goal.returns-in-Data-clause-long
+returns-in-Data-clause-long c = long_as _ _ _ _ _ _
+    (λ xs. object_by_half c.args.width c.args.marker (Counted c.in-Counted.kind c.in-Counted.low)
+    _ xs c.in-Counted.ensures.byte (c.in-Counted.ensures.layout _) refl)
+    (rw c.in-Data.is c.front_data.ensures.long)
+
+pub returns-in-Text-clause-outcome : goal.returns-in-Text-clause-outcome
+returns-in-Text-clause-outcome c = λ more whole.
+    rw (object_by_half c.args.width c.args.marker (Counted c.in-Counted.kind c.in-Counted.low) _ _
+    c.in-Counted.ensures.byte (c.in-Counted.ensures.layout _) refl)
+    (rw c.in-Text.is (c.front_text.ensures.outcome more whole))
+
+pub returns-in-Text-clause-long : goal.returns-in-Text-clause-long
+returns-in-Text-clause-long c = long_as _ _ _ _ _ _
+    (λ xs. object_by_half c.args.width c.args.marker (Counted c.in-Counted.kind c.in-Counted.low)
+    _ xs c.in-Counted.ensures.byte (c.in-Counted.ensures.layout _) refl)
+    (rw c.in-Text.is c.front_text.ensures.long)
+
+pub returns-in-WideText-clause-outcome : goal.returns-in-WideText-clause-outcome
+returns-in-WideText-clause-outcome c = λ more whole.
+    rw (object_by_half c.args.width c.args.marker (Counted c.in-Counted.kind c.in-Counted.low) _ _
+    c.in-Counted.ensures.byte (c.in-Counted.ensures.layout _) refl)
+    (rw c.in-WideText.is (c.front_wide_text.ensures.outcome more whole))
+
+pub returns-in-WideText-clause-long : goal.returns-in-WideText-clause-long
+returns-in-WideText-clause-long c = long_as _ _ _ _ _ _
+    (λ xs. object_by_half c.args.width c.args.marker (Counted c.in-Counted.kind c.in-Counted.low)
+    _ xs c.in-Counted.ensures.byte (c.in-Counted.ensures.layout _) refl)
+    (rw c.in-WideText.is c.front_wide_text.ensures.long)
+
+pub returns-in-Array-clause-outcome : goal.returns-in-Array-clause-outcome
+returns-in-Array-clause-outcome c = λ more whole.
+    rw (object_by_half c.args.width c.args.marker (Counted c.in-Counted.kind c.in-Counted.low) _ _
+    c.in-Counted.ensures.byte (c.in-Counted.ensures.layout _) refl)
+    (rw c.in-Array.is (c.front_array.ensures.outcome more whole))
+
+pub returns-in-Dictionary-clause-outcome : goal.returns-in-Dictionary-clause-outcome
+returns-in-Dictionary-clause-outcome c = λ more whole.
+    rw (object_by_half c.args.width c.args.marker (Counted c.in-Counted.kind c.in-Counted.low) _ _
+    c.in-Counted.ensures.byte (c.in-Counted.ensures.layout _) refl)
+    (rw c.in-Dictionary.is (c.front_dictionary.ensures.outcome more whole))
