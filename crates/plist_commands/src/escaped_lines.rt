@@ -276,11 +276,11 @@ fn push_words(line: &mut Vec<u8>, event: &Event<'_>) -> Result<(), AllocError>
 /// A bound on the bytes of an event's line; `usize::MAX` stands for any that is larger.
 #[inline(always)]
 pub fn line_bound(event: &Event<'_>) -> usize {
-    event
-        .text_or_data()
-        .len()
-        .saturating_mul(4)
-        .saturating_add(64)
+    let bytes = event.text_or_data();
+    if bytes.is_empty() {
+        return 64;
+    }
+    bytes.len().saturating_mul(4).saturating_add(64)
 }
 
 /// Appends the line of an event, with its LF.
