@@ -105,13 +105,7 @@ at-once later equal answer most e = (
 step-some : (layer : Value-F ℕ) → 1 ≤ weight_step layer
 step-some (Value-F.Array items) = omega arith
 step-some (Value-F.Dictionary pairs) = omega arith
-step-some (Value-F.Boolean b) = omega arith
-step-some (Value-F.Data bytes) = omega arith
-step-some (Value-F.Date bytes) = omega arith
-step-some (Value-F.Real bits) = omega arith
-step-some (Value-F.Integer n) = omega arith
-step-some (Value-F.String text) = omega arith
-step-some (Value-F.Uid n) = omega arith
+step-some scalar = omega arith
 
 pub weight-some : (value : Value) → 1 ≤ weight value
 weight-some value =

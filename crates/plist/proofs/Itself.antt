@@ -54,13 +54,7 @@ layer-of (Value-F.Dictionary pairs) =
     (sym (map-map (λ p. (p.0, tree_of p.1)) (λ p. (p.0, p.1.0)) pairs))
     (fixed (λ p. (p.0, last_wins p.1)) (λ p. (p.0, tree_of p.1.0))
     (λ p. ap (λ t. (p.0, t)) p.1.1) pairs)))
-layer-of (Value-F.Boolean b) = refl
-layer-of (Value-F.Data d) = refl
-layer-of (Value-F.Date d) = refl
-layer-of (Value-F.Real r) = refl
-layer-of (Value-F.Integer z) = refl
-layer-of (Value-F.String s) = refl
-layer-of (Value-F.Uid u) = refl
+layer-of scalar = refl
 
 -- a value's keys stand once at every level, so the last value of each is the value
 pub itself : (v : Value) → last_wins (tree_of v) ≡ tree_of v

@@ -1,28 +1,9 @@
 -- Property lists that are the same, whatever the order of a dictionary's pairs. Of a key that
 -- stands more than once the first counts.
-use Rattle.std.specs.Prelude.{◌≡◌, ℕ, ◌==◌, Bool, true, false, not, ◌&&◌, ◌||◌, cond, Option, Some, None, is_some, List, [], ◌∷◌, ◌↔◌, bytes_eq}
+use Rattle.std.specs.Prelude.{◌≡◌, ℕ, Bool, true, false, ◌&&◌, ◌||◌, cond, Option, Some, None, is_some, List, [], ◌∷◌, ◌↔◌, bytes_eq}
 use Rattle.std.specs.List.{list_any}
-use Rattle.std.specs.Ordering.{int_eq}
-use Rattle.plist_base.specs.declared.real.RealBits.{RealBits}
-use Rattle.plist_base.specs.declared.real.RealBits.TheVariants.{Four, Eight}
-use Rattle.plist_base.specs.Trees.{Scalar, Boolean, Data, Date, Integer, Real, String, Uid, Tree, Leaf, Array, Dictionary, Trees, NoTrees, TreeAnd, Members, NoMembers, MemberAnd}
-
--- reals of one width with the same bytes
-abbrev pub same_real : RealBits → RealBits → Bool
-same_real (Four a) (Four b) = bytes_eq a b
-same_real (Eight a) (Eight b) = bytes_eq a b
-same_real _ _ = false
-
--- scalars of one kind with the same content
-abbrev pub same_scalar : Scalar → Scalar → Bool
-same_scalar (Boolean a) (Boolean b) = cond a b (not b)
-same_scalar (Data a) (Data b) = bytes_eq a b
-same_scalar (Date a) (Date b) = bytes_eq a b
-same_scalar (Integer a) (Integer b) = int_eq a b
-same_scalar (Real a) (Real b) = same_real a b
-same_scalar (String a) (String b) = bytes_eq a b
-same_scalar (Uid a) (Uid b) = a == b
-same_scalar _ _ = false
+use Rattle.plist_base.specs.Scalars.{scalar_eq}
+use Rattle.plist_base.specs.Trees.{Scalar, Tree, Leaf, Array, Dictionary, Trees, NoTrees, TreeAnd, Members, NoMembers, MemberAnd}
 
 -- the first value of a key
 abbrev pub first_value : List ℕ → Members → Option Tree
@@ -46,7 +27,7 @@ has_keys (MemberAnd key tree members) others =
 abbrev mutual
   -- equal kinds; arrays by place; dictionaries with the same keys and the same values
   pub same : Tree → Tree → Bool
-  same (Leaf a) (Leaf b) = same_scalar a b
+  same (Leaf a) (Leaf b) = scalar_eq a b
   same (Array items) (Array others) = same_items items others
   same (Dictionary members) (Dictionary others) =
       is_covered [] members others && has_keys others members

@@ -1,3 +1,2 @@
 -- What bodies and proofs speak of, and no public clause.
-pub mod Codes
 pub mod Heads

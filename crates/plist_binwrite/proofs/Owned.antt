@@ -9,7 +9,8 @@ use Rattle.plist_base.specs.Bracketing.{lengthless, lengthless_items, lengthless
 use Rattle.plist_base.specs.Events.{PlainEvent, EndCollection}
 use Rattle.plist_base.specs.Trees.{Scalar, Tree, Leaf, Array, Dictionary, Trees, NoTrees, TreeAnd, Members, NoMembers, MemberAnd}
 use Rattle.plist_binwrite.specs.Classes.{AreClasses, same_class, kept, count_by, objects_by, size_by}
-use Rattle.plist_binwrite.specs.ObjectCounts.{scalar_eq, collections_among, leaf_scalars, collections_in, scalars_in, object_count}
+use Rattle.plist_base.specs.Scalars.{scalar_eq}
+use Rattle.plist_binwrite.specs.ObjectCounts.{collections_among, leaf_scalars, collections_in, scalars_in, object_count}
 use Rattle.plist_binwrite.specs.Numberings.{object_of}
 use Rattle.plist_binwrite.specs.inner.Scalars.{Owner, shared, alone, own, owner, AreOwners}
 use Rattle.plist_binwrite.specs.Sizes.{total, object_size, size_with, file_size}

@@ -8,7 +8,7 @@ use Rattle.plist_base.specs.Trees.{Tree, Leaf, Array, Dictionary, Trees, NoTrees
 use Rattle.plist_base.specs.Bracketing.{bracketing}
 use Rattle.plist_format.specs.Container.{Head, head_of}
 use Rattle.plist_format.specs.Unfolding.{items_of_file}
-use Rattle.plist_binwrite.specs.ObjectCounts.{scalar_eq}
+use Rattle.plist_base.specs.Scalars.{scalar_eq}
 
 -- whether a tree is another
 abbrev mutual

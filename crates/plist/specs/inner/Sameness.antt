@@ -1,60 +1,13 @@
 -- That sameness is reflexive, symmetric and transitive, over all trees.
-use Rattle.std.proofs.Common.{◌≡◌, ℕ, Bool, true, false, not, ◌||◌, cond, Option, Some, None, is_some, List, [], ◌∷◌, refl, ap, sym, ◌↔◌}
+use Rattle.std.proofs.Common.{◌≡◌, ℕ, Bool, true, false, ◌||◌, cond, Option, Some, None, is_some, List, [], ◌∷◌, refl, sym, ◌↔◌}
 use Rattle.std.specs.Str.{bytes_eq}
 use Rattle.std.specs.Cmp.{IsEquivalence, equiv, both_ways}
-use Rattle.std.proofs.lemmas.Slice.Eq.{bytes_eq-Decides}
-use Rattle.std.proofs.lemmas.Bool.Decides.{Decides-int_eq, Decides-eqb}
 use Rattle.std.proofs.lemmas.Option.{same_Some}
 use Rattle.std.proofs.lemmas.Bool.{and_parts, or_parts}
 use Rattle.std.specs.Cmp.Derive.{both_true}
-use Rattle.plist_base.specs.declared.real.RealBits.{RealBits}
-use Rattle.plist_base.specs.declared.real.RealBits.TheVariants.{Four, Eight}
-use Rattle.plist_base.specs.Trees.{Scalar, Boolean, Data, Date, Integer, Real, String, Uid, Tree, Leaf, Array, Dictionary, Trees, NoTrees, TreeAnd, Members, NoMembers, MemberAnd}
-use Rattle.plist.specs.Equal.{AreSameAt, same_real, same_scalar, first_value, is_among, if_found, has_keys, same, same_items, is_covered}
-
-pub key_eq : (k l : List ℕ) → bytes_eq k l ≡ true → k ≡ l
-key_eq k l h = (bytes_eq-Decides k l).0 h
-
-pub key_self : (k : List ℕ) → bytes_eq k k ≡ true
-key_self k = (bytes_eq-Decides k k).1 refl
-
-real_is : (a b : RealBits) → same_real a b ≡ true → a ≡ b
-real_is (Four a) (Four b) h = ap Four (key_eq a b h)
-real_is (Eight a) (Eight b) h = ap Eight (key_eq a b h)
-real_is a b h = absurd (cc)
-
-real_refl : (a : RealBits) → same_real a a ≡ true
-real_refl (Four a) = key_self a
-real_refl (Eight a) = key_self a
-
-boolean_is : (a b : Bool) → cond a b (not b) ≡ true → a ≡ b
-boolean_is true true h = refl
-boolean_is false false h = refl
-boolean_is a b h = absurd (cc)
-
-boolean_refl : (a : Bool) → cond a a (not a) ≡ true
-boolean_refl true = refl
-boolean_refl false = refl
-
--- scalars that are the same are one
-pub scalar_is : (x y : Scalar) → same_scalar x y ≡ true → x ≡ y
-scalar_is (Boolean a) (Boolean b) h = ap Boolean (boolean_is a b h)
-scalar_is (Data a) (Data b) h = ap Data (key_eq a b h)
-scalar_is (Date a) (Date b) h = ap Date (key_eq a b h)
-scalar_is (Integer a) (Integer b) h = ap Integer ((Decides-int_eq a b).0 h)
-scalar_is (Real a) (Real b) h = ap Real (real_is a b h)
-scalar_is (String a) (String b) h = ap String (key_eq a b h)
-scalar_is (Uid a) (Uid b) h = ap Uid ((Decides-eqb a b).0 h)
-scalar_is x y h = absurd (cc)
-
-pub scalar_refl : (x : Scalar) → same_scalar x x ≡ true
-scalar_refl (Boolean a) = boolean_refl a
-scalar_refl (Data a) = key_self a
-scalar_refl (Date a) = key_self a
-scalar_refl (Integer a) = (Decides-int_eq a a).1 refl
-scalar_refl (Real a) = real_refl a
-scalar_refl (String a) = key_self a
-scalar_refl (Uid a) = (Decides-eqb a a).1 refl
+use Rattle.plist_base.specs.Scalars.{bytes_is, bytes_refl, scalar_is, scalar_refl}
+use Rattle.plist_base.specs.Trees.{Scalar, Tree, Leaf, Array, Dictionary, Trees, NoTrees, TreeAnd, Members, NoMembers, MemberAnd}
+use Rattle.plist.specs.Equal.{AreSameAt, first_value, is_among, if_found, has_keys, same, same_items, is_covered}
 
 found_at : (o : Option Tree) (t : Tree)
     → (if_found o (λ u. same t u) ≡ true) ↔ AreSameAt (Some t) o
@@ -69,7 +22,7 @@ covered_key : (b : Bool) (seen : List (List ℕ)) (l : List ℕ) (u : Tree) (ms 
     → (is_among k (l ∷ seen) ≡ false → first_value k ms ≡ Some t
     → AreSameAt (Some t) (first_value k ns)) → AreSameAt (Some t) (first_value k ns)
 covered_key true seen l u ms ns k t is h fresh e later =
-    let k_is : k ≡ l = key_eq k l is in
+    let k_is : k ≡ l = bytes_is k l is in
     let t_is : u ≡ t = same_Some u t (rw is at e) in
     let unseen = rw k_is at fresh in
     rw (k_is, ← t_is) ((found_at (first_value l ns) u).0 (rw unseen at h))
@@ -96,7 +49,7 @@ covered seen (MemberAnd l u ms) ns =
           (λ new more. rest.0 parts.1 k t new more),
       λ f. both_true
           (covered_here (is_among l seen) seen l u ns refl
-          (λ fresh. f l u fresh (rw (key_self l) refl)))
+          (λ fresh. f l u fresh (rw (bytes_refl l) refl)))
           (rest.1 (λ k t fresh e.
           let n = or_parts (bytes_eq k l) (is_among k seen) fresh in f k t n.1 (rw n.0 e))),
     )
@@ -106,7 +59,7 @@ key_there : (b : Bool) (ms : Members) (l : List ℕ) (u : Tree) (ns : Members) (
     → is_some (cond (bytes_eq k l) (Some u) (first_value k ns)) ≡ true
     → (is_some (first_value k ns) ≡ true → is_some (first_value k ms) ≡ true)
     → is_some (first_value k ms) ≡ true
-key_there true ms l u ns k is h e later = rw (key_eq k l is) h
+key_there true ms l u ns k is h e later = rw (bytes_is k l is) h
 key_there false ms l u ns k is h e later = later (rw is at e)
 
 key_more : (b : Bool) (u : Tree) (o : Option Tree) → is_some o ≡ true
@@ -122,7 +75,7 @@ keys_there ms (MemberAnd l u ns) =
       λ h k e.
           let parts = and_parts (is_some (first_value l ms)) _ h in
           key_there (bytes_eq k l) ms l u ns k refl parts.0 e (λ more. rest.0 parts.1 k more),
-      λ f. both_true (f l (rw (key_self l) refl))
+      λ f. both_true (f l (rw (bytes_refl l) refl))
           (rest.1 (λ k e. f k (key_more (bytes_eq k l) u (first_value k ns) e))),
     )
 

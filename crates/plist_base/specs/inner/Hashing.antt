@@ -1,10 +1,9 @@
 -- What an event feeds to a hasher: one write of what it shows.
-use Rattle.std.specs.Prelude.{◌≡◌, ◌==◌, ℕ, Bool, true, cond, List, [], ◌∷◌}
+use Rattle.std.specs.Prelude.{◌≡◌, ◌==◌, ℕ, Bool, true, List, []}
 use Rattle.std.proofs.Common.{ap, refl, rules}
 use Rattle.std.specs.Bool.{Decides}
 use Rattle.std.specs.Cmp.Rules.{comparing}
 use Rattle.std.specs.Cow.{cow_str_bytes, cow_slice_items}
-use Rattle.std.specs.Hash as fed
 use Rattle.std.proofs.lemmas.Bool.Decides.{Decides-eqb}
 use Rattle.std.proofs.lemmas.Slice.Eq.{bytes_eq-Decides, slice_eq-Decides}
 use lib.Pointwise.{pointwise}
@@ -13,18 +12,12 @@ use Rattle.plist_base.specs.declared.event.Event.{Event}
 use Rattle.plist_base.specs.declared.event.Event.TheVariants as event
 use Rattle.plist_base.specs.declared.real.RealBits.TheVariants as real
 use Rattle.plist_base.specs.Events.{PlainEvent, ScalarEvent, event_of}
-use Rattle.plist_base.specs.Trees.{Boolean, Data, Date, Integer, Real, String, Uid}
+use Rattle.plist_base.specs.Scalars.{writes_of_scalar}
+use Rattle.plist_base.specs.Trees.{Data, Date, Real, String}
 
 abbrev pub writes_of : PlainEvent → List (List ℕ)
-writes_of (ScalarEvent (Boolean value)) = fed.u8 (cond value 1 0)
-writes_of (ScalarEvent (Data bytes)) = bytes ∷ []
-writes_of (ScalarEvent (Date bytes)) = bytes ∷ []
-writes_of (ScalarEvent (Integer z)) = fed.i128 z
-writes_of (ScalarEvent (Real (real.Four bytes))) = bytes ∷ []
-writes_of (ScalarEvent (Real (real.Eight bytes))) = bytes ∷ []
-writes_of (ScalarEvent (String text)) = text ∷ []
-writes_of (ScalarEvent (Uid n)) = fed.u64 n
-writes_of _ = []
+writes_of (ScalarEvent scalar) = writes_of_scalar scalar
+writes_of event = []
 
 abbrev pub eq_of_events : Event → Event → Bool
 eq_of_events x y = (impl.ghosts).eq x y

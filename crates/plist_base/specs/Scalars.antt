@@ -1,0 +1,95 @@
+-- Whether two scalars are the same, and what one feeds to a hasher.
+use Rattle.std.proofs.Common.{◌≡◌, ℕ, ◌==◌, Bool, true, false, not, cond, List, [], ◌∷◌, refl, ap, subst}
+use mathlib.Core.HLevel.{Stable, Stable-paths→set}
+use Rattle.std.specs.Hash as fed
+use Rattle.std.specs.Ordering.{int_eq}
+use Rattle.std.specs.Str.{bytes_eq}
+use Rattle.std.proofs.lemmas.Bool.{both_ways}
+use Rattle.std.proofs.lemmas.Slice.Eq.{bytes_eq-Decides}
+use Rattle.std.proofs.lemmas.Bool.Decides.{Decides-int_eq, Decides-eqb}
+use Rattle.plist_base.specs.declared.real.RealBits.{RealBits}
+use Rattle.plist_base.specs.declared.real.RealBits.TheVariants.{Four, Eight}
+use Rattle.plist_base.specs.Trees.{Scalar, Boolean, Data, Date, Integer, Real, String, Uid}
+
+-- reals of one width with the same bytes
+abbrev pub real_eq : RealBits → RealBits → Bool
+real_eq (Four a) (Four b) = bytes_eq a b
+real_eq (Eight a) (Eight b) = bytes_eq a b
+real_eq _ _ = false
+
+-- scalars of one kind with the same content
+abbrev pub scalar_eq : Scalar → Scalar → Bool
+scalar_eq (Boolean a) (Boolean b) = cond a b (not b)
+scalar_eq (Data a) (Data b) = bytes_eq a b
+scalar_eq (Date a) (Date b) = bytes_eq a b
+scalar_eq (Integer a) (Integer b) = int_eq a b
+scalar_eq (Real a) (Real b) = real_eq a b
+scalar_eq (String a) (String b) = bytes_eq a b
+scalar_eq (Uid a) (Uid b) = a == b
+scalar_eq _ _ = false
+
+-- what one feeds to a hasher: one write of its content
+abbrev pub writes_of_scalar : Scalar → List (List ℕ)
+writes_of_scalar (Boolean value) = fed.u8 (cond value 1 0)
+writes_of_scalar (Data bytes) = bytes ∷ []
+writes_of_scalar (Date bytes) = bytes ∷ []
+writes_of_scalar (Integer number) = fed.i128 number
+writes_of_scalar (Real (Four bytes)) = bytes ∷ []
+writes_of_scalar (Real (Eight bytes)) = bytes ∷ []
+writes_of_scalar (String text) = text ∷ []
+writes_of_scalar (Uid number) = fed.u64 number
+
+-- ---- the test tells whether they are one
+
+pub bytes_is : (k l : List ℕ) → bytes_eq k l ≡ true → k ≡ l
+bytes_is k l h = (bytes_eq-Decides k l).0 h
+
+pub bytes_refl : (k : List ℕ) → bytes_eq k k ≡ true
+bytes_refl k = (bytes_eq-Decides k k).1 refl
+
+real_is : (a b : RealBits) → real_eq a b ≡ true → a ≡ b
+real_is (Four a) (Four b) h = ap Four (bytes_is a b h)
+real_is (Eight a) (Eight b) h = ap Eight (bytes_is a b h)
+real_is a b h = absurd (cc)
+
+real_refl : (a : RealBits) → real_eq a a ≡ true
+real_refl (Four a) = bytes_refl a
+real_refl (Eight a) = bytes_refl a
+
+boolean_is : (a b : Bool) → cond a b (not b) ≡ true → a ≡ b
+boolean_is true true h = refl
+boolean_is false false h = refl
+boolean_is a b h = absurd (cc)
+
+boolean_refl : (a : Bool) → cond a a (not a) ≡ true
+boolean_refl true = refl
+boolean_refl false = refl
+
+pub scalar_is : (x y : Scalar) → scalar_eq x y ≡ true → x ≡ y
+scalar_is (Boolean a) (Boolean b) h = ap Boolean (boolean_is a b h)
+scalar_is (Data a) (Data b) h = ap Data (bytes_is a b h)
+scalar_is (Date a) (Date b) h = ap Date (bytes_is a b h)
+scalar_is (Integer a) (Integer b) h = ap Integer ((Decides-int_eq a b).0 h)
+scalar_is (Real a) (Real b) h = ap Real (real_is a b h)
+scalar_is (String a) (String b) h = ap String (bytes_is a b h)
+scalar_is (Uid a) (Uid b) h = ap Uid ((Decides-eqb a b).0 h)
+scalar_is x y h = absurd (cc)
+
+pub scalar_refl : (x : Scalar) → scalar_eq x x ≡ true
+scalar_refl (Boolean a) = boolean_refl a
+scalar_refl (Data a) = bytes_refl a
+scalar_refl (Date a) = bytes_refl a
+scalar_refl (Integer a) = (Decides-int_eq a a).1 refl
+scalar_refl (Real a) = real_refl a
+scalar_refl (String a) = bytes_refl a
+scalar_refl (Uid a) = (Decides-eqb a a).1 refl
+
+-- ---- an equation between two has one proof at most
+
+scalar_stable : (x y : Scalar) (same : Bool) → scalar_eq x y ≡ same → Stable (x ≡ y)
+scalar_stable x y true is apart = scalar_is x y is
+scalar_stable x y false is apart =
+    absurd (apart (λ p. both_ways _ is (subst (λ z. scalar_eq x z ≡ true) p (scalar_refl x))))
+
+pub scalar_set : IsSet Scalar
+scalar_set = Stable-paths→set (λ x y. scalar_stable x y _ refl)
