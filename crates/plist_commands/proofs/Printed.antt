@@ -1,13 +1,13 @@
 -- The lines of dates, numbers and texts.
-use Rattle.std.proofs.Common.{◌≡◌, ℕ, ℤ, zero, suc, ◌+◌, ◌/◌, ◌^◌, ◌≤◌, ◌<◌, Bool, true, ◌&&◌, List, [], ◌∷◌, ◌++◌, length, get_or, take, drop, Some, codes, refl, ap, ◌∙◌, sym, arith, append_assoc, length-append}
+use Rattle.std.proofs.Common.{◌≡◌, ℕ, ℤ, zero, suc, ◌+◌, ◌-◌, ◌/◌, ◌^◌, ◌≤◌, ◌<◌, Bool, true, ◌&&◌, List, [], ◌∷◌, ◌++◌, length, get_or, set, take, drop, Option, Some, codes, refl, ap, ◌∙◌, sym, arith, append_assoc, length-append}
 use Rattle.std.specs.Fmt.{decimal, signed_decimal}
 use Rattle.std.proofs.Math.Seq.{take-append_seam, take-append-add}
 use Rattle.std.proofs.lemmas.Bool.{and_parts}
 use Rattle.std.proofs.lemmas.Fmt.{decimal_digit, decimal_step, length-decimal-le}
 use Rattle.std.proofs.lemmas.Grind.{flat_map-append}
-use Rattle.std.proofs.lemmas.List.{take-append-drop, take_more}
+use Rattle.std.proofs.lemmas.List.{length-take-le, take-append-drop, take_more, take_more_set}
 use Rattle.plist_base.specs.Date.{real_bits, second_of_bytes, has_fraction}
-use Rattle.plist_commands.specs.EscapedLines.{hexadecimal, stands_for_itself, escaped_byte, escaped_text, text_of_date}
+use Rattle.plist_commands.specs.EscapedLines.{hexadecimal, stands_for_itself, escaped_byte, escaped_text, text_of_date, text_of_start}
 
 -- ---- a date with a fraction
 
@@ -60,6 +60,39 @@ written_behind front room digits rest new start ends before written =
     sym (take-append-drop start new) ∙ (λ i. front_stays i ++ written i) in
     rw (whole, take-append-add front (digits ++ rest) (length digits), take-append_seam digits rest)
     refl
+
+-- the line of a number, whose digits and end are written behind a word, in the room of a pattern
+pub number_in_pattern : (line pattern spelled rest new last : List ℕ) (start end : ℕ)
+    → 21 ≤ length pattern → length spelled ≤ 20
+    → end ≡ length line + length pattern - (21 - length spelled) → start + length spelled ≡ end
+    → take start new ≡ take start (line ++ pattern) → drop start new ≡ spelled ++ rest
+    → end < length new → last ≡ take (end + 1) (set new end 10)
+    → last ≡ line ++ take (length pattern - 21) pattern ++ spelled ++ codes "\n"
+number_in_pattern line pattern spelled rest new last start end room short ends starts before written
+    within is =
+    let word = take (length pattern - 21) pattern in
+    let front = line ++ word in
+    let behind = drop (length pattern - 21) pattern in
+    let long : length front ≡ length line + (length pattern - 21) =
+    length-append line word ∙ ap (λ n. length line + n)
+    (length-take-le (length pattern - 21) pattern (omega arith)) in
+    let same : line ++ pattern ≡ front ++ behind =
+    ap (λ l. line ++ l) (sym (take-append-drop (length pattern - 21) pattern))
+    ∙ sym (append_assoc line word behind) in
+    let here : end ≡ length front + length spelled = omega (arith, long, ends, room, short) in
+    let kept : take end new ≡ front ++ spelled =
+    ap (λ i. take i new) here
+    ∙ written_behind front behind spelled rest new start (starts ∙ here)
+    (before ∙ ap (λ l. take start l) same) written in
+    is ∙ take_more_set new end 10 within ∙ ap (λ l. l ++ 10 ∷ []) kept
+
+-- the line of a start, behind whose word a length comes
+pub start_with_length : (line word new : List ℕ) (length : Option ℕ) (n : ℕ) → length ≡ Some n
+    → new ≡ line ++ (word ++ codes " ") ++ decimal n ++ codes "\n"
+    → new ≡ line ++ text_of_start word length ++ codes "\n"
+start_with_length line word new length n is grown =
+    rw is
+    (grown ∙ ap (λ l. l ++ codes "\n") (append_assoc line (word ++ codes " ") (decimal n)))
 
 -- ---- texts whose bytes stand for themselves
 

@@ -1,10 +1,10 @@
 //! The line of each event.
 
-ghost use Rattle.std.specs.Prelude.{◌≡◌, ◌++◌, ◌<◌, codes, length, true, OnOk};
+ghost use Rattle.std.specs.Prelude.{◌≡◌, ◌++◌, ◌-◌, ◌<◌, ◌≤◌, codes, length, take, true, OnOk};
 ghost use Rattle.std.specs.Fmt.{decimal, signed_decimal};
-ghost use Rattle.plist_base.specs.Events.{event_of};
-ghost use Rattle.plist_base.specs.Trees.{String};
-ghost use Rattle.plist_commands.specs.EscapedLines.{hexadecimal, hexadecimal_digit, in_notation, stands_for_itself, escaped_byte, escaped_text, text_of_data, text_of_date, text_of_real, text_of_start, event_text, words_of_scalar, line_of};
+ghost use Rattle.plist_base.specs.Events.{ScalarEvent, event_of};
+ghost use Rattle.plist_base.specs.Trees.{Data, String};
+ghost use Rattle.plist_commands.specs.EscapedLines.{hexadecimal, hexadecimal_digit, in_notation, stands_for_itself, escaped_byte, escaped_text, text_of_date, text_of_real, text_of_start, line_of};
 
 use itoa::{Buffer, write_digits};
 use plist_base::{Date, Event, Integer, RealBits};
@@ -19,8 +19,8 @@ pub enum Notation {
     Hexadecimal,
 }
 
-// No number has more digits.
-const MOST_DIGITS: usize = 20;
+// No number has more digits, and behind them comes the end of its line.
+const MOST_BEHIND: usize = 21;
 
 #[inline(always)]
 fn hexadecimal_digit_of(value: u8) -> u8
@@ -66,6 +66,7 @@ fn push_byte(line: &mut Vec<u8>, byte: u8) -> Result<(), AllocError>
 }
 
 // A text; one without an escape goes in one piece.
+#[inline(always)]
 fn push_text(line: &mut Vec<u8>, text: &[u8]) -> Result<(), AllocError>
     ensures { OnOk result (line.new.items ≡ line.old.items ++ escaped_text text.now) }
 {
@@ -127,17 +128,17 @@ pub fn push_bytes(line: &mut Vec<u8>, bytes: &[u8], notation: Notation) -> Resul
     }
 }
 
-// Data behind its word.
+// The line of data.
 fn push_data(line: &mut Vec<u8>, bytes: &[u8]) -> Result<(), AllocError>
     ensures { OnOk result (line.new.items
-        ≡ line.old.items ++ codes "Data" ++ text_of_data bytes.now) }
+        ≡ line.old.items ++ line_of (ScalarEvent (Data bytes.now))) }
 {
-    line.extend_from_slice(b"Data")?;
     if bytes.is_empty() {
-        return Ok(());
+        return line.extend_from_slice(b"Data\n");
     }
-    line.push(b' ')?;
-    push_hexadecimal(line, bytes)
+    line.extend_from_slice(b"Data ")?;
+    push_hexadecimal(line, bytes)?;
+    line.extend_from_slice(b"\n")
 }
 
 fn push_date(line: &mut Vec<u8>, date: Date) -> Result<(), AllocError>
@@ -151,23 +152,27 @@ fn push_date(line: &mut Vec<u8>, date: Date) -> Result<(), AllocError>
     push_hexadecimal(line, &date.to_plist_real())
 }
 
-// A date behind its word.
+// The line of a date.
 fn push_dated(line: &mut Vec<u8>, date: Date) -> Result<(), AllocError>
-    ensures { OnOk result (line.new.items ≡ line.old.items ++ codes "Date " ++ text_of_date date) }
+    ensures { OnOk result (line.new.items
+        ≡ line.old.items ++ codes "Date " ++ text_of_date date ++ codes "\n") }
 {
     line.extend_from_slice(b"Date ")?;
-    push_date(line, date)
+    push_date(line, date)?;
+    line.extend_from_slice(b"\n")
 }
 
-// A real behind its word.
+// The line of a real.
 fn push_real(line: &mut Vec<u8>, real: RealBits) -> Result<(), AllocError>
-    ensures { OnOk result (line.new.items ≡ line.old.items ++ codes "Real " ++ text_of_real real) }
+    ensures { OnOk result (line.new.items
+        ≡ line.old.items ++ codes "Real " ++ text_of_real real ++ codes "\n") }
 {
     line.extend_from_slice(b"Real ")?;
     match real {
-        RealBits::Four(bytes) => push_hexadecimal(line, &bytes),
-        RealBits::Eight(bytes) => push_hexadecimal(line, &bytes),
+        RealBits::Four(bytes) => push_hexadecimal(line, &bytes)?,
+        RealBits::Eight(bytes) => push_hexadecimal(line, &bytes)?,
     }
+    line.extend_from_slice(b"\n")
 }
 
 // How many digits a number has.
@@ -199,78 +204,76 @@ fn digits_of(number: u64) -> usize
     }
 }
 
-// A number behind its word. Its digits are written where they stay: a copy of bytes that were just
-// stored waits for them, which took an eighth of the time of a list of integers.
+// The line of a number, of which a pattern is given: its word, and room for its digits and the LF.
+// The digits are written where they stay: a copy of bytes that were just stored waits for them,
+// which took an eighth of the time of a list of integers.
 #[inline(always)]
-fn push_number(line: &mut Vec<u8>, word: &[u8], number: u64) -> Result<(), AllocError>
-    ensures { OnOk result (line.new.items ≡ line.old.items ++ word.now ++ decimal number) }
+fn push_number(line: &mut Vec<u8>, pattern: &[u8], number: u64) -> Result<(), AllocError>
+    requires { 21 ≤ length pattern.now }
+    ensures { OnOk result (line.new.items ≡ line.old.items
+        ++ take (length pattern.now - 21) pattern.now ++ decimal number ++ codes "\n") }
 {
-    line.extend_from_slice(word)?;
-    line.extend_from_slice(&[b'0'; MOST_DIGITS])?;
-    let end = line.len() - (MOST_DIGITS - digits_of(number));
-    write_digits(number, line.as_mut_slice(), end);
-    line.truncate(end);
+    line.extend_from_slice(pattern)?;
+    let end = line.len() - (MOST_BEHIND - digits_of(number));
+    let bytes = line.as_mut_slice();
+    write_digits(number, bytes, end);
+    bytes[end] = b'\n';
+    line.truncate(end + 1);
     Ok(())
 }
 
-// An integer behind its word.
+// The line of an integer.
 #[inline(always)]
 fn push_integer(line: &mut Vec<u8>, integer: Integer) -> Result<(), AllocError>
     ensures { OnOk result (line.new.items
-        ≡ line.old.items ++ codes "Integer " ++ signed_decimal integer) }
+        ≡ line.old.items ++ codes "Integer " ++ signed_decimal integer ++ codes "\n") }
 {
     match integer.as_unsigned() {
-        Some(number) => push_number(line, b"Integer ", number),
+        Some(number) => push_number(line, b"Integer 00000000000000000000\n", number),
         None => {
             line.extend_from_slice(b"Integer ")?;
             line.extend_from_slice(
                 Buffer::new()
                     .format(integer.as_signed().unwrap())
                     .as_bytes(),
-            )
+            )?;
+            line.extend_from_slice(b"\n")
         }
     }
 }
 
-// The word of a start, and its length where that is known.
+// The line of an array's start.
 #[inline(always)]
-fn push_start(line: &mut Vec<u8>, word: &[u8], length: Option<u64>) -> Result<(), AllocError>
-    ensures { OnOk result (line.new.items ≡ line.old.items ++ text_of_start word.now length) }
+fn push_array(line: &mut Vec<u8>, length: Option<u64>) -> Result<(), AllocError>
+    ensures { OnOk result (line.new.items
+        ≡ line.old.items ++ text_of_start (codes "StartArray") length ++ codes "\n") }
 {
-    line.extend_from_slice(word)?;
-    let Some(length) = length else {
-        return Ok(());
-    };
-    push_number(line, b" ", length)
+    match length {
+        None => line.extend_from_slice(b"StartArray\n"),
+        Some(length) => push_number(line, b"StartArray 00000000000000000000\n", length),
+    }
 }
 
-// A text between its quotes.
+// The line of a dictionary's start.
+#[inline(always)]
+fn push_dictionary(line: &mut Vec<u8>, length: Option<u64>) -> Result<(), AllocError>
+    ensures { OnOk result (line.new.items
+        ≡ line.old.items ++ text_of_start (codes "StartDictionary") length ++ codes "\n") }
+{
+    match length {
+        None => line.extend_from_slice(b"StartDictionary\n"),
+        Some(length) => push_number(line, b"StartDictionary 00000000000000000000\n", length),
+    }
+}
+
+// The line of a text.
 fn push_string(line: &mut Vec<u8>, text: &str) -> Result<(), AllocError>
-    ensures { OnOk result (line.new.items ≡ line.old.items ++ words_of_scalar (String text.now)) }
+    ensures { OnOk result (line.new.items
+        ≡ line.old.items ++ line_of (ScalarEvent (String text.now))) }
 {
     line.extend_from_slice(b"String \"")?;
     push_text(line, text.as_bytes())?;
-    line.push(b'"')?;
-    Ok(())
-}
-
-#[inline(always)]
-fn push_words(line: &mut Vec<u8>, event: &Event<'_>) -> Result<(), AllocError>
-    ensures { OnOk result (line.new.items ≡ line.old.items ++ event_text (event_of event.now)) }
-{
-    match event {
-        Event::StartArray(length) => push_start(line, b"StartArray", *length),
-        Event::StartDictionary(length) => push_start(line, b"StartDictionary", *length),
-        Event::EndCollection => line.extend_from_slice(b"EndCollection"),
-        Event::Boolean(true) => line.extend_from_slice(b"Boolean true"),
-        Event::Boolean(false) => line.extend_from_slice(b"Boolean false"),
-        Event::Data(bytes) => push_data(line, bytes.as_slice()),
-        Event::Date(date) => push_dated(line, *date),
-        Event::Integer(integer) => push_integer(line, *integer),
-        Event::Real(real) => push_real(line, *real),
-        Event::String(text) => push_string(line, text.as_str()),
-        Event::Uid(uid) => push_number(line, b"Uid ", uid.get()),
-    }
+    line.extend_from_slice(b"\"\n")
 }
 
 /// A bound on the bytes of an event's line; `usize::MAX` stands for any that is larger.
@@ -291,6 +294,17 @@ pub fn line_bound(event: &Event<'_>) -> usize {
 pub fn push_line(line: &mut Vec<u8>, event: &Event<'_>) -> Result<(), AllocError>
     ensures { OnOk result (line.new.items ≡ line.old.items ++ line_of (event_of event.now)) }
 {
-    push_words(line, event)?;
-    line.extend_from_slice(b"\n")
+    match event {
+        Event::StartArray(length) => push_array(line, *length),
+        Event::StartDictionary(length) => push_dictionary(line, *length),
+        Event::EndCollection => line.extend_from_slice(b"EndCollection\n"),
+        Event::Boolean(true) => line.extend_from_slice(b"Boolean true\n"),
+        Event::Boolean(false) => line.extend_from_slice(b"Boolean false\n"),
+        Event::Data(bytes) => push_data(line, bytes.as_slice()),
+        Event::Date(date) => push_dated(line, *date),
+        Event::Integer(integer) => push_integer(line, *integer),
+        Event::Real(real) => push_real(line, *real),
+        Event::String(text) => push_string(line, text.as_str()),
+        Event::Uid(uid) => push_number(line, b"Uid 00000000000000000000\n", uid.get()),
+    }
 }
