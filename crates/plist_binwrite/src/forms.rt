@@ -95,7 +95,6 @@ pub fn put_unsigned<W: Write>(out: &mut W, buffer: &mut Vec<u8>, number: u64) ->
 }
 
 /// Puts a marker of this kind with a length: in its low half below 15, else behind it.
-#[inline(always)]
 pub fn put_length<W: Write>(
     out: &mut W,
     buffer: &mut Vec<u8>,

@@ -70,7 +70,6 @@ fn pass_on<W: Write>(out: &mut W, buffer: &mut Vec<u8>, bytes: &[u8]) -> Result<
 /// # Errors
 /// `Io` without an offset where a write fails or takes no byte; a beginning of all that was put
 /// went out.
-#[inline(always)]
 #[tactic(auto, using(crate::proofs::Outgoing::puts_waiting))]
 pub fn put<W: Write>(out: &mut W, buffer: &mut Vec<u8>, bytes: &[u8]) -> Result<(), Error>
     ensures { Puts W.contents out.old buffer.old bytes.now result out.new buffer.new }
@@ -82,7 +81,6 @@ pub fn put<W: Write>(out: &mut W, buffer: &mut Vec<u8>, bytes: &[u8]) -> Result<
 }
 
 // Has bytes wait and others behind them, where all of them fit into the buffer.
-#[inline(always)]
 fn hold_both(buffer: &mut Vec<u8>, first: &[u8], second: &[u8]) -> bool
     ensures yes { result ≡ true → buffer.new.items ≡ buffer.old.items ++ first.now ++ second.now }
     ensures waits { result ≡ true → length buffer.new.items ≤ buffer_size }
@@ -118,7 +116,6 @@ fn pass_both<W: Write>(
 ///
 /// # Errors
 /// Those of `put`.
-#[inline(always)]
 #[tactic(auto, using(crate::proofs::Outgoing::puts_waiting))]
 pub fn put_both<W: Write>(
     out: &mut W,
