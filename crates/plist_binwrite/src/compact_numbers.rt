@@ -86,6 +86,17 @@ impl Numbers {
         }
     }
 
+    /// No numbers, with room for so many of four bytes.
+    pub fn with_capacity(alloc: Global, count: usize) -> Result<Numbers, AllocError>
+        ensures { IfOk result (λ r. r ≡ []) }
+    {
+        let narrow = Vec::with_capacity(alloc, count)?;
+        Ok(Numbers {
+            narrow,
+            wide: Vec::new(alloc),
+        })
+    }
+
     /// So many times the number 0, or no memory for them.
     pub fn zeros(alloc: Global, count: usize) -> Result<Numbers, AllocError>
         ensures zeros { IfOk result (λ r. r ≡ replicate count 0) }

@@ -103,7 +103,7 @@ pub fn order_objects(
 {
     let count = plan.numbering.firsts.len();
     let places = Numbers::zeros(alloc, count)?;
-    let order = Numbers::new(alloc);
+    let order = Numbers::with_capacity(alloc, count)?;
     let mut layout = FileLayout { order, places };
     for index in 0..events.len() {
         layout.put_here(events, plan, index)?;

@@ -29,7 +29,8 @@ impl Numbered {
     ghost use Rattle.plist_binwrite.specs.EventTable.{plain_events};
     ghost use Rattle.plist_binwrite.specs.inner.Numbering.{AreMarks, BeginsAt, IsNumberedSoFar, HaveIdsOf, IsPlanOf, KeepsNumbers, NumbersAll, NumbersChildren, NumbersHalf, NumbersItem, NumbersItems, RootIsFirst};
 
-    // No numbers so far.
+    // No numbers so far. There is room for the first index of each class, since lists that grow
+    // would leave gaps between those that are filled.
     fn new(alloc: Global, events: &EventTable<'_>, count: usize) -> Result<Numbered, AllocError>
         ensures ids { IfOk result (λ r. AreMarks count r.ids) }
         ensures numbers { IfOk result (λ r. AreMarks (length (plain_events events.now)) r.numbers) }
@@ -37,10 +38,11 @@ impl Numbered {
     {
         let ids = Numbers::marks(alloc, count)?;
         let numbers = Numbers::marks(alloc, events.len())?;
+        let firsts = Numbers::with_capacity(alloc, count)?;
         Ok(Numbered {
             ids,
             numbers,
-            firsts: Numbers::new(alloc),
+            firsts,
         })
     }
 

@@ -22,7 +22,7 @@ loop-index-init c =
     let zeros = c.in_ok-places.ensures.zeros in
     let n : c.len-count.result ≡ count_of c.args.plan.now = omega arith in
     let long = ap length zeros ∙ length-replicate count 0 in (
-      rw c.new-order.ensures
+      rw c.in_ok-order.ensures
           (order_none _ _ (long ∙ n) (all_zero _ _ long
           (λ k h. ap (λ l. get_or l k 0) zeros ∙ get_or-replicate count k 0 0 h))),
       λ p h s. absurd (omega arith),
