@@ -19,20 +19,6 @@ fn wide_of(stored: u32) -> usize
     }
 }
 
-// The four bytes that stand for the greatest number, if this is that. It stands apart, so that the
-// test for a mark costs other numbers nothing.
-#[cold]
-#[inline(never)]
-fn mark_of(number: usize) -> Option<u32>
-    ensures { IfSome result (λ stored. wide_of stored ≡ number) }
-{
-    if number == usize::MAX {
-        Some(u32::MAX)
-    } else {
-        None
-    }
-}
-
 // The four bytes that stand for a number, if there are such.
 #[inline(always)]
 fn narrowed(number: usize) -> Option<u32>
@@ -40,8 +26,10 @@ fn narrowed(number: usize) -> Option<u32>
 {
     if number < u32::MAX as usize {
         Some(number as u32)
+    } else if number == usize::MAX {
+        Some(u32::MAX)
     } else {
-        mark_of(number)
+        None
     }
 }
 
