@@ -57,12 +57,6 @@ abbrev pub IsFoundAt : (number : ℕ) → Walk → EventSlot → Option ℕ → 
 IsFoundAt number walk slot found = IsFound (get_or walk.tags.items number 0)
     (get_or walk.contents.items number 0) (event_in slot) found
 
--- a child's number is found, or the error is held
-abbrev pub FindsChild : Result ℕ Refused → EventSlot → (known : Option (List ℕ)) → Bounds
-    → (place index : ℕ) → Type 0
-FindsChild answer slot known bounds place index =
-    ReadsChildAt (answer_in answer slot) known bounds place index
-
 -- the error of each child of a collection that isn't found is held
 abbrev pub RefusesEach : (known : Option (List ℕ)) → Bounds → (place : ℕ) → EventSlot → Refused
     → Type 0

@@ -3,8 +3,8 @@
 ghost use Rattle.std.specs.Prelude.{◌≡◌, ◌+◌, ◌-◌, ◌^◌, ◌<◌, ◌≤◌, IfErr, IfNone, IfOk, IfSome, OnOk};
 ghost use Rattle.plist_binread.specs.DecodeOutcome.{reference_place, reference_index};
 ghost use Rattle.plist_binread.specs.FaultOffsets.{ErrWithin};
-ghost use Rattle.plist_binread.specs.Reading.{HasNoChild, FindsReferences, HasNoChildren, HasPairs, AreReferencesBehind, AreReferencesOf, MissesNumber, ReadsNumber, ShowsLength};
-ghost use Rattle.plist_binread.specs.Step.{FindsChild, RefusesEach};
+ghost use Rattle.plist_binread.specs.Reading.{HasNoChild, FindsReferences, HasNoChildren, HasPairs, AreReferencesBehind, AreReferencesOf, MissesNumber, ReadsChildAt, ReadsNumber, ShowsLength};
+ghost use Rattle.plist_binread.specs.Step.{RefusesEach};
 ghost use Rattle.plist_binread.specs.Slot.{AnswersInSlot, answer_in};
 
 use crate::counted_content::front_length;
@@ -233,7 +233,8 @@ pub fn read_child<S: Source>(
 ) -> Result<u64, Refused>
     requires references { AreReferencesOf (S.known source.old) bounds.now references.old }
     // The answer.
-    ensures child { FindsChild result slot.new (S.known source.old) bounds.now place index }
+    ensures child { ReadsChildAt (answer_in result slot.new) (S.known source.old) bounds.now place
+        index }
     // A refusal.
     ensures fault { ErrWithin place bounds.now.trailer (answer_in result slot.new) }
     // The state after it.
