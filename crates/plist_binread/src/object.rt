@@ -181,7 +181,15 @@ pub fn decode<S: Source, C: DecodeCounter>(
         Ok(outcome) => match outcome {
             Outcome::Scalar | Outcome::Collection(_) => Ok(outcome),
             Outcome::Unseen => decode_long(alloc, source, place, left, slot),
-            _ => Err(refuse_object(outcome, place, slot)),
+            Outcome::Overrun
+            | Outcome::Null
+            | Outcome::Fill
+            | Outcome::Unknown(_)
+            | Outcome::OutOfRange
+            | Outcome::NoDate
+            | Outcome::NotUtf8
+            | Outcome::NotUtf16
+            | Outcome::NoMemory => Err(refuse_object(outcome, place, slot)),
         },
         Err(_) => Err(Refused::Fault),
     }

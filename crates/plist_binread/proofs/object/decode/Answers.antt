@@ -23,8 +23,8 @@ returns-in-Unseen-clause-limit g c =
     c.in-Ok.ensures.unchanged (rw c.in-Unseen.is at c.in-Ok.ensures.long)
     c.decode_long.ensures.limit
 
-pub returns-in_default : goal.returns-in_default
-returns-in_default g c = record {
+pub returns-in-Overrun : goal.returns-in-Overrun
+returns-in-Overrun g c = record {
   decoded = seen_refused _ c.args.bounds.now c.args.place c.in-Ok.outcome
       (event_in c.decode_front.new.slot) c.refuse_object.new.slot.fault c.in-Ok.ensures.outcome
       c.refuse_object.ensures.refused;
