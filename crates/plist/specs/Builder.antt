@@ -47,6 +47,6 @@ abbrev pub RefusesWorking : {A : Type 0} → (before : Builder) → Item → Res
 RefusesWorking before item answer =
     (built_of before).failed ≡ false → RefusesWith before item answer
 
--- what a builder holds is carried on by the event
+-- the event is added to what a builder holds
 abbrev pub Carries : (before : Builder) → PlainEvent → (after : Builder) → Type 0
 Carries before event after = CarriesOn before.unfinished event after.unfinished

@@ -1,4 +1,4 @@
--- What a builder holds: a tree that isn't complete yet, and how an event carries it on.
+-- What a builder holds: a tree that isn't complete yet, and what it is after one more event.
 use Rattle.std.specs.Prelude.{◌≡◌, ℕ, Bool, true, false, List, [], ◌∷◌, ◌++◌, Option, Some, None, Ok, Err, map, ⊤}
 use mathlib.Core.HLevel.{×_prop, Unit-prop, ⊥_prop}
 use Rattle.plist_base.specs.declared.error.EventKind.{EventKind}

@@ -36,7 +36,7 @@ collections_of unfinished = map open_of (reverse unfinished.collections.items)
 abbrev pub unfinished_of : UnfinishedValue → Unfinished
 unfinished_of unfinished = held_in unfinished.root (reverse unfinished.collections.items)
 
--- the event carries on what is held
+-- the event is added to what is held
 abbrev pub CarriesOn : (before : UnfinishedValue) → PlainEvent → (after : UnfinishedValue) → Type 0
 CarriesOn before event after =
     carried_on with_pair (unfinished_of before) event ≡ Some (unfinished_of after)

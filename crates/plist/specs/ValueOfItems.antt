@@ -49,14 +49,14 @@ abbrev pub ReadsItems : (List ℕ → List Item) → (known : Option (List ℕ))
 ReadsItems items_of known answer =
     IfSome known (λ bytes. IsValueOf (items_of bytes) (built_tree answer))
 
--- What is seen to come begins with this item, and nothing comes only where nothing is seen. A
--- device's fault and want of memory may come anywhere.
+-- The item is the first of those that are seen to come, and there is none only where none is seen.
+-- A device's fault and lack of memory may come anywhere.
 abbrev pub BeginsWith : (before : List Item) → Option Item → (after : List Item) → Type 0
 BeginsWith before None after = before ≡ []
 BeginsWith before (Some (Ok event)) after = before ≡ Ok event ∷ after
 BeginsWith before (Some (Err fault)) after = MatchFault fault.kind ⊤ ⊤ (before ≡ Err fault ∷ after)
 
--- the same, and what comes next is seen too, where what is to come is seen
+-- the same, where the items to come are seen; then those that come afterwards are seen, too
 abbrev pub BeginsWithIfKnown : (before : Option (List Item)) → Option Item
     → (after : Option (List Item))
     → Type 0

@@ -14,7 +14,7 @@ pub(crate) fn copy(alloc: Global, value: &Value) -> Result<Value, AllocError>
 {
     match collect(alloc, value.events(alloc)) {
         Ok(copy) => Ok(copy),
-        // these are a value's events, so nothing but memory was wanting
+        // these are a value's events, so nothing but memory can be lacking
         Err(_) => Err(AllocError),
     }
 }

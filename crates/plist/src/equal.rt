@@ -18,7 +18,7 @@ const LEVELS: u32 = 128;
 
 /// Equal kinds with the same content: arrays by place, dictionaries by key, whatever the order.
 ///
-/// It takes no memory for values of at most 128 levels. Where it wants some for deeper ones and
+/// It takes no memory for values of at most 128 levels. Where it needs some for deeper ones and
 /// none is found, it takes more of the call stack.
 impl PartialEq for Value {
     ghost use Rattle.std.specs.Cmp.{partial_equiv_from_equiv};

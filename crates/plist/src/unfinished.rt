@@ -117,7 +117,7 @@ impl UnfinishedValue {
                     Ok(_) => {}
                     Err(_) => return Err(AllocError),
                 }
-                // it tells that no key stands twice
+                // its contract says that no key stands twice
                 let _ = pairs.pair_count();
                 self.collections
                     .push_reserved(UnclosedCollection::Dictionary(pairs));
@@ -158,7 +158,7 @@ impl UnfinishedValue {
         }
     }
 
-    /// Carries on what is held with an event that can come next.
+    /// Adds an event that can come next to what is held.
     ///
     /// After a failure what is held isn't known.
     pub(crate) fn take(&mut self, alloc: Global, event: Event<'_>) -> Result<(), AllocError>

@@ -14,7 +14,7 @@ use plist_base::{Error, Event, Writer};
 use plist_binwrite::EventTable;
 use std::alloc::Global;
 
-// Hands an item's event to the writer, or passes its fault on.
+// Writes an item's event, or passes its fault on.
 fn hand<W: Writer>(writer: &mut W, item: Result<Event<'_>, Error>) -> Result<(), Error>
     ensures { WritesItem W.Step writer.old (item_of item.entry) (answer_of result) writer.new }
 {
@@ -22,12 +22,12 @@ fn hand<W: Writer>(writer: &mut W, item: Result<Event<'_>, Error>) -> Result<(),
     writer.write(event)
 }
 
-/// Hands the events of the value to the writer, in order.
+/// Writes the events of the value to the writer, in order.
 ///
 /// # Errors
 ///
-/// The writer's first refusal, after which it is handed nothing more; and `OutOfMemory` where the
-/// events of the value want memory, in the place of a start.
+/// The writer's first refusal, after which nothing more is written; and `OutOfMemory` in the place
+/// of a start, where the iterator over the events finds no memory.
 pub fn write_value<W: Writer>(alloc: Global, value: &Value, writer: &mut W) -> Result<(), Error>
     ensures handed { WritesValue W.Step writer.old value.now result writer.new }
 {

@@ -61,8 +61,8 @@ pub record BeginsWithItem (stops : ℕ → Bool) (bytes : List ℕ) (p : ℕ) (i
   pub ends : placed_items stops bytes p ≡ placed lead q item ∷ placed_items stops left q
   pub rest : left ≡ drop (q - p) bytes
 
--- The first item came, and left the rest; nothing only where there is none. After a device's fault
--- and want of memory nothing is left; want of memory comes only in the place of a text.
+-- The first item came, and left the rest; none comes only where there is none. After a device's
+-- fault and lack of memory nothing is left; lack of memory comes only in the place of a text.
 abbrev pub GivesAsciiItem : (stops : ℕ → Bool) → List ℕ → (p : ℕ) → Option (Result Event Error)
     → (rest : List ℕ) → (q : ℕ) → Type 0
 GivesAsciiItem stops bytes p item rest q = MatchOption item

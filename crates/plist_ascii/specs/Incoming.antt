@@ -10,7 +10,7 @@ abbrev pub GivesByte : Option (List ℕ) → Option ℕ → Option (List ℕ) �
 GivesByte old None new = Consumes old new [] × IsAtEnd new
 GivesByte old (Some byte) new = Consumes old new (byte ∷ [])
 
--- known bytes lose the first `count` of those at hand
+-- known bytes lose the first `count` of those that are buffered
 abbrev pub LosesFirst : (count : ℕ) → (held : List ℕ) → Option (List ℕ) → Option (List ℕ) → Type 0
 LosesFirst count held old new = Consumes old new (take count held)
 

@@ -6,16 +6,16 @@ ghost use Rattle.plist_ascii.specs.Incoming.{GivesByte, CountsFailureIfCounted, 
 use std::io;
 use std::io::Read;
 
-/// Bytes that come one by one, or several in one go where they are at hand.
+/// Bytes that come one by one, or several in one go where they are buffered.
 ///
-/// Every `Read` is one, which tells no failures and has nothing at hand; what counts its failures
-/// may be one too.
+/// Every `Read` is one, which counts no failures and has nothing buffered. What counts its failures
+/// may be one, too.
 pub trait Bytes {
     /// The bytes that are still to come, where they are known.
     ghost remaining: { Self → Option (List ℕ) };
-    /// How many reads failed, where that is told.
+    /// How many reads failed, where they are counted.
     ghost failures: { Self → Option ℕ };
-    /// The bytes that are at hand.
+    /// The bytes that are buffered.
     ghost held: { Self → List ℕ };
 
     /// The next byte, or `None` at the end. A read that fails isn't made again, `Interrupted` or
@@ -27,18 +27,18 @@ pub trait Bytes {
         ensures byte { IfOk result (λ b. GivesByte (remaining self.old) b (remaining self.new)) }
         ensures failures { CountsFailureIfCounted result (failures self.old) (failures self.new) };
 
-    /// The bytes that are at hand: they are the next ones, and taking them reads nothing.
+    /// The bytes that are buffered: they are the next ones, and taking them reads nothing.
     fn buffered(&self) -> &[u8]
         ensures { result.now ≡ held self.now };
 
-    /// Takes the first `count` of the bytes at hand.
+    /// Takes the first `count` of the buffered bytes.
     fn consume(&mut self, count: usize)
         requires within { count ≤ length (held self.old) }
         ensures bytes { LosesFirst count (held self.old) (remaining self.old) (remaining self.new) }
         ensures failures { failures self.new ≡ failures self.old };
 }
 
-/// No failures are told, and nothing is at hand.
+/// No failures are counted, and nothing is buffered.
 impl<R: Read> Bytes for R {
     ghost remaining = { R.remaining };
 

@@ -1,5 +1,5 @@
-//! Bytes that are taken one by one, with one byte looked at ahead, or in one go where they are at
-//! hand.
+//! Bytes that are taken one by one, with one byte looked at ahead, or in one go where they are
+//! buffered.
 
 ghost use Rattle.std.specs.Prelude.{◌≡◌, ◌+◌, ◌-◌, ◌^◌, ◌<◌, ◌≤◌, [], length, take, None, Some, Ok, true, false, IfOk, IfErr, OnOk, IsSome};
 ghost use Rattle.plist_base.specs.Faults.{Io, UnclosedString, fault_of, fault_at, kind_of};
@@ -66,7 +66,7 @@ fn run_length(stop: Stop, bytes: &[u8], most: u64) -> usize
     count
 }
 
-/// Bytes that are taken. At most one more was asked for.
+/// The bytes of a reader, which are taken in turn. At most one more has been read.
 #[derive(Drop)]
 pub struct Input<R> {
     inner: R,
@@ -106,7 +106,7 @@ impl<R> Input<R> {
         self.ended
     }
 
-    /// A fault behind the bytes taken.
+    /// A fault at the end of the bytes taken.
     pub fn fault(&self, kind: ErrorKind) -> Error
         ensures { fault_of result ≡ fault_at (kind_of kind) self.now.taken }
     {
@@ -208,7 +208,7 @@ impl<R: Bytes> Input<R> {
         }
     }
 
-    /// Takes bytes that are at hand, up to a stop.
+    /// Takes buffered bytes, up to a stop.
     pub fn skip_buffered(&mut self, stop: Stop)
         ensures bytes { SkipsSome R.remaining stop self.old self.new }
         ensures place { self.old.taken ≤ self.new.taken }
@@ -225,7 +225,7 @@ impl<R: Bytes> Input<R> {
         self.taken += count as u64;
     }
 
-    /// Takes bytes that are at hand, up to a stop, and appends them.
+    /// Takes buffered bytes, up to a stop, and appends them.
     pub fn take_buffered(&mut self, stop: Stop, text: &mut Vec<u8>) -> Result<(), Error>
         ensures value { OnOk result (AddsTo R.remaining stop self.old text.old self.new text.new) }
         ensures fault { OnlyMemory result }

@@ -13,7 +13,7 @@ use crate::input::{Input, Stop};
 use plist_base::{Error, ErrorKind, OwnedEvent};
 use std::alloc::Global;
 
-// A device's fault, or want of memory?
+// Is it a device's fault, or `OutOfMemory`?
 fn is_io_or_memory(error: &Error) -> bool
     ensures { result ≡ is_io_or_memory (kind_of (error_kind_of error.now)) }
 {
@@ -70,10 +70,10 @@ impl<R: Bytes> Input<R> {
 ///
 /// Brackets open and close collections, quotes and other bytes open texts, and what stands between
 /// them is passed over; nesting isn't checked. A bare text that spells an integer is one; the
-/// [`Dialect`] tells what ends it. It looks at one byte behind an item only where that byte decides
+/// [`Dialect`] says what ends it. It looks at one byte behind an item only where that byte decides
 /// the item's end. At most 2^64 - 1 bytes are taken.
 ///
-/// The offset of a fault is the number of bytes taken, and want of memory has none.
+/// The offset of a fault is the number of bytes taken; `OutOfMemory` has none.
 ///
 /// `{ a = (1, 'b'); }` gives a dictionary's start, `a`, an array's start, the number 1, `b` and two
 /// ends. Starts have no length.

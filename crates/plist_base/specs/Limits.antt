@@ -77,8 +77,8 @@ IsLeftAfter left event behind =
 abbrev pub IsTooLong : (left : Option ℕ) → PlainEvent → Limit → Type 0
 IsTooLong left event reached = (reached ≡ limit.Bytes) × (is_too_long left event ≡ true)
 
--- why an event can't come where so many have come, so many collections are open, and so many bytes
--- may come: it has too many bytes, or else is one too many, or else opens one collection too many
+-- why an event can't come after `came` events, with `level` collections open and `left` bytes left
+-- to come: it has too many bytes, or else is one too many, or else opens one collection too many
 abbrev pub limit_at : Limits → (came level : ℕ) → (left : Option ℕ) → PlainEvent → Option Limit
 limit_at limits came level left event =
     cond (is_too_long left event) (Some limit.Bytes)
@@ -90,7 +90,7 @@ abbrev pub event_or_limit : Option Limit → PlainEvent → (behind : List Item)
 event_or_limit None event behind = Ok event ∷ behind
 event_or_limit (Some limit) event behind = Err (fault_nowhere (LimitReached limit)) ∷ []
 
--- the items behind so many events, while so many collections are open and so many bytes may come
+-- the items after `came` events, while `level` collections are open and `left` bytes may come
 abbrev pub limited_from : Limits → (came level : ℕ) → (left : Option ℕ) → List Item → List Item
 limited_from limits came level left [] = []
 limited_from limits came level left (Ok event ∷ items) =

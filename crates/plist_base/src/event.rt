@@ -147,7 +147,7 @@ impl<'a> Event<'a> {
     }
 }
 
-/// What an event shows is fed in one write, texts and data whole.
+/// The content is fed in one write, texts and data whole; a start and an end feed nothing.
 impl Hash for Event<'_> {
     ghost use Rattle.plist_base.specs.inner.Hashing.{same_writes, writes_of};
 

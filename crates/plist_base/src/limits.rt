@@ -62,7 +62,7 @@ impl Limit {
     }
 }
 
-// How many collections are open behind an event, where so many were open before it.
+// How many collections are open after an event, where `level` were open before it.
 fn level_after(depth: u64, level: u64, shape: EventShape) -> Result<u64, Limit>
     ensures value { IfOk result (IsLevelAfter depth level shape) }
     ensures refused { IfErr result (IsTooDeep depth level shape) }
@@ -79,7 +79,7 @@ fn level_after(depth: u64, level: u64, shape: EventShape) -> Result<u64, Limit>
     }
 }
 
-// How many bytes may come behind an event, where so many may come with it.
+// How many bytes may come after an event, where `left` may come with it.
 fn left_after_event(left: Option<u64>, event: &Event<'_>) -> Result<Option<u64>, Limit>
     ensures value { IfOk result (IsLeftAfter left (event_of event.now)) }
     ensures refused { IfErr result (IsTooLong left (event_of event.now)) }
@@ -126,8 +126,8 @@ impl Limiter {
         self.left.unwrap_or(u64::MAX)
     }
 
-    // Why an event can't come, if it can't: bytes that are too many are told first, and then an
-    // event that is.
+    // The limit that the event reaches, if it reaches one: that of the bytes before that of the
+    // items, and this before the depth.
     fn count(&mut self, event: &Event<'_>) -> Result<(), Limit>
         ensures admitted { OnOk result (Admits self.old (event_of event.now) self.new) }
         ensures refused { IfErr result (RefusesBy self.old (event_of event.now)) }
@@ -142,7 +142,7 @@ impl Limiter {
         Ok(())
     }
 
-    /// Counts an event, or tells the fault that comes in its place.
+    /// Counts an event, or gives the fault that takes its place.
     ///
     /// # Errors
     /// `LimitReached`, without an offset.

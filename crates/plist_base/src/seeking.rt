@@ -114,7 +114,7 @@ impl<R: Read + Seek> Seeking<R> {
         self.read_past_windows(place, buf)
     }
 
-    // Reads where nothing is at hand. It stands apart so that what is at hand is copied quickly.
+    // Reads where no window has the bytes. It stands apart so that a window is copied fast.
     #[cold]
     #[inline(never)]
     fn read_anew(&mut self, place: u64, buf: &mut [u8]) -> Result<usize, io::Error>

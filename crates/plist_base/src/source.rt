@@ -9,7 +9,7 @@ use std::io;
 
 /// Bytes that can be read at any place.
 ///
-/// A source tells whether its bytes are known, and counts its failures. It is a slice, a vector or
+/// A source says whether its bytes are known, and counts its failures. It is a slice, a vector or
 /// a file:
 ///
 /// ```text
@@ -37,15 +37,15 @@ pub trait Source: Drop {
     ///
     /// # Errors
     /// What the device said. It isn't asked again, also after `Interrupted`; what the buffer holds
-    /// then isn't told.
+    /// then isn't known.
     fn read_at(&mut self, place: u64, buf: &mut [u8]) -> Result<usize, io::Error>
         ensures bound { IfOk result (λ count. count ≤ length buf.new) }
         ensures bytes { IfRead result (known self.old) (λ bytes n. GivesAt bytes place n buf.new) }
         ensures unchanged { known self.new ≡ known self.old }
         ensures failures { CountsFailure result (failures self.old) (failures self.new) };
 
-    /// The bytes from `place` on that are at hand without a read: as many as the source happens to
-    /// hold there, often none. By itself a source lends nothing.
+    /// The bytes from `place` on that the source holds and lends without a read: as many as it
+    /// happens to have there, often none. By default it lends nothing.
     fn buffered(&self, place: u64) -> &[u8]
         ensures bytes { IfSome (known self.now) (λ bytes. LiesAt bytes place result.now) }
     {

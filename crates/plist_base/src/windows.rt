@@ -7,27 +7,28 @@ use crate::source::rest_from;
 use std::io;
 use std::io::{Read, Seek, SeekFrom};
 
-/// A window begins at a multiple of so many bytes: as much as one read of a file usually gives.
+/// A window begins at a multiple of this size, which is what one read of a file usually gives.
 pub(crate) const WINDOW: usize = 8192;
 
-// It has so many bytes of the next one too, so that whatever is no longer than that and begins in
-// it lies whole in it.
+// A window also has this many bytes of the next one, so that whatever begins in it and is no longer
+// than that lies whole in it.
 const OVERLAP: usize = 64;
 
 const ROOM: usize = WINDOW + OVERLAP;
 
-// So many windows there are at first, and so many at most.
+// How many windows there are at first.
 const OWN: usize = 8;
 
+// How many there are at most.
 const MOST: usize = 1024;
 
-// A window that is filled again weighs as much as so many that are filled first.
+// A window that is filled again counts as much as this many that are filled for the first time.
 const AGAIN: u64 = 8;
 
-// Of so many windows of a file it is noted that they were filled: of its first 512 MiB.
+// How many windows of a file are noted once they were filled: those of its first 512 MiB.
 const NOTED: u64 = 65_536;
 
-// So many bytes from a place on, or as many of them as there are.
+// The `size` bytes from an index on, or as many of them as there are.
 fn part(bytes: &[u8], first: usize, size: usize) -> &[u8]
     ensures { result.now ≡ take size (drop first bytes.now) }
 {
@@ -35,7 +36,7 @@ fn part(bytes: &[u8], first: usize, size: usize) -> &[u8]
     &rest[..size.min(rest.len())]
 }
 
-// Adds memory for windows, if there is some, and tells whether there was.
+// Adds memory for windows, if there is some, and answers whether there was.
 fn add_windows(more: &mut Vec<u8>, count: usize) -> bool
     requires { count < 1024 }
     ensures { IsBeginning more.old.items more.new.items }
@@ -45,10 +46,10 @@ fn add_windows(more: &mut Vec<u8>, count: usize) -> bool
 
 /// Windows of a file, eight at first.
 ///
-/// Those whose numbers are the same but for a multiple of the number of slots share a slot, which
-/// has two, so that two parts of a file in turn stay side by side. There are twice as many, up to
-/// 1,024, once more were filled again than there are, and that isn't rare beside those that are
-/// filled first: a file that is read in order does with few.
+/// A window's number modulo the number of slots is its slot. A slot holds two windows, so that two
+/// parts of a file can be read in turn. The number of windows is doubled, up to 1,024, once more
+/// windows were filled again than there are, and that isn't rare beside those that are filled for
+/// the first time: a file that is read in order needs few.
 #[derive(Drop)]
 pub(crate) struct Windows {
     // Where each window begins, and how many bytes it has from there on.
@@ -56,7 +57,7 @@ pub(crate) struct Windows {
     filled: [u16; MOST],
     // Is the second window of a slot the next one to be filled?
     turns: [bool; MOST / 2],
-    // The bytes of the first windows, and of the others so far, if there are to be others.
+    // The bytes of the first windows, and those of the others, if there may be others.
     own: [u8; OWN * ROOM],
     more: Option<Vec<u8>>,
     // The number of the last slot: a power of two less one.
@@ -121,7 +122,7 @@ impl Windows {
         }
     }
 
-    /// What is at hand from a place on, perhaps nothing.
+    /// The bytes that are held from a place on, perhaps none.
     pub(crate) fn held(&self, place: u64) -> &[u8]
         ensures bytes { (i : ℕ) × LendsFrom self.now i place result.now }
     {
@@ -141,7 +142,7 @@ impl Windows {
         if turn { i + 1 } else { i }
     }
 
-    // Notes that a window is filled, and tells whether that was noted before.
+    // Notes that a window is filled, and answers whether that was noted before.
     fn note(&mut self, number: u64) -> bool
         ensures { KeepsWindows self.old self.new }
     {

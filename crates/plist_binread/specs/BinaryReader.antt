@@ -24,10 +24,10 @@ use Rattle.plist_binread.specs.Turns.{upcoming_number, IsCachedIfSmall, is_fresh
 abbrev pub objects_in_head : List ℕ → ℕ
 objects_in_head bytes = length (places_of bytes)
 
--- What was to come begins with this item and goes on with what is to come then. Nothing comes only
--- where nothing was to come. After a fault nothing is to come; a device's fault comes only where
--- something was, and want of memory only there at the first call, and later only in the place of a
--- start, a text or the fault of a text or of a limit.
+-- The item is the first of those that were to come, and the others are to come then. There is none
+-- only where none was to come. After a fault none is to come. A device's fault comes only where one
+-- was to come, and so does lack of memory at the first call; later that comes only in the place of
+-- a start, of a text, or of the fault of a text or of a limit.
 abbrev pub GivesAs : {A : Type 0} → (shown : A → PlainEvent) → (new : Bool) (before : List Item)
     → Option (Result A Error) → (after : List Item) → Type 0
 GivesAs shown new before item after =
@@ -133,7 +133,7 @@ module _ {R C : Type 0} {g : Ghosts R} {h : CounterGhosts C} where
       → BinaryReader R C g h → Type 0
   WillGive known items reader = IfSome known (λ bytes. items_to_come bytes reader ≡ items bytes)
 
-  -- a reader that gave this item tells as many objects as the head of known bytes counts
+  -- a reader that gave this item has as many objects as the head of known bytes counts
   abbrev pub ObjectsMatchHead : {A : Type 0} → (known : Option (List ℕ)) → Option (Result A Error)
       → BinaryReader R C g h → Type 0
   ObjectsMatchHead known item reader = IfSome known (λ bytes. MatchOption item ⊤ (λ answer.

@@ -61,8 +61,7 @@ Allocates (Faulty InvalidUtf8String) = ⊤
 Allocates (Faulty InvalidUtf16String) = ⊤
 Allocates (Faulty kind) = ⊥
 
--- the object at a place was refused: it is this fault, or a device failed, or memory was wanted for
--- it
+-- the object at a place was refused: it is this fault, or a device failed, or memory for it ran out
 abbrev pub IsRefusedAs : Object → (place : ℕ) → Error → Type 0
 IsRefusedAs object place error =
     MatchFault (kind_of (error_kind_of error)) ⊤ (Allocates object)

@@ -29,11 +29,11 @@ abbrev pub IsContent : (size : ℕ) (rest content : List ℕ) → Type 0
 IsContent size rest content = (more : List ℕ) (meaning : List ℕ → Object) →
     meaning_of_front size meaning (rest ++ more) ≡ meaning content
 
--- bytes that reach so far, or are as many as a number and a length need
+-- bytes that reach the extent, or are as many as any content of a fixed size has
 abbrev pub ReachesFar : (extent : ℕ) (rest : List ℕ) → Type 0
 ReachesFar extent rest = length rest < 16 → extent ≤ length rest
 
--- and those of the whole front of an object
+-- bytes that reach the extent, or are as many as the front of any object has
 abbrev pub ShowsFront : (extent : ℕ) (seen : List ℕ) → Type 0
 ShowsFront extent seen = length seen < 26 → extent ≤ length seen
 

@@ -45,12 +45,12 @@ MeasuresContent known place content answer =
 
 -- ---- pieces of a text
 
--- the first so many bytes are UTF-8, and they are none only where no front of the piece is
+-- the first `size` bytes are UTF-8, and `size` is 0 only where no front of the piece is UTF-8
 abbrev pub IsTextFront : List ℕ → (size : ℕ) → Type 0
 IsTextFront piece size = IsUtf8 (take size piece)
     × (size ≡ 0 → (more : ℕ) → 0 < more → IsUtf8 (take more piece) → ⊥)
 
--- the same of what is left of a text, and they are none only where that is no text
+-- the same of what is left of a text, and `size` is 0 only where that isn't UTF-8
 abbrev pub IsTextPart : List ℕ → (size : ℕ) → Type 0
 IsTextPart rest size = IsUtf8 (take size rest) × (size ≡ 0 → IsUtf8 rest → ⊥)
 

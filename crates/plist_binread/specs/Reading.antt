@@ -27,8 +27,8 @@ abbrev pub IfFound : {A : Type 0} → Option A → (known : Option (List ℕ)) �
     → Type 0
 IfFound found known P = IfSome found (λ value. IfSome known (λ bytes. P bytes value))
 
--- where all of them are there, a read of `size` bytes from a place on fails by the device, or for
--- want of memory
+-- where all of them are there, a read of `size` bytes from a place on fails by the device, or since
+-- memory ran out
 abbrev pub FailsOutside : (place size : ℕ) → List ℕ → Fault → Type 0
 FailsOutside place size bytes fault = place + size ≤ length bytes → IsIoOrMemory fault.kind
 
@@ -131,6 +131,6 @@ abbrev pub HasNoChild : (width extent : ℕ) → (seen : List ℕ) → Type 0
 HasNoChild width extent seen = (more : List ℕ) → length (seen ++ more) ≡ extent
     → children_in (object_in width (seen ++ more)) ≡ []
 
--- bytes that reach so far, or have all of a marker and a length
+-- bytes that reach the extent, or have all of a marker and a length
 abbrev pub ShowsLength : (extent : ℕ) (seen : List ℕ) → Type 0
 ShowsLength extent seen = length seen < 10 → extent ≤ length seen

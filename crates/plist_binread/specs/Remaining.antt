@@ -76,8 +76,8 @@ places_with (Err fault) = []
 abbrev pub places_of : List ℕ → List ℕ
 places_of bytes = places_with (head_of bytes)
 
--- so many objects were found as the head of these bytes counts, unless a device failed or memory
--- was wanted
+-- as many objects were found as the head of these bytes counts, unless a device failed or memory
+-- ran out
 abbrev pub CountsObjects : {A : Type 0} → List ℕ → Result A Error → (found : ℕ) → Type 0
 CountsObjects bytes answer found = MatchResult answer (λ _. found ≡ length (places_of bytes))
     (λ error. MatchFault (kind_of (error_kind_of error)) ⊤ ⊤ (found ≡ length (places_of bytes)))
@@ -147,8 +147,8 @@ AllocatesFirst (Err fault ∷ items) = IsTextOrLimitFault fault.kind
     IsTextOrLimitFault (LimitReached limit) = ⊤
     IsTextOrLimitFault kind = ⊥
 
--- an error comes where some items remain: a device's fault anywhere, want of memory where it is
--- wanted, every other fault where that is the one item that remains
+-- an error that may come where some items remain: a device's fault anywhere, lack of memory where
+-- some is needed, and every other fault where that is the one item that remains
 abbrev pub Explains : List Item → Error → Type 0
 Explains before error =
     MatchFault (kind_of (error_kind_of error)) (SomeRemain before) (AllocatesFirst before)

@@ -21,7 +21,7 @@ use crate::walk::Walk;
 use plist_base::{ErrorKind, Source};
 use std::alloc::Global;
 
-// Holds that no object has the number that is referred to from `at`.
+// Holds the fault that no object has the number of the reference at `at`.
 #[cold]
 #[inline(never)]
 fn refuse_number(slot: &mut EventSlot, at: u64) -> Refused
@@ -31,7 +31,7 @@ fn refuse_number(slot: &mut EventSlot, at: u64) -> Refused
     slot.refuse(ErrorKind::ObjectReferenceTooLarge.with_byte_offset(at))
 }
 
-// Holds that the object at a place is open.
+// Holds the fault that the object at a place is open already.
 #[cold]
 #[inline(never)]
 fn refuse_open(slot: &mut EventSlot, place: u64) -> Refused
@@ -75,8 +75,8 @@ fn look_up(walk: &Walk, slot: &mut EventSlot, at: u64, number: u64) -> Result<Op
     }
 }
 
-// Keeps what was decoded where it is a small scalar, and opens it where it is a collection. It
-// answers no, and nothing has changed, where there is no memory for that.
+// Caches a small scalar that was decoded, or opens a collection. Where there is no memory for the
+// collection it answers `false` and changes nothing.
 #[inline(always)]
 fn keep_or_open(walk: &mut Walk, number: u64, outcome: Outcome, slot: &EventSlot) -> bool
     requires below { number < walk_objects walk.old }

@@ -68,13 +68,13 @@ impl CompactEvent {
 
 /// Why a step was refused.
 ///
-/// It is this small since an error isn't, and what a function may answer is cleared at each call.
+/// It is small, as an error isn't: memory for what a function may answer is cleared at each call.
 #[derive(Clone, Copy)]
 pub enum Refused {
     /// The error is the fault of [`EventSlot`].
     Fault,
     /// A text or data has more bytes than may come, so that no memory is taken for it. The fault is
-    /// want of memory.
+    /// `OutOfMemory`.
     TooLong,
 }
 
@@ -126,7 +126,7 @@ impl EventSlot {
         Refused::Fault
     }
 
-    /// Holds that memory was wanted.
+    /// Holds `OutOfMemory`.
     #[cold]
     #[inline(never)]
     pub fn refuse_memory(&mut self) -> Refused
@@ -137,7 +137,7 @@ impl EventSlot {
         self.refuse(ErrorKind::OutOfMemory.without_position())
     }
 
-    /// Holds that the object at a place doesn't end before the trailer.
+    /// Holds the fault that the object at a place doesn't end before the trailer.
     #[cold]
     #[inline(never)]
     pub fn refuse_overrun(&mut self, place: u64) -> Refused
@@ -148,7 +148,7 @@ impl EventSlot {
         self.refuse(ErrorKind::ObjectOffsetTooLarge.with_byte_offset(place))
     }
 
-    /// Holds that the next text or data has more bytes than may come.
+    /// Holds the fault that the next text or data has more bytes than may come.
     #[cold]
     #[inline(never)]
     pub fn refuse_limit(&mut self) -> Refused
@@ -171,7 +171,7 @@ impl EventSlot {
         }
     }
 
-    /// The event, whose text or data is lent.
+    /// The event, which borrows its text or data from the slot.
     #[inline(always)]
     pub fn lend(&self) -> Event<'_>
         ensures { event_of result ≡ event_in self.now }

@@ -28,14 +28,14 @@ pub struct Narrow {
     pub count: u32,
 }
 
-/// What the innermost collection asks for.
+/// What comes next of the innermost collection.
 #[derive(Clone, Copy)]
 pub enum Upcoming {
     /// Nothing is open.
     Nothing,
     /// Its end: it is closed, and this was its object.
     End(u64),
-    /// The child of this place among the children of this object.
+    /// A child: the number of its collection, and its index among that one's children.
     Child(u64, u64),
 }
 
@@ -119,7 +119,7 @@ impl Stack {
 /// The open collections, the innermost one last.
 #[derive(Drop)]
 pub struct Frames {
-    // Those that hold the innermost one.
+    // The collections around the innermost one.
     outer: Stack,
     innermost: Option<Frame>,
 }
@@ -147,7 +147,7 @@ impl Frames {
         }
     }
 
-    /// Opens a collection of so many children.
+    /// Opens a collection of `count` children.
     #[inline]
     pub fn push(&mut self, object: u64, count: u64) -> Result<(), AllocError>
         ensures value { OnOk result (self.new ≡ self.old ++ frame_of object 0 count ∷ []) }

@@ -1,5 +1,5 @@
 //! Objects that are decoded by the bytes at their front: all up to the trailer, or at least as many
-//! as tell what isn't a long text or data.
+//! as any object needs but a long text or data.
 
 ghost use Rattle.std.specs.Prelude.{◌≡◌, ◌<◌, ◌≤◌, length, cond};
 ghost use Rattle.plist_format.specs.Object.{object_in};

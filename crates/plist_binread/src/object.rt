@@ -16,7 +16,7 @@ use crate::object_faults::{Outcome, no_text, refuse_object};
 use plist_base::{Event, Source, read_exact_at};
 use std::alloc::Global;
 
-// As many bytes as tell any object but a long text or data: a marker, a length of nine bytes, and
+// As many bytes as any object needs but a long text or data: a marker, a length of nine bytes, and
 // sixteen of content.
 const FRONT: usize = 26;
 

@@ -147,7 +147,7 @@ fn object_fault(outcome: Outcome, place: u64) -> Error
     fault_kind(outcome).with_byte_offset(place)
 }
 
-/// The fault of the text at a place that is none.
+/// The fault of the object at a place whose content isn't a text of this kind.
 pub fn no_text(kind: ContentKind, place: u64) -> Error
     ensures refused { (object : Object) → Measures kind object None
         → IsRefusedAs object place result }

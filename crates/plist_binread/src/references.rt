@@ -171,7 +171,7 @@ fn reference_place(references: &References, index: u64, width: usize) -> Option<
         .checked_add(references.start.checked_add(behind)?)
 }
 
-// Turns to the references of the collection at a place, if they aren't those of the last one.
+// Finds the references of the collection at a place, unless it is the one of the last call.
 #[inline(always)]
 fn refer_to<S: Source>(
     source: &mut S,
@@ -198,7 +198,7 @@ fn refer_to<S: Source>(
     Ok(())
 }
 
-// Reads a reference that isn't at hand.
+// Reads a reference that isn't buffered.
 #[cold]
 #[inline(never)]
 fn read_reference<S: Source>(

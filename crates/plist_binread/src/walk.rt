@@ -10,23 +10,23 @@ use crate::frames::{Frames, Upcoming};
 use crate::packed::unmark_open;
 use std::alloc::Global;
 
-/// What the innermost collection asks for.
+/// What comes next of the innermost collection, which is closed once its children have come.
 #[derive(Clone, Copy)]
 pub enum NextChild {
     /// Nothing is open.
     Done,
     /// It had no more children and was closed.
     Closed,
-    /// The child of this place among the children of this object.
+    /// A child: the number of its collection, and its index among that one's children.
     Child(u64, u64),
 }
 
 /// Where a walk over a file's objects stands.
 #[derive(Drop)]
 pub struct Walk {
-    /// Of each object by its number, what kind of content is held of it, and whether it is open.
+    /// The tag of each object by its number: which content is held of it, and whether it is open.
     pub tags: Vec<u8>,
-    /// Of each object its place, or all of a small scalar.
+    /// The content of each object: its place, or all of a small scalar.
     pub contents: Vec<u64>,
     /// The open collections, the innermost one last.
     pub frames: Frames,
@@ -38,7 +38,7 @@ impl Walk {
     ghost use Rattle.plist_binread.specs.Step.{WalkWeightFalls, IsTurnOfWalk};
     ghost use Rattle.plist_binread.specs.Walking.{IsEmptyWalk, cached_in, walk_objects, open_in};
 
-    /// No object is held.
+    /// A walk that knows no objects yet.
     pub fn new(alloc: Global) -> Self
         ensures { IsEmptyWalk result }
     {

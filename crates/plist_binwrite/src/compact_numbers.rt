@@ -7,7 +7,7 @@ use std::alloc::{AllocError, Global};
 use std::marker::Model;
 
 // What a number of four bytes stands for: the greatest one for the greatest of eight, with which
-// lists mark what they don't tell.
+// lists mark a number that isn't known yet.
 #[inline(always)]
 fn wide_of(stored: u32) -> usize
     ensures { result ≡ wide_of stored }
@@ -85,7 +85,7 @@ impl Numbers {
         })
     }
 
-    /// So many times the number 0, or no memory for them.
+    /// A list of `count` numbers that are 0, if there is memory for it.
     pub fn zeros(alloc: Global, count: usize) -> Result<Numbers, AllocError>
         ensures zeros { IfOk result (λ r. r ≡ replicate count 0) }
     {
@@ -96,7 +96,7 @@ impl Numbers {
         })
     }
 
-    /// So many times the number 2^64 - 1, or no memory for them.
+    /// A list of `count` numbers that are 2^64 - 1, if there is memory for it.
     #[tactic(auto, using(crate::proofs::Narrow::marks_wide))]
     pub fn marks(alloc: Global, count: usize) -> Result<Numbers, AllocError>
         ensures marks { IfOk result (λ r. r ≡ replicate count (2 ^ 64 - 1)) }
@@ -177,7 +177,7 @@ impl Numbers {
         Ok(())
     }
 
-    /// Drops the numbers. What room they had is kept.
+    /// Drops the numbers. Their memory is kept.
     pub fn clear(&mut self)
         ensures { self.new ≡ [] }
     {

@@ -209,7 +209,7 @@ impl Entries {
         }
     }
 
-    /// Drops the entries. What room they had is kept.
+    /// Drops the entries. Their memory is kept.
     pub fn clear(&mut self)
         ensures { self.new ≡ [] }
     {

@@ -41,8 +41,8 @@ impl EventBuffer {
         }
     }
 
-    /// So many different scalars are expected. It is a hint, by which room for them grows in larger
-    /// steps than without: more can come, or fewer, and it takes no memory by itself.
+    /// Says how many different scalars are expected. It is a hint, by which their table grows in
+    /// larger steps: more can come, or fewer, and it takes no memory by itself.
     pub fn expect_scalars(&mut self, count: usize)
         ensures events { buffered_events self.new ≡ buffered_events self.old }
         ensures whole { is_whole self.new ≡ is_whole self.old }
@@ -118,7 +118,7 @@ impl EventBuffer {
         &self.held
     }
 
-    /// Drops the events. What room they had is kept.
+    /// Drops the events. Their memory is kept.
     pub fn clear(&mut self)
         ensures events { buffered_events self.new ≡ [] }
         ensures whole { is_whole self.new ≡ false }

@@ -45,9 +45,9 @@ impl<'e> EventTable<'e> {
         }
     }
 
-    /// Where no more different scalars have room and this many are expected in all, makes room for
-    /// more of these: for sixteen times as many as there are, and a thousand. So a wrong hint costs
-    /// no more than that. Where memory for it is refused the room grows as it fills.
+    /// Where the table of different scalars is full, and this many are expected in all, takes
+    /// memory for more: sixteen times as many as there are, and a thousand. So a wrong hint costs
+    /// no more than that. Where that is refused, the table grows as it fills.
     pub fn expect_scalars(&mut self, expected: usize)
         ensures events { plain_events self.new ≡ plain_events self.old }
     {
@@ -214,7 +214,7 @@ impl<'e> EventTable<'e> {
         }
     }
 
-    // Takes an event. It answers no `Error`, since 120 bytes would be cleared at each call.
+    // Takes an event. It doesn't answer an `Error`, whose 120 bytes would be cleared at each call.
     fn take(&mut self, event: Event<'e>) -> Result<(), AllocError>
         ensures events { OnOk result (GrowsBy self.old (plain_event event.entry) self.new) }
         ensures unchanged { OnErr result (plain_events self.new ≡ plain_events self.old) }
@@ -243,7 +243,7 @@ impl<'e> EventTable<'e> {
         Ok(())
     }
 
-    /// Drops the events. What room they had is kept.
+    /// Drops the events. Their memory is kept.
     pub fn clear(&mut self)
         ensures events { plain_events self.new ≡ [] }
     {

@@ -16,7 +16,7 @@ pub fn change_on(expects: &[Expect], event: &Event<'_>) -> Change
     }
 }
 
-/// Changes the stack. One more expectation has room.
+/// Changes the stack, which has capacity for one more expectation.
 pub fn put(expects: &mut Vec<Expect>, change: Change)
     requires { vec_len expects.old < vec_capacity expects.old }
     ensures { ChangesTo (reverse expects.old.items) change (reverse expects.new.items) }

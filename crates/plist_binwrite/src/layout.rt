@@ -11,12 +11,12 @@ use crate::kinds::EntryKind;
 use crate::plan::Plan;
 use std::alloc::{AllocError, Global};
 
-/// The numbers of a file's objects in its order, and a list with room for the place of each.
+/// The numbers of a file's objects in its order, and a list for the place of each.
 #[derive(Drop)]
 pub struct FileLayout {
     /// The objects by their numbers, in the order in which they lie.
     pub order: Numbers,
-    /// Room for the place of each object, by its number; till then a mark of those in `order`.
+    /// The place of each object, by its number; until that is known, a mark of those in `order`.
     pub places: Numbers,
 }
 
@@ -27,8 +27,8 @@ impl FileLayout {
     ghost use Rattle.plist_binwrite.specs.inner.Planning.{IsPlanned, count_of};
     ghost use Rattle.plist_binwrite.specs.inner.Sizing.{MarksItem};
 
-    // Puts the object of the event here into the order, unless it is there already. A mark that
-    // isn't 0 tells of each object that it is.
+    // Puts the object of the event here into the order, unless it is there already. The mark
+    // of an object that is there isn't 0.
     fn put(&mut self, events: &EventTable<'_>, plan: &Plan, index: usize) -> Result<(), AllocError>
         requires planned { IsPlanned (plain_events events.now) plan.now }
         requires order { IsOrder (count_of plan.now) self.old.order self.old.places }

@@ -11,7 +11,7 @@ use crate::widths::least_width;
 use plist_base::{Date, Event, Integer, RealBits, Uid};
 use plist_format::LowHalf;
 
-/// So many bytes, and so many more.
+/// The sum of two lengths.
 pub fn add(length: Option<u64>, more: Option<u64>) -> Option<u64>
     ensures sum { (a b : ℕ) → IsSizeOrNone length a → IsSizeOrNone more b
         → IsSizeOrNone result (a + b) }
@@ -39,7 +39,7 @@ pub fn length_of_count(count: u64) -> u64
     }
 }
 
-// The length of so many bytes behind their marker.
+// The length of a marker with a count, and of `count` bytes after it.
 fn length_of_bytes(count: u64) -> Option<u64>
     ensures value { (high : ℕ) → IsSizeOrNone result (marked_size high count count) }
 {
@@ -92,7 +92,7 @@ fn length_of_uid(uid: Uid) -> u64
     1 + least_width(uid.get()) as u64
 }
 
-/// The length of a scalar. Of the start and the end of a collection nothing is told.
+/// The length of a scalar. That of a start or an end means nothing.
 pub fn length_of_scalar(event: &Event<'_>) -> Option<u64>
     ensures value { IfScalar (event_of event.now) (λ x. IsSizeOrNone result (scalar_size x)) }
     ensures writable { IfScalar (event_of event.now) IsWritableScalar }

@@ -26,7 +26,7 @@ fn append(buffer: &mut Vec<u8>, bytes: &[u8]) -> bool
     }
 }
 
-// Has bytes wait, where they fit into the buffer.
+// Appends bytes to the buffer, where they fit into it.
 #[inline(always)]
 fn hold(buffer: &mut Vec<u8>, bytes: &[u8]) -> bool
     ensures yes { result ≡ true → buffer.new.items ≡ buffer.old.items ++ bytes.now }
@@ -80,7 +80,7 @@ pub fn put<W: Write>(out: &mut W, buffer: &mut Vec<u8>, bytes: &[u8]) -> Result<
     pass_on(out, buffer, bytes)
 }
 
-// Has bytes wait and others behind them, where all of them fit into the buffer.
+// Appends bytes and then others to the buffer, where all of them fit into it.
 fn hold_both(buffer: &mut Vec<u8>, first: &[u8], second: &[u8]) -> bool
     ensures yes { result ≡ true → buffer.new.items ≡ buffer.old.items ++ first.now ++ second.now }
     ensures waits { result ≡ true → length buffer.new.items ≤ buffer_size }

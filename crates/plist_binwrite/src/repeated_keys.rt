@@ -11,7 +11,7 @@ use crate::kinds::EntryKind;
 use plist_base::Error;
 use std::alloc::Global;
 
-// Whether a scalar has this stamp, which it has then.
+// Whether a scalar has this stamp already; it has it afterwards.
 fn stamp(stamps: &mut Vec<usize>, scalar: usize, mark: usize) -> bool
     requires { scalar < length stamps.old.items }
     ensures stood { result ≡ true → get_or stamps.old.items scalar 0 ≡ mark }
@@ -23,8 +23,8 @@ fn stamp(stamps: &mut Vec<usize>, scalar: usize, mark: usize) -> bool
     stood
 }
 
-// Whether a dictionary begins here that has a key twice. A stamp tells of each different scalar
-// behind which start it was a key last.
+// Whether a dictionary begins here that has a key twice. The stamp of a different scalar says after
+// which start it was last a key.
 fn repeats_at(events: &EventTable<'_>, start: usize, stamps: &mut Vec<usize>) -> bool
     requires start { start < length (plain_events events.now) }
     requires long { length stamps.old.items ≡ length (scalars_of events.now) }

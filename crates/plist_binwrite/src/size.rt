@@ -61,8 +61,8 @@ fn place_or_none(told: Option<u64>) -> usize
     told.unwrap_or(0) as usize
 }
 
-/// Gives each object its place, in this order from behind the magic on. The place behind them all,
-/// which is that of the offset table.
+/// Gives each object its place, in this order from the end of the magic on. The answer is the place
+/// after them all, which is that of the offset table.
 ///
 /// # Errors
 /// `OutOfMemory`, without an offset.

@@ -1,4 +1,4 @@
-//! Proved callers of a reader: how many objects it tells of a file, and what comes behind a fault.
+//! Proved callers of a reader: how many objects it says a file has, and what comes after a fault.
 
 ghost use Rattle.std.specs.Prelude.{◌≡◌, ◌≤◌, None, IfSome, false};
 ghost use Rattle.plist_binread.specs.BinaryReader.{objects_in_head};
@@ -7,8 +7,8 @@ use plist_base::{Error, ErrorKind, OwnedEvent, Source};
 use plist_binread::BinaryReader;
 use std::alloc::Global;
 
-/// How many objects a reader tells of a file before its first step, and behind that: none, and then
-/// no more than the file's head tells.
+/// How many objects a reader says a file has, before its first step and after it: none, and then no
+/// more than the file's head counts.
 pub fn count_objects(alloc: Global, bytes: &[u8]) -> (usize, usize)
     ensures before { result.0 ≡ 0 }
     ensures behind { result.1 ≤ objects_in_head bytes.now }
@@ -19,7 +19,7 @@ pub fn count_objects(alloc: Global, bytes: &[u8]) -> (usize, usize)
     (before, reader.objects_in_file())
 }
 
-/// How many objects a reader tells of a file whose root is none of them: as many as its head tells.
+/// How many objects a file has whose root is none of them: as many as its head counts.
 pub fn count_without_root(alloc: Global, bytes: &[u8]) -> Option<usize>
     ensures { IfSome result (λ count. count ≡ objects_in_head bytes.now) }
 {
@@ -61,7 +61,7 @@ pub fn reaches_a_limit<R: Source>(alloc: Global, source: R) -> bool
     }
 }
 
-/// How many objects a reader that has given an item tells behind the next one: as many as before.
+/// How many objects a file has after a further item of its reader: as many as before.
 pub fn count_again<R: Source>(reader: &mut BinaryReader<R>) -> (usize, usize)
     ensures { result.0 ≡ result.1 }
 {

@@ -142,7 +142,7 @@ pub fn u8_again(number: u8) -> Option<u64>
     Value::from(number).as_unsigned_integer()
 }
 
-/// A number that is lent, by way of a value.
+/// A borrowed number, by way of a value.
 pub fn lent_again(number: &u64) -> Option<u64>
     ensures { result ≡ Some number.now }
 {

@@ -1,5 +1,5 @@
 //! Proved callers of data: its bytes are those that were put in, it is what its bytes are, its text
-//! reads back as itself, and what is no such text is told by its first wrong symbol.
+//! reads back as itself, and what is no such text is refused for its first wrong symbol.
 
 ghost use Rattle.std.specs.Prelude.{◌≡◌, ◌<◌, ◌↔◌, Err, IfErr, IfOk, IfSome, IsTrue, codes, length, slice_get, slice_set, string_bytes};
 ghost use Rattle.base64.specs.Engines.{standard};

@@ -27,7 +27,7 @@ pub fn text_again(alloc: Global, text: &str) -> Result<String, Error>
 ///
 /// # Errors
 ///
-/// Those of [`Date::to_xml_format`]: a date without a text, or want of memory.
+/// Those of [`Date::to_xml_format`]: a date without a text, or `OutOfMemory`.
 pub fn date_again(alloc: Global, date: &Date) -> Result<Date, Error>
     ensures same { IfOk result (λ again. again ≡ date.now) }
 {

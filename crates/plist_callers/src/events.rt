@@ -1,4 +1,4 @@
-//! Proved callers of events: an event that a writer is handed by the call that it names, or as a
+//! Proved callers of events: an event that is written by the call that it names, or as a
 //! copy; the hash of data; and numbers in their order.
 
 ghost use Rattle.std.specs.Prelude.{◌≡◌, ◌<ℤ◌, ◌↔◌, IsTrue, OnOk};

@@ -1,4 +1,4 @@
-//! Proved callers of faults: what a fault tells of itself.
+//! Proved callers of faults: what a fault says of itself.
 
 ghost use Rattle.std.specs.Prelude.{◌≡◌, MatchResult, None, Ok, Some, false, true};
 ghost use Rattle.std.specs.IoError.{error_kind};

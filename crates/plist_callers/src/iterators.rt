@@ -1,4 +1,4 @@
-//! Proved callers of the iterators over a dictionary: what each tells of how much it has left, and
+//! Proved callers of the iterators over a dictionary: what each says of how much it has left, and
 //! the first that it gives.
 
 ghost use Rattle.std.specs.Prelude.{◌≡◌, length, option_map, slice_get, Some};
@@ -8,7 +8,7 @@ ghost use Rattle.plist_pairs.specs.Shown.{shown_key, shown_owned_pair, shown_pai
 
 use plist::Pairs;
 
-/// What an iterator told before its first call, and what that call gave.
+/// What an iterator said before its first call, and what that call gave.
 pub struct Begun<T> {
     /// How much it has left.
     pub left: usize,

@@ -41,7 +41,7 @@ pub fn replace_at<V>(pairs: &mut Pairs<V>, key: &str, value: V) -> V
     mem::replace(&mut pairs[key], value)
 }
 
-/// Sets the value of a key that is there: that can't want memory.
+/// Sets the value of a key that is there: that takes no memory.
 pub fn set_where_there<V: Drop>(pairs: &mut Pairs<V>, key: String, value: V) -> Option<V>
     ensures old { result ≡ lookup (bytes_eq (string_bytes key)) pairs.old }
     ensures pairs { OnSome result (IsSetAt pairs.old (string_bytes key) value pairs.new) }

@@ -1,4 +1,4 @@
-//! Proved callers of sources: what a read gives, how much there is and is lent, and what becomes of
+//! Proved callers of sources: what a read gives, how much there is and is buffered, what becomes of
 //! a device.
 
 ghost use Rattle.std.specs.Prelude.{◌≡◌, ◌+◌, ◌-◌, ◌^◌, ◌<◌, ◌≤◌, IfOk, IfSome, IsOk, OnOk, Some, drop, length, take};
@@ -30,7 +30,7 @@ pub fn read_vector(bytes: Vec<u8>, place: u64, buf: &mut [u8]) -> Result<(), Err
     read_exact_at(&mut source, place, buf)
 }
 
-/// The size of a slice and of a vector, as sources tell it.
+/// The size of a slice and of a vector, as sources say it.
 pub fn sizes(bytes: &[u8], more: Vec<u8>) -> (Option<u64>, Option<u64>)
     ensures { result ≡ (Some (length bytes.now), Some (length more.items)) }
 {
@@ -79,7 +79,7 @@ pub fn read_front<S: Source>(source: S, buf: &mut [u8]) -> (io::Result<usize>, S
     (answer, reader.into_inner())
 }
 
-/// How many bytes of a slice there are, as far as a read that is refused tells it, and then those
+/// How many bytes of a slice there are, as far as a read that is refused says it, and then those
 /// from the place on are in the buffer.
 pub fn end_told(bytes: &[u8], place: u64, buf: &mut [u8]) -> Option<u64>
     requires fits { place + length buf.old < 2 ^ 64 }

@@ -1,4 +1,4 @@
-//! Proved callers of a writer: a new one gives back what was handed to it and hasn't failed; one
+//! Proved callers of a writer: a new one gives back what was given to it and hasn't failed; one
 //! that had no memory for an event has.
 
 ghost use Rattle.std.specs.Prelude.{◌≡◌, Err, IfErr, IfSome, ⊤};
@@ -11,7 +11,7 @@ use plist_binwrite::BinaryWriter;
 use std::alloc::Global;
 use std::io::Write;
 
-/// What takes the bytes, by way of a writer: it comes back as it was handed in.
+/// What takes the bytes, by way of a writer: it comes back as it was.
 pub fn inner_again<W: Write>(alloc: Global, inner: W) -> W
     ensures { result ≡ inner }
 {

@@ -9,8 +9,8 @@ use Rattle.plist_commands.specs.declared.reader_events.ReaderEvents.{ReaderEvent
 use Rattle.plist.specs.declared.stream.events.Events.{Events}
 use Rattle.plist.specs.Events.{remaining_events}
 
--- What was to come begins with this item and goes on with what is to come then; nothing comes only
--- where nothing was to come. A device's fault and want of memory may come anywhere.
+-- The item is the first of those that were to come, and the others are to come then. There is none
+-- only where none was to come. A device's fault and lack of memory may come anywhere.
 abbrev pub GivesNext : {A : Type 0} → (before : List Item) → Option (Result A Error)
     → (current : PlainEvent) → (after : List Item) → Type 0
 GivesNext before item current after = MatchOption item (before ≡ []) (λ answer. MatchResult answer

@@ -24,7 +24,7 @@ use std::io::Write;
 /// Prints bytes: the lines of a file's items, or those before the first fault.
 ///
 /// # Errors
-/// The first fault, or want of memory.
+/// The first fault, or `OutOfMemory`.
 pub fn print_bytes(alloc: Global, bytes: &[u8], out: &mut Vec<u8>) -> Result<(), Error>
     ensures printed { OnOk result
         (PrintsAll (items_of_file bytes.now) (Some out.old.items) (Some out.new.items)) }
@@ -39,7 +39,7 @@ pub fn print_bytes(alloc: Global, bytes: &[u8], out: &mut Vec<u8>) -> Result<(),
 /// Converts bytes: a file of the tree that they are read as goes out, or none.
 ///
 /// # Errors
-/// Those of a binary file, and want of memory.
+/// Those of a binary file, and `OutOfMemory`.
 pub fn convert_bytes(alloc: Global, bytes: &[u8], out: &mut Vec<u8>) -> Result<Streamed, Error>
     ensures sent { IfOkIs result Sent (SendsBytes bytes.now out.old.items out.new.items) }
     ensures left { IfOkIs result NeedsValue (LeavesToValue (Some bytes.now) out.old out.new) }
@@ -47,7 +47,7 @@ pub fn convert_bytes(alloc: Global, bytes: &[u8], out: &mut Vec<u8>) -> Result<S
     convert_binary(alloc, bytes, out)
 }
 
-/// What is told of a failure; none where there was no memory for it.
+/// The text of a failure; none where there was no memory for it.
 pub fn text_of_failure(alloc: Global, failure: &Failure) -> Option<Vec<u8>>
     ensures { IfSome result (λ text. text.items
         ≡ codes "Error: " ++ failure_text (plain_failure_of failure.now) ++ codes "\n") }
@@ -69,7 +69,7 @@ pub fn meets_a_failed_read(alloc: Global, bytes: &[u8], out: &mut Vec<u8>) -> bo
     }
 }
 
-/// The status of no words, which is that of wrong ones: no line is printed, and the usage is told.
+/// The status of no words, which is that of wrong ones: no line is printed, and the usage is.
 pub fn status_of_no_words<R: Commands, O: Write, E: Messages>(
     rt: &R,
     alloc: Global,
@@ -83,7 +83,7 @@ pub fn status_of_no_words<R: Commands, O: Write, E: Messages>(
     run_words(rt, alloc, &[], out, err)
 }
 
-/// Whether a run is done: then its command may have answered so, and nothing is told.
+/// Whether a run is done: then its command may have answered so, and nothing is reported.
 pub fn is_done<R: Commands, O: Write, E: Messages>(
     rt: &R,
     alloc: Global,
@@ -98,7 +98,7 @@ pub fn is_done<R: Commands, O: Write, E: Messages>(
     run_words(rt, alloc, words, out, err) == 0
 }
 
-/// Whether a run is refused: then its command may have answered why, and that is told.
+/// Whether a run is refused: then its command may have answered why, and that is reported.
 pub fn is_refused<R: Commands, O: Write, E: Messages>(
     rt: &R,
     alloc: Global,

@@ -47,7 +47,7 @@ pub fn command_of(words: &[String]) -> Option<Command<'_>>
 
 /// Does commands. It is a trait so that a clause can name what a command answered.
 pub trait Commands {
-    /// What a command may have answered, and what an output then holds that tells its bytes.
+    /// What a command may have answered, and what an output whose bytes are known then holds.
     ghost answers: { Self → PlainCommand → (old : Option (List ℕ)) → CommandOutcome
         → (new : Option (List ℕ)) → Type 0 };
 
@@ -95,8 +95,8 @@ fn print_file<R: Files, O: Write>(
 }
 
 /// Does what the words after the program's name ask for, and answers the status: 0 where it is
-/// done, 1 after a fault, which is then told on `err`, and 2 for wrong words, for which `err` gets
-/// the usage.
+/// done, 1 after a fault, which is then written to `err`, and 2 for wrong words, for which `err`
+/// gets the usage.
 ///
 /// A failure of `err` changes no status.
 pub fn run_words<R: Commands, O: Write, E: Messages>(

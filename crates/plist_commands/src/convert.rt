@@ -35,7 +35,7 @@ pub enum Streamed {
     NeedsValue,
 }
 
-// Holds the events that are still to come, and tells whether they are those of a tree.
+// Holds the events that are still to come, and answers whether they are those of a tree.
 fn hold_events<I: Items, H: EventSink>(
     alloc: Global,
     items: &mut I,
@@ -94,8 +94,8 @@ fn hold_any<S: Source>(alloc: Global, source: S, pending: &mut EventBuffer) -> R
     hold_events(alloc, &mut events, pending)
 }
 
-// Holds the events of a source, and tells whether they are those of a tree. The source isn't needed
-// then.
+// Holds the events of a source, and answers whether they are those of a tree. The source isn't
+// needed then.
 fn hold_source<S: Source>(
     alloc: Global,
     source: S,

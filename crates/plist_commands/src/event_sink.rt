@@ -20,8 +20,8 @@ pub(crate) trait EventSink {
     /// What `is_whole` answers: are they those of a whole property list?
     ghost whole: { Self → Bool };
 
-    /// Holds the next event, or tells that it can't come here. So many different scalars can come:
-    /// by that room for them grows in larger steps.
+    /// Holds the next event, or answers that it can't come here. How many different scalars can
+    /// come is a hint, by which their table grows in larger steps.
     ///
     /// # Errors
     /// `OutOfMemory`, without an offset, for an event that can follow those held.
@@ -40,8 +40,8 @@ pub(crate) trait EventSink {
         ensures { result ≡ whole self.now };
 }
 
-// Before the first event, tells how many different scalars can come: tables that double as they
-// fill cost a fifth of the time of a large file.
+// Before the first event, says how many different scalars can come: tables that double as they fill
+// cost a fifth of the time of a large file.
 #[inline(always)]
 fn expect(pending: &mut EventBuffer, scalars: usize)
     ensures held { buffered_events pending.new ≡ buffered_events pending.old }

@@ -44,7 +44,7 @@ pub(crate) trait Items {
     fn event(&self) -> Event<'_>
         ensures { event_of result ≡ last self.now };
 
-    /// How many different scalars can come, where the source has told that, else 0.
+    /// How many different scalars can come, where the source has said so, else 0.
     fn scalars_expected(&self) -> usize {
         0
     }

@@ -19,13 +19,13 @@ use plist_binread::BinaryReader;
 use std::alloc::Global;
 use std::io::Write;
 
-// Lines are held back until the next one may not fit behind them in so many bytes.
+// Lines are held back until the next one may not fit after them in this many bytes.
 const FULL: usize = 65536;
 
-// A text or data that may not fit goes by blocks of so many bytes.
+// A text or data that may not fit goes by blocks of this many bytes.
 const BLOCK: usize = 4096;
 
-// A block is printed as at most so many, with what ends its line.
+// A block is printed as at most this many bytes, with what ends its line.
 const MOST_OF_BLOCK: usize = 4 * BLOCK + 64;
 
 // Sends what is held back. It stands apart, since most lines fit.
@@ -41,7 +41,7 @@ fn send_waiting<W: Write>(writer: &mut W, lines: &mut Vec<u8>) -> Result<(), Err
     Ok(())
 }
 
-// Sends what is held back where so many bytes may not fit behind it.
+// Sends what is held back where `size` more bytes may not fit after it.
 #[inline(always)]
 fn make_room<W: Write>(writer: &mut W, lines: &mut Vec<u8>, size: usize) -> Result<(), Error>
     ensures passed { OnOk result (MakesRoom W.contents writer.old lines.old writer.new lines.new) }
@@ -170,7 +170,7 @@ fn pass_anew<W: Write>(out: &mut W, lines: &mut Vec<u8>, event: &Event<'_>) -> R
 }
 
 // Puts the line of an event behind the lines that are held back, which are sent before that where
-// it may not fit. So they never want more memory.
+// it may not fit. So they never need more memory.
 #[inline(always)]
 fn pass_line<W: Write>(out: &mut W, lines: &mut Vec<u8>, event: &Event<'_>) -> Result<(), Error>
     ensures passed { PassesLine W.contents result out.old lines.old event.now out.new lines.new }
@@ -303,7 +303,7 @@ pub fn print_reader<S: Source, W: Write>(
 ///
 /// # Errors
 /// The first fault of the source, after the lines of the events before it. `Io` also where the
-/// writer fails, without an offset, and `OutOfMemory` also for want of memory; a beginning of the
+/// writer fails, without an offset, and `OutOfMemory` also for a line; a beginning of the
 /// lines went out. A failed flush is an error only where nothing failed before it.
 pub fn print_events<S: Source, W: Write>(
     alloc: Global,

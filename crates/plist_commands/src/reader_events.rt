@@ -24,7 +24,7 @@ impl<S: Source> ReaderEvents<S> {
     ghost use Rattle.plist_commands.specs.Items.{failures_in, items_to_read};
     ghost use Rattle.plist_commands.specs.Converting.{items_of_known};
 
-    /// None has been asked for.
+    /// No event has been asked for.
     pub(crate) fn new(alloc: Global, source: S) -> Self
         ensures items { items_to_read S.known result ≡ items_of_known (S.known source) }
         ensures source { reader_source result.reader ≡ Some source }
@@ -38,7 +38,7 @@ impl<S: Source> ReaderEvents<S> {
     }
 }
 
-/// What its source's bytes are isn't told.
+/// The bytes of its source aren't known.
 impl<S: Source> Items for ReaderEvents<S> {
     ghost use Rattle.std.specs.Prelude.{None};
     ghost use Rattle.plist_base.specs.Events.{event_of};

@@ -1,4 +1,4 @@
-//! What is read of bytes, at hand and over devices.
+//! What is read of bytes, in memory and over devices.
 
 use crate::rows::{Row, bytes_given, decoded, unreadable};
 use plist_ascii::{AsciiReader, Dialect};

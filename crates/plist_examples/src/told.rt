@@ -1,4 +1,4 @@
-//! What `advance` tells of objects, and which are decoded once, however often they are met.
+//! What `advance` gives of objects, and which are decoded once, however often they are given.
 
 use crate::rows::Row;
 use plist_binread::{BinaryReader, CompactEvent, DecodeCounter};
@@ -11,7 +11,7 @@ struct Tally {
     raised: u64,
 }
 
-// Lent to a reader, so that it can be looked at afterwards.
+// Borrowed by a reader, so that it can be looked at afterwards.
 impl<'a> DecodeCounter for &'a mut Tally {
     ghost counts = { ⊥ };
 
@@ -22,7 +22,7 @@ impl<'a> DecodeCounter for &'a mut Tally {
     }
 }
 
-// What was told last, in a word.
+// The current event in its compact form, as a word.
 fn told_word<C: DecodeCounter>(
     alloc: Global,
     reader: &BinaryReader<&[u8], C>,
@@ -49,7 +49,7 @@ fn told_word<C: DecodeCounter>(
     }
 }
 
-// Adds what is told next, or the text of the fault that comes in its place, behind a blank.
+// Adds the next event, or the text of the fault that comes in its place, after a blank.
 fn add_told<C: DecodeCounter>(
     alloc: Global,
     words: &mut String,
@@ -64,7 +64,7 @@ fn add_told<C: DecodeCounter>(
     words.push_str(word.as_str())
 }
 
-// What eight calls tell of these bytes, each word behind a blank.
+// What eight calls give of these bytes, each word after a blank.
 fn told_words(alloc: Global, bytes: &[u8], tally: &mut Tally) -> Result<String, AllocError> {
     let mut reader = BinaryReader::with_counter(alloc, bytes, tally);
     let mut words = String::new(alloc);
@@ -81,7 +81,7 @@ fn twice(alloc: Global, object: &str) -> Result<Vec<u8>, Wrong> {
     file(alloc, body.as_str(), [1, 1], [2, 0, table])
 }
 
-// What is told of a file, behind how many small scalars are decoded.
+// What a file gives, after how many small scalars are decoded.
 fn wanted_of(alloc: Global, check: &str, told: &str) -> Result<String, AllocError> {
     match check {
         "kept" => format!(in alloc; "1 array:2 {told} {told} end"),
@@ -90,7 +90,7 @@ fn wanted_of(alloc: Global, check: &str, told: &str) -> Result<String, AllocErro
     }
 }
 
-/// An example of an object: `kept` is a small scalar, decoded once and told again of what was kept;
+/// An example of an object: `kept` is a small scalar, decoded once and then given from the cache;
 /// what isn't small is read `anew` each time; behind a `fault` nothing comes.
 pub(crate) fn run(alloc: Global, row: Row<'_>) -> Result<(), Wrong> {
     let bytes = twice(alloc, row.given)?;

@@ -44,7 +44,7 @@ fn expect_on_device(alloc: Global, bytes: &[u8], wanted: &str, call: u64) -> Res
     expect_answer(alloc, &device, answer, wanted, call)
 }
 
-// The value of these bytes, or its fault, at hand and over devices.
+// The value of these bytes, or its fault, in memory and over devices.
 fn expect_read(alloc: Global, bytes: &[u8], wanted: &str) -> Result<(), Wrong> {
     expect(alloc, &Value::from_reader(alloc, bytes), wanted)?;
     for call in 0..1000 {

@@ -79,7 +79,7 @@ fn answer_to_last<S: Sharing>(
     expect_ended(alloc, &mut writer, answer)
 }
 
-// The answer where a value is handed to a device's writer.
+// The answer where a value is written to a device.
 fn answer_to_value<S: Sharing>(
     alloc: Global,
     value: &Value,

@@ -123,7 +123,7 @@ fn expect_shared(alloc: Global, words: &str, bytes: &[u8]) -> Result<(), Wrong> 
     expect_sent::<EqualTrees>(alloc, words, bytes, INTERRUPTED, &SHARED)
 }
 
-// A value of an ASCII property list is handed to a builder, which gives it back.
+// A value of an ASCII property list is written to a builder, which gives it back.
 fn expect_rebuilt(alloc: Global, row: Row<'_>) -> Result<(), Wrong> {
     let bytes = bytes_given(alloc, row.given)?;
     let value = match Value::from_reader_ascii(alloc, bytes.as_slice()) {

@@ -22,7 +22,7 @@ pub enum KeyedError {
 }
 
 impl KeyedError {
-    // The fault of a walk over an archive, in the words of an archive; any other is want of memory.
+    // The fault of a walk over an archive, in the words of an archive; any other is `OutOfMemory`.
     pub(crate) fn of_error(error: &Error) -> KeyedError
         ensures { result ≡ error_of_fault (fault_of error.now) }
     {

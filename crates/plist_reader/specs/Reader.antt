@@ -122,9 +122,9 @@ is_limited_in state.Moved = false
 abbrev pub reader_is_limited : {R : Type 0} {g : Ghosts R} → Reader R g → Bool
 reader_is_limited reader = is_limited_in reader.state
 
--- What was to come begins with this item and goes on with what is to come then; nothing comes only
--- where nothing was to come. After a device's fault and want of memory nothing is to come, and want
--- of memory comes only where something was.
+-- The item is the first of those that were to come, and the others are to come then. There is none
+-- only where none was to come. After a device's fault and lack of memory none is to come, and lack
+-- of memory comes only where one was.
 abbrev pub GivesItem : (before : List Item) → Option (Result Event Error) → (after : List Item)
     → Type 0
 GivesItem before item after =

@@ -22,12 +22,12 @@ pub fn read_byte<S: Source>(source: &mut S, place: u64) -> Result<Option<u8>, io
     Ok(Some(buffer[0]))
 }
 
-// As much as one read of the source asks for.
+// How many bytes one read of the source asks for.
 const WINDOW: usize = 512;
 
-/// A source that is read from its first byte on, at most 2^64 - 1 bytes. It tells its failures.
+/// A source that is read from its first byte on, at most 2^64 - 1 bytes. It counts its failures.
 ///
-/// It reads when a byte is asked for and none is at hand, and keeps what one read gave.
+/// It reads when a byte is asked for and none is buffered, and keeps what one read gave.
 #[derive(Drop)]
 pub struct SourceBytes<R> {
     source: R,
@@ -60,7 +60,7 @@ impl<R: Source> SourceBytes<R> {
         }
     }
 
-    // Reads on where no byte is at hand.
+    // Reads on where no byte is buffered.
     fn fill(&mut self) -> Result<(), io::Error>
         ensures bytes { OnOk result (stream_bytes_left R.known self.new
             ≡ stream_bytes_left R.known self.old) }

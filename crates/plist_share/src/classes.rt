@@ -25,7 +25,7 @@ pub struct Collection {
     pub children: Vec<usize>,
 }
 
-/// The indices of a collection's children; its room serves one collection after the other.
+/// The indices of a collection's children; their memory serves one collection after the other.
 #[derive(Drop)]
 pub struct Indices {
     /// Those of a dictionary's keys.

@@ -39,7 +39,7 @@ pub struct Device {
     pub place: u64,
     /// How many it had taken at its last flush.
     pub flushed: usize,
-    /// How many bytes a `write` was handed at most.
+    /// How many bytes one `write` was given at most.
     pub longest: usize,
     /// How many calls it was asked for.
     pub calls: u64,
@@ -70,7 +70,7 @@ impl Device {
         }
     }
 
-    // Counts a call, and tells whether it moves a byte.
+    // Counts a call, and answers whether it moves a byte.
     fn call(&mut self, place: u64) -> io::Result<bool>
         ensures failures { CountsFailure result self.old.failures self.new.failures }
     {

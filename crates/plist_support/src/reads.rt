@@ -116,7 +116,7 @@ pub fn expect_on_devices(alloc: Global, by: By, bytes: &[u8], items: &str) -> Re
     told(format!(in alloc; "more than {MOST} items"))
 }
 
-// Behind its first call the source has so many bytes. The items are as they were, or a beginning of
+// After its first call the source has `left` bytes. The items are as they were, or a beginning of
 // them and the end at the place of the first byte that isn't there.
 fn expect_shrunk(alloc: Global, bytes: &[u8], items: &str, left: usize) -> Result<(), Wrong> {
     let mut device = device_of(alloc, bytes, 1, DeviceFault::Shrinks(left))?;

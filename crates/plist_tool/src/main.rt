@@ -29,7 +29,7 @@ fn run<R: Files + Env + AllocGlobal, O: Write, E: Messages>(
     Ok(run_words(rt, rt.alloc(), words.as_slice(), out, err))
 }
 
-// The exit code of a run: its status, or 1 where there was no memory to begin, which is then told.
+// The exit code of a run: its status, or 1 where there was no memory to begin, which it reports.
 fn exit_code<E: Messages>(answer: Result<u8, Error>, err: &mut E) -> ExitCode
     ensures status { IsStatusOf answer (exit_status result) }
     ensures reported { ReportsFault E.reports answer err.old err.new }

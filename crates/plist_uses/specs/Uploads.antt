@@ -1,4 +1,4 @@
--- What is read of a file that a stranger sent.
+-- What is read of a file that anyone may have sent.
 use Rattle.std.specs.Prelude.{ℕ, List, Some}
 use Rattle.plist_base.specs.Events.{Item}
 use Rattle.plist_base.specs.Limits.{limited_items}

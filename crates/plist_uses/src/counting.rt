@@ -62,7 +62,7 @@ impl Counts {
 ///
 /// # Errors
 ///
-/// The first fault, as [`Reader`] tells it.
+/// The first fault, as [`Reader`] gives it.
 pub fn count<R: Source>(alloc: Global, source: R) -> Result<Counts, Error>
     ensures value { IfSome (R.known source) (λ bytes. AreCountedOf (items_of_input bytes) result) }
     ensures refused { IfSome (R.known source) (λ bytes. IsRefusedBy (items_of_input bytes) result) }

@@ -33,7 +33,7 @@ fn write_reading<W: Writer>(reading: &Reading, writer: &mut W) -> Result<(), Err
 ///
 /// # Errors
 ///
-/// The writer's first refusal, after which it is handed nothing more.
+/// The writer's first refusal, after which nothing more is written.
 pub fn write_readings<W: Writer>(readings: &[Reading], writer: &mut W) -> Result<(), Error>
     ensures handed { OnOk result
         (TakesAll W.Step writer.old (list_events readings.now) writer.new) }

@@ -12,7 +12,7 @@ ghost use Rattle.plist_uses.specs.Uploads.{items_of_upload};
 use plist::{Error, Limits, Value};
 use std::alloc::Global;
 
-/// The value of bytes that a stranger sent: at most 64 collections within one another, at most
+/// The value of bytes that anyone may have sent: at most 64 collections within one another, at most
 /// 100,000 events, and at most 16 MiB of texts and data, whatever the bytes say. So no file costs
 /// more memory than these take, or more of the call stack than 64 levels where the value is
 /// dropped, compared or copied.

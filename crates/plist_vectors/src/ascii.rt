@@ -50,7 +50,7 @@ fn next_of(rt: &impl Abort, reader: &mut AsciiReader<Device>) -> Result<OwnedEve
     }
 }
 
-// A device's own error is handed on, and after it nothing is read, though the device would go on.
+// A device's own error is passed on, and after it nothing is read, though the device would go on.
 fn expect_handed_on(rt: &(impl Abort + AllocGlobal), kind: ErrorKind) {
     let device = device_of(rt, "(a)", 1, DeviceFault::Fails(kind));
     let mut reader = AsciiReader::new(rt.alloc(), device);

@@ -46,7 +46,7 @@ const KINDS: [ErrorKind; 7] = [
 ];
 
 // The size is one seek. A window is a seek and a read, and so is what lies past it, and what is
-// longer. What fails of that is told as it is, and nothing is tried again.
+// longer. What fails of that is given as it is, and nothing is tried again.
 #[test]
 fn tries_nothing_twice(rt: HostRuntime) {
     for kind in KINDS {

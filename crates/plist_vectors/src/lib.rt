@@ -1,4 +1,4 @@
-//! What is called in turn, or fails on the way: tests by public calls alone. What can be told in a
+//! What is called in turn, or fails on the way: tests by public calls alone. What can be said in a
 //! line stands in the tables of `plist_examples`.
 #![tactic(auto)]
 

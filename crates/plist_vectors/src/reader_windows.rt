@@ -49,7 +49,7 @@ fn only_item(
     first
 }
 
-// A device's own error is handed on, and what failed isn't tried again.
+// A device's own error is passed on, and what failed isn't tried again.
 fn expect_handed_on(rt: &(impl Abort + AllocGlobal), bytes: &[u8], call: u64) {
     let bytes = must(rt, Vec::from_slice(rt.alloc(), bytes));
     let mut device = Device::with_fault(bytes, call, DeviceFault::Fails(ErrorKind::TimedOut));

@@ -56,7 +56,7 @@ fn last_item(
     last
 }
 
-// A device that fails at this call hands on its own error, and what failed isn't tried again,
+// A device that fails at this call passes its own error on, and what failed isn't tried again,
 // though the device would go on. Tells whether there is such a call.
 fn expect_failure(rt: &(impl Abort + AllocGlobal), call: u64, kind: ErrorKind) -> bool {
     let mut device = device_of(rt, call, DeviceFault::Fails(kind));

@@ -155,7 +155,7 @@ fn windows_grow(rt: HostRuntime) {
     assert_eq!(rt; calls_of_rounds(&rt, true, OF_LAST, 100), 64);
 }
 
-// Reads three bytes, and tells whether the disk failed.
+// Reads three bytes, and answers whether the disk failed.
 fn fails_at(rt: &impl Abort, source: &mut Seeking<Disk>, place: u32) -> bool {
     let mut buf = [0; 3];
     match read_exact_at(source, u64::from(place), &mut buf) {

@@ -116,7 +116,7 @@ fn values_give_the_order(rt: HostRuntime) {
     assert_eq!(rt; values.next().copied(), Some(2));
 }
 
-// The next pair that is handed over.
+// The next pair of the iterator.
 fn expect_pair(rt: &impl Abort, next: Option<(String, u32)>, key: &str, value: u32) {
     match next {
         None => panic!(rt; "too few pairs"),

@@ -12,7 +12,7 @@ use std::io;
 // The magic, and the front of data of 2^62 bytes.
 const FRONT: &[u8; 18] = b"bplist00\x4f\x13\x40\0\0\0\0\0\0\0";
 
-// The table, and a trailer that tells one object.
+// The table, and a trailer that counts one object.
 const BACK: &[u8; 33] =
     b"\x08\0\0\0\0\0\0\x01\x01\0\0\0\0\0\0\0\x01\0\0\0\0\0\0\0\0\x40\0\0\0\0\0\0\x12";
 

@@ -1,4 +1,4 @@
--- Which events can follow those that a builder holds, and how they carry it on.
+-- Which events can follow those that a builder holds, and what it holds then.
 use Rattle.std.proofs.Common.{◌≡◌, ℕ, List, [], ◌∷◌, ◌++◌, Option, Some, None, MatchOption, map, refl, sym, ap, ◌∙◌, append_assoc, append-nil, subst, option_and_then}
 use Rattle.std.proofs.lemmas.Option.{none-some}
 use Rattle.plist_base.specs.Events.{PlainEvent, StartArray, StartDictionary, EndCollection, ScalarEvent}

@@ -1,4 +1,4 @@
--- How an event carries on what a builder holds, one collection at a time.
+-- What a builder holds after one more event, one collection at a time.
 use Rattle.std.specs.Prelude.{ℕ, List, [], ◌∷◌, ◌++◌, Option, Some, None}
 use Rattle.plist_base.specs.Events.{PlainEvent, StartArray, StartDictionary, EndCollection, ScalarEvent}
 use Rattle.plist_base.specs.Trees.{Tree, Leaf, Array, Dictionary, String, trees_of, members_of}

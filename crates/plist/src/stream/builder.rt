@@ -113,7 +113,7 @@ pub trait AnyEvent: Drop {
 
     ghost plain: { Self → PlainEvent };
 
-    /// Hands the event to a builder that hasn't failed.
+    /// Writes the event to a builder that hasn't failed.
     ///
     /// # Errors
     /// Those of the builder's `write`.

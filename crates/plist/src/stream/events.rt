@@ -80,7 +80,7 @@ impl<'a> Events<'a> {
         }
     }
 
-    // Opens a collection; for want of memory nothing is left.
+    // Opens a collection. Where there is no memory for that, no events are left.
     fn open(&mut self, level: Level<'a>) -> Result<(), Error>
         requires { self.old.value ≡ None }
         ensures opened { OnOk result (OpensLevel self.old level.entry self.new) }

@@ -1,5 +1,5 @@
-//! How a value is dropped: the values that are left stand in one list, which hangs as an array in
-//! the next one, in the place of a value for which the other had room.
+//! How a value is dropped: the values that are left stand in one list, which is kept as an array in
+//! the next one, in the place of a value that was taken out of that one.
 
 ghost use Rattle.std.specs.Prelude.{◌<◌, vec_len};
 ghost use Rattle.std.specs.Vec.{vec_capacity};
@@ -10,8 +10,8 @@ use std::mem;
 
 /// One list of the values that are left and of those that a collection held.
 ///
-/// It takes no memory: the collection was taken out of the first list, so there is room for one
-/// value, and then there is in the second.
+/// It takes no memory: the collection was taken out of the first list, which has capacity for one
+/// value then, and so has the second.
 pub(super) fn joined(mut left: Vec<Value>, mut below: Vec<Value>) -> Vec<Value>
     requires { vec_len left < vec_capacity left }
     ensures { IsLess result.items left.items below.items }

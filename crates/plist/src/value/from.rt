@@ -110,7 +110,7 @@ impl From<String> for Value {
     }
 }
 
-/// What is lent is copied.
+/// Borrowed content is copied.
 impl<'a, T: Into<Value> + Copy> From<&'a T> for Value {
     ghost from_gives = { λ lent value. T.Into.converts lent.now value };
 

@@ -87,7 +87,7 @@ impl<'a, V> OccupiedEntry<'a, V> {
         self.pairs.value_at(index)
     }
 
-    /// The key's value, to be changed for as long as the dictionary is lent.
+    /// The key's value, to be changed for as long as the dictionary is borrowed.
     pub fn into_mut(self) -> &'a mut V
         ensures value { entry_value (Occupied self.entry) ≡ Some result.now }
         ensures member { IsAmong (values_of (entry_pairs (Occupied self.entry))) result.now }

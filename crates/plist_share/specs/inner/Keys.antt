@@ -24,7 +24,7 @@ key_of collection = (collection.is_dictionary, collection.children.items)
 abbrev pub keys_seen : List Collection → List Key
 keys_seen collections = map key_of collections
 
--- keys came behind, and those before stayed
+-- some came after those that were there, which stayed
 pub record Extends (old new : List Key) : Type 0 where
   pub keeps : (i : ℕ) → i < length old → slice_get new i ≡ slice_get old i
   pub grows : length old ≤ length new
@@ -36,7 +36,7 @@ module _ (class : ℕ → ℕ) (count : ℕ) where
   abbrev pub key_by : (is_dictionary : Bool) → Tree → ℕ → Key
   key_by is_dictionary t p = (is_dictionary, map class (keys_in t p) ++ map class (values_in t p))
 
-  -- a collection's class: behind so many others, the index of its key
+  -- a collection's class: after `count` others, its index among the collections seen
   abbrev pub IsIndexed : List Key → (is_dictionary : Bool) → Tree → ℕ → ℕ → Type 0
   IsIndexed keys is_dictionary t p c =
       (i : ℕ) × (c ≡ count + i) × (slice_get keys i ≡ Some (key_by is_dictionary t p))
@@ -61,7 +61,7 @@ SeparatesTrees es class =
 
 -- ---- of held events
 
--- this is the index of a collection's key
+-- this is the index of a collection among those seen
 abbrev pub IsKeyAt : (seen : List Collection) → Collection → (index : ℕ) → Type 0
 IsKeyAt seen collection index = slice_get (keys_seen seen) index ≡ Some (key_of collection)
 

@@ -16,7 +16,7 @@ fn word_of(rt: &(impl Abort + AllocGlobal + Env), word: &str) -> String {
     }
 }
 
-// Runs the words of a line, and tells the status.
+// Runs the words of a line, and answers the status.
 pub(crate) fn run<O: Write, E: Messages>(
     rt: &(impl Abort + AllocGlobal + Env + Files),
     line: &str,

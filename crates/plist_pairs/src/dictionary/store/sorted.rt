@@ -17,7 +17,7 @@ use std::alloc::{AllocError, Global};
 use std::cmp::Ordering;
 use std::mem;
 
-// Room for pairs: in rows, and in the columns of a store.
+// Capacity for pairs: in rows, and in the columns of a store.
 #[derive(Drop)]
 pub(crate) struct Capacity<V> {
     rows: Vec<(String, V)>,
@@ -38,7 +38,7 @@ impl<V: Drop> Store<V> {
     }
 }
 
-// Room for so many pairs.
+// Capacity for `count` pairs.
 fn capacity_for<V: Drop>(alloc: Global, count: usize) -> Result<Capacity<V>, AllocError>
     ensures { IfOk result (HasCapacity count) }
 {
@@ -49,7 +49,7 @@ fn capacity_for<V: Drop>(alloc: Global, count: usize) -> Result<Capacity<V>, All
     })
 }
 
-// The pairs in the order of their keys, in room that is made for them.
+// The pairs in the order of their keys, in memory that was taken for them.
 fn sorted<V: Drop>(pairs: Store<V>, capacity: Capacity<V>) -> Store<V>
     requires { HasCapacity (length pairs) capacity }
     ensures sorted { IsSorted (slice_cmp nat_cmp) (keys_of result) }
@@ -65,7 +65,7 @@ fn sorted<V: Drop>(pairs: Store<V>, capacity: Capacity<V>) -> Store<V>
     store_of(rows, keys, items)
 }
 
-// The pairs by value, in room that is made for them.
+// The pairs by value, in memory that was taken for them.
 fn rows_of<V: Drop>(pairs: Store<V>, capacity: Vec<(String, V)>) -> Vec<(String, V)>
     requires empty { capacity.items ≡ [] }
     requires fits { length pairs ≤ vec_capacity capacity }
@@ -79,7 +79,7 @@ fn rows_of<V: Drop>(pairs: Store<V>, capacity: Vec<(String, V)>) -> Vec<(String,
     rows
 }
 
-// The pairs of these rows, in columns that have room for them.
+// The pairs of these rows, in columns that have capacity for them.
 fn store_of<V: Drop>(
     rows: Vec<(String, V)>,
     mut keys: IndexSet<String>,
