@@ -26,7 +26,7 @@ IsBuildingStep before event answer after =
 abbrev pub TakesItem : (before : Builder) → Item → (after : Builder) → Type 0
 TakesItem before item after = TakesOne (built_of before) item (built_of after)
 
--- a builder that hasn't failed refuses an item's event, or hands an item's fault on
+-- a builder that hasn't failed refuses an item's event, or passes an item's fault on
 abbrev pub RefusesItem : (before : Builder) → Item → Fault → Type 0
 RefusesItem before item fault = RefusesOne (built_of before).unfinished item fault
 

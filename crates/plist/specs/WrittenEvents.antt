@@ -21,7 +21,7 @@ module _ {S : Type 0} (Step : S → PlainEvent → Answer → S → Type 0) wher
   RefusesNext before [] fault after = ⊥
   RefusesNext before (event ∷ events) fault after = Step before event (Err fault) after
 
-  -- memory ran out at a start, which the writer wasn't handed
+  -- memory ran out at a start, which wasn't written
   abbrev pub StopsForMemory : (before : S) → List PlainEvent → Fault → (after : S) → Type 0
   StopsForMemory before events fault after =
       (fault ≡ fault_nowhere OutOfMemory) × BeginsWithStart events × (after ≡ before)

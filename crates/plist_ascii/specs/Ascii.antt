@@ -77,7 +77,7 @@ placed_items stops bytes place = items_in stops (length bytes) bytes place
 abbrev pub items_of_ascii : (stops : ℕ → Bool) → List ℕ → (place : ℕ) → List Item
 items_of_ascii stops bytes place = map (λ p. p.item) (placed_items stops bytes place)
 
--- ---- where memory may be wanted
+-- ---- where memory may run out
 
 -- a fault of a text
 abbrev pub IsTextFault : FaultKind → Type 0

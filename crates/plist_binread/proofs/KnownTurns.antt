@@ -1,4 +1,4 @@
--- What is known after a turn of the walk.
+-- What is known after the next child was taken.
 use Rattle.std.proofs.Common.{◌≡◌, ℕ, ◌<◌, List, get_or, Option, Some, Result, Ok, Err, IfSome, MatchResult, ap, ◌∙◌}
 use Rattle.std.specs.List.{slice_get}
 use Rattle.plist_base.specs.declared.error.Error.{Error}
@@ -22,7 +22,7 @@ use Rattle.plist_binread.proofs.Known.{as_many, entry_there, held_place}
 use Rattle.std.proofs.lemmas.Option.{IfSome_then}
 use Rattle.plist_binread.proofs.OverKnown.{IfSome-both}
 
--- ---- one turn of the walk
+-- ---- the next child
 
 abbrev pub Turned : (bytes : List ℕ) → Bounds → (old : Walk) → NextChild → (new : Walk) → Type 0
 Turned bytes bounds old turn new =

@@ -50,7 +50,7 @@ IsDecodedAs object current outcome = ⊥
 abbrev pub IsLarge : Result Event Error → Type 0
 IsLarge answer = IfOk answer (λ event. is_small_event (event_of event) ≡ false)
 
--- an object for which memory is wanted: a text, data, or a collection
+-- an object for which memory is needed: a text, data, or a collection
 abbrev pub Allocates : Object → Type 0
 Allocates (Scalar (String text)) = ⊤
 Allocates (Scalar (Data bytes)) = ⊤
@@ -80,7 +80,7 @@ DecodesCurrent object place current answer =
     MatchResult answer (λ outcome. IsDecodedAs object current outcome)
     (λ error. IsRefusedAs object place error)
 
--- a text or data of this event is decoded, or memory was wanted for it
+-- a text or data of this event is decoded, or memory for it ran out
 abbrev pub DecodesEvent : (current : PlainEvent) → Result Event Error → Type 0
 DecodesEvent current answer = (object : Object) (place : ℕ) → Allocates object
     → scalar_event_in object ≡ Some current → Decodes object place answer

@@ -114,7 +114,7 @@ UnseenAt known source bounds place slot answer = IfOk answer (λ outcome.
     ≡ content_means content.kind (take (content.count * unit_size content.kind)
     (drop (place + content.start) bytes)))))
 
--- something is wrong with the object, or memory was wanted for it
+-- something is wrong with the object, or memory for it ran out
 abbrev pub is_fault : Outcome → Bool
 is_fault outcome.Unseen = false
 is_fault outcome.Scalar = false

@@ -20,7 +20,7 @@ use Rattle.std.specs.declared.alloc.Global.{Global}
 use Rattle.std.specs.declared.vec.Vec.{Vec}
 use Rattle.plist_binread.specs.declared.head.Bounds.{Bounds}
 
--- ---- what is at hand, and what a read gives
+-- ---- what is buffered, and what a read gives
 
 -- something is found, and the bytes are known: this is so of them
 abbrev pub IfFound : {A : Type 0} → Option A → (known : Option (List ℕ)) → (List ℕ → A → Type 0)

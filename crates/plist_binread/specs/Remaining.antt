@@ -130,7 +130,7 @@ remaining_now bytes Ended bounds frames = []
 abbrev pub SomeRemain : List Item → Type 0
 SomeRemain items = 0 < length items
 
--- memory is wanted for the first item that remains: a start, a text, or the fault of a text or
+-- memory is needed for the first item that remains: a start, a text, or the fault of a text or
 -- of a limit
 abbrev pub AllocatesFirst : List Item → Type 0
 AllocatesFirst [] = ⊥

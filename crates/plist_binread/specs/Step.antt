@@ -43,7 +43,7 @@ IsUnchanged old new =
     (new.tags.items ≡ old.tags.items) × (new.contents.items ≡ old.contents.items)
     × (new.frames ≡ old.frames)
 
--- what a turn takes of what remains
+-- the next child is taken of what remains
 abbrev pub IsTurnOfWalk : (old : Walk) → NextChild → (new : Walk) → Type 0
 IsTurnOfWalk old turn new = (bytes : List ℕ) (bounds : Bounds) → IsWalkOf bytes bounds old →
     IsTurn (entries_of bytes bounds) (open_in old) turn (open_in new) × IsWalkOf bytes bounds new

@@ -1,4 +1,4 @@
--- What one turn of the walk does: which child of the innermost frame comes next, and which object.
+-- Which child of the innermost frame comes next, and which object that is.
 use Rattle.std.specs.Prelude.{◌≡◌, ℕ, ◌+◌, ◌-◌, ◌<◌, Bool, true, false, not, List, [], ◌∷◌, ◌++◌, length, reverse, nat_lt, get_or, Result, Ok, Err, Option, None, Some, MatchResult, MatchOption, IfOk, IfSome, ⊤}
 use Rattle.std.specs.List.{slice_get}
 use Rattle.plist_base.specs.declared.error.Error.{Error}
@@ -74,7 +74,7 @@ ReadsChild object index answer =
     → MatchResult answer (λ number. number ≡ get_or (children_in object) index 0)
     (λ error. IsIo (kind_of (error_kind_of error)))
 
--- the turn is to a child of an open object that isn't cached
+-- the next child is one of an open object, which isn't cached
 abbrev pub IsTurnWithin : (tags : List ℕ) → NextChild → Type 0
 IsTurnWithin tags (turn.Child object index) =
     (object < length tags) × (unmarked (get_or tags object 0) ≡ 0)

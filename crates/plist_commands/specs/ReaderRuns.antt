@@ -35,7 +35,7 @@ module _ {I : Type 0} (goes : I → StepAnswer → I → Type 0) (last : I → P
   IsAskedOnce old new = (new ≡ old) ⊎ ((item : StepAnswer) × goes old item new)
 
   -- Events came, whose lines went out; and then nothing came, or the fault that is the answer. Or a
-  -- beginning of the lines went out, and the answer is that the writer failed or memory was wanted.
+  -- beginning of the lines went out, and the answer is that the writer failed or memory ran out.
   abbrev pub PrintsRun : (old : I) → Result (Unit {0}) Error → (new : I)
       → (before after : Option (List ℕ)) → Type 0
   PrintsRun old answer new before after =
@@ -46,7 +46,7 @@ module _ {I : Type 0} (goes : I → StepAnswer → I → Type 0) (last : I → P
       × AppendsPrefix before after (lines_of_events events)))
 
   -- Events came, and were held where they are a tree's: nothing came behind them then. Or a fault
-  -- came, which is the answer; or memory was wanted.
+  -- came, which is the answer; or memory ran out.
   abbrev pub HoldsRun : (old : I) → Result Bool Error → (new : I) → (held : List PlainEvent)
       → Type 0
   HoldsRun old answer new held =

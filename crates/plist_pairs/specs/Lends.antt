@@ -1,4 +1,4 @@
--- What is lent of pairs by `&mut`.
+-- What is borrowed of pairs by `&mut`.
 use Rattle.std.specs.Prelude.{ℕ, List, Option, bytes_eq}
 use Rattle.std.specs.Borrow.{Lends, LendsIf, MutBor, Fml}
 use Rattle.std.specs.Map.{set_value}

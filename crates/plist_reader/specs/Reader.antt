@@ -37,7 +37,7 @@ items_by format.Binary bytes = items_of_file bytes
 items_by (format.Xml place) bytes = Err (fault_at XmlUnsupported place) ∷ []
 items_by format.Ascii bytes = items_of_ascii lax (input_front bytes) 0
 
--- the items of some bytes, by the format that their first bytes tell
+-- the items of some bytes, by the format that their first bytes show
 abbrev pub items_of_input : List ℕ → List Item
 items_of_input bytes = items_by (format_of bytes) bytes
 

@@ -15,7 +15,7 @@ const MAGIC: &[u8; 8] = b"bplist00";
 
 const MARK: &[u8; 3] = b"\xef\xbb\xbf";
 
-/// The format of a property list, as its first bytes tell it.
+/// The format of a property list, as its first bytes show it.
 #[derive(Clone, Copy, Debug, PartialEq, Eq)]
 pub enum Format {
     /// Binary: the bytes begin with `bplist00`.

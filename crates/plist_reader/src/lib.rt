@@ -1,7 +1,7 @@
 //! Reads property lists, binary or ASCII.
 //!
 //! The main contract is that of [`Reader`]: over known bytes its items are those of the format that
-//! the first bytes tell ([`format_of`]), and once it has chosen, those of the reader that it holds.
+//! the first bytes show ([`format_of`]), and once it has chosen, those of the reader that it holds.
 #![tactic(auto)]
 
 mod bytes;

@@ -28,7 +28,7 @@ is_other event = false
 abbrev pub count_passing : (PlainEvent → Bool) → List PlainEvent → ℕ
 count_passing passes events = min (length (filter passes events)) (2 ^ 64 - 1)
 
--- the counts tell how many arrays, dictionaries, texts and others these events have
+-- the counts say how many arrays, dictionaries, texts and others these events have
 pub record AreCounts (events : List PlainEvent) (counts : Counts) : Type 0 where
   pub arrays : counts.arrays ≡ count_passing is_array events
   pub dictionaries : counts.dictionaries ≡ count_passing starts_dictionary events

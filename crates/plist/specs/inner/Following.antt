@@ -136,15 +136,15 @@ taken_before u e ok r = by (carried_on and_pair u e) refl (goes u e ok)
     by None q g = absurd (g r)
     by (Some w) q g = (w, q, g.0, g.1)
 
--- ---- what is wanted behind what is held
+-- ---- what is expected after what is held
 
--- what is wanted in a collection, once a value that is open in it is complete
+-- what is expected in a collection, once a value that is open in it is complete
 abbrev expect_round : OpenCollection → Expect
 expect_round (InArray items) = Items
 expect_round (InDictionary pairs) = Pairs
 expect_round (AfterKey pairs key) = Pairs
 
--- what is wanted behind what is expected within it
+-- what is expected after what is expected within it
 abbrev want_behind : OpenCollection → (round : Stack) → Stack
 want_behind (AfterKey pairs key) round = Pairs ∷ round
 want_behind collection round = round

@@ -190,7 +190,7 @@ module _ {V : Type 0} (tree : V → Tree) where
             (tree u) (tree v) (tree w);
       }) same_by_refl
 
--- the laws as a caller is told them
+-- the laws as a caller sees them
 pub symmetric : (t u : Tree) → same t u ≡ same u t
 symmetric t u = both_ways (same t u) (same u t) (sym_tree t u) (sym_tree u t)
 

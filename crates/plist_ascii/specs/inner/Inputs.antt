@@ -199,7 +199,7 @@ module _ {R : Type 0} (known : R → Option (List ℕ)) where
       → Type 0
   GivesUnit = GivesBy (λ u. u)
 
-  -- memory is wanted only for a text
+  -- memory is needed only for a text
   abbrev pub AllocatesForText : (List ℕ → Token) → Input R
       → Error → Type 0
   AllocatesForText front old error = kind_of (error_kind_of error) ≡ OutOfMemory

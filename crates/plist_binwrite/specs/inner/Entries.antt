@@ -73,7 +73,7 @@ ended_at entries start =
     (closed_at (entry_at (entries ++ entry.End ∷ []) start) (length entries + 1))
 
 -- each entry of a scalar names one; these are the starts that have no end, the innermost last; and
--- the entries tell where trees end
+-- the entries say where trees end
 pub record AreEntriesOf (scalars : List PlainEvent) (entries : List EventEntry)
     (begun : List ℕ) : Type 0 where
   pub sound : (p : ℕ) → p < length entries → is_sound scalars (entry_at entries p) ≡ true

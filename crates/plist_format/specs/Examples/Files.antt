@@ -17,7 +17,7 @@ use Rattle.plist_format.specs.Unfolding.{unfolding_of, items_of_file}
 abbrev pub digit_value : (code : ℕ) → ℕ
 digit_value code = if nat_lt code 58 then code - 48 else code - 87
 
--- the bytes that these digits tell, two a byte; a space may stand between two bytes
+-- the bytes that these digits spell, two a byte; a space may stand between two bytes
 abbrev pub bytes_of_digits : List ℕ → List ℕ
 bytes_of_digits (high ∷ low ∷ rest) =
     (16 * digit_value high + digit_value low) ∷ bytes_of_digits rest

@@ -9,7 +9,7 @@ lengths : AreWorked (
     (one_object "526162", scalar (String (codes "ab")) ∷ [])
     -- a text that runs into the trailer
     ∷ (one_object "536162", refused ObjectOffsetTooLarge 9)
-    -- the extent is told before the text
+    -- the extent is reported before the text
     ∷ (one_object "52ff", refused ObjectOffsetTooLarge 9)
     -- a character of two bytes
     ∷ (one_object "52c3a9", scalar (String (hex "c3a9")) ∷ [])

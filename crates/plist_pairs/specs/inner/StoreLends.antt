@@ -1,4 +1,4 @@
--- Where a key stands among pairs, and what is lent of a store of pairs by `&mut`.
+-- Where a key stands among pairs, and what is borrowed of a store of pairs by `&mut`.
 use Rattle.std.specs.Prelude.{◌≡◌, ◌<◌, ℕ, List, None, Some, length, position, bytes_eq, Option}
 use Rattle.std.specs.Map.{keys_of, lookup, set_value}
 use Rattle.std.specs.Borrow.{Lends, LendsIf, MutBor, Fml}

@@ -10,7 +10,7 @@ use Rattle.plist_binread.proofs.KnownTurns.{Turned, known_turned, child_failed, 
 use Rattle.plist_binread.proofs.advance.advance.Goals as goal
 use Rattle.plist_binread.proofs.advance.advance.Goals.{In-Child, After-enter, After-read_child}
 
--- what the turn does
+-- what taking the next child does
 turned : (g : _) (c : In-Child g) → IfSome (g.S.Source.known c.args.source.now) (λ bytes.
     Turned bytes c.args.bounds.now c.args.walk.now (Child c.in-Child.object c.in-Child.index)
     c.next_child.new.self)
