@@ -6,7 +6,7 @@ use Rattle.plist_base.specs.Trees.{String, Tree, Array, Dictionary, trees_of, me
 use Rattle.std.proofs.lemmas.List.{map_push}
 use Rattle.plist.specs.LastWins.{TreePairs, with_pair, last_values, last_wins, last_wins_in_items, last_wins_in_pairs}
 use Rattle.plist.specs.Building.{OpenCollection, InArray, InDictionary, AfterKey, Unfinished, NotBegun, Within, Complete, last_wins_in_rows, last_wins_within, last_wins_so_far}
-use Rattle.plist.specs.inner.Steps.{and_pair, and_tree, begun, in_array, in_dictionary, carried_on}
+use Rattle.plist.specs.inner.Steps.{and_pair, and_tree, at_value, in_array, in_dictionary, and_event}
 
 -- ---- the last value of each key
 
@@ -35,13 +35,13 @@ tree-last t (InDictionary ps ∷ outer) = refl
 tree-last t (AfterKey ps k ∷ outer) =
     ap (λ l. Within (InDictionary l) (map last_wins_within outer)) (rows-snoc ps k t)
 
-begun-last : (outer : List OpenCollection) (e : PlainEvent)
-    → option_map last_wins_so_far (begun and_pair outer e)
-    ≡ begun with_pair (map last_wins_within outer) e
-begun-last outer (StartArray n) = refl
-begun-last outer (StartDictionary n) = refl
-begun-last outer EndCollection = refl
-begun-last outer (ScalarEvent x) = ap Some (tree-last _ _)
+value-last : (outer : List OpenCollection) (e : PlainEvent)
+    → option_map last_wins_so_far (at_value and_pair outer e)
+    ≡ at_value with_pair (map last_wins_within outer) e
+value-last outer (StartArray n) = refl
+value-last outer (StartDictionary n) = refl
+value-last outer EndCollection = refl
+value-last outer (ScalarEvent x) = ap Some (tree-last _ _)
 
 array-last : (ts : List Tree) (outer : List OpenCollection) (e : PlainEvent)
     → option_map last_wins_so_far (in_array and_pair ts outer e)
@@ -50,7 +50,7 @@ array-last ts outer EndCollection =
     ap Some (tree-last (Array (trees_of ts)) outer
     ∙ ap (λ l. and_tree with_pair (Array (trees_of l)) (map last_wins_within outer))
     (items-last ts))
-array-last ts outer e = begun-last (InArray ts ∷ outer) e
+array-last ts outer e = value-last (InArray ts ∷ outer) e
 
 dictionary-last : (ps : TreePairs) (outer : List OpenCollection) (e : PlainEvent)
     → option_map last_wins_so_far (in_dictionary and_pair ps outer e)
@@ -63,11 +63,11 @@ dictionary-last ps outer (ScalarEvent (String k)) = refl
 dictionary-last ps outer e = refl
 
 -- to add a pair in its place is to take the last values of what was added at the end
-pub carried-last : (u : Unfinished) (e : PlainEvent)
-    → option_map last_wins_so_far (carried_on and_pair u e)
-    ≡ carried_on with_pair (last_wins_so_far u) e
-carried-last NotBegun e = begun-last [] e
-carried-last (Within (InArray ts) outer) e = array-last ts _ e
-carried-last (Within (InDictionary ps) outer) e = dictionary-last ps _ e
-carried-last (Within (AfterKey ps k) outer) e = begun-last _ e
-carried-last (Complete t) e = refl
+pub extended-last : (u : Unfinished) (e : PlainEvent)
+    → option_map last_wins_so_far (and_event and_pair u e)
+    ≡ and_event with_pair (last_wins_so_far u) e
+extended-last NotBegun e = value-last [] e
+extended-last (Within (InArray ts) outer) e = array-last ts _ e
+extended-last (Within (InDictionary ps) outer) e = dictionary-last ps _ e
+extended-last (Within (AfterKey ps k) outer) e = value-last _ e
+extended-last (Complete t) e = refl

@@ -10,14 +10,14 @@ use Rattle.std.proofs.lemmas.List.{map-append}
 use Rattle.plist_base.proofs.Grammar.{alike_with}
 use Rattle.plist.specs.LastWins.{with_pair, last_wins}
 use Rattle.plist.specs.Building.{Unfinished, NotBegun, Within, Complete, Built, IsNested, nothing_built, complete_tree, events_so_far, last_wins_so_far, refusal_at, IsUnfinishedFor, IsUnfinished}
-use Rattle.plist.specs.inner.Steps.{and_pair, carried_on}
-use Rattle.plist.specs.inner.Following.{complete, refusal-last, carried}
+use Rattle.plist.specs.inner.Steps.{and_pair, and_event}
+use Rattle.plist.specs.inner.Following.{complete, refusal-last, extended}
 use Rattle.std.proofs.lemmas.Option.{none-some, same_Some}
 use Rattle.plist_base.specs.Faults.{fault_of}
 use Rattle.plist.specs.declared.value.Value.{Value}
 use Rattle.plist.specs.ValueTrees.{tree_of}
 use Rattle.plist.specs.Collecting.{IsBuiltFrom, TakesOne, RefusesOne, built_tree}
-use Rattle.plist.proofs.Carrying.{carried-last}
+use Rattle.plist.proofs.Carrying.{extended-last}
 
 -- these events are held, with the last value of each key
 abbrev pub Holds : List PlainEvent → Built → Type 0
@@ -48,9 +48,9 @@ from_last (Some v) w p = (v, refl, sym (same_Some _ w p))
 pub holds-more : (events : List PlainEvent) (e : PlainEvent) (before after : Built)
     → Holds events before → TakesOne before (Ok e) after → Holds (events ++ e ∷ []) after
 holds-more events e before after (held, ok, alike, last) k =
-    let w = from_last (carried_on and_pair held e) after.unfinished
-    (carried-last held e ∙ sym (ap (λ u. carried_on with_pair u e) last) ∙ k.0) in
-    let c = carried held e w.0 ok w.1 in
+    let w = from_last (and_event and_pair held e) after.unfinished
+    (extended-last held e ∙ sym (ap (λ u. and_event with_pair u e) last) ∙ k.0) in
+    let c = extended held e w.0 ok w.1 in
     (w.0, c.0, c.1 ∙ alike_with (events_so_far held) events (e ∷ []) alike, w.2)
 
 pub took-more : (items : List Item) (item : Item) (before after : Built) → TookAll items before

@@ -67,7 +67,7 @@ pub wants_memory : {W : Type 0} (contents : W → Option (List ℕ)) (tree : Tre
 wants_memory contents tree fault w is =
     rw is (refl, (tt, refl))
 
--- a device's failure behind the whole file stops its sending
+-- a device's failure after the whole file stops its sending
 stops_behind : {W : Type 0} (contents : W → Option (List ℕ)) (tree : Tree) (fault : Fault)
     (old new : W) → SendsTree contents tree (Ok tt) old new → fault ≡ fault_nowhere Io
     → (fault.offset ≡ None) × StopsSending contents fault.kind tree old new

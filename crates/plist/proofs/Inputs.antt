@@ -77,7 +77,7 @@ no-tree-end all events is none tree (others, same, like) =
 
 -- ---- a refusal
 
--- the item behind these events isn't taken
+-- the item after these events isn't taken
 pub stops-there : (all left after : List Item) (events : List PlainEvent) (held : Unfinished)
     (item : Item) (fault : Fault) → IsNested held → AreAlike (events_so_far held) events
     → all ≡ map Ok events ++ left → BeginsWith left (Some item) after → RefusesOne held item fault

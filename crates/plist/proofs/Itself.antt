@@ -8,15 +8,15 @@ use Rattle.plist.specs.declared.value.Value.{Value, ind-Value, fold-roll-Value, 
 use Rattle.plist.specs.declared.value.Value.TheOpen.{Value-F}
 use Rattle.plist.specs.declared.value.Value.TheFolds.{map-Value}
 use Rattle.plist.specs.LastWins.{TreePairs, with_pair, last_values, last_wins}
-use Rattle.plist.specs.Building.{Unfinished, IsNested, IsCarriedOn, refusal_at, last_wins_in_rows, last_wins_within, last_wins_so_far, InArray, InDictionary, AfterKey, Within, Complete}
+use Rattle.plist.specs.Building.{Unfinished, IsNested, IsExtendedBy, refusal_at, last_wins_in_rows, last_wins_within, last_wins_so_far, InArray, InDictionary, AfterKey, Within, Complete}
 use Rattle.plist.specs.declared.unfinished.UnclosedCollection.{UnclosedCollection}
 use Rattle.plist.specs.declared.unfinished.UnclosedCollection.TheVariants as run
 use Rattle.plist.specs.UnfinishedValues.{open_of, held_in}
 use Rattle.plist.specs.ValueTrees.{tree_of, tree_step, tree_pairs}
 use Rattle.plist_pairs.proofs.Keeping.{last-values-once, once-last, values-inserts}
-use Rattle.plist.specs.inner.Steps.{carried_on}
+use Rattle.plist.specs.inner.Steps.{and_event}
 use Rattle.plist.specs.inner.Following.{taken_before}
-use Rattle.plist.proofs.Carrying.{items-last, pairs-last, carried-last}
+use Rattle.plist.proofs.Carrying.{items-last, pairs-last, extended-last}
 
 abbrev IsItself : Value → Type 0
 IsItself value = last_wins (tree_of value) ≡ tree_of value
@@ -82,10 +82,10 @@ held-itself None (c ∷ cs) =
 -- what a builder holds is carried on by an event as the plain events are
 pub carry : (root : Option Value) (cs : List UnclosedCollection) (e : PlainEvent) (a : Unfinished)
     → IsNested (held_in root cs) → refusal_at (held_in root cs) e ≡ None
-    → carried_on with_pair (held_in root cs) e ≡ Some a → IsCarriedOn (held_in root cs) e a
+    → and_event with_pair (held_in root cs) e ≡ Some a → IsExtendedBy (held_in root cs) e a
 carry root cs e a ok p q =
     let b = held_in root cs in
     let g = taken_before b e ok p in
     let last : Some (last_wins_so_far g.0) ≡ Some a = sym (ap (option_map last_wins_so_far) g.1)
-    ∙ carried-last b e ∙ ap (λ u. carried_on with_pair u e) (held-itself root cs) ∙ q in
+    ∙ extended-last b e ∙ ap (λ u. and_event with_pair u e) (held-itself root cs) ∙ q in
     (g.0, g.2, g.3, sym (same_Some _ a last))

@@ -6,7 +6,7 @@ use Rattle.std.proofs.lemmas.Slice.Eq.{bytes_eq-Decides}
 use Rattle.indexmap.specs.IndexMap.{insert_entry, insert_all}
 use Rattle.indexmap.proofs.SetLemmas.{keys_insert_entry}
 use Rattle.plist_base.specs.Trees.{Tree}
-use Rattle.plist.specs.LastWins.{TreePairs, last_values, first_keys_behind, last_value, AreLastValues}
+use Rattle.plist.specs.LastWins.{TreePairs, last_values, first_keys_after, last_value, AreLastValues}
 
 abbrev Key : Type 0
 Key = List ℕ
@@ -47,7 +47,7 @@ lookup-insert q k v (e ∷ es) =
 -- ---- all pairs
 
 keys-all : (es rows : TreePairs) → keys_of (insert_all bytes_eq es rows)
-    ≡ first_keys_behind (keys_of es) (keys_of rows)
+    ≡ first_keys_after (keys_of es) (keys_of rows)
 keys-all es [] = refl
 keys-all es (r ∷ rows) =
     cc (keys-all (insert_entry bytes_eq es r.0 r.1) rows, keys_insert_entry bytes_eq es r.0 r.1)

@@ -209,10 +209,10 @@ module _ (limits : Limits) where
   light-from None es h = tt
   light-from (Some left) es h = light 0 0 left es h
 
-  -- a start that passes finds room for its collection
-  room : (came level : ℕ) (left : Option ℕ)
+  -- a start that passes finds below_depth for its collection
+  below_depth : (came level : ℕ) (left : Option ℕ)
       → limit_at limits came level left (event.StartArray None) ≡ None → level < limits.depth
-  room came level left h =
+  below_depth came level left h =
       below _ _ (allowed (is_too_long left (event.StartArray None)) _ _ h).2
 
   abbrev PassFrom : (level : ℕ) → List PlainEvent → Type 0
@@ -227,7 +227,7 @@ module _ (limits : Limits) where
       → P (limits.depth - (level + 1)) × PassFrom (level + 1) (event.EndCollection ∷ rest))
       → ((1 ≤ limits.depth - level) × P (limits.depth - level - 1)) × PassFrom level rest
   around P inside rest came level left h passed nests =
-      let less : level < limits.depth = room came level left h in
+      let less : level < limits.depth = below_depth came level left h in
       let one : limits.depth - (level + 1) ≡ limits.depth - level - 1 = omega arith in
       let same : level + 1 - 1 ≡ level = omega arith in
       let n = nests (

@@ -1,4 +1,4 @@
--- The first event of a collection, and those behind it.
+-- The first event of a collection, and those after it.
 use Rattle.std.proofs.Common.{◌≡◌, ℕ, List, sym, ap, ◌∙◌, Vec, Global, [], ◌∷◌, ◌++◌, Some, map, length, refl, append_assoc, arith, bytes_eq}
 use Rattle.plist.specs.declared.value.Value.{Value, fold-roll-Value}
 use Rattle.plist.specs.declared.value.Value.TheVariants.{rolls-Array, rolls-Dictionary}

@@ -41,7 +41,7 @@ last_insert k v ps after s once =
     ∙ sym (ap (λ l. with_pair l k (tree_of v))
     (trees-once ps (once-earlier k v ps (subst EachOnce s once))))
 
--- a value behind a key makes a pair
+-- a value after a key makes a pair
 pub pair_made : (collections outer new : List UnclosedCollection) (popped : Option UnclosedCollection)
     (pairs after : List (List ℕ × Value)) (key : String Global) (value : Value)
     → collections ≡ outer ++ option_to_list popped → popped ≡ Some (run.AfterKey pairs key)

@@ -8,7 +8,7 @@ use Rattle.plist_base.specs.Writing.{Answer}
 use Rattle.plist.specs.declared.stream.builder.Builder.{Builder}
 use Rattle.plist.specs.Building.{Built, IsNested, IsAnswered, complete_tree, events_so_far}
 use Rattle.plist.specs.Collecting.{RefusesOne, TakesOne}
-use Rattle.plist.specs.UnfinishedValues.{CarriesOn, unfinished_of}
+use Rattle.plist.specs.UnfinishedValues.{AddsEvent, unfinished_of}
 use Rattle.plist.specs.ValueTrees.{tree_of}
 use Rattle.plist.specs.declared.value.Value.{Value}
 
@@ -48,5 +48,5 @@ RefusesWorking before item answer =
     (built_of before).failed ≡ false → RefusesWith before item answer
 
 -- the event is added to what a builder holds
-abbrev pub Carries : (before : Builder) → PlainEvent → (after : Builder) → Type 0
-Carries before event after = CarriesOn before.unfinished event after.unfinished
+abbrev pub BuilderAddsEvent : (before : Builder) → PlainEvent → (after : Builder) → Type 0
+BuilderAddsEvent before event after = AddsEvent before.unfinished event after.unfinished

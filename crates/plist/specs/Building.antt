@@ -67,14 +67,14 @@ events_within (InDictionary pairs) = StartDictionary None ∷ bracketing_of_pair
 events_within (AfterKey pairs key) =
     StartDictionary None ∷ (bracketing_of_pairs (members_of pairs) ++ ScalarEvent (String key) ∷ [])
 
-abbrev pub events_round : (outer : List OpenCollection) → List PlainEvent
-events_round [] = []
-events_round (collection ∷ outer) = events_round outer ++ events_within collection
+abbrev pub events_around : (outer : List OpenCollection) → List PlainEvent
+events_around [] = []
+events_around (collection ∷ outer) = events_around outer ++ events_within collection
 
 -- the events so far
 abbrev pub events_so_far : Unfinished → List PlainEvent
 events_so_far NotBegun = []
-events_so_far (Within collection outer) = events_round outer ++ events_within collection
+events_so_far (Within collection outer) = events_around outer ++ events_within collection
 events_so_far (Complete tree) = bracketing tree
 
 -- the same with each key in its first place with its last value, wherever a pair is complete
@@ -94,8 +94,8 @@ last_wins_so_far (Complete tree) = Complete (last_wins tree)
 
 -- After the event, what is held are the events held before it, followed by it, up to lengths, with
 -- each key in its first place with its last value.
-abbrev pub IsCarriedOn : (before : Unfinished) → PlainEvent → (after : Unfinished) → Type 0
-IsCarriedOn before event after =
+abbrev pub IsExtendedBy : (before : Unfinished) → PlainEvent → (after : Unfinished) → Type 0
+IsExtendedBy before event after =
     (taken : Unfinished) × IsNested taken
     × AreAlike (events_so_far taken) (events_so_far before ++ event ∷ [])
     × (after ≡ last_wins_so_far taken)
@@ -156,7 +156,7 @@ abbrev pub IsAnswered : (before : Built) → PlainEvent → Answer → (after : 
     → (unchanged : Type 0) → Type 0
 IsAnswered before event (Ok done) after unchanged =
     (before.failed ≡ false) × (refusal_at before.unfinished event ≡ None) × (after.failed ≡ false)
-    × IsCarriedOn before.unfinished event after.unfinished
+    × IsExtendedBy before.unfinished event after.unfinished
 IsAnswered before event (Err fault) after unchanged =
     (fault.offset ≡ None) × IsRefusedStep before event fault.kind after unchanged
 

@@ -9,7 +9,7 @@ use Rattle.plist_base.specs.Bracketing.{bracketing, AreAlike}
 use Rattle.plist.specs.declared.value.Value.{Value}
 use Rattle.plist.specs.Building.{Unfinished, IsNested, Built, events_so_far, refusal_at}
 use Rattle.plist.specs.LastWins.{with_pair, last_wins}
-use Rattle.plist.specs.inner.Steps.{carried_on}
+use Rattle.plist.specs.inner.Steps.{and_event}
 use Rattle.plist.specs.ValueTrees.{tree_of}
 
 -- what contracts see of an item whose event is seen by `plain`
@@ -22,7 +22,7 @@ abbrev pub built_tree : Result Value Error → Result Tree Fault
 built_tree (Ok value) = Ok (tree_of value)
 built_tree (Err error) = Err (fault_of error)
 
--- the fault of an event that can't come next, and want of memory where it can
+-- the fault of an event that can't come next, and lack of memory where it can
 abbrev pub IsRefusal : (refusal : Option FaultKind) → Fault → Type 0
 IsRefusal None fault = fault ≡ fault_nowhere OutOfMemory
 IsRefusal (Some kind) fault = fault ≡ fault_nowhere kind
@@ -31,14 +31,14 @@ IsRefusal (Some kind) fault = fault ≡ fault_nowhere kind
 abbrev pub EndsInError : (stops : Type 0) → (events : List PlainEvent) → List Item → Fault → Type 0
 EndsInError stops events items fault = (items ≡ map Ok events ++ Err fault ∷ []) × stops
 
--- an event can't come behind what is held, or memory runs out at it
+-- an event can't come after what is held, or memory runs out at it
 abbrev pub EndsInRefusal : (stops : Type 0) → Unfinished → (events : List PlainEvent) → List Item
     → Fault → Type 0
 EndsInRefusal stops held events items fault =
     (event : PlainEvent) × (items ≡ map Ok events ++ Ok event ∷ []) × stops
     × IsRefusal (refusal_at held event) fault
 
--- the events end, no item comes behind them, and they are no tree's
+-- the events end, no item comes after them, and they are no tree's
 abbrev pub EndsUnfinished : (ends : Type 0) → (events : List PlainEvent) → List Item → Fault
     → Type 0
 EndsUnfinished ends events items fault =
@@ -46,8 +46,8 @@ EndsUnfinished ends events items fault =
     × ((tree : Tree) → AreAlike events (bracketing tree) → ⊥)
 
 -- What comes of the items that were taken: the tree whose events they are up to lengths, with the
--- last value of each key, where no item comes behind them; or the fault that ends them, behind
--- events that could follow one another. `stops` is that nothing was asked for behind them, and
+-- last value of each key, where no item comes after them; or the fault that ends them, after
+-- events that could follow one another. `stops` is that nothing was asked for after them, and
 -- `ends` that no item comes there.
 abbrev pub IsBuiltFrom : (stops ends : Type 0) → List Item → Result Tree Fault → Type 0
 IsBuiltFrom stops ends items (Ok tree) =
@@ -62,20 +62,20 @@ IsBuiltFrom stops ends items (Err fault) =
 module _ {E I : Type 0} (plain : E → PlainEvent)
     (next_gives : I → Option (Result E Error) → I → Type 0) (iter : I) where
   -- The items that were taken of an iterator, in order, what came of them, and the iterator then:
-  -- behind one that is an error or is refused it isn't asked again, and at the end just once.
+  -- after one that is an error or is refused it isn't asked again, and at the end just once.
   abbrev pub CollectsTo : Result Tree Fault → (after : I) → Type 0
   CollectsTo answer after =
       (taken : List (Result E Error)) × (left : I) × Yields next_gives iter taken left
       × IsBuiltFrom (after ≡ left) (next_gives left None after) (map (item_by plain) taken) answer
 
-  -- the same of an iterator that nobody sees behind them
+  -- the same of an iterator that nobody sees after them
   abbrev pub Collects : Result Tree Fault → Type 0
   Collects answer = (after : I) × CollectsTo answer after
 
 -- an item's event is taken
 abbrev pub TakesOne : Built → Item → Built → Type 0
 TakesOne before (Ok event) after =
-    (carried_on with_pair before.unfinished event ≡ Some after.unfinished) × (after.failed ≡ false)
+    (and_event with_pair before.unfinished event ≡ Some after.unfinished) × (after.failed ≡ false)
 TakesOne before (Err fault) after = ⊥
 
 -- an item is an error, or its event is refused

@@ -50,7 +50,7 @@ BeginsWithStart (StartDictionary length ∷ events) = ⊤
 BeginsWithStart events = ⊥
 
 -- The first event left is given, its text or data borrowed, and the others are left; nothing is
--- given where nothing is left; for want of memory a start isn't given, and then nothing is left.
+-- given where nothing is left; for lack of memory a start isn't given, and then nothing is left.
 abbrev pub GivesEvent : Events → Option (Result Event Error) → Events → Type 0
 GivesEvent before None after = (remaining_events before ≡ []) × (remaining_events after ≡ [])
 GivesEvent before (Some (Ok given)) after =

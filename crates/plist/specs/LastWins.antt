@@ -23,13 +23,13 @@ last_values rows = insert_all bytes_eq [] rows
 abbrev pub and_key : (keys : List (List ℕ)) → (key : List ℕ) → List (List ℕ)
 and_key keys key = cond (list_any (bytes_eq key) keys) keys (keys ++ key ∷ [])
 
-abbrev pub first_keys_behind : (seen keys : List (List ℕ)) → List (List ℕ)
-first_keys_behind seen [] = seen
-first_keys_behind seen (key ∷ keys) = first_keys_behind (and_key seen key) keys
+abbrev pub first_keys_after : (seen keys : List (List ℕ)) → List (List ℕ)
+first_keys_after seen [] = seen
+first_keys_after seen (key ∷ keys) = first_keys_after (and_key seen key) keys
 
 -- the keys, each once, in the order in which they came first
 abbrev pub first_keys : List (List ℕ) → List (List ℕ)
-first_keys keys = first_keys_behind [] keys
+first_keys keys = first_keys_after [] keys
 
 -- the value of the last pair with the key
 abbrev pub last_value : (key : List ℕ) → TreePairs → Option Tree

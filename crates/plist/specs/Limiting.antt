@@ -7,7 +7,7 @@ use Rattle.plist_base.specs.Trees.{Tree, Leaf, Array, Dictionary, Trees, NoTrees
 use Rattle.plist_base.specs.Bracketing.{bracketing}
 use Rattle.plist.specs.LastWins.{last_wins}
 
--- at most so many collections of a tree stand within one another
+-- at most this many collections of a tree stand within one another
 abbrev mutual
   pub NestsWithin : Tree → (depth : ℕ) → Type 0
   NestsWithin (Leaf scalar) depth = ⊤
@@ -23,7 +23,7 @@ abbrev mutual
   PairsNestWithin (MemberAnd key tree members) depth =
       NestsWithin tree depth × PairsNestWithin members depth
 
--- there are at most so many events, whose texts and data have at most so many bytes
+-- there are at most this many events, whose texts and data have at most this many bytes
 abbrev pub AreWithin : Limits → List PlainEvent → Type 0
 AreWithin limits events =
     (length events ≤ limits.items) × HasBytesWithin limits.bytes events

@@ -12,7 +12,7 @@ use Rattle.plist.specs.declared.unfinished.UnfinishedValue.{UnfinishedValue}
 use Rattle.plist.specs.declared.value.Value.{Value}
 use Rattle.plist.specs.Building.{OpenCollection, InArray, InDictionary, AfterKey, Unfinished, NotBegun, Within, Complete, refusal_at}
 use Rattle.plist.specs.LastWins.{last_values, with_pair}
-use Rattle.plist.specs.inner.Steps.{and_tree, carried_on}
+use Rattle.plist.specs.inner.Steps.{and_tree, and_event}
 use Rattle.plist.specs.ValueTrees.{tree_of, tree_pairs}
 
 -- an open collection with its trees; a dictionary's keys stand once each, so its last values are
@@ -37,14 +37,14 @@ abbrev pub unfinished_of : UnfinishedValue → Unfinished
 unfinished_of unfinished = held_in unfinished.root (reverse unfinished.collections.items)
 
 -- the event is added to what is held
-abbrev pub CarriesOn : (before : UnfinishedValue) → PlainEvent → (after : UnfinishedValue) → Type 0
-CarriesOn before event after =
-    carried_on with_pair (unfinished_of before) event ≡ Some (unfinished_of after)
+abbrev pub AddsEvent : (before : UnfinishedValue) → PlainEvent → (after : UnfinishedValue) → Type 0
+AddsEvent before event after =
+    and_event with_pair (unfinished_of before) event ≡ Some (unfinished_of after)
 
 -- a text does
 abbrev pub TakesText : (before : UnfinishedValue) → String Global → (after : UnfinishedValue)
     → Type 0
-TakesText before text after = CarriesOn before (ScalarEvent (scalar.String (string_bytes text))) after
+TakesText before text after = AddsEvent before (ScalarEvent (scalar.String (string_bytes text))) after
 
 -- a value stands where the next one belongs
 abbrev pub AddsValue : (before : UnfinishedValue) → Value → (after : UnfinishedValue) → Type 0

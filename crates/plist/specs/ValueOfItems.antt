@@ -10,7 +10,7 @@ use Rattle.plist.specs.Collecting.{Collects, IsRefusal, built_tree, item_by}
 use Rattle.plist.specs.declared.value.Value.{Value}
 use Rattle.plist.specs.LastWins.{last_wins}
 
--- What stands behind events that can follow one another decides: a fault is the answer, an event
+-- What stands after events that can follow one another decides: a fault is the answer, an event
 -- that can't come next is refused, and where nothing stands there the events are no tree's.
 abbrev pub IsFaultOfNext : (held : Unfinished) (events : List PlainEvent) → (next : List Item) → Fault
     → Type 0
@@ -34,7 +34,7 @@ IsFirstFault items fault =
     × ((tree : Tree) → AreItemsOfTree items tree → ⊥)
 
 -- The tree whose events the items are, with the last value of each key; or, but for a device's
--- fault and want of memory, the first fault or refusal.
+-- fault and lack of memory, the first fault or refusal.
 abbrev pub IsValueOf : List Item → Result Tree Fault → Type 0
 IsValueOf items (Ok tree) = (whole : Tree) × AreItemsOfTree items whole × (tree ≡ last_wins whole)
 IsValueOf items (Err fault) = MatchFault fault.kind ⊤ ⊤ (IsFirstFault items fault)
@@ -89,7 +89,7 @@ abbrev pub AnswersIterable : {E I J : Type 0} → (becomes : J → I → Type 0)
 AnswersIterable {E} {I} {J} becomes plain next_gives made answer =
     (iter : I) × becomes made iter × AnswersAsForeseen plain next_gives iter (built_tree answer)
 
--- the answer is this tree, but for a device's fault and want of memory
+-- the answer is this tree, but for a device's fault and lack of memory
 abbrev pub IsReadBack : Tree → Result Tree Fault → Type 0
 IsReadBack tree (Ok read) = read ≡ tree
 IsReadBack tree (Err fault) = IsIoOrMemory fault.kind

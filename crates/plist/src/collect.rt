@@ -10,7 +10,7 @@ use plist_base::Error;
 use std::alloc::Global;
 
 // The value of the items that an iterator gives, up to the first that is an error or that can't
-// come next, behind which none is asked for.
+// come next, after which none is asked for.
 fn collect_from<E: AnyEvent, I: Iterator<Item = Result<E, Error>>>(
     alloc: Global,
     rest: &mut I,

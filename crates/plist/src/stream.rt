@@ -5,7 +5,7 @@ pub mod events;
 
 pub use builder::{AnyEvent, Builder};
 pub use events::Events;
-pub use plist_ascii::{AsciiReader, Bytes, Dialect};
+pub use plist_ascii::{AsciiReader, ByteReader, Dialect};
 pub use plist_base::{
     Event, EventShape, Limited, OwnedEvent, Sealed, Seeking, Sequential, Source, Writer,
     read_exact_at,

@@ -5,7 +5,7 @@ ghost use Rattle.plist_base.specs.Events as events;
 ghost use Rattle.plist_base.specs.Events.{event_of};
 ghost use Rattle.plist_base.specs.Faults.{kind_of};
 ghost use Rattle.plist.specs.Building.{NotBegun, complete_tree, kind_expected, refusal_at, refusal_of};
-ghost use Rattle.plist.specs.UnfinishedValues.{AddsValue, CarriesOn, RootIsTaken, IsRefusalOf, Opens, TakesText, unfinished_of};
+ghost use Rattle.plist.specs.UnfinishedValues.{AddsValue, AddsEvent, RootIsTaken, IsRefusalOf, Opens, TakesText, unfinished_of};
 ghost use Rattle.plist.specs.ValueTrees.{tree_of};
 
 use crate::{Dictionary, Value};
@@ -130,7 +130,7 @@ impl UnfinishedValue {
     fn end(&mut self) -> Result<(), AllocError>
         requires order { refusal_at (unfinished_of self.old) events.EndCollection ≡ None }
         requires root { self.old.root ≡ None }
-        ensures { OnOk result (CarriesOn self.old events.EndCollection self.new) }
+        ensures { OnOk result (AddsEvent self.old events.EndCollection self.new) }
     {
         match self.collections.pop() {
             Some(UnclosedCollection::Array(items)) => self.add(Value::Array(items)),
@@ -163,7 +163,7 @@ impl UnfinishedValue {
     /// After a failure what is held isn't known.
     pub(crate) fn take(&mut self, alloc: Global, event: Event<'_>) -> Result<(), AllocError>
         requires { refusal_at (unfinished_of self.old) (event_of event) ≡ None }
-        ensures { OnOk result (CarriesOn self.old (event_of event.entry) self.new) }
+        ensures { OnOk result (AddsEvent self.old (event_of event.entry) self.new) }
     {
         match event {
             Event::StartArray(_) => self.begin(UnclosedCollection::Array(Vec::new(alloc))),

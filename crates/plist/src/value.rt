@@ -9,7 +9,7 @@ ghost use Rattle.plist.specs.ValueOfItems.{AnswersIterable, CollectsIterable, Re
 ghost use Rattle.plist_pairs.specs.Bulk.{IterableEnds};
 ghost use Rattle.plist.specs.FromReader.{IsReadByReader, IsReadWithin, IsReadAsAscii, IsReadingFault, items_of_text};
 ghost use Rattle.plist.specs.ReadingBack.{ReadsBackIn};
-ghost use Rattle.plist_ascii.specs.Texts.{ends_bare, lax};
+ghost use Rattle.plist_ascii.specs.Texts.{ends_bare, lax_stops};
 ghost use Rattle.plist_reader.specs.Reader.{items_of_input, limited_input};
 ghost use Rattle.plist_base.specs.Outcomes.{IfFault, OnlyMemory};
 ghost use Rattle.plist_base.specs.Trees.{Leaf, String};
@@ -32,7 +32,7 @@ use crate::stream::{AnyEvent, Events};
 use crate::value::dropping::joined;
 pub use crate::value::variant::Variant;
 use crate::writing::collect_events;
-use plist_ascii::{AsciiReader, Bytes, Dialect};
+use plist_ascii::{AsciiReader, ByteReader, Dialect};
 use plist_base::{Date, Error, EventKind, Integer, Limited, Limits, RealBits, Source, Uid};
 use plist_binwrite::complete;
 use plist_reader::Reader;
@@ -181,7 +181,7 @@ impl Value {
     ///
     /// - That item's error.
     /// - `UnexpectedEventType` for an event that can't come next, and `ExpectedEndOfEventStream`
-    ///   for one behind a whole value.
+    ///   for one after a whole value.
     /// - `UnexpectedEndOfEventStream` if the events end before the value does.
     /// - `OutOfMemory`.
     pub fn from_events<E: AnyEvent, I: IntoIterator<Item = Result<E, Error>>>(
@@ -219,7 +219,7 @@ impl Value {
     ///
     /// - The first fault of the source's items: those of [`Reader`].
     /// - `UnexpectedEventType` for an event that can't come next, and `ExpectedEndOfEventStream`
-    ///   for one behind a whole value.
+    ///   for one after a whole value.
     /// - `UnexpectedEndOfEventStream` if the items end before the value does.
     /// - `OutOfMemory`.
     pub fn from_reader<R: Source>(alloc: Global, source: R) -> Result<Value, Error>
@@ -265,8 +265,8 @@ impl Value {
     /// # Errors
     ///
     /// Those of [`Value::from_reader`], with the faults of [`AsciiReader`].
-    pub fn from_reader_ascii<R: Bytes + Drop>(alloc: Global, reader: R) -> Result<Value, Error>
-        ensures value { ReadsItems (items_of_text lax) (R.remaining reader) result }
+    pub fn from_reader_ascii<R: ByteReader + Drop>(alloc: Global, reader: R) -> Result<Value, Error>
+        ensures value { ReadsItems (items_of_text lax_stops) (R.remaining reader) result }
         ensures read { IsReadAsAscii R.remaining R.failures reader Dialect.Lax (built_tree result) }
     {
         Value::from_reader_ascii_with_dialect(alloc, reader, Dialect::Lax)
@@ -278,7 +278,7 @@ impl Value {
     /// # Errors
     ///
     /// Those of [`Value::from_reader_ascii`].
-    pub fn from_reader_ascii_with_dialect<R: Bytes + Drop>(
+    pub fn from_reader_ascii_with_dialect<R: ByteReader + Drop>(
         alloc: Global,
         reader: R,
         dialect: Dialect,
@@ -313,7 +313,7 @@ impl Value {
         Ok(Value::String(String::from_str(alloc, text)?))
     }
 
-    /// Writes the value as a binary property list, behind what was written before, and flushes.
+    /// Writes the value as a binary property list, after what was written before, and flushes.
     ///
     /// # Errors
     ///

@@ -15,7 +15,7 @@ use plist_binwrite::EventTable;
 use std::alloc::Global;
 
 // Writes an item's event, or passes its fault on.
-fn hand<W: Writer>(writer: &mut W, item: Result<Event<'_>, Error>) -> Result<(), Error>
+fn write_item<W: Writer>(writer: &mut W, item: Result<Event<'_>, Error>) -> Result<(), Error>
     ensures { WritesItem W.Step writer.old (item_of item.entry) (answer_of result) writer.new }
 {
     let event = item?;
@@ -29,11 +29,11 @@ fn hand<W: Writer>(writer: &mut W, item: Result<Event<'_>, Error>) -> Result<(),
 /// The writer's first refusal, after which nothing more is written; and `OutOfMemory` in the place
 /// of a start, where the iterator over the events finds no memory.
 pub fn write_value<W: Writer>(alloc: Global, value: &Value, writer: &mut W) -> Result<(), Error>
-    ensures handed { WritesValue W.Step writer.old value.now result writer.new }
+    ensures written { WritesValue W.Step writer.old value.now result writer.new }
 {
     let mut events = value.events(alloc);
     while let Some(item) = events.next() {
-        hand(writer, item)?;
+        write_item(writer, item)?;
     }
     Ok(())
 }

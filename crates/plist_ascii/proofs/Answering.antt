@@ -6,7 +6,7 @@ use Rattle.std.proofs.lemmas.List.{drop-drop}
 use Rattle.plist_base.specs.declared.error.Error.{Error}
 use Rattle.plist_base.specs.Faults.{Fault, FaultKind, Io, OutOfMemory, MatchFault, fault_of, fault_at, fault_nowhere, kind_of, error_kind_of, UnclosedString}
 use Rattle.plist_ascii.specs.Kinds.{IsFaultOfBytes}
-use Rattle.plist_ascii.specs.Unread.{IsFaultAt, is_io_or_memory, IfKnown, FirstIsTaken, TakesFront, Answers}
+use Rattle.plist_ascii.specs.Unread.{IsFaultAt, is_io_or_memory, IfKnown, FirstIsTaken, TakesFront, GivesFront}
 use Rattle.plist_ascii.specs.Taken.{Taken, taken, past_one, past_outcome, followed, front, front_gives, needs}
 
 -- what is so of a fault that is passed on is so of the answer
@@ -25,7 +25,7 @@ pub inside_gets : (kind : FaultKind) (A B C : Type 0) → is_io_or_memory kind �
     → MatchFault kind A B C
 inside_gets kind A B C e h = search rules
 
--- what is enough for a device's fault or want of memory
+-- what is enough for a device's fault or lack of memory
 pub outside_gets : (kind : FaultKind) (A B C : Type 0) → is_io_or_memory kind ≡ true → A
     → (kind ≡ OutOfMemory → B) → MatchFault kind A B C
 outside_gets kind A B C e a b = search rules
@@ -55,7 +55,7 @@ inside_is f place i h =
 no_both : (b : Bool) → b ≡ true → b ≡ false → ⊥
 no_both b t f = cc
 
--- a device's fault says nothing of the bytes, nor does want of memory
+-- a device's fault says nothing of the bytes, nor does lack of memory
 pub io_outside : (f : Error) (place : ℕ) → fault_of f ≡ fault_at Io place
     → IsFaultAt (fault_of f) place × (is_io_or_memory (kind_of (error_kind_of f)) ≡ true)
 io_outside f place e = (
@@ -93,24 +93,24 @@ module _ {X A : Type 0} (view : X → A) where
   -- a fault is passed on
   pub answers_passed : (front : List ℕ → Taken A) (old : Option (List ℕ)) (p : ℕ)
       (new : Option (List ℕ)) (q : ℕ) (r : Result X Error) (f : Error)
-      → IsErrAnd r (λ e. e ≡ f) → Answers view front old p new q (Err f)
-      → Answers view front old p new q r
+      → IsErrAnd r (λ e. e ≡ f) → GivesFront view front old p new q (Err f)
+      → GivesFront view front old p new q r
   answers_passed front old p new q (Ok x) f h a = absurd h
   answers_passed front old p new q (Err e) f h a =
-      subst (λ e. Answers view front old p new q (Err e)) (sym h) a
+      subst (λ e. GivesFront view front old p new q (Err e)) (sym h) a
 
-  -- a device's fault or want of memory says nothing of the bytes
+  -- a device's fault or lack of memory says nothing of the bytes
   pub answers_outside : (front : List ℕ → Taken A) (old : Option (List ℕ)) (p : ℕ)
       (new : Option (List ℕ)) (q : ℕ) (f : Error)
       → IsFaultAt (fault_of f) q × (is_io_or_memory (kind_of (error_kind_of f)) ≡ true) → p ≤ q
-      → Answers view front old p new q (Err f)
+      → GivesFront view front old p new q (Err f)
   answers_outside front old p new q f a le = (a.0, le, λ d xs e. absurd (no_both _ a.1 d))
 
   -- the next byte was only looked at
   pub answers_looked : (front back : List ℕ → Taken A) (old mid : Option (List ℕ)) (p m : ℕ)
       (new : Option (List ℕ)) (q : ℕ) (r : Result X Error)
       → IfKnown old (λ xs. (mid ≡ Some xs) × (front xs ≡ back xs)) → m ≡ p
-      → Answers view back mid m new q r → Answers view front old p new q r
+      → GivesFront view back mid m new q r → GivesFront view front old p new q r
   answers_looked front back old mid p m new q (Ok x) h s a =
       rw (← s) (a.0, λ xs e. let k = h xs e in rw k.1 (a.1 xs k.0))
   answers_looked front back old mid p m new q (Err f) h s a =
@@ -118,8 +118,8 @@ module _ {X A : Type 0} (view : X → A) where
 
   pub answers_same : (front back : List ℕ → Taken A) (old : Option (List ℕ)) (p : ℕ)
       (new : Option (List ℕ)) (q : ℕ) (r : Result X Error)
-      → ((xs : List ℕ) → front xs ≡ back xs) → Answers view back old p new q r
-      → Answers view front old p new q r
+      → ((xs : List ℕ) → front xs ≡ back xs) → GivesFront view back old p new q r
+      → GivesFront view front old p new q r
   answers_same front back old p new q r same a =
       answers_looked _ _ old old p p new q r (λ xs e. (e, same xs)) refl a
 
@@ -130,11 +130,11 @@ module _ {X A : Type 0} (view : X → A) where
   front_at front back g new p m q c xs ys e h s f =
       let place = f.2 in rw (e, h) (f.0, f.1, omega arith)
 
-  -- a byte was taken, and then what is behind it
+  -- a byte was taken, and then what is after it
   pub answers_past : (front back : List ℕ → Taken A) (old mid : Option (List ℕ)) (c p m : ℕ)
       (new : Option (List ℕ)) (q : ℕ) (r : Result X Error)
       → FirstIsTaken old c mid → m ≡ p + 1 → ((ys : List ℕ) → front (c ∷ ys) ≡ past_one (back ys))
-      → Answers view back mid m new q r → Answers view front old p new q r
+      → GivesFront view back mid m new q r → GivesFront view front old p new q r
   answers_past front back old mid c p m new q (Ok x) t s h a = (
     let le : m ≤ q = a.0 in omega arith,
     λ xs e. let k = t xs e in front_at front (back k.0) _
@@ -149,14 +149,14 @@ module _ {X A : Type 0} (view : X → A) where
 
   -- nothing was taken
   pub answers_here : (front : List ℕ → Taken A) (old : Option (List ℕ)) (p : ℕ) (x : X)
-      → ((xs : List ℕ) → front xs ≡ taken 0 (Ok (view x))) → Answers view front old p old p (Ok x)
+      → ((xs : List ℕ) → front xs ≡ taken 0 (Ok (view x))) → GivesFront view front old p old p (Ok x)
   answers_here front old p x h = (omega arith, λ xs e. rw (h xs) (refl, e, omega arith))
 
   -- a fault in the bytes that were taken
   pub answers_fault : (front : List ℕ → Taken A) (old : Option (List ℕ)) (p : ℕ)
       (new : Option (List ℕ)) (q : ℕ) (f : Error) (k : FaultKind) → fault_of f ≡ fault_at k q
       → IsFaultOfBytes k → p ≤ q → IfKnown old (λ xs. TakesFront (front xs) (Err k) new p q xs)
-      → Answers view front old p new q (Err f)
+      → GivesFront view front old p new q (Err f)
   answers_fault front old p new q f k s i le h = (
     is_at_inside f k q s i,
     le,
@@ -166,7 +166,7 @@ module _ {X A : Type 0} (view : X → A) where
   -- a fault where nothing was taken
   pub answers_bad : (front : List ℕ → Taken A) (old : Option (List ℕ)) (p : ℕ) (f : Error)
       (k : FaultKind) → fault_of f ≡ fault_at k p → IsFaultOfBytes k
-      → ((xs : List ℕ) → front xs ≡ taken 0 (Err k)) → Answers view front old p old p (Err f)
+      → ((xs : List ℕ) → front xs ≡ taken 0 (Err k)) → GivesFront view front old p old p (Err f)
   answers_bad front old p f k s i h =
       answers_fault front old p old p f k s i (omega arith)
       (λ xs e. rw (h xs) (refl, e, omega arith))
@@ -177,7 +177,7 @@ module _ {X A : Type 0} (view : X → A) where
       → IsFaultAt (fault_of f) q × (is_io_or_memory (kind_of (error_kind_of f)) ≡ false
       → (fault_of f ≡ fault_at UnclosedString q)
       × IfKnown old (λ xs. (new ≡ Some xs) × (xs ≡ [])))
-      → q ≡ p → front [] ≡ taken 0 (Err UnclosedString) → Answers view front old p new q (Err f)
+      → q ≡ p → front [] ≡ taken 0 (Err UnclosedString) → GivesFront view front old p new q (Err f)
   answers_unclosed front old p new q f a same h = (
     a.0,
     omega arith,
@@ -188,12 +188,12 @@ module _ {X A : Type 0} (view : X → A) where
         (ap Err (kind_said f _ q b.0), cc, omega arith),
   )
 
-  -- of the bytes that must be there one was taken, and then what is behind it
+  -- of the bytes that must be there one was taken, and then what is after it
   pub answers_one : (n c : ℕ) (meaning : List ℕ → Result A FaultKind)
       (old mid : Option (List ℕ)) (p m : ℕ) (new : Option (List ℕ)) (q : ℕ) (r : Result X Error)
       → FirstIsTaken old c mid → m ≡ p + 1
-      → Answers view (λ ys. needs n ys (λ ds. meaning (c ∷ ds))) mid m new q r
-      → Answers view (λ ys. needs (suc n) ys meaning) old p new q r
+      → GivesFront view (λ ys. needs n ys (λ ds. meaning (c ∷ ds))) mid m new q r
+      → GivesFront view (λ ys. needs (suc n) ys meaning) old p new q r
   answers_one n c meaning old mid p m new q r t s a =
       answers_past (λ ys. needs (suc n) ys meaning) (λ ys. needs n ys (λ ds. meaning (c ∷ ds)))
       old mid c p m new q r t s (λ ys. needs_past n c ys meaning) a
@@ -204,7 +204,7 @@ module _ {X A : Type 0} (view : X → A) where
       → IsFaultAt (fault_of f) q × (is_io_or_memory (kind_of (error_kind_of f)) ≡ false
       → (fault_of f ≡ fault_at UnclosedString q)
       × IfKnown old (λ xs. (new ≡ Some xs) × (xs ≡ [])))
-      → q ≡ p → Answers view (λ ys. needs (suc n) ys meaning) old p new q (Err f)
+      → q ≡ p → GivesFront view (λ ys. needs (suc n) ys meaning) old p new q (Err f)
   answers_none n meaning old p new q f a same =
       answers_unclosed (λ ys. needs (suc n) ys meaning) old p new q f a same refl
 
@@ -224,9 +224,9 @@ module _ {X Y A B : Type 0} (view : X → A) (seen : Y → B) (part : List ℕ �
 
   -- a part was taken, and then what follows it
   pub answers_then : (old mid : Option (List ℕ)) (p m : ℕ) (x : X) (new : Option (List ℕ)) (q : ℕ)
-      (r : Result Y Error) → Answers view part old p mid m (Ok x)
-      → Answers seen (next (view x)) mid m new q r
-      → Answers seen (λ xs. followed xs (part xs) next) old p new q r
+      (r : Result Y Error) → GivesFront view part old p mid m (Ok x)
+      → GivesFront seen (next (view x)) mid m new q r
+      → GivesFront seen (λ xs. followed xs (part xs) next) old p new q r
   answers_then old mid p m x new q (Ok y) a b = (
     omega (arith, a.0, b.0),
     λ xs e.
@@ -243,8 +243,8 @@ module _ {X Y A B : Type 0} (view : X → A) (seen : Y → B) (part : List ℕ �
 
   -- a part has a fault
   pub answers_stops : (old : Option (List ℕ)) (p : ℕ) (new : Option (List ℕ)) (q : ℕ) (f : Error)
-      → Answers view part old p new q (Err f)
-      → Answers seen (λ xs. followed xs (part xs) next) old p new q (Err f)
+      → GivesFront view part old p new q (Err f)
+      → GivesFront seen (λ xs. followed xs (part xs) next) old p new q (Err f)
   answers_stops old p new q f a = (
     a.0,
     a.1,

@@ -4,13 +4,13 @@ use Rattle.std.specs.Prelude.{◌==◌}
 use Rattle.plist_ascii.specs.declared.token.Lead.{Lead}
 use Rattle.plist_ascii.specs.declared.token.Lead.TheVariants as lead
 use Rattle.plist_ascii.specs.Taken.{past_one}
-use Rattle.plist_ascii.specs.Texts.{bare, lax}
+use Rattle.plist_ascii.specs.Texts.{bare, lax_stops}
 use Rattle.plist_ascii.specs.Ascii.{lead_of, token, token_by, OnlyBareTextsDiffer}
 
 -- the token that c begins is the same, or a bare text
 abbrev Alike : Lead → ℕ → List ℕ → Type 0
 Alike l c rest =
-    ((stops : ℕ → Bool) → past_one (token_by stops l c rest) ≡ past_one (token_by lax l c rest))
+    ((stops : ℕ → Bool) → past_one (token_by stops l c rest) ≡ past_one (token_by lax_stops l c rest))
     ⊎ ((stops : ℕ → Bool) → past_one (token_by stops l c rest) ≡ past_one (bare stops c rest))
 
 -- a slash begins a comment, which is the same, or a bare text

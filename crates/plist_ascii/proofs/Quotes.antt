@@ -5,15 +5,15 @@ use Rattle.std.proofs.lemmas.List.{drop-drop}
 use Rattle.plist_base.specs.Faults.{FaultKind, UnclosedString}
 use Rattle.plist_ascii.specs.Taken.{Taken, taken, past_one, run}
 use Rattle.plist_ascii.specs.Escapes.{escape}
-use Rattle.plist_ascii.specs.Quoted.{behind, with_front, ends_run, run_end, quoted_by, quoted_in, quoted, escape_then}
+use Rattle.plist_ascii.specs.Quoted.{piece_then, with_front, ends_run, run_end, quoted_by, quoted_in, quoted, escape_then}
 use Rattle.plist_ascii.specs.Unread.{TakesFront}
 use Rattle.plist_ascii.proofs.Loops.{Behind, behind_start, behind_more, behind_ends}
 
--- behind a run
+-- after a run
 
 pub end_goes_on : (quote c : ℕ) (xs ys part : List ℕ) → xs ≡ c ∷ ys → (c == quote) ≡ false
     → (escape ys).gives ≡ Ok part → (more : List ℕ → Taken (List ℕ))
-    → run_end quote more xs ≡ behind (suc (escape ys).bytes) part
+    → run_end quote more xs ≡ piece_then (suc (escape ys).bytes) part
     (more (drop (suc (escape ys).bytes) xs))
 end_goes_on quote c xs ys part s e g more =
     let t = more _ in
@@ -29,35 +29,35 @@ pub drop_past : (now : Option (List ℕ)) (c n : ℕ) (xs ys : List ℕ) → xs 
     → now ≡ Some (drop n ys) → now ≡ Some (drop (suc n) xs)
 drop_past now c n xs ys s h = rw s h
 
--- a run and what is behind it
+-- a run and what is after it
 
 pub part_ends : (quote n : ℕ) (xs : List ℕ) (g : Result (List ℕ) FaultKind) → let m =
     run (ends_run quote) xs in
     ((more : List ℕ → Taken (List ℕ)) → run_end quote more (drop m xs) ≡ taken n g)
     → (more : List ℕ → Taken (List ℕ))
     → quoted_by quote more xs ≡ taken (m + n) (with_front (take m xs) g)
-part_ends quote n xs g h more = ap (behind _ _) (h more)
+part_ends quote n xs g h more = ap (piece_then _ _) (h more)
 
 with_with : (a b : List ℕ) (r : Result (List ℕ) FaultKind)
     → with_front a (with_front b r) ≡ with_front (a ++ b) r
 with_with a b r = search (rules, append_assoc)
 
 pub behind_behind : (m n : ℕ) (a b : List ℕ) (t : Taken (List ℕ))
-    → behind m a (behind n b t) ≡ behind (m + n) (a ++ b) t
+    → piece_then m a (piece_then n b t) ≡ piece_then (m + n) (a ++ b) t
 behind_behind m n a b t =
     let place : m + (n + t.bytes) ≡ m + n + t.bytes = omega arith in
     rw (place, with_with a b _) refl
 
 pub part_goes_on : (quote n : ℕ) (xs part : List ℕ) → let m = run (ends_run quote) xs in
     ((more : List ℕ → Taken (List ℕ))
-    → run_end quote more (drop m xs) ≡ behind n part (more (drop n (drop m xs))))
+    → run_end quote more (drop m xs) ≡ piece_then n part (more (drop n (drop m xs))))
     → (more : List ℕ → Taken (List ℕ))
-    → quoted_by quote more xs ≡ behind (m + n) (take m xs ++ part) (more (drop (m + n) xs))
+    → quoted_by quote more xs ≡ piece_then (m + n) (take m xs ++ part) (more (drop (m + n) xs))
 part_goes_on quote n xs part h more =
     let m = run _ xs in
-    ap (behind m (take m xs)) (h more)
+    ap (piece_then m (take m xs)) (h more)
     ∙ behind_behind m n (take m xs) part (more _)
-    ∙ ap (λ zs. behind (m + n) (take m xs ++ part) (more zs)) (drop-drop n m xs)
+    ∙ ap (λ zs. piece_then (m + n) (take m xs ++ part) (more zs)) (drop-drop n m xs)
 
 -- room
 
@@ -82,7 +82,7 @@ by_same : (quote : ℕ) (f g : List ℕ → Taken (List ℕ)) (xs : List ℕ) �
 by_same quote f g xs h =
     let m = run _ xs in
     let short : length (drop m xs) ≤ length xs = rw length-drop (omega arith) in
-    ap (behind m _) (end_same _ f g (drop m xs) (λ ys l. h ys (omega arith)))
+    ap (piece_then m _) (end_same _ f g (drop m xs) (λ ys l. h ys (omega arith)))
 
 quoted_fuel : (quote r s : ℕ) (xs : List ℕ) → length xs ≤ r → length xs ≤ s
     → quoted_in quote r xs ≡ quoted_in quote s xs
@@ -105,7 +105,7 @@ quoted_opens quote (c ∷ xs) =
 
 -- the text so far
 abbrev pub Quoting : (quote : ℕ) (text xs : List ℕ) → ℕ → List ℕ → ℕ → Type 0
-Quoting quote text = Behind (quoted quote) (λ k ys. behind k text (quoted quote ys))
+Quoting quote text = Behind (quoted quote) (λ k ys. piece_then k text (quoted quote ys))
 
 pub quoting_start : (quote : ℕ) (xs : List ℕ) (p : ℕ) → Quoting quote [] xs p xs p
 quoting_start quote xs p = behind_start (behind_none _)
@@ -113,17 +113,17 @@ quoting_start quote xs p = behind_start (behind_none _)
     with_none : (r : Result (List ℕ) FaultKind) → with_front [] r ≡ r
     with_none r = search rules
 
-    behind_none : (t : Taken (List ℕ)) → t ≡ behind 0 [] t
+    behind_none : (t : Taken (List ℕ)) → t ≡ piece_then 0 [] t
     behind_none t =
         let n : 0 + t.bytes ≡ t.bytes = omega arith in rw (n, with_none _) refl
 
 module _ (quote : ℕ) (text : List ℕ) {xs : List ℕ} {p : ℕ} {ys : List ℕ} {q : ℕ}
     (h : Quoting quote text xs p ys q) (n : ℕ) {r : ℕ} (s : r ≡ q + n) where
   pub quoting_more : (part : List ℕ) {longer : List ℕ} → ((more : List ℕ → Taken (List ℕ))
-      → quoted_by quote more ys ≡ behind n part (more (drop n ys))) → longer ≡ text ++ part
+      → quoted_by quote more ys ≡ piece_then n part (more (drop n ys))) → longer ≡ text ++ part
       → Quoting quote longer xs p (drop n ys) r
   quoting_more part w e = behind_more h n r s
-      (ap (behind h.k text) (quoted_opens quote ys ∙ w (quoted quote))
+      (ap (piece_then h.k text) (quoted_opens quote ys ∙ w (quoted quote))
       ∙ behind_behind h.k n text part (quoted quote (drop n ys)) ∙ rw e refl)
 
   pub quoting_ends : {g all : Result (List ℕ) FaultKind} {new : Option (List ℕ)}
@@ -131,7 +131,7 @@ module _ (quote : ℕ) (text : List ℕ) {xs : List ℕ} {p : ℕ} {ys : List �
       → with_front text g ≡ all → new ≡ Some (drop n ys)
       → TakesFront (quoted quote xs) all new p r xs
   quoting_ends w e = behind_ends h n r s
-      (ap (behind h.k text) (quoted_opens _ ys ∙ w (quoted _)) ∙ ap (taken (h.k + n)) e)
+      (ap (piece_then h.k text) (quoted_opens _ ys ∙ w (quoted _)) ∙ ap (taken (h.k + n)) e)
 
 pub text_closes : (text old more : List ℕ) → text ≡ old ++ more → text ≡ old ++ (more ++ [])
 text_closes text old more e = cc (append-nil _)

@@ -21,7 +21,7 @@ use Rattle.plist_ascii.specs.Quoted.{with_front, escape_then, run_end, quoted_by
 use Rattle.plist_ascii.specs.declared.token.Lead.{Lead}
 use Rattle.plist_ascii.specs.Ascii.{IsTextFault, IsTextToken, lead_of, token_by}
 use Rattle.plist_ascii.specs.Comments.{slash}
-use Rattle.plist_ascii.specs.Unread.{IfKnown, first, TakesFront, Answers}
+use Rattle.plist_ascii.specs.Unread.{IfKnown, first, TakesFront, GivesFront}
 use Rattle.std.proofs.lemmas.Bool.{ne_eqb}
 use Rattle.plist_ascii.proofs.Unread.{first_splits}
 
@@ -186,7 +186,7 @@ slash_wants stops xs e = rw e (bare_wants _ 47 xs)
 
 -- ---- what the parts of a text make of it
 
--- a bare text is its first byte and the run behind it
+-- a bare text is its first byte and the run after it
 pub bare_taken : (stops : ℕ → Bool) (c : ℕ) (none one text : List ℕ)
     (g : Result (Option PlainEvent) FaultKind) (new : Option (List ℕ)) (p q : ℕ) (xs : List ℕ)
     → none ≡ [] → one ≡ none ++ c ∷ [] → bare_event text ≡ g
@@ -206,8 +206,8 @@ quoted_means quote text g new p q xs m h = (ap quoted_outcome h.0 ∙ m, h.1, h.
 
 -- and has its faults
 pub quoted_stops : (quote : ℕ) (old : Option (List ℕ)) (p : ℕ) (new : Option (List ℕ)) (q : ℕ)
-    (f : Error) → Answers {X = Vec ℕ Global} vec_items (quoted quote) old p new q (Err f)
-    → Answers {X = Event} (λ e. Some (event_of e)) (quoted_token quote) old p new q (Err f)
+    (f : Error) → GivesFront {X = Vec ℕ Global} vec_items (quoted quote) old p new q (Err f)
+    → GivesFront {X = Event} (λ e. Some (event_of e)) (quoted_token quote) old p new q (Err f)
 quoted_stops quote old p new q f a = (
   a.0,
   a.1,

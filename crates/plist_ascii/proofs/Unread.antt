@@ -7,7 +7,7 @@ use Rattle.std.proofs.lemmas.List.{length-take-le}
 use Rattle.std.proofs.Math.Seq.{take-append-add, take-nil}
 use Rattle.plist_ascii.specs.Incoming.{GivesByte}
 use Rattle.plist_ascii.specs.Taken.{run}
-use Rattle.plist_ascii.specs.Unread.{unread_of, first, within, IfKnown, FirstIsTaken, TakesPart}
+use Rattle.plist_ascii.specs.Unread.{unread_of, first, readable_with, IfKnown, FirstIsTaken, TakesPart}
 
 pub ended_unread : (k : Option (List ℕ)) (e : Bool) (p : Option ℕ) (t : ℕ) (xs : List ℕ) → e ≡ true
     → unread_of k e p t ≡ Some xs → xs ≡ []
@@ -19,7 +19,7 @@ pub full_unread : (k : Option (List ℕ)) (e : Bool) (p : Option ℕ) (t : ℕ) 
 unfolding unread_of
 full_unread k true p t xs e h = cc
 full_unread None false p t xs e h = cc
-full_unread (Some a) false p t xs e h = let r : within p t a ≡ [] = rw e refl in cc
+full_unread (Some a) false p t xs e h = let r : readable_with p t a ≡ [] = rw e refl in cc
 
 pub held_unread : (k : Option (List ℕ)) (c t : ℕ) (xs : List ℕ) → t < 2 ^ 64 - 1
     → unread_of k false (Some c) t ≡ Some xs
@@ -28,9 +28,9 @@ unfolding unread_of
 held_unread None c t xs l h = cc
 held_unread (Some a) c t xs l h =
     let left : 2 ^ 64 - 1 - t ≡ suc (2 ^ 64 - 1 - (t + 1)) = omega arith in
-    let e : within (Some c) t a ≡ c ∷ within None (t + 1) a = rw left refl in
-    let same : within (Some c) t a ≡ xs = cc in
-    (within None _ a, sym same ∙ e, refl)
+    let e : readable_with (Some c) t a ≡ c ∷ readable_with None (t + 1) a = rw left refl in
+    let same : readable_with (Some c) t a ≡ xs = cc in
+    (readable_with None _ a, sym same ∙ e, refl)
 
 pub end_unread : (k now : Option (List ℕ)) (t : ℕ) (xs : List ℕ) → GivesByte k None now
     → unread_of k false None t ≡ Some xs → xs ≡ []
@@ -39,7 +39,7 @@ end_unread None now t xs h e = cc
 end_unread (Some a) None t xs h e = absurd h.0
 end_unread (Some a) (Some b) t xs h e =
     let none = h.0 ∙ h.1 in
-    let cut : within None t a ≡ [] = rw none (take-nil _) in
+    let cut : readable_with None t a ≡ [] = rw none (take-nil _) in
     cc
 
 pub one_unread : (k now : Option (List ℕ)) (c t : ℕ) (xs : List ℕ) → GivesByte k (Some c) now
@@ -49,7 +49,7 @@ one_unread None now c t xs h g = cc
 one_unread (Some a) None c t xs h g = absurd h
 one_unread (Some a) (Some b) c t xs h g = rw (← h) g
 
--- what `look` and `take` say
+-- what `peek` and `take` say
 
 abbrev pub Looks : Option (List ℕ) → Option ℕ → List ℕ → Type 0
 Looks now o xs = (now ≡ Some xs) × (o ≡ first xs)
@@ -127,10 +127,10 @@ known_behind None now t n part xs l room c g = cc
 known_behind (Some a) None t n part xs l room c g = absurd c
 known_behind (Some a) (Some b) t n part xs l room c g =
     let left : 2 ^ 64 - 1 - t ≡ length part + (2 ^ 64 - 1 - (t + n)) = omega (arith, room) in
-    let e : within None t a ≡ part
-    ++ within None (t + n) b = rw c (rw left (take-append-add _ b _)) in
-    let same : within None t a ≡ xs = cc in
-    (within None _ b, sym same ∙ e, refl)
+    let e : readable_with None t a ≡ part
+    ++ readable_with None (t + n) b = rw c (rw left (take-append-add _ b _)) in
+    let same : readable_with None t a ≡ xs = cc in
+    (readable_with None _ b, sym same ∙ e, refl)
 
 pub part_unread : (k now : Option (List ℕ)) (e : Bool) (p : Option ℕ) (t n : ℕ) (part xs : List ℕ)
     → e ≡ false → is_some p ≡ false → length part ≡ n → t + n ≤ 2 ^ 64 - 1 → Consumes k now part
@@ -140,7 +140,7 @@ part_unread k now e (Some b) t n part xs h q l room c g = cc
 part_unread k now true None t n part xs h q l room c g = cc
 part_unread k now false None t n part xs h q l room c g = known_behind k _ t n _ xs l room c g
 
--- bytes at hand were taken, and stand behind the text
+-- bytes at hand were taken, and stand after the text
 pub part_taken : (stop : ℕ → Bool) (hand : List ℕ) (k now : Option (List ℕ)) (e : Bool)
     (p : Option ℕ) (t n : ℕ) (text longer xs : List ℕ) → e ≡ false → is_some p ≡ false
     → n ≤ length hand → t + n ≤ 2 ^ 64 - 1 → run stop (take n hand) ≡ n
@@ -160,7 +160,7 @@ new_unread known r inner e p t i n z g = rw (i, n, z, g) refl
 
 -- and where it goes on
 pub going_unread : (k : Option (List ℕ)) (e : Bool) (p : Option ℕ) (t : ℕ) → (e ≡ true → ⊥)
-    → IfSome k (λ xs. unread_of k e p t ≡ Some (within p t xs))
+    → IfSome k (λ xs. unread_of k e p t ≡ Some (readable_with p t xs))
 unfolding unread_of
 going_unread k e p t h = search rules
 

@@ -7,7 +7,7 @@ use Rattle.plist_base.specs.Trees.{Integer, String}
 use Rattle.plist_ascii.specs.declared.token.Lead.{Lead}
 use Rattle.plist_ascii.specs.declared.token.Lead.TheVariants as lead
 use Rattle.plist_ascii.specs.Taken.{taken, past_one}
-use Rattle.plist_ascii.specs.Texts.{Token, bare, lax}
+use Rattle.plist_ascii.specs.Texts.{Token, bare, lax_stops}
 use Rattle.plist_ascii.specs.Quoted.{quoted_token}
 use Rattle.plist_ascii.specs.Comments.{slash}
 
@@ -41,7 +41,7 @@ token stops c rest = past_one (token_by stops (lead_of c) c rest)
 -- Whatever ends a bare text, a token is the same; or it is a bare text, whatever ends it.
 abbrev pub OnlyBareTextsDiffer : Type 0
 OnlyBareTextsDiffer =
-    (c : ℕ) (rest : List ℕ) → ((stops : ℕ → Bool) → token stops c rest ≡ token lax c rest)
+    (c : ℕ) (rest : List ℕ) → ((stops : ℕ → Bool) → token stops c rest ≡ token lax_stops c rest)
     ⊎ ((stops : ℕ → Bool) → token stops c rest ≡ past_one (bare stops c rest))
 
 -- an item, what its first byte begins, and how many bytes are taken up to its end
@@ -101,7 +101,7 @@ BeginsWithText (Ok (ScalarEvent (Integer number)) ∷ items) = ⊤
 BeginsWithText (Err fault ∷ items) = IsTextFault fault.kind
 BeginsWithText items = ⊥
 
--- ---- what stands behind an item
+-- ---- what stands after an item
 
 -- the first item is a quoted text
 abbrev pub FirstIsQuoted : List PlacedItem → Type 0

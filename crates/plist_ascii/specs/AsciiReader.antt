@@ -13,7 +13,7 @@ use Rattle.plist_ascii.specs.declared.token.Lead.{Lead}
 use Rattle.plist_ascii.specs.Ascii.{PlacedItem, placed, placed_items, items_of_ascii, BeginsWithText, FirstIsQuoted}
 use Rattle.plist_ascii.specs.Kinds.{IsAsciiItem, IfBracketItem}
 use Rattle.plist_ascii.specs.Incoming.{ItemCountsIoIfCounted}
-use Rattle.plist_ascii.specs.Unread.{within, unread, IfKnown, IsFaultAt}
+use Rattle.plist_ascii.specs.Unread.{readable_with, unread, IfKnown, IsFaultAt}
 
 -- the reader inside
 abbrev pub device_of : {R : Type 0} → AsciiReader R → R
@@ -50,7 +50,7 @@ readable known = option_map (λ bytes. take (2 ^ 64 - 1) bytes) known
 -- the device inside holds what the reader had left, without the byte that was looked at
 abbrev pub HoldsLeft : {R : Type 0} → AsciiReader R → (R → Option (List ℕ)) → R → Type 0
 HoldsLeft reader known inner = IfSome (known inner) (λ bytes.
-    untaken_bytes known reader ≡ Some (within (peeked_byte reader) (place_of reader) bytes))
+    untaken_bytes known reader ≡ Some (readable_with (peeked_byte reader) (place_of reader) bytes))
 
 -- From place p on the items begin with this one, which ends at place q; the others are those of the
 -- rest, which are the bytes from q on.
@@ -79,7 +79,7 @@ TakesBytes item p q = MatchOption item (p ≤ q) (λ answer. MatchResult answer
     (λ _. p < q)
     (λ error. MatchFault (kind_of (error_kind_of error)) (p ≤ q) (p ≤ q) (p < q)))
 
--- a fault's offset is where the bytes taken end; want of memory has none
+-- a fault's offset is where the bytes taken end; lack of memory has none
 abbrev pub FaultIsAt : Option (Result Event Error) → ℕ → Type 0
 FaultIsAt item place =
     MatchOption item ⊤ (λ answer. MatchResult answer (λ _. ⊤)
@@ -90,14 +90,14 @@ abbrev pub IfQuotedItem : List PlacedItem → Option (Result Event Error) → (b
 IfQuotedItem items item behind =
     MatchOption item ⊤ (λ answer. MatchResult answer (λ _. FirstIsQuoted items → behind) (λ _. ⊤))
 
--- after a device's fault, want of memory and where nothing comes, nothing comes for good
+-- after a device's fault, lack of memory and where nothing comes, nothing comes for good
 abbrev pub EndsAfterIoOrMemory : Option (Result Event Error) → Type 0 → Type 0
 EndsAfterIoOrMemory item ended =
     MatchOption item ended (λ answer. MatchResult answer (λ _. ⊤)
     (λ error. MatchFault (kind_of (error_kind_of error)) ended ended ⊤))
 
 -- one call of `next`: the item is the first of those that the bytes not yet taken give; once ended,
--- the reader inside is asked no more, and behind a start, an end or a quoted text no byte has been
+-- the reader inside is asked no more, and after a start, an end or a quoted text no byte has been
 -- looked at
 pub record GivesAscii {R : Type 0} (known : R → Option (List ℕ)) (failed : R → Option ℕ)
     (old : AsciiReader R) (item : Option (Result Event Error)) (new : AsciiReader R) : Type 0 where

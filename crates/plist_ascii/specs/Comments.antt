@@ -1,4 +1,4 @@
--- What a slash begins, from the byte behind it on: a comment or a bare text.
+-- What a slash begins, from the byte after it on: a comment or a bare text.
 use Rattle.std.specs.Prelude.{ℕ, suc, Bool, false, cond, ◌&&◌, ◌==◌, List, [], ◌∷◌, length, Option, None, Some, Ok, Err}
 use Rattle.std.specs.Option.{option_map}
 use Rattle.plist_base.specs.Faults.{IncompleteComment}

@@ -1,4 +1,4 @@
--- What an escape in a quoted text stands for, from the byte behind its backslash on.
+-- What an escape in a quoted text stands for, from the byte after its backslash on.
 use Rattle.std.specs.Prelude.{ℕ, ◌-◌, Bool, cond, ◌&&◌, ◌||◌, ◌==◌, nat_lt, nat_le, List, [], ◌∷◌, slice_index, Option, None, Some, Result, Ok, Err, encode_utf8}
 use Rattle.std.specs.List.{list_all}
 use Rattle.std.specs.Char.{is_digit}
@@ -82,7 +82,7 @@ pair_text high (Some low) =
     (Ok (encode_utf8 (surrogate_pair_char high low))) (Err InvalidUtf16String)
 pair_text high None = Err InvalidUtf16String
 
--- the second unit, behind its letter
+-- the second unit, after its letter
 abbrev pub second_digits : ℕ → List ℕ → Taken (List ℕ)
 second_digits high rest = followed rest (unit rest) (λ low _. taken 0 (pair_text high low))
 
@@ -92,7 +92,7 @@ second_letter high [] = bad_unit 0
 second_letter high (c ∷ rest) =
     cond ((c == 117) || (c == 85)) (past_one (second_digits high rest)) (bad_unit 0)
 
--- the second unit, behind the digits of the first: a backslash, a letter and digits
+-- the second unit, after the digits of the first: a backslash, a letter and digits
 abbrev pub second_unit : ℕ → List ℕ → Taken (List ℕ)
 second_unit high [] = taken 0 (Err UnclosedString)
 second_unit high (c ∷ rest) = past_one (cond (c == 92) (second_letter high rest) (bad_unit 0))

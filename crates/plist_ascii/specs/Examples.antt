@@ -7,7 +7,7 @@ use Rattle.plist_base.specs.Faults.{FaultKind, fault_at, UnclosedString, Incompl
 use Rattle.plist_base.specs.Events.{Item, StartArray, StartDictionary, EndCollection, ScalarEvent}
 use Rattle.plist_base.specs.Trees as trees
 use Rattle.plist_base.specs.IntegerText.{integer_of_text}
-use Rattle.plist_ascii.specs.Texts.{lax, tight, bare_event, quoted_event}
+use Rattle.plist_ascii.specs.Texts.{lax_stops, tight_stops, bare_event, quoted_event}
 use Rattle.plist_ascii.specs.Escapes.{octal_char, octal_text, escape}
 use Rattle.plist_ascii.specs.Quoted.{quoted_in}
 use Rattle.plist_ascii.specs.Ascii.{token, items_in, items_of_ascii}
@@ -35,7 +35,7 @@ abbrev AreRead : (stops : ℕ → Bool) → List (String × List Item) → Type 
 AreRead stops rows =
     map (λ row. items_of_ascii stops (codes row.0) 0) rows ≡ map (λ row. row.1) rows
 
-bare_texts : AreRead lax (
+bare_texts : AreRead lax_stops (
     -- a slash opens a bare text
     ("/abc", text "/abc" ∷ [])
     -- a slash alone is one
@@ -46,7 +46,7 @@ bare_texts : AreRead lax (
     ∷ ("/*/", refused IncompleteComment 3 ∷ [])
     -- the first star and slash close
     ∷ ("/* * */z", text "z" ∷ [])
-    -- nothing behind a slash
+    -- nothing after a slash
     ∷ ("/", refused IncompleteComment 1 ∷ [])
     -- a comment up to the end
     ∷ ("//x", [])
@@ -68,7 +68,7 @@ unfolding items_in token bare_event integer_of_text quoted_in quoted_event escap
     chars encode
 bare_texts = refl
 
-quoted_texts : AreRead lax (
+quoted_texts : AreRead lax_stops (
     -- the end in a text
     ("\"ab", refused UnclosedString 3 ∷ [])
     -- three digits are taken before they are judged
@@ -89,7 +89,7 @@ quoted_texts : AreRead lax (
     ∷ ("\"\\UDCA9\\UD83D\"", refused InvalidUtf16String 13 ∷ refused UnclosedString 14 ∷ [])
     -- the end among the digits
     ∷ ("\"\\U12", refused UnclosedString 5 ∷ [])
-    -- no letter behind the backslash
+    -- no letter after the backslash
     ∷ ("\"\\UD83D\\", refused InvalidUtf16String 8 ∷ [])
     -- a small letter alone is no escape
     ∷ ("\"\\u0080\"", refused InvalidUtf8AsciiStream 3 ∷ text "0080\"" ∷ [])
@@ -99,7 +99,7 @@ unfolding items_in token bare_event integer_of_text quoted_in quoted_event escap
     octal_text is_utf8 chars encode
 quoted_texts = refl
 
-tight_texts : AreRead tight (
+tight_texts : AreRead tight_stops (
     -- = and } end a bare text
     ("{a=b}", dictionary ∷ text "a" ∷ text "b" ∷ close ∷ [])
     -- and LF does

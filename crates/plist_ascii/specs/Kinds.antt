@@ -15,7 +15,7 @@ IsFaultOfBytes InvalidOctalString = ⊤
 IsFaultOfBytes InvalidUtf16String = ⊤
 IsFaultOfBytes kind = ⊥
 
--- a device's fault, want of memory, or one that the bytes can have
+-- a device's fault, lack of memory, or one that the bytes can have
 abbrev pub IsAsciiFault : FaultKind → Type 0
 IsAsciiFault kind = MatchFault kind ⊤ ⊤ (IsFaultOfBytes kind)
 

@@ -1,4 +1,4 @@
--- Quoted texts, from the byte behind the opening quote on.
+-- Quoted texts, from the byte after the opening quote on.
 use Rattle.std.specs.Prelude.{ℕ, zero, suc, ◌+◌, Bool, cond, ◌||◌, ◌==◌, List, [], ◌∷◌, ◌++◌, length, take, drop, Option, Result, Ok, Err}
 use Rattle.plist_base.specs.Faults.{FaultKind, UnclosedString}
 use Rattle.plist_base.specs.Events.{PlainEvent}
@@ -16,12 +16,12 @@ with_front front (Ok more) = Ok (front ++ more)
 with_front front (Err fault) = Err fault
 
 -- n bytes stand for these, and then comes the rest of the text
-abbrev pub behind : ℕ → List ℕ → Taken (List ℕ) → Taken (List ℕ)
-behind n front t = taken (n + t.bytes) (with_front front t.gives)
+abbrev pub piece_then : ℕ → List ℕ → Taken (List ℕ) → Taken (List ℕ)
+piece_then n front t = taken (n + t.bytes) (with_front front t.gives)
 
--- an escape's fault, or what it stands for and then the rest behind its bytes
+-- an escape's fault, or what it stands for and then the rest after its bytes
 abbrev pub escape_then : ℕ → Result (List ℕ) FaultKind → (ℕ → Taken (List ℕ)) → Taken (List ℕ)
-escape_then n (Ok text) more = behind n text (more n)
+escape_then n (Ok text) more = piece_then n text (more n)
 escape_then n (Err fault) more = taken n (Err fault)
 
 module _ (quote : ℕ) (more : List ℕ → Taken (List ℕ)) where
@@ -35,7 +35,7 @@ module _ (quote : ℕ) (more : List ℕ → Taken (List ℕ)) where
   -- the longest run of plain bytes, and then what ends it
   abbrev pub quoted_by : List ℕ → Taken (List ℕ)
   quoted_by bytes =
-      behind (run (ends_run quote) bytes) (take (run (ends_run quote) bytes) bytes)
+      piece_then (run (ends_run quote) bytes) (take (run (ends_run quote) bytes) bytes)
       (run_end (drop (run (ends_run quote) bytes) bytes))
 
 -- runs and escapes in turn; `fuel` is at least the number of escapes

@@ -15,17 +15,17 @@ abbrev pub Token : Type 0
 Token = Taken (Option PlainEvent)
 
 -- ends a bare text: space, `)`, CR, tab, `;`, `,`
-abbrev pub lax : ℕ → Bool
-lax c = list_any (λ d. c == d) (32 ∷ 41 ∷ 13 ∷ 9 ∷ 59 ∷ 44 ∷ [])
+abbrev pub lax_stops : ℕ → Bool
+lax_stops c = list_any (λ d. c == d) (32 ∷ 41 ∷ 13 ∷ 9 ∷ 59 ∷ 44 ∷ [])
 
 -- the same, and LF, `}`, `=`
-abbrev pub tight : ℕ → Bool
-tight c = list_any (λ d. c == d) (32 ∷ 41 ∷ 13 ∷ 9 ∷ 59 ∷ 44 ∷ 10 ∷ 125 ∷ 61 ∷ [])
+abbrev pub tight_stops : ℕ → Bool
+tight_stops c = list_any (λ d. c == d) (32 ∷ 41 ∷ 13 ∷ 9 ∷ 59 ∷ 44 ∷ 10 ∷ 125 ∷ 61 ∷ [])
 
 -- the stops of a dialect
 abbrev pub ends_bare : Dialect → ℕ → Bool
-ends_bare dialect.Lax c = lax c
-ends_bare dialect.Tight c = tight c
+ends_bare dialect.Lax c = lax_stops c
+ends_bare dialect.Tight c = tight_stops c
 
 -- a number where the text spells one, else the text
 abbrev pub number_or_text : List ℕ → Option ℤ → Scalar
@@ -49,6 +49,6 @@ bare_event text = utf8_or_fault text (scalar_of_text text)
 unfoldable pub quoted_event : List ℕ → Result (Option PlainEvent) FaultKind
 quoted_event text = utf8_or_fault text (String text)
 
--- a bare text: its first byte, and the longest run behind it without a stop
+-- a bare text: its first byte, and the longest run after it without a stop
 abbrev pub bare : (stops : ℕ → Bool) → ℕ → List ℕ → Token
 bare stops c rest = taken (run stops rest) (bare_event (c ∷ take (run stops rest) rest))

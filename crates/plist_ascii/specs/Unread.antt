@@ -15,15 +15,15 @@ use Rattle.plist_ascii.specs.Taken.{Taken, run}
 use Rattle.plist_ascii.specs.Texts.{ends_bare}
 use Rattle.plist_ascii.specs.Quoted.{ends_run}
 
--- a byte that was looked at, and the bytes behind it: no input is longer than 2^64 - 1 bytes
-abbrev pub within : Option ℕ → (taken : ℕ) → List ℕ → List ℕ
-within peeked taken bytes = take (2 ^ 64 - 1 - taken) (cons_option peeked bytes)
+-- a byte that was looked at, and the bytes after it: no input is longer than 2^64 - 1 bytes
+abbrev pub readable_with : Option ℕ → (taken : ℕ) → List ℕ → List ℕ
+readable_with peeked taken bytes = take (2 ^ 64 - 1 - taken) (cons_option peeked bytes)
 
 -- the bytes not taken, where they are known; none once the input has ended
 unfoldable pub unread_of : Option (List ℕ) → (ended : Bool) → Option ℕ → (taken : ℕ)
     → Option (List ℕ)
 unread_of known true peeked taken = Some []
-unread_of known false peeked taken = option_map (λ bytes. within peeked taken bytes) known
+unread_of known false peeked taken = option_map (λ bytes. readable_with peeked taken bytes) known
 
 -- the same of an input
 abbrev pub unread : {R : Type 0} → (R → Option (List ℕ)) → Input R → Option (List ℕ)
@@ -43,13 +43,13 @@ stops (stop.Bare dialect) c = ends_bare dialect c
 stops stop.LineEnd c = c == 10
 stops (stop.Quoted quote) c = ends_run quote c
 
--- a device's fault, or want of memory, which says nothing of the bytes
+-- a device's fault, or lack of memory, which says nothing of the bytes
 abbrev pub is_io_or_memory : FaultKind → Bool
 is_io_or_memory Io = true
 is_io_or_memory OutOfMemory = true
 is_io_or_memory kind = false
 
--- a device's fault or one of the bytes stands where the bytes taken end; want of memory has no
+-- a device's fault or one of the bytes stands where the bytes taken end; lack of memory has no
 -- place
 abbrev pub IsFaultAt : Fault → ℕ → Type 0
 IsFaultAt fault place =
@@ -62,7 +62,7 @@ FirstIsTaken old c new = IfKnown old (λ bytes. (rest : List ℕ) × (bytes ≡ 
     × (new ≡ Some rest))
 
 -- from place p to place q some of the first bytes were taken, which no stop is among, and stand
--- behind the text
+-- after the text
 abbrev pub TakesPart : (stops : ℕ → Bool) → (p : ℕ) → (text : List ℕ) → (new : Option (List ℕ))
     → (q : ℕ) → (longer : List ℕ) → List ℕ → Type 0
 TakesPart stops p text new q longer bytes =
@@ -76,11 +76,11 @@ TakesFront t outcome new p q bytes =
     (t.gives ≡ outcome) × (new ≡ Some (drop t.bytes bytes)) × (q ≡ p + t.bytes)
 
 -- From place p to place q, what stands at the front of the old bytes was taken, and gave what the
--- answer says, seen by view. A device's fault or want of memory says nothing of the bytes.
-abbrev pub Answers : {X A : Type 0} → (view : X → A) → (front : List ℕ → Taken A)
+-- answer says, seen by view. A device's fault or lack of memory says nothing of the bytes.
+abbrev pub GivesFront : {X A : Type 0} → (view : X → A) → (front : List ℕ → Taken A)
     → (old : Option (List ℕ)) → (p : ℕ) → (new : Option (List ℕ)) → (q : ℕ) → Result X Error
     → Type 0
-Answers view front old p new q answer = MatchResult answer
+GivesFront view front old p new q answer = MatchResult answer
     (λ x. (p ≤ q) × IfKnown old (λ bytes. TakesFront (front bytes) (Ok (view x)) new p q bytes))
     (λ e. IsFaultAt (fault_of e) q × (p ≤ q) × (is_io_or_memory (kind_of (error_kind_of e)) ≡ false
     → IfKnown old (λ bytes.

@@ -6,7 +6,7 @@ ghost use Rattle.plist_base.specs.Outcomes.{OnlyFault};
 ghost use Rattle.plist_ascii.specs.Comments.{line_comment, block_comment};
 ghost use Rattle.plist_ascii.specs.inner.Inputs.{CountsFailed, SkipsRun, GivesToken};
 
-use crate::bytes::Bytes;
+use crate::byte_reader::ByteReader;
 use crate::input::{Input, Stop};
 use plist_base::{Error, ErrorKind, OwnedEvent};
 
@@ -24,7 +24,7 @@ fn is_star(byte: u8) -> bool
     byte == b'*'
 }
 
-impl<R: Bytes> Input<R> {
+impl<R: ByteReader> Input<R> {
     // Takes the bytes up to a stop.
     fn skip_run(&mut self, stop: Stop) -> Result<(), Error>
         ensures value { OnOk result (SkipsRun R.remaining stop self.old self.new) }
@@ -49,13 +49,13 @@ impl<R: Bytes> Input<R> {
         Ok(None)
     }
 
-    /// Takes a comment up to and with its `*/`, whose opening has been taken. No byte behind it is
+    /// Takes a comment up to and with its `*/`, whose opening has been taken. No byte after it is
     /// looked at.
     pub fn block_comment(&mut self) -> Result<Option<OwnedEvent>, Error>
         ensures answers { GivesToken R.remaining block_comment self.old result self.new }
         ensures memory { IfErr result (λ error. kind_of (error_kind_of error) ≢ OutOfMemory) }
         ensures nothing { IfOk result (λ event. event ≡ None) }
-        ensures looked { IfOk result (λ _. self.new.peeked ≡ None) }
+        ensures peeked { IfOk result (λ _. self.new.peeked ≡ None) }
         ensures failures { CountsFailed R.failures self.old result self.new }
     {
         let mut star = false;

@@ -7,9 +7,9 @@ ghost use Rattle.plist_base.specs.Outcomes.{OnlyFault, OnlyMemory};
 ghost use Rattle.plist_ascii.specs.Taken.{run};
 ghost use Rattle.plist_ascii.specs.Texts.{ends_bare};
 ghost use Rattle.plist_ascii.specs.Unread.{unread, stops};
-ghost use Rattle.plist_ascii.specs.inner.Inputs.{CountsFailed, IfCame, LooksAt, CanTakeByte, TakesNoMore, DropsOne, TakesByte, HasNothingLeft, StopsRun, TakesPlain, IsOneOn, CountsByte, IsUnclosedText, SkipsSome, AddsTo};
+ghost use Rattle.plist_ascii.specs.inner.Inputs.{CountsFailed, IfCame, Peeks, CanTakeByte, TakesNoMore, DropsOne, TakesByte, HasNothingLeft, StopsRun, TakesPlain, TakesOneMore, CountsByte, IsUnclosedText, SkipsSome, AddsTo};
 
-use crate::bytes::Bytes;
+use crate::byte_reader::ByteReader;
 use crate::dialect::Dialect;
 use plist_base::{Error, ErrorKind};
 
@@ -114,14 +114,14 @@ impl<R> Input<R> {
     }
 }
 
-impl<R: Bytes> Input<R> {
+impl<R: ByteReader> Input<R> {
     // Reads one byte ahead.
     fn fetch(&mut self) -> Result<Option<u8>, Error>
         requires going { self.old.ended ≡ false }
-        requires room { self.old.taken < 2 ^ 64 - 1 }
+        requires countable { self.old.taken < 2 ^ 64 - 1 }
         requires none { self.old.peeked ≡ None }
         // The answer.
-        ensures next { IfOk result (λ byte. LooksAt R.remaining self.old byte self.new) }
+        ensures next { IfOk result (λ byte. Peeks R.remaining self.old byte self.new) }
         // A refusal.
         ensures fault { OnlyFault result (fault_at Io self.new.taken) }
         // The state after it.
@@ -145,9 +145,9 @@ impl<R: Bytes> Input<R> {
 
     /// The next byte, which isn't taken.
     #[tactic(auto, using(crate::proofs::Unread::looks))]
-    pub fn look(&mut self) -> Result<Option<u8>, Error>
+    pub fn peek(&mut self) -> Result<Option<u8>, Error>
         // The answer.
-        ensures next { IfOk result (λ byte. LooksAt R.remaining self.old byte self.new) }
+        ensures next { IfOk result (λ byte. Peeks R.remaining self.old byte self.new) }
         // A refusal.
         ensures fault { OnlyFault result (fault_at Io self.new.taken) }
         // The state after it.
@@ -174,9 +174,9 @@ impl<R: Bytes> Input<R> {
     pub fn advance(&mut self)
         requires some { IsSome self.old.peeked }
         requires going { self.old.ended ≡ false }
-        requires room { self.old.taken < 2 ^ 64 - 1 }
+        requires countable { self.old.taken < 2 ^ 64 - 1 }
         ensures next { DropsOne R.remaining self.old self.new }
-        ensures looked { self.new.peeked ≡ None }
+        ensures peeked { self.new.peeked ≡ None }
         ensures place { self.new.taken ≡ self.old.taken + 1 }
         ensures inner { self.new.inner ≡ self.old.inner }
     {
@@ -196,7 +196,7 @@ impl<R: Bytes> Input<R> {
         ensures unchanged { IfErr result (λ _. self.new.taken ≡ self.old.taken) }
         ensures failures { CountsFailed R.failures self.old result self.new }
     {
-        match self.look()? {
+        match self.peek()? {
             Some(byte) => {
                 if is_stop(stop, byte) {
                     return Ok(None);
@@ -254,12 +254,12 @@ impl<R: Bytes> Input<R> {
         // A refusal.
         ensures fault { OnlyFault result (fault_at Io self.new.taken) }
         // The state after it.
-        ensures looked { IfCame result (λ _. self.new.peeked ≡ None) }
+        ensures peeked { IfCame result (λ _. self.new.peeked ≡ None) }
         ensures place { IfOk result (λ o. CountsByte self.old o self.new) }
         ensures unchanged { IfErr result (λ _. self.new.taken ≡ self.old.taken) }
         ensures failures { CountsFailed R.failures self.old result self.new }
     {
-        match self.look()? {
+        match self.peek()? {
             Some(byte) => {
                 self.advance();
                 Ok(Some(byte))
@@ -275,8 +275,8 @@ impl<R: Bytes> Input<R> {
         // A refusal.
         ensures fault { IfErr result (IsUnclosedText R.remaining self.old self.new) }
         // The state after it.
-        ensures looked { IfOk result (λ _. self.new.peeked ≡ None) }
-        ensures place { OnOk result (IsOneOn self.old self.new) }
+        ensures peeked { IfOk result (λ _. self.new.peeked ≡ None) }
+        ensures place { OnOk result (TakesOneMore self.old self.new) }
         ensures unchanged { IfErr result (λ _. self.new.taken ≡ self.old.taken) }
         ensures failures { CountsFailed R.failures self.old result self.new }
     {

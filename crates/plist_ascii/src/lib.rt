@@ -4,7 +4,7 @@
 //! items that the bytes not yet taken spell, and takes the bytes up to its end.
 #![tactic(auto)]
 
-mod bytes;
+mod byte_reader;
 mod comment;
 mod dialect;
 mod input;
@@ -14,6 +14,6 @@ mod text;
 mod token;
 mod unescape;
 
-pub use bytes::Bytes;
+pub use byte_reader::ByteReader;
 pub use dialect::Dialect;
 pub use reader::AsciiReader;

@@ -6,9 +6,9 @@ ghost use Rattle.plist_base.specs.Events.{event_of};
 ghost use Rattle.plist_ascii.specs.Quoted.{quoted, quoted_token};
 ghost use Rattle.plist_ascii.specs.inner.Parts.{escaped_bytes, PartFails, EndFails};
 ghost use Rattle.plist_ascii.specs.Kinds.{IsTextEvent};
-ghost use Rattle.plist_ascii.specs.inner.Inputs.{CountsFailed, IsFurther, TakesEnd, Quotes, FailsBehind, GivesOne, GivesText};
+ghost use Rattle.plist_ascii.specs.inner.Inputs.{CountsFailed, TakesSomeMore, TakesEnd, Quotes, FailsAfter, GivesOne, GivesText};
 
-use crate::bytes::Bytes;
+use crate::byte_reader::ByteReader;
 use crate::input::{Input, Stop};
 use crate::text::{push_byte, quoted_event};
 use crate::unescape::Escaped;
@@ -31,13 +31,13 @@ fn push_escaped(text: &mut Vec<u8>, piece: Escaped) -> Result<(), Error>
     }
 }
 
-impl<R: Bytes> Input<R> {
-    // Takes what stands behind a run of plain bytes: the closing quote, or an escape.
+impl<R: ByteReader> Input<R> {
+    // Takes what stands after a run of plain bytes: the closing quote, or an escape.
     fn run_end(&mut self, quote: u8) -> Result<Option<Escaped>, Error>
         ensures value { IfOk result (TakesEnd R.remaining quote self.old self.new) }
-        ensures fault { IfErr result (FailsBehind R.remaining (EndFails quote) self.old self.new) }
-        ensures rises { OnOk result (IsFurther self.old self.new) }
-        ensures looked { IfOk result (λ piece. piece ≡ None → self.new.peeked ≡ None) }
+        ensures fault { IfErr result (FailsAfter R.remaining (EndFails quote) self.old self.new) }
+        ensures rises { OnOk result (TakesSomeMore self.old self.new) }
+        ensures peeked { IfOk result (λ piece. piece ≡ None → self.new.peeked ≡ None) }
         ensures failures { CountsFailed R.failures self.old result self.new }
     {
         if self.expect_byte()? == quote {
@@ -47,12 +47,12 @@ impl<R: Bytes> Input<R> {
         Ok(Some(piece))
     }
 
-    // Takes a run of plain bytes and what stands behind it. Says whether the text is closed.
+    // Takes a run of plain bytes and what stands after it. Says whether the text is closed.
     fn part(&mut self, quote: u8, text: &mut Vec<u8>) -> Result<bool, Error>
         ensures value { IfOk result (Quotes R.remaining quote self.old text.old self.new text.new) }
-        ensures fault { IfErr result (FailsBehind R.remaining (PartFails quote) self.old self.new) }
-        ensures rises { OnOk result (IsFurther self.old self.new) }
-        ensures looked { IfOk result (λ closed. closed ≡ true → self.new.peeked ≡ None) }
+        ensures fault { IfErr result (FailsAfter R.remaining (PartFails quote) self.old self.new) }
+        ensures rises { OnOk result (TakesSomeMore self.old self.new) }
+        ensures peeked { IfOk result (λ closed. closed ≡ true → self.new.peeked ≡ None) }
         ensures failures { CountsFailed R.failures self.old result self.new }
     {
         self.take_run(Stop::Quoted(quote), text)?;
@@ -68,7 +68,7 @@ impl<R: Bytes> Input<R> {
     // Takes the bytes of a text up to and with its closing quote.
     fn quoted(&mut self, alloc: Global, quote: u8) -> Result<Vec<u8>, Error>
         ensures answers { GivesText R.remaining (quoted quote) self.old result self.new }
-        ensures looked { IfOk result (λ _. self.new.peeked ≡ None) }
+        ensures peeked { IfOk result (λ _. self.new.peeked ≡ None) }
         ensures failures { CountsFailed R.failures self.old result self.new }
     {
         let mut text = Vec::new(alloc);
@@ -79,11 +79,11 @@ impl<R: Bytes> Input<R> {
         }
     }
 
-    /// Takes a quoted text, whose opening quote has been taken. No byte behind it is looked at.
+    /// Takes a quoted text, whose opening quote has been taken. No byte after it is looked at.
     pub fn quoted_text(&mut self, alloc: Global, quote: u8) -> Result<OwnedEvent, Error>
         ensures answers { GivesOne R.remaining (quoted_token quote) self.old result self.new }
         ensures kinds { IfOk result (λ event. IsTextEvent (event_of event)) }
-        ensures looked { IfOk result (λ _. self.new.peeked ≡ None) }
+        ensures peeked { IfOk result (λ _. self.new.peeked ≡ None) }
         ensures failures { CountsFailed R.failures self.old result self.new }
     {
         let text = self.quoted(alloc, quote)?;

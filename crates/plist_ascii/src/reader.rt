@@ -5,9 +5,9 @@ ghost use Rattle.plist_base.specs.Faults.{kind_of, error_kind_of};
 ghost use Rattle.plist_ascii.specs.Kinds.{IsAsciiItem, IfBracketItem};
 ghost use Rattle.plist_ascii.specs.Unread.{is_io_or_memory};
 ghost use Rattle.plist_ascii.specs.AsciiReader.{TakesBytes, FaultIsAt, EndsAfterIoOrMemory, readable, HoldsLeft};
-ghost use Rattle.plist_ascii.specs.inner.Inputs.{ItemCountsFailed, GivesToStop, StopsAtQuote, to_come_of};
+ghost use Rattle.plist_ascii.specs.inner.Inputs.{ItemCountsFailed, GivesToStop, StopsAtQuote, input_steps};
 
-use crate::bytes::Bytes;
+use crate::byte_reader::ByteReader;
 use crate::dialect::Dialect;
 use crate::input::{Input, Stop};
 use plist_base::{Error, ErrorKind, OwnedEvent};
@@ -20,7 +20,7 @@ fn is_io_or_memory(error: &Error) -> bool
     matches!(error.kind(), ErrorKind::Io(_) | ErrorKind::OutOfMemory)
 }
 
-impl<R: Bytes> Input<R> {
+impl<R: ByteReader> Input<R> {
     // Takes tokens up to the first that gives an item.
     fn item(&mut self, alloc: Global, stop: Stop) -> Option<Result<OwnedEvent, Error>>
         // The answer.
@@ -35,7 +35,7 @@ impl<R: Bytes> Input<R> {
         ensures ended { self.old.ended ≡ true → result ≡ None }
         ensures unasked { self.old.ended ≡ true → self.new.inner ≡ self.old.inner }
         ensures ends { EndsAfterIoOrMemory result (self.new.ended ≡ true) }
-        ensures falls { IfSome result (λ _. to_come_of self.new < to_come_of self.old) }
+        ensures falls { IfSome result (λ _. input_steps self.new < input_steps self.old) }
         ensures failures { ItemCountsFailed R.failures self.old result self.new }
     {
         if self.has_ended() {
@@ -70,7 +70,7 @@ impl<R: Bytes> Input<R> {
 ///
 /// Brackets open and close collections, quotes and other bytes open texts, and what stands between
 /// them is passed over; nesting isn't checked. A bare text that spells an integer is one; the
-/// [`Dialect`] says what ends it. It looks at one byte behind an item only where that byte decides
+/// [`Dialect`] says what ends it. It looks at one byte after an item only where that byte decides
 /// the item's end. At most 2^64 - 1 bytes are taken.
 ///
 /// The offset of a fault is the number of bytes taken; `OutOfMemory` has none.
@@ -90,7 +90,7 @@ pub struct AsciiReader<R> {
     dialect: Dialect,
 }
 
-impl<R: Bytes> AsciiReader<R> {
+impl<R: ByteReader> AsciiReader<R> {
     ghost use Rattle.std.specs.Prelude.{◌≡◌, ◌-◌, take, None, IfSome, Some};
     ghost use Rattle.plist_ascii.specs.Ascii.{OnlyBareTextsDiffer};
     ghost use Rattle.plist_ascii.specs.AsciiReader.{untaken_bytes, dialect_of, device_of, peeked_byte, place_of, HasEndedAscii};
@@ -133,7 +133,7 @@ impl<R: Bytes> AsciiReader<R> {
 
     /// The device, from which at most one byte past the last item has been read.
     ///
-    /// That byte is lost. Behind a bracket or a quoted text none is.
+    /// That byte is lost. After a bracket or a quoted text none is.
     #[tactic(auto, using(crate::proofs::Unread::going_unread))]
     pub fn into_inner(self) -> R
         ensures bytes { (HasEndedAscii self → ⊥) → HoldsLeft self R.remaining result }
@@ -143,7 +143,7 @@ impl<R: Bytes> AsciiReader<R> {
     }
 }
 
-impl<R: Bytes + Drop> Iterator for AsciiReader<R> {
+impl<R: ByteReader + Drop> Iterator for AsciiReader<R> {
     type Item = Result<OwnedEvent, Error>;
 
     ghost use Rattle.std.specs.Iterator.{at_most};

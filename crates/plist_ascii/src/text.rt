@@ -10,7 +10,7 @@ ghost use Rattle.plist_ascii.specs.Unread.{Means};
 ghost use Rattle.plist_ascii.specs.inner.Inputs.{CountsFailed, OnlyIoOrMemory, AddsRun, bare_until, GivesOne};
 ghost use Rattle.plist_ascii.specs.inner.Parts.{IsTextOf, IsNoText};
 
-use crate::bytes::Bytes;
+use crate::byte_reader::ByteReader;
 use crate::input::{Input, Stop};
 use plist_base::{Error, ErrorKind, Event, Integer, OwnedEvent};
 use std::alloc::Global;
@@ -65,7 +65,7 @@ pub fn quoted_event(bytes: Vec<u8>) -> Result<OwnedEvent, ErrorKind>
     Ok(Event::String(CowStr::Owned(text)))
 }
 
-impl<R: Bytes> Input<R> {
+impl<R: ByteReader> Input<R> {
     /// Takes the bytes up to a stop, and appends them.
     pub fn take_run(&mut self, stop: Stop, text: &mut Vec<u8>) -> Result<(), Error>
         ensures value { OnOk result (AddsRun R.remaining stop self.old text.old self.new text.new) }

@@ -8,7 +8,7 @@ ghost use Rattle.plist_ascii.specs.Kinds.{IsTextEvent, IsAsciiEvent};
 ghost use Rattle.plist_ascii.specs.Unread.{stops};
 ghost use Rattle.plist_ascii.specs.inner.Inputs.{CountsFailed, IfCame, token_until, GivesToken, AllocatesForText, StopsAtBracket};
 
-use crate::bytes::Bytes;
+use crate::byte_reader::ByteReader;
 use crate::input::{Input, Stop};
 use plist_base::{Error, ErrorKind, Event, OwnedEvent};
 use std::alloc::Global;
@@ -47,7 +47,7 @@ fn lead_of(byte: u8) -> Lead
     }
 }
 
-impl<R: Bytes> Input<R> {
+impl<R: ByteReader> Input<R> {
     // Takes what a slash begins.
     fn slash(&mut self, alloc: Global, stop: Stop) -> Result<Option<OwnedEvent>, Error>
         ensures answers { GivesToken R.remaining (slash (stops stop)) self.old result self.new }
@@ -55,7 +55,7 @@ impl<R: Bytes> Input<R> {
         ensures kinds { IfCame result (λ event. IsTextEvent (event_of event)) }
         ensures failures { CountsFailed R.failures self.old result self.new }
     {
-        match self.look()? {
+        match self.peek()? {
             Some(b'/') => {
                 self.advance();
                 self.line_comment()

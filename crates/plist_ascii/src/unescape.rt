@@ -8,7 +8,7 @@ ghost use Rattle.plist_ascii.specs.Escapes.{simple_escape, octal, octal_char, oc
 ghost use Rattle.plist_ascii.specs.inner.Inputs.{CountsFailed, GivesEscaped, GivesUnit};
 ghost use Rattle.plist_ascii.specs.inner.Parts.{IsDigitOf, IsCharOfUnit, IsCharOr};
 
-use crate::bytes::Bytes;
+use crate::byte_reader::ByteReader;
 use crate::input::Input;
 use plist_base::{Error, ErrorKind};
 
@@ -120,7 +120,7 @@ fn lone_char(unit: u16) -> Option<char>
     char::from_u32(u32::from(unit))
 }
 
-// Does this byte begin a unit behind its backslash?
+// Does this byte begin a unit after its backslash?
 fn is_unit_letter(byte: u8) -> bool
     ensures { result ≡ (byte == 117) || (byte == 85) }
 {
@@ -145,7 +145,7 @@ fn pair_char(high: u16, low: Option<u16>) -> Option<char>
     char::from_u32(0x1_0000 + (u32::from(high) - 0xD800) * 0x400 + (u32::from(low) - 0xDC00))
 }
 
-impl<R: Bytes> Input<R> {
+impl<R: ByteReader> Input<R> {
     /// Takes an escape, whose backslash has been taken.
     pub fn escape(&mut self) -> Result<Escaped, Error>
         ensures answers { GivesEscaped R.remaining escape self.old result self.new }
@@ -236,7 +236,7 @@ impl<R: Bytes> Input<R> {
         ensures answers { GivesEscaped R.remaining (second_letter high) self.old result self.new }
         ensures failures { CountsFailed R.failures self.old result self.new }
     {
-        match self.look()? {
+        match self.peek()? {
             Some(byte) if is_unit_letter(byte) => {
                 self.advance();
                 self.second_digits(high)

@@ -12,7 +12,7 @@ use Rattle.std.proofs.lemmas.Bool.{cases_lt}
 use Rattle.std.proofs.lemmas.Fmt.{decimal_digit}
 use Rattle.std.specs.Fmt.{decimal, digit_glyph, padded_integral, char_count}
 use Rattle.jiff_core.proofs.CalendarLemmas.{days_in_month_bounds}
-use Rattle.plist_base.specs.Moments.{moment_text, two_places}
+use Rattle.plist_base.specs.Moments.{moment_text, two_digit_text}
 
 -- 0000-01-01
 first : Date
@@ -100,7 +100,7 @@ decimal_two n large small =
     ∙ ap (λ d. digit_glyph false d ∷ digit_glyph false (n % 10) ∷ []) same
     ∙ (λ k. glyph (n / 10) (omega arith) k ∷ glyph (n % 10) (omega arith) k ∷ [])
 
-pub places_are_digits : (n : ℕ) → n < 100 → two_places n ≡ two_text n
+pub places_are_digits : (n : ℕ) → n < 100 → two_digit_text n ≡ two_text n
 unfolding padded_integral char_count
 places_are_digits n small =
     elim (cases_lt n 10) [
@@ -187,9 +187,9 @@ printed date year second is small in_day =
     let text = text_from (two_text (year / 100)) (two_text (year % 100)) (two_text date.month)
     (two_text date.day) (two_text (second / 3600)) (two_text (second / 60 % 60))
     (two_text (second % 60)) in
-    let shown : text_from (two_places (year / 100)) (two_places (year % 100))
-    (two_places date.month) (two_places date.day) (two_places (second / 3600))
-    (two_places (second / 60 % 60)) (two_places (second % 60)) ≡ text =
+    let shown : text_from (two_digit_text (year / 100)) (two_digit_text (year % 100))
+    (two_digit_text date.month) (two_digit_text date.day) (two_digit_text (second / 3600))
+    (two_digit_text (second / 60 % 60)) (two_digit_text (second % 60)) ≡ text =
     λ k.
     text_from (places_are_digits (year / 100) (omega arith) k)
     (places_are_digits (year % 100) (omega arith) k) (places_are_digits date.month month k)

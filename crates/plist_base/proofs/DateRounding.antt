@@ -7,7 +7,7 @@ use Rattle.std.proofs.lemmas.Bool.{false_from_ne_true}
 use Rattle.std.specs.Int.Signed.{le_z}
 use Rattle.std.proofs.lemmas.Bool.Decides.{nat_tests}
 use Rattle.std.proofs.lemmas.Int.{ints}
-use Rattle.plist_base.specs.Date.{IsSecondOf, real_parts, parts_in_second, parts_of, whole_seconds, parts_left, real_second, rounded_down, is_second_of_date, if_second_of_date, IsSecondOfDate, second_of_bits, date_if, is_no_number, IsDate, IsWhole, plist_epoch, real_bits, second_of_bytes}
+use Rattle.plist_base.specs.Date.{IsSecondOf, real_parts, parts_in_second, parts_of, whole_seconds, parts_left, real_second, rounded_down, is_second_of_date, if_second_of_date, IsSecondOfDate, second_of_bits, date_if, is_not_finite, IsDate, IsWhole, plist_epoch, real_bits, second_of_bytes}
 use Rattle.plist_base.specs.DateTexts.{HasTextYear, IsDateText, IsInUtc}
 use Rattle.plist_base.specs.UnixSeconds.{HasFourDigitYear, IsTextOfSecond, unix_second_of_text}
 
@@ -152,13 +152,13 @@ second_is_unique bits s t h k =
     omega (arith, ints)
 
 -- a real that is refused, though it is a number, has no second in the range of dates
-pub no_second : (bits : ℕ) → second_of_bits bits ≡ None → is_no_number bits ≡ false → (second : ℤ)
+pub no_second : (bits : ℕ) → second_of_bits bits ≡ None → is_not_finite bits ≡ false → (second : ℤ)
     → IsSecondOf second bits → IsSecondOfDate second → ⊥
 unfolding second_of_bits
 no_second bits e number second is within =
     let same = second_is_unique _ _ _
     (second_is_greatest _) is in
-    out_of_bounds _ (none_out (is_no_number _) (real_second _) second number same e)
+    out_of_bounds _ (none_out (is_not_finite _) (real_second _) second number same e)
     within
   where
     none_out : (b : Bool) (y z : ℤ) → b ≡ false → y ≡ z → cond b None (if_second_of_date y) ≡ None

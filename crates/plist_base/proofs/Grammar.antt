@@ -19,7 +19,7 @@ steps_without_length [] s = refl
 steps_without_length (e ∷ es) s =
     λ i. option_and_then (λ u. steps_without_length es u i) (step_without_length s e i)
 
--- behind the same events up to lengths the same is expected
+-- after the same events up to lengths the same is expected
 pub wanted_alike : (left right : List PlainEvent) → AreAlike left right
     → expected_after left ≡ expected_after right
 wanted_alike left right p =
@@ -81,7 +81,7 @@ pub steps_snoc : (es : List PlainEvent) (s : Stack) (e : PlainEvent)
 steps_snoc es s e =
     steps_append es (e ∷ []) s ∙ (λ i. option_and_then (λ t. only (step t e) i) (steps s es))
 
--- behind a tree's events none can come
+-- after a tree's events none can come
 none_behind : (events : List PlainEvent) → AreTreeEvents events → (e : PlainEvent) → CanContinue events e
     → ⊥
 none_behind events (t, alike) e c =
@@ -94,7 +94,7 @@ complete_of_whole events whole = (whole, none_behind _ whole)
 
 -- ---- lengths decide nothing
 
--- the same events behind events that are alike
+-- the same events after events that are alike
 pub alike_with : (left right more : List PlainEvent) → AreAlike left right
     → AreAlike (left ++ more) (right ++ more)
 alike_with left right more p =

@@ -109,18 +109,18 @@ abbrev front : (count from : ℕ) → List ℕ → List ℕ
 front zero from text = []
 front (suc count) from text = slice_index text from ∷ front count (suc from) text
 
-front_behind : (count from x : ℕ) (text : List ℕ)
+front_after_marker : (count from x : ℕ) (text : List ℕ)
     → front count (suc from) (x ∷ text) ≡ front count from text
-front_behind zero from x text = refl
-front_behind (suc count) from x text =
-    ap (λ rest. slice_index text from ∷ rest) (front_behind count (suc _) x text)
+front_after_marker zero from x text = refl
+front_after_marker (suc count) from x text =
+    ap (λ rest. slice_index text from ∷ rest) (front_after_marker count (suc _) x text)
 
 -- a text is its elements
 elements : (count : ℕ) (text : List ℕ) → length text ≡ count → text ≡ front count 0 text
 elements zero [] is = refl
 elements (suc count) (x ∷ text) is =
     ap (λ rest. x ∷ rest) (elements count text (omega (arith, is))
-    ∙ sym (front_behind _ 0 x _))
+    ∙ sym (front_after_marker _ 0 x _))
 elements count text is = absurd (omega (arith, is))
 
 -- where the separators stand

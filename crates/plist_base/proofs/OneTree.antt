@@ -20,7 +20,7 @@ no_end (Leaf x) ls rs p = absurd (cc)
 no_end (Array ts) ls rs p = absurd (cc)
 no_end (Dictionary ms) ls rs p = absurd (cc)
 
--- lists that begin with one tree's events and another's: the trees are the same, and what is behind
+-- lists that begin with one tree's events and another's: the trees are the same, and what is after
 mutual
   pub split : (t u : Tree) (ls rs : List PlainEvent) → lengthless t ++ ls ≡ lengthless u ++ rs
       → (t ≡ u) × (ls ≡ rs)

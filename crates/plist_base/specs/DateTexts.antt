@@ -44,7 +44,7 @@ abbrev pub IsRefused : {A : Type 0} → FaultKind → Result A Error → Type 0
 IsRefused kind (Ok value) = ⊥
 IsRefused kind (Err error) = fault_of error ≡ fault_nowhere kind
 
--- no other text is printed; want of memory may always be the answer
+-- no other text is printed; lack of memory may always be the answer
 abbrev pub PrintsOnly : List ℕ → Result (String Global) Error → Type 0
 PrintsOnly text answer = MatchResult answer (λ printed. string_bytes printed ≡ text)
     (λ error. fault_of error ≡ fault_nowhere OutOfMemory)

@@ -1,4 +1,4 @@
--- The whole number that a text spells: hexadecimal behind `0x`, or decimal.
+-- The whole number that a text spells: hexadecimal after `0x`, or decimal.
 use Prim.Native.String.{String}
 use Rattle.std.specs.Prelude.{map, ◌≡◌, ℕ, ◌-◌, ◌^◌, Bool, false, cond, ◌&&◌, ◌==◌, nat_lt, List, [], ◌∷◌, length, ℤ, pos, negsuc, Option, None, Some, Result, refl, codes, MatchResult}
 use Rattle.std.specs.List.{list_all}
@@ -10,7 +10,7 @@ abbrev pub has_prefix : List ℕ → Bool
 has_prefix (a ∷ b ∷ rest) = (a == 48) && (b == 120)
 has_prefix _ = false
 
--- the text behind every leading `0x`
+-- the text after every leading `0x`
 abbrev pub without_prefixes : List ℕ → List ℕ
 without_prefixes [] = []
 without_prefixes (a ∷ []) = a ∷ []
@@ -44,7 +44,7 @@ abbrev pub or_else : {A : Type 0} → Option A → Option A → Option A
 or_else (Some x) other = Some x
 or_else None other = other
 
--- hexadecimal behind every leading `0x`; else signed decimal, else unsigned decimal
+-- hexadecimal after every leading `0x`; else signed decimal, else unsigned decimal
 unfoldable pub integer_of_text : List ℕ → Option ℤ
 integer_of_text text =
     cond (has_prefix text) (unsigned_of_text 16 (without_prefixes text))

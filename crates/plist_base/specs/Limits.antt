@@ -20,14 +20,14 @@ opens shape.StartDictionary = true
 opens shape.EndCollection = false
 opens shape.Scalar = false
 
--- how many collections are open behind an event, where so many were open before it
+-- how many collections are open after an event, where this many were open before it
 abbrev pub level_after : EventShape → (level : ℕ) → ℕ
 level_after shape.StartArray level = level + 1
 level_after shape.StartDictionary level = level + 1
 level_after shape.EndCollection level = level - 1
 level_after shape.Scalar level = level
 
--- so many collections are open behind an event that isn't one collection too many
+-- this many collections are open after an event that isn't one collection too many
 abbrev pub IsLevelAfter : (depth level : ℕ) → EventShape → (behind : ℕ) → Type 0
 IsLevelAfter depth level shape behind =
     (behind ≡ level_after shape level) × ((opens shape && nat_le depth level) ≡ false)
@@ -46,17 +46,17 @@ abbrev pub total_bytes : List PlainEvent → ℕ
 total_bytes [] = 0
 total_bytes (event ∷ events) = bytes_in event + total_bytes events
 
--- these have at most so many, where there is a limit
+-- these have at most this many, where there is a limit
 abbrev pub HasBytesWithin : (most : Option ℕ) → List PlainEvent → Type 0
 HasBytesWithin None events = ⊤
 HasBytesWithin (Some most) events = total_bytes events ≤ most
 
--- are they more than so many, where there is a limit?
+-- are they more than this many, where there is a limit?
 abbrev pub is_more : (left : Option ℕ) → (bytes : ℕ) → Bool
 is_more None bytes = false
 is_more (Some left) bytes = nat_lt left bytes
 
--- how many may come behind them
+-- how many may come after them
 abbrev pub left_after : (left : Option ℕ) → (bytes : ℕ) → Option ℕ
 left_after None bytes = None
 left_after (Some left) bytes = Some (left - bytes)
@@ -68,7 +68,7 @@ is_too_long left event = is_more left (bytes_in event)
 abbrev pub left_after_event : (left : Option ℕ) → PlainEvent → Option ℕ
 left_after_event left event = left_after left (bytes_in event)
 
--- so many may come behind an event that hasn't too many
+-- this many may come after an event that hasn't too many
 abbrev pub IsLeftAfter : (left : Option ℕ) → PlainEvent → (behind : Option ℕ) → Type 0
 IsLeftAfter left event behind =
     (behind ≡ left_after_event left event) × (is_too_long left event ≡ false)
@@ -85,7 +85,7 @@ limit_at limits came level left event =
     (cond (nat_le limits.items came) (Some limit.Items)
     (cond (opens (shape_of event) && nat_le limits.depth level) (Some limit.Depth) None))
 
--- an event and what is behind it, or the fault of the limit that it reaches
+-- an event and what is after it, or the fault of the limit that it reaches
 abbrev pub event_or_limit : Option Limit → PlainEvent → (behind : List Item) → List Item
 event_or_limit None event behind = Ok event ∷ behind
 event_or_limit (Some limit) event behind = Err (fault_nowhere (LimitReached limit)) ∷ []
@@ -124,7 +124,7 @@ abbrev pub Admits : (old : Limiter) → PlainEvent → (new : Limiter) → Type 
 Admits old event new =
     (items : List Item) → limited_by old (Ok event ∷ items) ≡ Ok event ∷ limited_by new items
 
--- a limit's fault comes in the place of an event, and nothing behind it
+-- a limit's fault comes in the place of an event, and nothing after it
 abbrev pub Refuses : Limiter → PlainEvent → Fault → Type 0
 Refuses limiter event fault =
     (limit : Limit) × (fault ≡ fault_nowhere (LimitReached limit))

@@ -4,16 +4,16 @@ use Rattle.std.specs.Fmt.{format_spec, styled_decimal}
 use Rattle.plist_base.specs.declared.moment.Moment.{Moment}
 
 -- a number with a zero before a lone digit
-abbrev pub two_places : ℕ → List ℕ
-two_places number = styled_decimal (format_spec 32 0 4 2 (2 ^ 64 - 1)) number
+abbrev pub two_digit_text : ℕ → List ℕ
+two_digit_text number = styled_decimal (format_spec 32 0 4 2 (2 ^ 64 - 1)) number
 
 -- YYYY-MM-DDTHH:MM:SSZ
 abbrev pub moment_text : Moment → List ℕ
 moment_text moment =
-    two_places moment.century ++ (two_places moment.year ++ 45
-    ∷ (two_places moment.month ++ 45 ∷ (two_places moment.day
-    ++ 84 ∷ (two_places moment.hour ++ 58
-    ∷ (two_places moment.minute ++ 58 ∷ (two_places moment.second ++ 90 ∷ []))))))
+    two_digit_text moment.century ++ (two_digit_text moment.year ++ 45
+    ∷ (two_digit_text moment.month ++ 45 ∷ (two_digit_text moment.day
+    ++ 84 ∷ (two_digit_text moment.hour ++ 58
+    ∷ (two_digit_text moment.minute ++ 58 ∷ (two_digit_text moment.second ++ 90 ∷ []))))))
 
 -- there is a moment, and this is its text
 abbrev pub Prints : Option Moment → List ℕ → Type 0

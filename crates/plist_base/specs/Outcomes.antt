@@ -12,7 +12,7 @@ IfFault answer says = IfErr answer (λ error. says (fault_of error))
 abbrev pub OnlyFault : {A : Type 0} → Result A Error → Fault → Type 0
 OnlyFault answer fault = IfErr answer (λ error. fault_of error ≡ fault)
 
--- the only refusal is want of memory
+-- the only refusal is lack of memory
 abbrev pub OnlyMemory : {A : Type 0} → Result A Error → Type 0
 OnlyMemory answer = OnlyFault answer (fault_nowhere OutOfMemory)
 

@@ -30,7 +30,7 @@ MatchAnswer (Err fault) accepted refused failed other =
     (fault.offset ≡ None) × MatchKind fault.kind refused failed other
 
 -- what is held after an event that was accepted: the events were a tree's, or what can come next is
--- what could come behind the events held before it and itself
+-- what could come after the events held before it and itself
 abbrev pub IsHeldAfter : (before : List PlainEvent) → PlainEvent → (after : List PlainEvent) → Type 0
 IsHeldAfter before event after =
     AreTreeEvents (before ++ event ∷ []) ⊎ ContinueAlike after (before ++ event ∷ [])

@@ -107,7 +107,7 @@ fn has_separators(text: &[u8]) -> bool
         && text[16] == b':'
 }
 
-// So many seconds, with this sign.
+// This many seconds, with this sign.
 fn signed(sign: u8, seconds: u32) -> Option<i32>
     requires { seconds < 86400 }
     ensures is { result ≡ cond (sign == 43) (Some (pos seconds))
@@ -121,7 +121,7 @@ fn signed(sign: u8, seconds: u32) -> Option<i32>
     }
 }
 
-// How many seconds hours and minutes behind this sign are before UTC.
+// How many seconds hours and minutes after this sign are before UTC.
 fn offset(sign: u8, hours: u8, minutes: u8) -> Option<i32>
     ensures is { result ≡ spec.offset sign hours minutes }
     ensures bound { IfSome result (λ n. IsWithin 86399 n) }

@@ -261,7 +261,7 @@ fn unsigned(text: &str, radix: u32) -> Option<Integer>
     }
 }
 
-// The text behind every leading `0x`.
+// The text after every leading `0x`.
 fn strip_prefixes(text: &str) -> &str
     ensures { result.now ≡ without_prefixes text.now }
 {

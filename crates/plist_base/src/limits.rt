@@ -24,7 +24,7 @@ pub struct Limits {
 impl Limits {
     ghost use Rattle.std.specs.Prelude.{None};
 
-    /// So many collections and events, and any number of bytes.
+    /// This many collections and events, and any number of bytes.
     pub fn new(depth: u64, items: u64) -> Limits
         ensures depth { result.depth ≡ depth }
         ensures items { result.items ≡ items }

@@ -75,8 +75,8 @@ pub(crate) fn copy_at(bytes: &[u8], place: u64, buf: &mut [u8]) -> usize
     let start = place as usize;
     let rest = &bytes[start..];
     let count = rest.len().min(buf.len());
-    let room = &mut buf[..count];
-    room.copy_from_slice(&rest[..count]);
+    let part = &mut buf[..count];
+    part.copy_from_slice(&rest[..count]);
     count
 }
 

@@ -32,7 +32,7 @@ pub trait Writer: Sealed {
     /// # Errors
     /// `UnexpectedEventType` and `ExpectedEndOfEventStream` for an event that can't come here:
     /// nothing has changed. `OutOfMemory`, `Io` and `PlistTooLarge` for one that can, and
-    /// `WriterFailed` behind these three: the writer has failed.
+    /// `WriterFailed` after these three: the writer has failed.
     fn write(&mut self, event: Event<'_>) -> Result<(), Error>
         ensures { Step self.old (event_of event.entry) (answer_of result) self.new };
 

@@ -1,4 +1,4 @@
--- A length, and what lies behind it.
+-- A length, and what lies after it.
 use Rattle.std.proofs.Common.{◌≡◌, ℕ, suc, ◌-◌, ◌*◌, ◌%◌, ◌^◌, ◌<◌, ◌≤◌, List, [], ◌∷◌, ◌++◌, length, take, drop, None, Some, refl, ap, ◌∙◌, arith}
 use Rattle.std.proofs.lemmas.Bool.{le-leb}
 use Rattle.std.proofs.lemmas.List.{append-nil, length-append, length-drop, take_all, take-append-le, drop-append-le}
@@ -43,7 +43,7 @@ lies_behind byte w rest behind tail is h cut =
     (arith, ap length is, length-drop w behind) in
     rw (cut, n, is) refl
 
--- ---- what lies behind it
+-- ---- what lies after it
 
 module _ (m size left count : ℕ) (rest behind more : List ℕ)
     (is : length_in m (rest ++ more) ≡ Some (count, behind ++ more))
@@ -61,14 +61,14 @@ module _ (m size left count : ℕ) (rest behind more : List ℕ)
       let short : length (behind ++ more) < count * size = omega arith in
       rw (is, leb_short (count * size) (length (behind ++ more)) short) refl
 
--- so many bytes lie between the length and the trailer
+-- this many bytes lie between the length and the trailer
 pub length_left : (extent : ℕ) (rest behind more : List ℕ) → length (rest ++ more) ≡ extent
     → length behind ≤ length rest
     → length (behind ++ more) ≡ extent - (length rest - length behind)
 length_left extent rest behind more whole short =
     omega (arith, length-append rest more, length-append behind more)
 
--- nothing lies behind bytes that reach so far
+-- nothing lies after bytes that reach so far
 pub nothing_more : (extent : ℕ) (seen more : List ℕ) → length (seen ++ more) ≡ extent
     → extent ≤ length seen → seen ++ more ≡ seen
 nothing_more extent seen [] whole far = append-nil seen

@@ -8,7 +8,7 @@ pub mod Extents
 pub mod Failing
 pub mod Heads
 pub mod Known
-pub mod KnownTurns
+pub mod KnownChildren
 pub mod Seen
 pub mod Markers
 pub mod Measured
@@ -19,7 +19,7 @@ pub mod Packing
 pub mod Stepped
 pub mod Steps
 pub mod Taken
-pub mod Turned
+pub mod ChildTaken
 pub mod Limiting
 pub mod Lengths
 pub mod Entering

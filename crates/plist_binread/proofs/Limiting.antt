@@ -31,7 +31,7 @@ by-limit : (limiter : Option Limiter) (event : PlainEvent) (fault : Fault)
 by-limit None event fault r = absurd r
 by-limit (Some limiter) event fault r = (refl, r.0, r.1, r.2)
 
--- the fault of a limit is neither a device's nor want of memory
+-- the fault of a limit is neither a device's nor lack of memory
 limit-fault : (fault : Fault) (limit : Limit) (X Y Z : Type 0)
     → fault ≡ fault_nowhere (LimitReached limit) → Z → MatchFault fault.kind X Y Z
 limit-fault fault limit X Y Z is z = rw is z
@@ -93,13 +93,13 @@ module _ (P : List Item → Type 0)
   under-of (Some limiter) (Ok event ∷ items) h = choice-of _ event items _ h
   under-of (Some limiter) (Err fault ∷ items) h = cut fault items h
 
-event-wants : (event : PlainEvent) (items others : List Item) → AllocatesFirst (Ok event ∷ items)
+event-allocates : (event : PlainEvent) (items others : List Item) → AllocatesFirst (Ok event ∷ items)
     → AllocatesFirst (Ok event ∷ others)
-event-wants (StartArray length) items others h = tt
-event-wants (StartDictionary length) items others h = tt
-event-wants (ScalarEvent (Data bytes)) items others h = tt
-event-wants (ScalarEvent (String text)) items others h = tt
-event-wants event items others h = h
+event-allocates (StartArray length) items others h = tt
+event-allocates (StartDictionary length) items others h = tt
+event-allocates (ScalarEvent (Data bytes)) items others h = tt
+event-allocates (ScalarEvent (String text)) items others h = tt
+event-allocates event items others h = h
 
 remaining-under : (limiter : Option Limiter) (items : List Item) → SomeRemain items
     → SomeRemain (limited_by_any limiter items)
@@ -114,7 +114,7 @@ either-under : (new : Bool) (limiter : Option Limiter) (items : List Item)
     limiter items))
 either-under true limiter items h = remaining-under limiter items h
 either-under false limiter items h =
-    under-of AllocatesFirst event-wants (λ fault items h. h) (λ limit. tt) limiter items h
+    under-of AllocatesFirst event-allocates (λ fault items h. h) (λ limit. tt) limiter items h
 
 -- ---- a text or data that is refused for its length
 
@@ -189,7 +189,7 @@ module _ (new : Bool) (current : PlainEvent) (known : Option (List ℕ)) (old no
         (long-under old (before bytes) small long ∙ ap (λ f. Err f ∷ []) (sym is)),
   ))
 
--- no device failed, since want of memory was held
+-- no device failed, since lack of memory was held
 pub limit-counts : (error held : Error) (old now : ℕ)
     → fault_of error ≡ fault_nowhere (LimitReached limit.Bytes)
     → fault_of held ≡ fault_nowhere OutOfMemory → CountsIo held old now → CountsIo error old now

@@ -20,7 +20,7 @@ use Rattle.plist_base.specs.Faults.{InvalidUtf16String}
 use Rattle.plist_binread.specs.Decoding.{scalar_event_in}
 use Rattle.plist_binread.specs.declared.counted_content.ContentKind.TheVariants.{Data as DataKind, Text, WideText}
 use Rattle.plist_binread.specs.Reading.{data_of_content}
-use Rattle.plist_binread.specs.Measuring.{IsHigh, IsTextFront, IsTextPart, Measures, TakesUnit, behind_unit, counted, longer, waiting_units, wide_size}
+use Rattle.plist_binread.specs.Measuring.{IsHighSurrogate, IsTextFront, IsTextPart, Measures, TakesUnit, size_after_unit, saturated, size_added, waiting_units, wide_size}
 use Rattle.plist_binread.proofs.Columns.{numbers_of-reads}
 use Rattle.plist_binread.proofs.Contents.{text-not_utf8, text-utf8}
 use Rattle.plist_binread.proofs.OverKnown.{IfSome-all, IfSome-both}
@@ -162,7 +162,7 @@ current_data known place start count small = IfSome-all known (λ bytes fits.
 -- the same by what the units spell
 abbrev size_of : List (Option ℕ) → Option ℕ
 size_of chars = if list_any (λ c. not (is_some c)) chars then None else Some
-    (counted (length (encode_utf8_all (map (λ c. unwrap_or c 0xFFFD) chars))))
+    (saturated (length (encode_utf8_all (map (λ c. unwrap_or c 0xFFFD) chars))))
 
 -- sums that stop at the top
 min_more : (top all more size : ℕ) → all ≡ size + more
@@ -177,8 +177,8 @@ min_none : (top size : ℕ) → size ≤ top → min (size + min 0 top) top ≡ 
 min_none top size h = omega arith
 
 longer_by : (test : Bool) (all more size : ℕ) → all ≡ size + more
-    → (if test then None else Some (counted all))
-    ≡ longer size (if test then None else Some (counted more))
+    → (if test then None else Some (saturated all))
+    ≡ size_added size (if test then None else Some (saturated more))
 longer_by true all more size e = refl
 longer_by false all more size e = ap Some (min_more (2 ^ 64 - 1) all more size e)
 
@@ -187,23 +187,23 @@ encoded c rest = omega (arith, length-append (encode c) rest, length-encode c)
 
 -- one character more
 one_more : (c : ℕ) (chars : List (Option ℕ))
-    → size_of (Some c ∷ chars) ≡ longer (len_utf8 c) (size_of chars)
+    → size_of (Some c ∷ chars) ≡ size_added (len_utf8 c) (size_of chars)
 one_more c chars =
     longer_by (list_any (λ o. not (is_some o)) chars) _ _ _
     (encoded c (encode_utf8_all (map (λ o. unwrap_or o 0xFFFD) chars)))
 
 longer_twice : (size more : ℕ) (rest : Option ℕ)
-    → longer size (longer more rest) ≡ longer (counted (size + more)) rest
+    → size_added size (size_added more rest) ≡ size_added (saturated (size + more)) rest
 longer_twice size more None = refl
 longer_twice size more (Some rest) = ap Some (min_twice (2 ^ 64 - 1) size more rest)
 
 -- no character more
-longer_none : (units : List ℕ) → longer 0 (wide_size units) ≡ wide_size units
+longer_none : (units : List ℕ) → size_added 0 (wide_size units) ≡ wide_size units
 longer_none units =
     by (has_unpaired_surrogate units) (length (encode_utf8_all (utf16_lossy_chars units)))
   where
-    by : (test : Bool) (size : ℕ) → longer 0 (if test then None else Some (counted size))
-        ≡ (if test then None else Some (counted size))
+    by : (test : Bool) (size : ℕ) → size_added 0 (if test then None else Some (saturated size))
+        ≡ (if test then None else Some (saturated size))
     by true size = refl
     by false size = ap Some (sym (min_more (2 ^ 64 - 1) size size 0 (sym (zero-add size))))
 
@@ -219,7 +219,7 @@ pub takes_lone : (unit size : ℕ) → (unit < 0xD800) ⊎ (0xE000 ≤ unit) →
     → TakesUnit None unit (Some (size, None))
 takes_lone unit size out long units =
     ap size_of (utf16_chars_lone unit units (apart out) ∙ ap (λ c. c ∷ utf16_chars units) (is out))
-    ∙ one_more unit (utf16_chars units) ∙ ap (λ n. longer n (wide_size units)) long
+    ∙ one_more unit (utf16_chars units) ∙ ap (λ n. size_added n (wide_size units)) long
   where
     apart : (unit < 0xD800) ⊎ (0xE000 ≤ unit) → ArePair unit (get_or units 0 0) → ⊥
     apart (inl h) pair = omega (arith, pair.0)
@@ -237,14 +237,14 @@ lone_surrogate unit units apart low high =
     rw (le-leb 0xD800 unit low, lt-ltb unit 0xE000 high) refl in
     ap size_of (utf16_chars_lone unit units apart ∙ ap (λ c. c ∷ utf16_chars units) none)
 
-pub takes_pair : (high unit : ℕ) → IsHigh (Some high) → 0xDC00 ≤ unit → unit < 0xE000
+pub takes_pair : (high unit : ℕ) → IsHighSurrogate (Some high) → 0xDC00 ≤ unit → unit < 0xE000
     → TakesUnit (Some high) unit (Some (4, None))
 takes_pair high unit is low below units =
     ap size_of (utf16_chars_pair high unit units (is.0, is.1, low, below))
     ∙ one_more (surrogate_pair_char high unit) (utf16_chars units)
-    ∙ ap (λ n. longer n (wide_size units)) (four (surrogate_pair_char high unit) (omega arith))
+    ∙ ap (λ n. size_added n (wide_size units)) (four (surrogate_pair_char high unit) (omega arith))
 
-pub lacks_second : (high unit : ℕ) → IsHigh (Some high) → (unit < 0xDC00) ⊎ (0xE000 ≤ unit)
+pub lacks_second : (high unit : ℕ) → IsHighSurrogate (Some high) → (unit < 0xDC00) ⊎ (0xE000 ≤ unit)
     → TakesUnit (Some high) unit None
 lacks_second high unit is other units =
     lone_surrogate high (unit ∷ units) (apart other) is.0 (omega (arith, is.1))
@@ -266,7 +266,7 @@ abbrev pub IsMeasured : (known : Option (List ℕ)) (start count i size : ℕ) (
     → Type 0
 IsMeasured known start count i size high = IfSome known (λ bytes.
     wide_size (units_from bytes start 0 count)
-    ≡ longer size (wide_size (waiting_units high ++ units_from bytes start i (count - i))))
+    ≡ size_added size (wide_size (waiting_units high ++ units_from bytes start i (count - i))))
 
 -- the units from the next one on
 first_left : (bytes : List ℕ) (start count i : ℕ) → i < count → units_from bytes start i (count - i)
@@ -285,7 +285,7 @@ measures_units units =
   where
     by : (test : Bool) (bytes : List ℕ) → Measures WideText
         (if test then Faulty InvalidUtf16String else Scalar (String bytes))
-        (if test then None else Some (counted (length bytes)))
+        (if test then None else Some (saturated (length bytes)))
     by true bytes = refl
     by false bytes = (ScalarEvent (String bytes), refl, refl)
 
@@ -310,23 +310,23 @@ pub measure_begun : (known : Option (List ℕ)) (start count : ℕ)
 measure_begun known start count =
     let all : count ≡ count - 0 = omega arith in
     IfSome-all known (λ bytes. sym (longer_none (units_from bytes start 0 count))
-    ∙ ap (λ n. longer 0 (wide_size (units_from bytes start 0 n))) all)
+    ∙ ap (λ n. size_added 0 (wide_size (units_from bytes start 0 n))) all)
 
 module _ (known now : Option (List ℕ)) (start count i size unit : ℕ) (high : Option ℕ)
     (same : now ≡ known) (h : i < count) (so_far : IsMeasured known start count i size high)
     (reads : IfSome now (λ bytes. unit ≡ number_at bytes (start + i * 2) 2)) where
   unit_measured : (answer : Option (ℕ × Option ℕ)) → TakesUnit high unit answer
       → IfSome known (λ bytes. wide_size (units_from bytes start 0 count)
-      ≡ longer size (behind_unit answer (units_from bytes start (i + 1) (count - (i + 1)))))
+      ≡ size_added size (size_after_unit answer (units_from bytes start (i + 1) (count - (i + 1)))))
   unit_measured answer takes = IfSome-both known so_far (rw same at reads) (λ bytes so_far is.
       let rest = units_from bytes start (i + 1) (count - (i + 1)) in
-      so_far ∙ ap (λ us. longer size (wide_size (waiting_units high ++ us)))
+      so_far ∙ ap (λ us. size_added size (wide_size (waiting_units high ++ us)))
       (first_left bytes start count i h ∙ ap (λ u. u ∷ rest) (sym is))
-      ∙ ap (longer size) (takes rest))
+      ∙ ap (size_added size) (takes rest))
 
   -- one unit more
   pub measure_more : (more : ℕ) (next : Option ℕ) → TakesUnit high unit (Some (more, next))
-      → IsMeasured known start count (i + 1) (counted (size + more)) next
+      → IsMeasured known start count (i + 1) (saturated (size + more)) next
   measure_more more next takes = IfSome_then known (unit_measured (Some (more, next)) takes)
       (λ bytes is. is ∙ longer_twice size more (wide_size (waiting_units next
       ++ units_from bytes start (i + 1) (count - (i + 1)))))
@@ -342,15 +342,15 @@ pub measure_done : (known : Option (List ℕ)) (start count i size : ℕ) → i 
     → MeasuresUnits known start count (Some size)
 measure_done known start count i size end small so_far =
     IfSome_then known so_far (λ bytes so_far fits. whole bytes start count (Some size) fits (so_far
-    ∙ ap (λ n. longer size (wide_size (units_from bytes start i n))) (none_left i count end)
-    ∙ ap (longer size) (ap size_of utf16_chars-nil)
+    ∙ ap (λ n. size_added size (wide_size (units_from bytes start i n))) (none_left i count end)
+    ∙ ap (size_added size) (ap size_of utf16_chars-nil)
     ∙ ap Some (min_none (2 ^ 64 - 1) size (omega arith))))
 
 pub measure_waits : (known : Option (List ℕ)) (start count i size high : ℕ) → i ≡ count
-    → IsHigh (Some high) → IsMeasured known start count i size (Some high)
+    → IsHighSurrogate (Some high) → IsMeasured known start count i size (Some high)
     → MeasuresUnits known start count None
 measure_waits known start count i size high end is so_far =
     IfSome_then known so_far (λ bytes so_far fits. whole bytes start count None fits (so_far
-    ∙ ap (λ n. longer size (wide_size (high ∷ units_from bytes start i n))) (none_left i count end)
-    ∙ ap (longer size)
+    ∙ ap (λ n. size_added size (wide_size (high ∷ units_from bytes start i n))) (none_left i count end)
+    ∙ ap (size_added size)
     (lone_surrogate high [] (λ pair. omega (arith, pair.2)) is.0 (omega (arith, is.1)))))

@@ -5,7 +5,7 @@ use Rattle.std.proofs.Math.Seq.{take-length}
 use Rattle.plist_base.specs.Sources.{LiesAt}
 use Rattle.plist_binread.specs.Reading.{HasPairs, object_at, object_counted, object_with}
 use Rattle.plist_binread.specs.CountedContent.{content_means, unit_size}
-use Rattle.plist_binread.specs.Front.{IfUnseen, LeavesUnseen, DecodesWhole, LongBehind, is_fault}
+use Rattle.plist_binread.specs.Front.{IfUnseen, LeavesUnseen, DecodesWhole, UnseenAfter, is_fault}
 use Rattle.plist_base.specs.declared.error.Error.{Error}
 use Rattle.plist_format.specs.declared.marker.CountedKind.{CountedKind}
 use Rattle.plist_binread.specs.declared.event_slot.EventSlot.{EventSlot}
@@ -15,16 +15,16 @@ use Rattle.plist_binread.specs.declared.head.Bounds.{Bounds}
 use Rattle.plist_base.specs.Events.{PlainEvent}
 use Rattle.plist_binread.specs.DecodeOutcome.{IsOutcomeOf, AreReferencesAt, small_outcome}
 use Rattle.plist_binread.specs.declared.object_faults.Outcome.TheVariants as tag
-use Rattle.plist_format.specs.Object.{Object, layout_of, length_in, object_behind, object_in}
+use Rattle.plist_format.specs.Object.{Object, layout_of, length_in, object_after_marker, object_in}
 use Rattle.plist_binread.proofs.Columns.{take-drop-take}
 use Rattle.std.proofs.lemmas.Option.{IfSome_then}
 use Rattle.plist_binread.proofs.OverKnown.{IfSome-both}
 use Rattle.plist_binread.specs.Decoding.{DecodesCurrent, IsRefusedAs}
 use Rattle.plist_binread.specs.declared.counted_content.Content.{Content}
 
--- the object behind a marker
+-- the object after a marker
 pub object_front : (w m : ℕ) (xs ys : List ℕ) → xs ≡ m ∷ ys
-    → object_in w xs ≡ object_behind m (layout_of w m) ys
+    → object_in w xs ≡ object_after_marker m (layout_of w m) ys
 unfolding object_in
 object_front w m xs ys is = rw is refl
 
@@ -59,9 +59,9 @@ known_seen known t w p seen P buffered is means = IfSome_then known is (λ bytes
     ∙ length-drop p (take t bytes) ∙ ap (λ m. m - p) (length-take-le t bytes fits) in
     rw cut.1 (means _ extent))
 
--- what its marker and what lies behind it tell of an object whose content isn't all seen
+-- what its marker and what lies after it tell of an object whose content isn't all seen
 pub long_behind : (w m extent : ℕ) (seen rest : List ℕ) (slot : EventSlot) (outcome : Outcome) → seen ≡ m ∷ rest
-    → 0 < extent → LongBehind (extent - 1) (object_with w m) rest slot outcome
+    → 0 < extent → UnseenAfter (extent - 1) (object_with w m) rest slot outcome
     → LeavesUnseen extent (object_in w) seen slot outcome
 long_behind w m extent seen rest slot tag.Unseen is some h =
     let sum : extent - 1 + 1 ≡ extent = omega arith in (
@@ -75,7 +75,7 @@ long_behind w m extent seen rest slot outcome is some h = tt
 -- the same by other words for the object
 pub long_as : (extent : ℕ) (object same : List ℕ → Object) (rest : List ℕ) (slot : EventSlot)
     (outcome : Outcome) → ((xs : List ℕ) → same xs ≡ object xs)
-    → LongBehind extent object rest slot outcome → LongBehind extent same rest slot outcome
+    → UnseenAfter extent object rest slot outcome → UnseenAfter extent same rest slot outcome
 long_as extent object same rest slot tag.Unseen is h =
     λ first. ((h first).0, λ more whole. is _ ∙ (h first).1 more whole)
 long_as extent object same rest slot outcome is h = λ first. tt

@@ -11,19 +11,19 @@ use Rattle.plist_binread.specs.declared.head.Bounds.{Bounds}
 use Rattle.plist_binread.specs.declared.reader.BinaryReader.{BinaryReader}
 use Rattle.plist_binread.specs.declared.reader.WalkState.{WalkState}
 use Rattle.plist_binread.specs.declared.reader.WalkState.TheVariants.{Fresh, Walking}
-use Rattle.plist_binread.specs.Beginning.{CountsRoot, CountsStep, GivesRoot, IsBounded, IsKnownWalk, KeepsRoot}
+use Rattle.plist_binread.specs.Beginning.{CountsRoot, CountsStep, GivesRoot, IsBounded, IsKnownWalk, CachesRoot}
 use Rattle.plist_binread.specs.BinaryReader.{objects_in_head}
 use Rattle.plist_binread.specs.Remaining.{CountsObjects, walk_steps}
 use Rattle.plist_binread.specs.FaultOffsets.{ErrWithin, ItemWithin}
 use Rattle.plist_binread.specs.DecodeOutcome.{YieldsNext}
-use Rattle.plist_binread.specs.Step.{KeepsItem, LightensNext}
+use Rattle.plist_binread.specs.Step.{CachesNext, LightensNext}
 use Rattle.plist_binread.specs.Advancing.{WalksInSlot}
 use Rattle.plist_binread.specs.declared.event_slot.EventSlot.{EventSlot}
 use Rattle.plist_binread.specs.declared.event_slot.Refused.{Refused}
 use Rattle.plist_binread.specs.declared.event_slot.Refused.TheVariants as refusal
 use Rattle.plist_binread.specs.declared.walk.Walk.{Walk}
 use Rattle.plist_binread.specs.Slot.{AnswersInSlot, ItemAnswersInSlot, answer_in, event_in, item_in}
-use Rattle.plist_binread.specs.Turns.{is_fresh, is_walking, state_after}
+use Rattle.plist_binread.specs.NextChild.{is_fresh, is_walking, state_after}
 use Rattle.plist_binread.specs.Walking.{cached_in, remaining_in, walk_objects, weight_in}
 use Rattle.plist_base.proofs.Refusals.{MatchFault-all}
 use Rattle.plist_binread.proofs.Begun.{counted_root}
@@ -85,7 +85,7 @@ module _ {R C : Type 0} {g : Ghosts R} {h : CounterGhosts C} (known : R → Opti
       → IfSome (known old.source) (IsBounded new.walk)
       → IfSome (known old.source) (CountsRoot noted new.slot new.walk)
       → OnOk noted (IsKnownWalk (known old.source) new.bounds new.walk)
-      → IfSome (known old.source) (KeepsRoot noted new.slot new.walk)
+      → IfSome (known old.source) (CachesRoot noted new.slot new.walk)
       → OnOk noted (weight_in new.walk < walk_steps (walk_objects new.walk))
       → AnswersInSlot failed noted new.slot old.source new.source
       → WalksInSlot known failed counts count old (Some noted) new
@@ -136,7 +136,7 @@ module _ {R C : Type 0} {g : Ghosts R} {h : CounterGhosts C} (known : R → Opti
       → walk_objects new.walk ≡ walk_objects old.walk
       → IfSome (known old.source) (IsBounded old.walk)
       → IsKnownWalk (known old.source) new.bounds new.walk
-      → KeepsItem (known old.source) old.bounds old.walk noted new.slot new.walk
+      → CachesNext (known old.source) old.bounds old.walk noted new.slot new.walk
       → LightensNext old.walk noted new.walk
       → ItemAnswersInSlot failed noted new.slot old.source new.source
       → WalksInSlot known failed counts count old noted new

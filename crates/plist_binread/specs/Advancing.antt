@@ -10,7 +10,7 @@ use Rattle.plist_binread.specs.Slot.{event_in, compact_event_of, item_in}
 use Rattle.plist_binread.specs.declared.event_slot.Refused.{Refused}
 use Rattle.plist_binread.specs.declared.event_slot.CompactEvent.{CompactEvent}
 use Rattle.std.specs.String.{string_bytes}
-use Rattle.plist_binread.specs.BinaryReader.{GivesAs, GivesBinaryBy, has_limits, binary_source, binary_steps, items_to_come, walk_to_come}
+use Rattle.plist_binread.specs.BinaryReader.{GivesAs, GivesBinaryBy, has_limits, binary_source, binary_steps, items_to_come, unlimited_items}
 
 module _ {R C : Type 0} {g : Ghosts R} {h : CounterGhosts C} where
   -- the current event
@@ -39,7 +39,7 @@ abbrev pub LimitsStep : {A R C : Type 0} {g : Ghosts R} {h : CounterGhosts C}
     → (new : BinaryReader R C g h) → Type 0
 LimitsStep known old item new = IfSome item (λ answer.
     RefusesLong answer (left_under old.limiter) new.slot (known (binary_source old)) (λ bytes.
-    BeginsTooLong (left_under old.limiter) (walk_to_come bytes old)))
+    BeginsTooLong (left_under old.limiter) (unlimited_items bytes old)))
 
 module _ {R C : Type 0} {g : Ghosts R} {h : CounterGhosts C} (known : R → Option (List ℕ))
     (failed : R → ℕ) (counts : Type 0) (count : C → ℕ) (old : BinaryReader R C g h) where
@@ -58,7 +58,7 @@ module _ {R C : Type 0} {g : Ghosts R} {h : CounterGhosts C} (known : R → Opti
 
   -- the same of the walk that knows no limits
   abbrev pub Walks : {A : Type 0} → Option (Result A Error) → (new : BinaryReader R C g h) → Type 0
-  Walks item new = AdvancesBy walk_to_come (λ _. false) item new
+  Walks item new = AdvancesBy unlimited_items (λ _. false) item new
 
   -- the same where the error is held
   abbrev pub AdvancesInSlot : {A : Type 0} → Option (Result A Refused) → (new : BinaryReader R C g h)

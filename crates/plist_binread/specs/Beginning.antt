@@ -7,7 +7,7 @@ use Rattle.plist_binread.specs.Remaining.{CountsObjects, SomeRemain, places_of}
 use Rattle.plist_binread.specs.declared.event_slot.Refused.{Refused}
 use Rattle.plist_binread.specs.declared.event_slot.Refused.TheVariants as refused
 use Rattle.plist_binread.specs.Slot.{answer_in, event_in}
-use Rattle.plist_binread.specs.Turns.{IsCurrentCached, root_with}
+use Rattle.plist_binread.specs.NextChild.{IsCurrentCached, root_with}
 use Rattle.plist_format.specs.Unfolding.{until_fault, items_of_file}
 use Rattle.plist_binread.specs.Walking.{IsWalkOf, walk_objects, remaining_in}
 use Rattle.plist_binread.specs.declared.head.Bounds.{Bounds}
@@ -23,8 +23,8 @@ abbrev pub IsKnownWalk : (known : Option (List ℕ)) → Bounds → Walk → Typ
 IsKnownWalk known bounds walk = IfSome known (λ bytes. IsWalkOf bytes bounds walk)
 
 -- the root is cached if it is small
-abbrev pub KeepsRoot : {A : Type 0} → Result A Refused → EventSlot → Walk → List ℕ → Type 0
-KeepsRoot answer slot walk bytes = IsCurrentCached (root_with (head_of bytes))
+abbrev pub CachesRoot : {A : Type 0} → Result A Refused → EventSlot → Walk → List ℕ → Type 0
+CachesRoot answer slot walk bytes = IsCurrentCached (root_with (head_of bytes))
     (Some (answer_in answer slot)) (event_in slot) walk.tags.items
 
 -- the walk has as many objects as the head counts, also where the root is too long

@@ -18,7 +18,7 @@ use Rattle.plist_binread.specs.declared.reader.WalkState.TheVariants.{Ended}
 use Rattle.plist_binread.specs.declared.frames.Frame.{Frame}
 use Rattle.plist_binread.specs.declared.counter.DecodeCounter.{Ghosts as CounterGhosts}
 use Rattle.plist_binread.specs.Remaining.{MarksOpenPath, remaining_now, cached_count, places_of, AreBoundsOf, CountsObjects, SomeRemain, AllocatesFirst, steps_left}
-use Rattle.plist_binread.specs.Turns.{upcoming_number, IsCachedIfSmall, is_fresh, is_walking}
+use Rattle.plist_binread.specs.NextChild.{upcoming_number, IsCachedIfSmall, is_fresh, is_walking}
 
 -- how many objects the head of these bytes counts
 abbrev pub objects_in_head : List ℕ → ℕ
@@ -58,12 +58,12 @@ module _ {R C : Type 0} {g : Ghosts R} {h : CounterGhosts C} where
   binary_source reader = reader.source
 
   -- the items of the file that are still to come, were there no limits
-  abbrev pub walk_to_come : List ℕ → BinaryReader R C g h → List Item
-  walk_to_come bytes reader = remaining_now bytes reader.state reader.bounds reader.walk.frames
+  abbrev pub unlimited_items : List ℕ → BinaryReader R C g h → List Item
+  unlimited_items bytes reader = remaining_now bytes reader.state reader.bounds reader.walk.frames
 
   -- the items still to come, where these are the file's bytes
   abbrev pub items_to_come : List ℕ → BinaryReader R C g h → List Item
-  items_to_come bytes reader = limited_by_any reader.limiter (walk_to_come bytes reader)
+  items_to_come bytes reader = limited_by_any reader.limiter (unlimited_items bytes reader)
 
   -- are there limits?
   abbrev pub has_limits : BinaryReader R C g h → Bool
@@ -119,8 +119,8 @@ module _ {R C : Type 0} {g : Ghosts R} {h : CounterGhosts C} where
       IsCachedIfSmall shown number item reader.walk.tags.items
 
   -- the same of a reader
-  abbrev pub KeepsWithin : (count : ℕ) → BinaryReader R C g h → Type 0
-  KeepsWithin count reader =
+  abbrev pub ListsAreWithin : (count : ℕ) → BinaryReader R C g h → Type 0
+  ListsAreWithin count reader =
       AreListsWithin count reader.walk.tags.items reader.walk.contents.items reader.walk.frames
 
   -- at most how many items are still to come
@@ -153,7 +153,7 @@ module _ {R C : Type 0} {g : Ghosts R} {h : CounterGhosts C} where
         (λ bytes. open_collections new ≤ objects_in_head bytes)
     pub marked : MarksItsPath new
     pub counted : counts → count (counter_of new) ≡ cached_objects new
-    pub lists : IfSome (known (binary_source old)) (λ bytes. KeepsWithin (objects_in_head bytes)
+    pub lists : IfSome (known (binary_source old)) (λ bytes. ListsAreWithin (objects_in_head bytes)
         new)
 
 module _ {R C : Type 0} {g : Ghosts R} {h : CounterGhosts C} (known : R → Option (List ℕ))

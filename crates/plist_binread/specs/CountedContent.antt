@@ -1,4 +1,4 @@
--- Words for objects that have a length: by the low half of the marker, and the bytes behind that.
+-- Words for objects that have a length: by the low half of the marker, and the bytes after that.
 use Rattle.std.specs.Prelude.{◌≡◌, ℕ, ◌+◌, ◌-◌, ◌*◌, ◌<◌, ◌≤◌, List, ◌++◌, length, drop, None, Some}
 use Rattle.std.specs.Borrow.{Bor}
 use Rattle.plist_base.specs.Events.{PlainEvent}
@@ -24,7 +24,7 @@ content_means kind.WideText = wide_text
 
 -- ---- what stands at the front of bytes
 
--- an object's length, and the bytes behind it
+-- an object's length, and the bytes after it
 abbrev pub IsLength : (low : ℕ) (rest : List ℕ) → ℕ × Bor (List ℕ) → Type 0
 IsLength low rest found =
     (more : List ℕ) → length_in low (rest ++ more) ≡ Some (found.0, found.1.now ++ more)
@@ -33,8 +33,8 @@ IsLength low rest found =
 abbrev pub IsLengthCut : (low : ℕ) (rest : List ℕ) → Type 0
 IsLengthCut low rest = (length rest < 9) × (length_in low rest ≡ None)
 
-abbrev pub LiesBehind : (rest : List ℕ) → ℕ × Bor (List ℕ) → Type 0
-LiesBehind rest found = drop (length rest - length found.1.now) rest ≡ found.1.now
+abbrev pub LiesAfter : (rest : List ℕ) → ℕ × Bor (List ℕ) → Type 0
+LiesAfter rest found = drop (length rest - length found.1.now) rest ≡ found.1.now
 
 -- the content of a text or data, whose elements have this size
 abbrev pub IsCounted : (low size extent : ℕ) (rest : List ℕ) → Bor (List ℕ) → Type 0
@@ -49,7 +49,7 @@ AreUnits size bytes = (count : ℕ) × (length bytes ≡ count * size)
 abbrev pub HasUnits : (size : ℕ) → Bor (List ℕ) → Type 0
 HasUnits size found = AreUnits size found.now
 
--- a length, where so many elements lie before the trailer, and what is seen behind it
+-- a length, where this many elements lie before the trailer, and what is seen after it
 abbrev pub IsCount : (low size extent : ℕ) (rest : List ℕ) → ℕ × Bor (List ℕ) → Type 0
 IsCount low size extent rest found = (more : List ℕ) → length (rest ++ more) ≡ extent →
     (length_in low (rest ++ more) ≡ Some (found.0, found.1.now ++ more))

@@ -35,7 +35,7 @@ abbrev pub small_outcome : Outcome → (current : PlainEvent) → ℕ
 small_outcome outcome.Scalar current = cond (is_small_event current) 1 0
 small_outcome outcome current = 0
 
--- the number of a child's reference among all those of its collection, where that has so many
+-- the number of a child's reference among all those of its collection, where that has this many
 -- pairs, or none since it is an array
 abbrev pub reference_index : (pairs index : ℕ) → ℕ
 reference_index pairs index =

@@ -20,7 +20,7 @@ children_in (Dictionary pairs) = children_of pairs
 children_in (Scalar scalar) = []
 children_in (Faulty kind) = []
 
--- a collection of this start and so many children
+-- a collection of this start and this many children
 abbrev pub IsCollection : Object → PlainEvent → (count : ℕ) → Type 0
 IsCollection (Array items) start count =
     (start ≡ StartArray (Some (length items))) × (length items ≡ count)

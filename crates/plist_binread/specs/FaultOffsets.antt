@@ -4,7 +4,7 @@ use Rattle.plist_base.specs.declared.error.Error.{Error}
 use Rattle.plist_base.specs.Faults.{FaultKind, Fault, LimitReached, UnexpectedEof, InvalidMagic, InvalidTrailerObjectOffsetSize, InvalidTrailerObjectReferenceSize, ObjectOffsetTooLarge, ObjectReferenceTooLarge, RecursiveObject, NullObjectUnimplemented, FillObjectUnimplemented, UnknownObjectType, IntegerOutOfRange, OverflowOrNanDate, InvalidUtf8String, InvalidUtf16String, Io, OutOfMemory, fault_of}
 use Rattle.plist_base.specs.Sources.{IsOffsetWithin}
 
--- a fact for the fault of a read, one for want of memory, and one for every other fault of a reader
+-- a fact for the fault of a read, one for lack of memory, and one for every other fault of a reader
 -- of binary property lists, which has no further ones
 abbrev pub MatchReader : FaultKind → (read memory other : Type 0) → Type 0
 MatchReader Io read memory other = read

@@ -1,7 +1,7 @@
 -- The open collections as they are kept, and what comes next of the innermost one.
 use Rattle.std.specs.Prelude.{◌≡◌, ℕ, ◌+◌, ◌<◌, ◌≤◌, List, [], ◌∷◌, ◌++◌, Option, None, Some}
 use Rattle.plist_binread.specs.declared.frames.Frame.{Frame}
-use Rattle.plist_binread.specs.declared.frames.Narrow.{Narrow}
+use Rattle.plist_binread.specs.declared.frames.NarrowFrame.{NarrowFrame}
 use Rattle.plist_binread.specs.declared.frames.Upcoming.{Upcoming}
 use Rattle.plist_binread.specs.declared.frames.Upcoming.TheVariants as wanted
 
@@ -9,17 +9,17 @@ abbrev pub frame_of : (object next count : ℕ) → Frame
 frame_of object next count = record { object = object; next = next; count = count }
 
 -- the collection that is kept in few bytes
-abbrev pub widened : Narrow → Frame
+abbrev pub widened : NarrowFrame → Frame
 widened narrow = frame_of narrow.object narrow.next narrow.count
 
--- the outer ones, and behind them the innermost one, if there is any
-abbrev pub all_of : (outer : List Frame) → Option Frame → List Frame
-all_of outer None = outer
-all_of outer (Some frame) = outer ++ frame ∷ []
+-- the outer ones, and after them the innermost one, if there is any
+abbrev pub with_innermost : (outer : List Frame) → Option Frame → List Frame
+with_innermost outer None = outer
+with_innermost outer (Some frame) = outer ++ frame ∷ []
 
 -- it was the last one and is gone, or there was none
-abbrev pub IsLast : (old : List Frame) → Option Frame → (new : List Frame) → Type 0
-IsLast old last new = (old ≡ all_of new last) × (last ≡ None → new ≡ [])
+abbrev pub PopsLast : (old : List Frame) → Option Frame → (new : List Frame) → Type 0
+PopsLast old last new = (old ≡ with_innermost new last) × (last ≡ None → new ≡ [])
 
 -- what comes next of the innermost one of these, and those that are open then; it stands first
 abbrev pub NextOf : (old : List Frame) → Upcoming → (new : List Frame) → Type 0

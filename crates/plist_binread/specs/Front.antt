@@ -1,4 +1,4 @@
--- Words for what is decoded of the bytes at an object's front, whatever lies behind them.
+-- Words for what is decoded of the bytes at an object's front, whatever lies after them.
 use Rattle.std.specs.Prelude.{◌≡◌, ℕ, ◌+◌, ◌*◌, ◌^◌, ◌<◌, ◌≤◌, Bool, true, false, List, ◌∷◌, ◌++◌, length, take, drop, Option, Some, Result, Ok, Err, IfOk, IfSome, MatchResult, ⊤}
 use Rattle.plist_base.specs.declared.error.Error.{Error}
 use Rattle.plist_base.specs.Events.{PlainEvent}
@@ -30,8 +30,8 @@ IsContent size rest content = (more : List ℕ) (meaning : List ℕ → Object) 
     meaning_of_front size meaning (rest ++ more) ≡ meaning content
 
 -- bytes that reach the extent, or are as many as any content of a fixed size has
-abbrev pub ReachesFar : (extent : ℕ) (rest : List ℕ) → Type 0
-ReachesFar extent rest = length rest < 16 → extent ≤ length rest
+abbrev pub ShowsFixedContent : (extent : ℕ) (rest : List ℕ) → Type 0
+ShowsFixedContent extent rest = length rest < 16 → extent ≤ length rest
 
 -- bytes that reach the extent, or are as many as the front of any object has
 abbrev pub ShowsFront : (extent : ℕ) (seen : List ℕ) → Type 0
@@ -71,10 +71,10 @@ LeavesUnseen extent object seen slot outcome = IfUnseen outcome slot (λ content
     ≡ content_means content.kind (take (content.count * unit_size content.kind)
     (drop content.start (seen ++ more)))))
 
--- the same by what lies behind the first byte, whatever this is
-abbrev pub LongBehind : (extent : ℕ) → (List ℕ → Object) → (rest : List ℕ) → EventSlot → Outcome
+-- the same by what lies after the first byte, whatever this is
+abbrev pub UnseenAfter : (extent : ℕ) → (List ℕ → Object) → (rest : List ℕ) → EventSlot → Outcome
     → Type 0
-LongBehind extent object rest slot outcome = (first : ℕ) →
+UnseenAfter extent object rest slot outcome = (first : ℕ) →
     LeavesUnseen (extent + 1) (λ bytes. object (drop 1 bytes)) (first ∷ rest) slot outcome
 
 -- one for a small object that is decoded, by which the counter rises
@@ -121,9 +121,9 @@ is_fault outcome.Scalar = false
 is_fault (outcome.Collection count) = false
 is_fault outcome = true
 
-abbrev pub is_wrong : Outcome → Bool
-is_wrong outcome.NoMemory = false
-is_wrong outcome = is_fault outcome
+abbrev pub is_object_fault : Outcome → Bool
+is_object_fault outcome.NoMemory = false
+is_object_fault outcome = is_fault outcome
 
 -- the object at a place is decoded, or refused
 abbrev pub DecodesObject : {S : Type 0} → (S → Option (List ℕ)) → S → Bounds → (place : ℕ)

@@ -14,6 +14,6 @@ pub mod Packed
 pub mod Step
 pub mod Advancing
 pub mod Slot
-pub mod Turns
+pub mod NextChild
 pub mod Walking
 pub mod inner

@@ -13,9 +13,9 @@ use Rattle.plist_binread.specs.declared.counted_content.ContentKind.{ContentKind
 use Rattle.plist_binread.specs.declared.counted_content.ContentKind.TheVariants as kind
 use Rattle.plist_format.specs.Object.{Object, Faulty}
 
--- so many bytes, or all that 64 bits can count
-abbrev pub counted : ℕ → ℕ
-counted size = min size (2 ^ 64 - 1)
+-- this many bytes, or all that 64 bits can count
+abbrev pub saturated : ℕ → ℕ
+saturated size = min size (2 ^ 64 - 1)
 
 -- the object is the fault that a content of this kind can have
 abbrev pub IsContentFault : ContentKind → Object → Type 0
@@ -27,9 +27,10 @@ IsContentFault kind.WideText object = object ≡ Faulty InvalidUtf16String
 abbrev pub Measures : ContentKind → Object → (size : Option ℕ) → Type 0
 Measures kind object None = IsContentFault kind object
 Measures kind object (Some size) =
-    (event : PlainEvent) × (scalar_event_in object ≡ Some event) × (size ≡ counted (bytes_in event))
+    (event : PlainEvent) × (scalar_event_in object ≡ Some event) × (size
+    ≡ saturated (bytes_in event))
 
--- the size of so many bytes from a place on is found where they are there, or the device failed
+-- the size of this many bytes from a place on is found where they are there, or the device failed
 abbrev pub MeasuresAt : (known : Option (List ℕ)) → (start : ℕ) → ContentKind → (size : ℕ)
     → Result (Option ℕ) Error → Type 0
 MeasuresAt known start kind size answer = IfSome known (λ bytes. start + size ≤ length bytes
@@ -59,28 +60,28 @@ IsTextPart rest size = IsUtf8 (take size rest) × (size ≡ 0 → IsUtf8 rest �
 -- how many bytes the text of these units has in UTF-8, and none where a surrogate has no partner
 abbrev pub wide_size : List ℕ → Option ℕ
 wide_size units = if has_unpaired_surrogate units then None else Some
-    (counted (length (encode_utf8_all (utf16_lossy_chars units))))
+    (saturated (length (encode_utf8_all (utf16_lossy_chars units))))
 
--- so many bytes come before them
-abbrev pub longer : (size : ℕ) → Option ℕ → Option ℕ
-longer size None = None
-longer size (Some more) = Some (counted (size + more))
+-- this many bytes come before them
+abbrev pub size_added : (size : ℕ) → Option ℕ → Option ℕ
+size_added size None = None
+size_added size (Some more) = Some (saturated (size + more))
 
 -- the first surrogate of a pair, where one waits for its second
-abbrev pub IsHigh : Option ℕ → Type 0
-IsHigh high = IfSome high (λ unit. (0xD800 ≤ unit) × (unit < 0xDC00))
+abbrev pub IsHighSurrogate : Option ℕ → Type 0
+IsHighSurrogate high = IfSome high (λ unit. (0xD800 ≤ unit) × (unit < 0xDC00))
 
 -- the units that wait
 abbrev pub waiting_units : Option ℕ → List ℕ
 waiting_units None = []
 waiting_units (Some high) = high ∷ []
 
--- the size of a text whose next unit adds so many bytes and leaves what waits, before these
-abbrev pub behind_unit : Option (ℕ × Option ℕ) → (units : List ℕ) → Option ℕ
-behind_unit None units = None
-behind_unit (Some step) units = longer step.0 (wide_size (waiting_units step.1 ++ units))
+-- the size of a text whose next unit adds this many bytes and leaves what waits, before these
+abbrev pub size_after_unit : Option (ℕ × Option ℕ) → (units : List ℕ) → Option ℕ
+size_after_unit None units = None
+size_after_unit (Some step) units = size_added step.0 (wide_size (waiting_units step.1 ++ units))
 
--- a unit behind what waits adds so many bytes, and leaves what waits then; or there is no text
+-- a unit after what waits adds this many bytes, and leaves what waits then; or there is no text
 abbrev pub TakesUnit : (high : Option ℕ) → (unit : ℕ) → Option (ℕ × Option ℕ) → Type 0
 TakesUnit high unit answer =
-    (units : List ℕ) → wide_size (waiting_units high ++ unit ∷ units) ≡ behind_unit answer units
+    (units : List ℕ) → wide_size (waiting_units high ++ unit ∷ units) ≡ size_after_unit answer units

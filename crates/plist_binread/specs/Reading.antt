@@ -11,10 +11,10 @@ use Rattle.plist_base.specs.Trees.{Data, Real, Uid}
 use Rattle.plist_format.specs.Container.{number_at, number_of, numbers_spelled}
 use Rattle.plist_binread.specs.Decoding.{children_in}
 use Rattle.plist_binread.specs.DecodeOutcome.{AreReferences, AreReferencesAt}
-use Rattle.plist_format.specs.Object.{Object, Scalar, layout_of, length_in, object_behind, object_in}
+use Rattle.plist_format.specs.Object.{Object, Scalar, layout_of, length_in, object_after_marker, object_in}
 use Rattle.plist_format.specs.Marker.{counted_layout}
 use Rattle.plist_format.specs.declared.marker.CountedKind.{CountedKind}
-use Rattle.plist_binread.specs.Turns.{ReadsChild}
+use Rattle.plist_binread.specs.NextChild.{ReadsChild}
 use Rattle.plist_binread.specs.declared.references.References.{References}
 use Rattle.std.specs.declared.alloc.Global.{Global}
 use Rattle.std.specs.declared.vec.Vec.{Vec}
@@ -29,8 +29,8 @@ IfFound found known P = IfSome found (λ value. IfSome known (λ bytes. P bytes 
 
 -- where all of them are there, a read of `size` bytes from a place on fails by the device, or since
 -- memory ran out
-abbrev pub FailsOutside : (place size : ℕ) → List ℕ → Fault → Type 0
-FailsOutside place size bytes fault = place + size ≤ length bytes → IsIoOrMemory fault.kind
+abbrev pub IsIoOrMemoryAt : (place size : ℕ) → List ℕ → Fault → Type 0
+IsIoOrMemoryAt place size bytes fault = place + size ≤ length bytes → IsIoOrMemory fault.kind
 
 -- this is the number of this width at a place
 abbrev pub IsNumberAt : (place width : ℕ) → List ℕ → ℕ → Type 0
@@ -40,7 +40,7 @@ IsNumberAt place width bytes number = number ≡ number_at bytes place width
 abbrev pub AreBytesAt : (place size : ℕ) → List ℕ → Vec ℕ Global → Type 0
 AreBytesAt place size bytes found = found.items ≡ take size (drop place bytes)
 
--- these are numbers of one width, one behind the other from a place on
+-- these are numbers of one width, one after the other from a place on
 abbrev pub AreFirstNumbers : (known : Option (List ℕ)) → (place width : ℕ) → List ℕ → Type 0
 AreFirstNumbers known place width numbers =
     IfSome known (λ bytes. numbers ≡ map (λ k. number_at bytes (place + k * width) width)
@@ -57,8 +57,8 @@ abbrev pub ReadsNumber : Result ℕ Error → (known : Option (List ℕ)) → (p
 ReadsNumber answer known place width =
     DecodesBy answer known (λ bytes. number_at bytes place width)
 
-abbrev pub MissesNumber : Result ℕ Error → (known : Option (List ℕ)) → (place width : ℕ) → Type 0
-MissesNumber answer known place width = IfRefused answer known (IsIoWithin place width)
+abbrev pub RefusesNumber : Result ℕ Error → (known : Option (List ℕ)) → (place width : ℕ) → Type 0
+RefusesNumber answer known place width = IfRefused answer known (IsIoWithin place width)
 
 -- ---- what the content of an object of a fixed size means
 
@@ -77,13 +77,13 @@ data_of_content content = Scalar (Data content)
 
 -- ---- an object whose marker was read
 
--- what the bytes behind its marker mean
+-- what the bytes after its marker mean
 abbrev pub object_with : (width marker : ℕ) → List ℕ → Object
-object_with width marker rest = object_behind marker (layout_of width marker) rest
+object_with width marker rest = object_after_marker marker (layout_of width marker) rest
 
 -- the same of an object that has a length, by the low half of its marker
 abbrev pub object_counted : (width : ℕ) → CountedKind → (low : ℕ) → List ℕ → Object
-object_counted width kind low rest = object_behind low (counted_layout width kind) rest
+object_counted width kind low rest = object_after_marker low (counted_layout width kind) rest
 
 -- the object at a place
 abbrev pub object_at : Bounds → (place : ℕ) → List ℕ → Object
@@ -92,7 +92,7 @@ object_at bounds place bytes =
 
 -- ---- what is made of bytes that reach the trailer
 
--- a child's number is read, where the object has so many
+-- a child's number is read, where the object has this many
 abbrev pub ReadsChildAt : Result ℕ Error → (known : Option (List ℕ)) → Bounds → (place index : ℕ)
     → Type 0
 ReadsChildAt answer known bounds place index = IfSome known (λ bytes.
@@ -109,13 +109,13 @@ abbrev pub FindsReferences : Result References Error → (known : Option (List �
 FindsReferences answer known bounds place = MatchResult answer (AreReferencesOf known bounds)
     (λ error. (index : ℕ) → ReadsChildAt (Err error) known bounds place index)
 
--- the same whatever lies behind the bytes that were seen
-abbrev pub AreReferencesBehind : (width : ℕ) → (seen : List ℕ) → References → Type 0
-AreReferencesBehind width seen references =
+-- the same whatever lies after the bytes that were seen
+abbrev pub AreReferencesOfSeen : (width : ℕ) → (seen : List ℕ) → References → Type 0
+AreReferencesOfSeen width seen references =
     (more : List ℕ) → AreReferencesAt width (seen ++ more) references.start references.pairs
 
--- an object of this kind and length is a collection of so many pairs, or none since it is an
--- array, and the references of its children stand behind the length
+-- an object of this kind and length is a collection of this many pairs, or none since it is an
+-- array, and the references of its children stand after the length
 abbrev pub HasPairs : CountedKind → (count pairs : ℕ) → Type 0
 HasPairs kind count pairs = (width low start : ℕ) (object rest : List ℕ) → 0 < width
     → start ≤ length object → object_in width object ≡ object_counted width kind low rest

@@ -11,7 +11,7 @@ use Rattle.plist_base.specs.Faults.{MatchFault, kind_of, error_kind_of, fault_of
 use Rattle.plist_base.specs.Limits.{RefusesAny}
 use Rattle.plist_base.specs.declared.limits.Limiter.{Limiter}
 use Rattle.plist_binread.specs.Slot.{answer_in, event_in, item_in}
-use Rattle.plist_binread.specs.Turns.{IsFound, IsCurrentCached, WeightFalls, IsTurn}
+use Rattle.plist_binread.specs.NextChild.{IsFound, IsCurrentCached, WeightFalls, TakesNextChild}
 use Rattle.plist_format.specs.Unfolding.{TableEntry, until_fault}
 use Rattle.plist_binread.specs.Walking.{IsWalkOf, walk_objects, open_in, remaining_entering, remaining_in, weight_entering, weight_in}
 use Rattle.plist_binread.specs.declared.object_faults.Outcome.{Outcome}
@@ -44,12 +44,13 @@ IsUnchanged old new =
     × (new.frames ≡ old.frames)
 
 -- the next child is taken of what remains
-abbrev pub IsTurnOfWalk : (old : Walk) → NextChild → (new : Walk) → Type 0
-IsTurnOfWalk old turn new = (bytes : List ℕ) (bounds : Bounds) → IsWalkOf bytes bounds old →
-    IsTurn (entries_of bytes bounds) (open_in old) turn (open_in new) × IsWalkOf bytes bounds new
+abbrev pub WalkTakesNextChild : (old : Walk) → NextChild → (new : Walk) → Type 0
+WalkTakesNextChild old child new = (bytes : List ℕ) (bounds : Bounds) → IsWalkOf bytes bounds old →
+    TakesNextChild (entries_of bytes bounds) (open_in old) child (open_in new)
+    × IsWalkOf bytes bounds new
 
 abbrev pub WalkWeightFalls : (old : Walk) → NextChild → (new : Walk) → Type 0
-WalkWeightFalls old turn new = (count : ℕ) → WeightFalls count (open_in old) turn (open_in new)
+WalkWeightFalls old child new = (count : ℕ) → WeightFalls count (open_in old) child (open_in new)
 
 -- ---- what is looked up
 
@@ -69,14 +70,14 @@ RefusesEntering walk at number slot refused =
     (bytes : List ℕ) (bounds : Bounds) → IsWalkOf bytes bounds walk →
     Explains (until_fault (remaining_entering bytes bounds walk at number)) slot.fault
 
-abbrev pub RefusesInside : EventSlot → Refused → Type 0
-RefusesInside slot refused = MatchFault (kind_of (error_kind_of slot.fault)) ⊥ ⊤ ⊤
+abbrev pub RefusesWithoutIo : EventSlot → Refused → Type 0
+RefusesWithoutIo slot refused = MatchFault (kind_of (error_kind_of slot.fault)) ⊥ ⊤ ⊤
 
 -- ---- an object that is opened
 
 -- what was decoded is cached if it is small
-abbrev pub KeepsOutcome : (current : PlainEvent) → Outcome → (number : ℕ) → Walk → Type 0
-KeepsOutcome current outcome number walk = (object : Object) → IsOutcomeOf object current outcome →
+abbrev pub CachesOutcome : (current : PlainEvent) → Outcome → (number : ℕ) → Walk → Type 0
+CachesOutcome current outcome number walk = (object : Object) → IsOutcomeOf object current outcome →
     is_small_event current ≡ true → 0 < unmarked (get_or walk.tags.items number 0)
 
 -- and its first item comes
@@ -97,9 +98,9 @@ AllocatesFor outcome = ⊤
 -- ---- over known bytes
 
 -- an object that was entered is cached if it is small
-abbrev pub KeepsEntered : {A : Type 0} → (known : Option (List ℕ)) → (number : ℕ)
+abbrev pub CachesEntered : {A : Type 0} → (known : Option (List ℕ)) → (number : ℕ)
     → Result A Refused → EventSlot → Walk → Type 0
-KeepsEntered known number answer slot walk = IfSome known (λ _.
+CachesEntered known number answer slot walk = IfSome known (λ _.
     IsCurrentCached (Some number) (Some (answer_in answer slot)) (event_in slot) walk.tags.items)
 
 -- its first item comes, where it is referred to from `at`
@@ -117,9 +118,9 @@ YieldsItem known bounds old item slot new = IfSome known (λ bytes.
     YieldsNext (remaining_in bytes bounds old) (item_in item slot) (event_in slot)
     (remaining_in bytes bounds new))
 
-abbrev pub KeepsItem : {A : Type 0} → (known : Option (List ℕ)) → Bounds → (old : Walk)
+abbrev pub CachesNext : {A : Type 0} → (known : Option (List ℕ)) → Bounds → (old : Walk)
     → Option (Result A Refused) → EventSlot → (new : Walk) → Type 0
-KeepsItem known bounds old item slot new = IfSome known (λ bytes.
+CachesNext known bounds old item slot new = IfSome known (λ bytes.
     IsCurrentCached (next_number (entries_of bytes bounds) (open_in old)) (item_in item slot)
     (event_in slot) new.tags.items)
 

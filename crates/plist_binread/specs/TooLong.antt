@@ -33,7 +33,7 @@ IfTooLong (Ok value) P = ⊤
 IfTooLong (Err refused.Fault) P = ⊤
 IfTooLong (Err refused.TooLong) P = P
 
--- the same over known bytes; want of memory is held, and 64 bits can count more than may come
+-- the same over known bytes; lack of memory is held, and 64 bits can count more than may come
 abbrev pub RefusesLong : {A : Type 0} → Result A Refused → (left : ℕ) → EventSlot
     → (known : Option (List ℕ)) → (List ℕ → Type 0) → Type 0
 RefusesLong answer left slot known P = IfTooLong answer

@@ -1,14 +1,14 @@
 //! The walk from one item to the next.
 
 ghost use Rattle.std.specs.Prelude.{◌≡◌, true, IfSome};
-ghost use Rattle.plist_binread.specs.Turns.{closes};
+ghost use Rattle.plist_binread.specs.NextChild.{closes};
 ghost use Rattle.plist_binread.specs.DecodeOutcome.{IsCurrentEnd};
 ghost use Rattle.plist_binread.specs.Slot.{ItemAnswersInSlot, event_in, item_in};
 ghost use Rattle.plist_binread.specs.Walking.{IsWalkOf, cached_in, walk_objects, open_in};
 ghost use Rattle.plist_binread.specs.FaultOffsets.{ItemWithin};
 ghost use Rattle.plist_binread.specs.TooLong.{LimitsItem};
 ghost use Rattle.plist_binread.specs.Reading.{AreReferencesOf};
-ghost use Rattle.plist_binread.specs.Step.{KeepsItem, LightensNext, YieldsItem};
+ghost use Rattle.plist_binread.specs.Step.{CachesNext, LightensNext, YieldsItem};
 
 use crate::counter::DecodeCounter;
 use crate::enter::enter;
@@ -46,7 +46,7 @@ pub fn advance<S: Source, C: DecodeCounter>(
     ensures known { IfSome (S.known source.old) (λ bytes. IsWalkOf bytes bounds.now walk.new) }
     ensures counted { C.counts → C.count counter.new ≡ cached_in walk.new }
     ensures references { AreReferencesOf (S.known source.old) bounds.now references.new }
-    ensures kept { KeepsItem (S.known source.old) bounds.now walk.old result slot.new walk.new }
+    ensures cached { CachesNext (S.known source.old) bounds.now walk.old result slot.new walk.new }
     ensures falls { LightensNext walk.old result walk.new }
     ensures unchanged { S.known source.new ≡ S.known source.old }
     ensures failures { ItemAnswersInSlot S.failures result slot.new source.old source.new }

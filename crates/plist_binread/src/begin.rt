@@ -7,7 +7,7 @@ ghost use Rattle.plist_binread.specs.FaultOffsets.{ErrWithin};
 ghost use Rattle.plist_binread.specs.Slot.{AnswersInSlot, answer_in};
 ghost use Rattle.plist_binread.specs.Walking.{IsEmptyWalk, cached_in, walk_objects, weight_in};
 ghost use Rattle.plist_binread.specs.TooLong.{LimitsFirst};
-ghost use Rattle.plist_binread.specs.Beginning.{CountsRoot, GivesRoot, IsBounded, IsKnownWalk, KeepsRoot};
+ghost use Rattle.plist_binread.specs.Beginning.{CountsRoot, GivesRoot, IsBounded, IsKnownWalk, CachesRoot};
 
 use crate::counter::DecodeCounter;
 use crate::enter::enter;
@@ -51,7 +51,7 @@ pub fn begin<S: Source, C: DecodeCounter>(
     ensures bounded { IfSome (S.known source.old) (IsBounded walk.new) }
     ensures objects { IfSome (S.known source.old) (CountsRoot result slot.new walk.new) }
     ensures known { OnOk result (IsKnownWalk (S.known source.old) bounds.new walk.new) }
-    ensures kept { IfSome (S.known source.old) (KeepsRoot result slot.new walk.new) }
+    ensures cached { IfSome (S.known source.old) (CachesRoot result slot.new walk.new) }
     ensures falls { OnOk result (weight_in walk.new < walk_steps (walk_objects walk.new)) }
     ensures unchanged { S.known source.new ≡ S.known source.old }
     ensures failures { AnswersInSlot S.failures result slot.new source.old source.new }

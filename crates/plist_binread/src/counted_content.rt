@@ -1,10 +1,10 @@
-//! Objects that have a length, decoded by the bytes behind their marker: all up to the trailer, or
+//! Objects that have a length, decoded by the bytes after their marker: all up to the trailer, or
 //! at least as many as tell what isn't a long text or data.
 
 ghost use Rattle.std.specs.Prelude.{◌≡◌, ◌*◌, ◌%◌, ◌^◌, ◌<◌, ◌≤◌, length, IfErr, IfNone, IfOk, IfSome};
 ghost use Rattle.plist_format.specs.declared.marker.CountedKind.TheVariants.{Array as ArrayKind, Dictionary as DictionaryKind};
-ghost use Rattle.plist_binread.specs.CountedContent.{EndsBefore, HasUnits, IsCount, IsCounted, IsLength, IsLengthCut, LiesBehind, RefusesCounted, counted_with, unit_size};
-ghost use Rattle.plist_binread.specs.Front.{DecodesWhole, IsAllSeen, LongBehind, ReachesFar};
+ghost use Rattle.plist_binread.specs.CountedContent.{EndsBefore, HasUnits, IsCount, IsCounted, IsLength, IsLengthCut, LiesAfter, RefusesCounted, counted_with, unit_size};
+ghost use Rattle.plist_binread.specs.Front.{DecodesWhole, IsAllSeen, UnseenAfter, ShowsFixedContent};
 ghost use Rattle.plist_binread.specs.Reading.{object_counted};
 ghost use Rattle.plist_binread.specs.declared.counted_content.ContentKind.TheVariants.{Data as KindData, Text as KindText, WideText as KindWideText};
 
@@ -42,7 +42,7 @@ impl ContentKind {
 pub struct Content {
     /// What it means.
     pub kind: ContentKind,
-    /// How far behind the object's place it begins.
+    /// How far after the object's place it begins.
     pub start: u64,
     /// How many elements it has.
     pub count: u64,
@@ -61,11 +61,11 @@ fn number_width(byte: u64) -> u64
     }
 }
 
-/// The length of an object, and the bytes behind it.
+/// The length of an object, and the bytes after it.
 pub fn front_length(low: LowHalf, rest: &[u8]) -> Option<(u64, &[u8])>
     ensures length { IfSome result (IsLength low rest.now) }
     ensures short { IfSome result (λ found. length found.1.now ≤ length rest.now) }
-    ensures behind { IfSome result (LiesBehind rest.now) }
+    ensures after { IfSome result (LiesAfter rest.now) }
     ensures cut { IfNone result (IsLengthCut low rest.now) }
 {
     if let Some(length) = low.length() {
@@ -80,14 +80,14 @@ pub fn front_length(low: LowHalf, rest: &[u8]) -> Option<(u64, &[u8])>
 }
 
 // How many elements of this size an object has that lies before the trailer, which is so far away,
-// and what is seen behind its length.
+// and what is seen after its length.
 fn front_count(low: LowHalf, rest: &[u8], extent: u64, size: u64) -> Result<(u64, &[u8]), Outcome>
     requires extent { length rest.now ≤ extent }
-    requires far { ReachesFar extent rest.now }
+    requires shown { ShowsFixedContent extent rest.now }
     ensures count { IfOk result (IsCount low size extent rest.now) }
     ensures small { IfOk result (λ found. found.0 * size ≤ extent) }
     ensures within { IfOk result (EndsBefore size extent rest.now) }
-    ensures behind { IfOk result (LiesBehind rest.now) }
+    ensures after { IfOk result (LiesAfter rest.now) }
     ensures refused { IfErr result (RefusesCounted low size extent rest.now) }
     ensures whole { IfErr result IsAllSeen }
 {
@@ -103,7 +103,7 @@ fn front_count(low: LowHalf, rest: &[u8], extent: u64, size: u64) -> Result<(u64
     }
 }
 
-// The content of a text or data, if all of it is seen and it has at most so many bytes.
+// The content of a text or data, if all of it is seen and it has at most this many bytes.
 fn front_content_of<'a>(
     kind: ContentKind,
     low: LowHalf,
@@ -113,12 +113,12 @@ fn front_content_of<'a>(
     slot: &mut EventSlot,
 ) -> Result<&'a [u8], Outcome>
     requires extent { length rest.now ≤ extent }
-    requires far { ReachesFar extent rest.now }
+    requires shown { ShowsFixedContent extent rest.now }
     ensures content { IfOk result (IsCounted low (unit_size kind) extent rest.now) }
     ensures size { IfOk result (HasUnits (unit_size kind)) }
     ensures bound { IfOk result (λ content. length content.now ≤ most) }
     ensures refused { IfErr result (RefusesCounted low (unit_size kind) extent rest.now) }
-    ensures long { IfErr result (LongBehind extent (counted_with kind low) rest.now slot.new) }
+    ensures unseen { IfErr result (UnseenAfter extent (counted_with kind low) rest.now slot.new) }
 {
     let size = kind.unit_size();
     let (count, behind) = front_count(low, rest, extent, size)?;
@@ -131,7 +131,7 @@ fn front_content_of<'a>(
     Ok(&behind[..all as usize])
 }
 
-// A text or data of at most so many bytes is decoded whatever number may come.
+// A text or data of at most this many bytes is decoded whatever number may come.
 const SHORT: u64 = 96;
 
 /// Data.
@@ -143,9 +143,9 @@ pub fn front_data(
     slot: &mut EventSlot,
 ) -> Outcome
     requires extent { length rest.now ≤ extent }
-    requires far { ReachesFar extent rest.now }
+    requires shown { ShowsFixedContent extent rest.now }
     ensures outcome { DecodesWhole extent (counted_with KindData low) rest.now slot.new result }
-    ensures long { LongBehind extent (counted_with KindData low) rest.now slot.new result }
+    ensures unseen { UnseenAfter extent (counted_with KindData low) rest.now slot.new result }
 {
     match front_content_of(ContentKind::Data, low, rest, extent, left.max(SHORT), slot) {
         Ok(bytes) => slot.set_data(bytes),
@@ -162,9 +162,9 @@ pub fn front_text(
     slot: &mut EventSlot,
 ) -> Outcome
     requires extent { length rest.now ≤ extent }
-    requires far { ReachesFar extent rest.now }
+    requires shown { ShowsFixedContent extent rest.now }
     ensures outcome { DecodesWhole extent (counted_with KindText low) rest.now slot.new result }
-    ensures long { LongBehind extent (counted_with KindText low) rest.now slot.new result }
+    ensures unseen { UnseenAfter extent (counted_with KindText low) rest.now slot.new result }
 {
     match front_content_of(ContentKind::Text, low, rest, extent, left.max(SHORT), slot) {
         Ok(bytes) => slot.set_text(bytes),
@@ -172,16 +172,16 @@ pub fn front_text(
     }
 }
 
-// A text of at most so many units is decoded without memory for its units.
+// A text of at most this many units is decoded without memory for its units.
 const UNITS: usize = 32;
 
 /// A text in UTF-16.
 pub fn front_wide_text(low: LowHalf, rest: &[u8], extent: u64, slot: &mut EventSlot) -> Outcome
     requires extent { length rest.now ≤ extent }
-    requires far { ReachesFar extent rest.now }
+    requires shown { ShowsFixedContent extent rest.now }
     ensures outcome { DecodesWhole extent (counted_with KindWideText low) rest.now slot.new
         result }
-    ensures long { LongBehind extent (counted_with KindWideText low) rest.now slot.new result }
+    ensures unseen { UnseenAfter extent (counted_with KindWideText low) rest.now slot.new result }
 {
     match front_content_of(
         ContentKind::WideText,
@@ -210,7 +210,7 @@ pub fn front_array(
     slot: &mut EventSlot,
 ) -> Outcome
     requires extent { length rest.now ≤ extent }
-    requires far { ReachesFar extent rest.now }
+    requires shown { ShowsFixedContent extent rest.now }
     requires width { 0 < width }
     ensures outcome { DecodesWhole extent (object_counted width ArrayKind low) rest.now slot.new result }
     ensures whole { IsAllSeen result }
@@ -233,7 +233,7 @@ pub fn front_dictionary(
     slot: &mut EventSlot,
 ) -> Outcome
     requires extent { length rest.now ≤ extent }
-    requires far { ReachesFar extent rest.now }
+    requires shown { ShowsFixedContent extent rest.now }
     requires width { (0 < width) × (width ≤ 8) }
     ensures outcome { DecodesWhole extent (object_counted width DictionaryKind low) rest.now slot.new result }
     ensures whole { IsAllSeen result }

@@ -7,7 +7,7 @@ ghost use Rattle.plist_binread.specs.Walking.{IsWalkOf, cached_in, walk_objects}
 ghost use Rattle.plist_binread.specs.FaultOffsets.{ErrWithin};
 ghost use Rattle.plist_binread.specs.Front.{small_decoded};
 ghost use Rattle.plist_binread.specs.TooLong.{LimitsEntry};
-ghost use Rattle.plist_binread.specs.Step.{IsFoundAt, IsLighterEntered, IsUnchanged, KeepsEntered, KeepsOutcome, EntersObject, OpensObject, RefusesEntering, RefusesInside, AllocatesFor};
+ghost use Rattle.plist_binread.specs.Step.{IsFoundAt, IsLighterEntered, IsUnchanged, CachesEntered, CachesOutcome, EntersObject, OpensObject, RefusesEntering, RefusesWithoutIo, AllocatesFor};
 ghost use Rattle.plist_binread.specs.Slot.{AnswersInSlot, answer_in, event_in};
 ghost use Rattle.plist_binread.specs.declared.event_slot.Refused.TheVariants.{Fault};
 
@@ -49,7 +49,7 @@ fn look_up(walk: &Walk, slot: &mut EventSlot, at: u64, number: u64) -> Result<Op
     ensures found { IfOk result (IsFoundAt number walk.now slot.new) }
     // A refusal.
     ensures refused { IfErr result (RefusesEntering walk.now at number slot.new) }
-    ensures kinds { IfErr result (RefusesInside slot.new) }
+    ensures kinds { IfErr result (RefusesWithoutIo slot.new) }
     ensures held { IfErr result (λ refused. refused ≡ Fault) }
     ensures fault { ErrWithin 0 0 (answer_in result slot.new) }
     // The state after it.
@@ -78,7 +78,7 @@ fn look_up(walk: &Walk, slot: &mut EventSlot, at: u64, number: u64) -> Result<Op
 // Caches a small scalar that was decoded, or opens a collection. Where there is no memory for the
 // collection it answers `false` and changes nothing.
 #[inline(always)]
-fn keep_or_open(walk: &mut Walk, number: u64, outcome: Outcome, slot: &EventSlot) -> bool
+fn cache_or_open(walk: &mut Walk, number: u64, outcome: Outcome, slot: &EventSlot) -> bool
     requires below { number < walk_objects walk.old }
     requires new { get_or walk.old.tags.items number 0 ≡ 0 }
     // The answer.
@@ -88,7 +88,7 @@ fn keep_or_open(walk: &mut Walk, number: u64, outcome: Outcome, slot: &EventSlot
     // The state after it.
     ensures size { walk_objects walk.new ≡ walk_objects walk.old }
     ensures counted { cached_in walk.new ≡ cached_in walk.old + small_decoded outcome slot.now }
-    ensures kept { result ≡ true → KeepsOutcome (event_in slot.now) outcome number walk.new }
+    ensures cached { result ≡ true → CachesOutcome (event_in slot.now) outcome number walk.new }
     ensures falls { result ≡ true → IsLighterEntered walk.old walk.new }
     ensures unchanged { result ≡ false → IsUnchanged walk.old walk.new }
 {
@@ -152,7 +152,7 @@ pub fn enter<S: Source, C: DecodeCounter>(
     ensures size { walk_objects walk.new ≡ walk_objects walk.old }
     ensures known { IfSome (S.known source.old) (λ bytes. IsWalkOf bytes bounds.now walk.new) }
     ensures counted { C.counts → C.count counter.new ≡ cached_in walk.new }
-    ensures kept { KeepsEntered (S.known source.old) number result slot.new walk.new }
+    ensures cached { CachesEntered (S.known source.old) number result slot.new walk.new }
     ensures falls { OnOk result (IsLighterEntered walk.old walk.new) }
     ensures unchanged { S.known source.new ≡ S.known source.old }
     ensures failures { AnswersInSlot S.failures result slot.new source.old source.new }
@@ -161,7 +161,7 @@ pub fn enter<S: Source, C: DecodeCounter>(
         None => Ok(()),
         Some(place) => {
             let outcome = decode(alloc, source, counter, bounds, place, left, slot)?;
-            if keep_or_open(walk, number, outcome, slot) {
+            if cache_or_open(walk, number, outcome, slot) {
                 return Ok(());
             }
             Err(slot.refuse_memory())

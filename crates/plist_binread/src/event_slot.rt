@@ -31,9 +31,9 @@ pub enum CompactEvent {
     Text,
     /// Data, in the slot.
     Data,
-    /// An array of so many items begins.
+    /// An array of this many items begins.
     Array(u64),
-    /// A dictionary of so many pairs begins.
+    /// A dictionary of this many pairs begins.
     Dictionary(u64),
     /// The innermost array or dictionary ends.
     End,
@@ -173,7 +173,7 @@ impl EventSlot {
 
     /// The event, which borrows its text or data from the slot.
     #[inline(always)]
-    pub fn lend(&self) -> Event<'_>
+    pub fn as_event(&self) -> Event<'_>
         ensures { event_of result ≡ event_in self.now }
     {
         match self.current {

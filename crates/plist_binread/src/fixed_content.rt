@@ -1,9 +1,9 @@
-//! Objects of a fixed size, decoded by the bytes behind their marker: all up to the trailer, or at
+//! Objects of a fixed size, decoded by the bytes after their marker: all up to the trailer, or at
 //! least 16.
 
 ghost use Rattle.std.specs.Prelude.{◌^◌, ◌<◌, ◌≤◌, length, IfNone, IfSome};
 ghost use Rattle.plist_format.specs.Object.{date, signed_integer, unsigned_integer, wide_integer};
-ghost use Rattle.plist_binread.specs.Front.{DecodesFront, IsAllSeen, IsContent, IsNumber, ReachesFar};
+ghost use Rattle.plist_binread.specs.Front.{DecodesFront, IsAllSeen, IsContent, IsNumber, ShowsFixedContent};
 ghost use Rattle.plist_binread.specs.Reading.{short_real, long_real, uid_of_content};
 
 use crate::event_slot::{CompactEvent, EventSlot};
@@ -12,7 +12,7 @@ use crate::object_faults::Outcome;
 use plist_base::{Date, Event, RealBits};
 use plist_format::UidWidth;
 
-// The number in so many bytes.
+// The number in this many bytes.
 fn front_number(rest: &[u8], width: usize) -> Option<u64>
     requires { width ≤ 8 }
     ensures value { IfSome result (IsNumber width rest.now) }
@@ -40,7 +40,7 @@ fn front_content<const N: usize>(rest: &[u8]) -> Option<[u8; N]>
 pub fn front_unsigned(rest: &[u8], extent: u64, width: usize, slot: &mut EventSlot) -> Outcome
     requires width { width ≤ 8 }
     requires extent { length rest.now ≤ extent }
-    requires far { ReachesFar extent rest.now }
+    requires shown { ShowsFixedContent extent rest.now }
     ensures outcome { DecodesFront extent width unsigned_integer rest.now slot.new result }
     ensures whole { IsAllSeen result }
 {
@@ -56,7 +56,7 @@ pub fn front_unsigned(rest: &[u8], extent: u64, width: usize, slot: &mut EventSl
 /// A number of eight bytes with a sign.
 pub fn front_signed(rest: &[u8], extent: u64, slot: &mut EventSlot) -> Outcome
     requires extent { length rest.now ≤ extent }
-    requires far { ReachesFar extent rest.now }
+    requires shown { ShowsFixedContent extent rest.now }
     ensures outcome { DecodesFront extent 8 signed_integer rest.now slot.new result }
     ensures whole { IsAllSeen result }
 {
@@ -69,7 +69,7 @@ pub fn front_signed(rest: &[u8], extent: u64, slot: &mut EventSlot) -> Outcome
 /// A whole number of sixteen bytes, of which the first eight have to be zero.
 pub fn front_wide(rest: &[u8], extent: u64, slot: &mut EventSlot) -> Outcome
     requires extent { length rest.now ≤ extent }
-    requires far { ReachesFar extent rest.now }
+    requires shown { ShowsFixedContent extent rest.now }
     ensures outcome { DecodesFront extent 16 wide_integer rest.now slot.new result }
     ensures whole { IsAllSeen result }
 {
@@ -88,7 +88,7 @@ pub fn front_wide(rest: &[u8], extent: u64, slot: &mut EventSlot) -> Outcome
 /// A Uid.
 pub fn front_uid(rest: &[u8], extent: u64, width: UidWidth, slot: &mut EventSlot) -> Outcome
     requires extent { length rest.now ≤ extent }
-    requires far { ReachesFar extent rest.now }
+    requires shown { ShowsFixedContent extent rest.now }
     ensures outcome { DecodesFront extent width uid_of_content rest.now slot.new result }
     ensures whole { IsAllSeen result }
 {
@@ -104,7 +104,7 @@ pub fn front_uid(rest: &[u8], extent: u64, width: UidWidth, slot: &mut EventSlot
 /// A real of eight bytes.
 pub fn front_real(rest: &[u8], extent: u64, slot: &mut EventSlot) -> Outcome
     requires extent { length rest.now ≤ extent }
-    requires far { ReachesFar extent rest.now }
+    requires shown { ShowsFixedContent extent rest.now }
     ensures outcome { DecodesFront extent 8 long_real rest.now slot.new result }
     ensures whole { IsAllSeen result }
 {
@@ -120,7 +120,7 @@ pub fn front_real(rest: &[u8], extent: u64, slot: &mut EventSlot) -> Outcome
 /// A real of four bytes.
 pub fn front_short_real(rest: &[u8], extent: u64, slot: &mut EventSlot) -> Outcome
     requires extent { length rest.now ≤ extent }
-    requires far { ReachesFar extent rest.now }
+    requires shown { ShowsFixedContent extent rest.now }
     ensures outcome { DecodesFront extent 4 short_real rest.now slot.new result }
     ensures whole { IsAllSeen result }
 {
@@ -136,7 +136,7 @@ pub fn front_short_real(rest: &[u8], extent: u64, slot: &mut EventSlot) -> Outco
 /// A date.
 pub fn front_date(rest: &[u8], extent: u64, slot: &mut EventSlot) -> Outcome
     requires extent { length rest.now ≤ extent }
-    requires far { ReachesFar extent rest.now }
+    requires shown { ShowsFixedContent extent rest.now }
     ensures outcome { DecodesFront extent 8 date rest.now slot.new result }
     ensures whole { IsAllSeen result }
 {

@@ -1,7 +1,7 @@
 //! The open collections, each in few bytes.
 
 ghost use Rattle.std.specs.Prelude.{◌≡◌, [], ◌∷◌, ◌++◌, reverse, IfSome, OnOk, OnErr};
-ghost use Rattle.plist_binread.specs.Frames.{NextOf, IsLast, frame_of, widened};
+ghost use Rattle.plist_binread.specs.Frames.{NextOf, PopsLast, frame_of, widened};
 
 use std::alloc::{AllocError, Global};
 use std::marker::Model;
@@ -19,7 +19,7 @@ pub struct Frame {
 
 /// An open collection whose numbers have four bytes each.
 #[derive(Clone, Copy)]
-pub struct Narrow {
+pub struct NarrowFrame {
     /// The number of its object.
     pub object: u32,
     /// How many of its children have been entered.
@@ -40,13 +40,13 @@ pub enum Upcoming {
 }
 
 // The collection in few bytes, if its numbers fit there.
-fn narrowed(frame: Frame) -> Option<Narrow>
+fn narrowed(frame: Frame) -> Option<NarrowFrame>
     ensures { IfSome result (λ narrow. widened narrow ≡ frame) }
 {
     if frame.object >= 1 << 32 || frame.next >= 1 << 32 || frame.count >= 1 << 32 {
         return None;
     }
-    Some(Narrow {
+    Some(NarrowFrame {
         object: frame.object as u32,
         next: frame.next as u32,
         count: frame.count as u32,
@@ -54,7 +54,7 @@ fn narrowed(frame: Frame) -> Option<Narrow>
 }
 
 // The collection as it was.
-fn widen(narrow: Narrow) -> Frame
+fn widen(narrow: NarrowFrame) -> Frame
     ensures { result ≡ widened narrow }
 {
     Frame {
@@ -68,7 +68,7 @@ fn widen(narrow: Narrow) -> Frame
 /// them have eight; below it all have four.
 #[derive(Drop)]
 pub struct Stack {
-    narrow: Vec<Narrow>,
+    narrow: Vec<NarrowFrame>,
     wide: Vec<Frame>,
 }
 
@@ -107,7 +107,7 @@ impl Stack {
     }
 
     fn pop(&mut self) -> Option<Frame>
-        ensures { IsLast self.old result self.new }
+        ensures { PopsLast self.old result self.new }
     {
         match self.wide.pop() {
             None => self.narrow.pop().map(widen),
@@ -127,11 +127,11 @@ pub struct Frames {
 impl Model for Frames {
     ghost use Rattle.std.specs.Prelude.{◌≡◌, List, [], None};
     ghost use Rattle.plist_binread.specs.declared.frames.Frame.{Frame};
-    ghost use Rattle.plist_binread.specs.Frames.{all_of};
+    ghost use Rattle.plist_binread.specs.Frames.{with_innermost};
 
     ghost Value = { List Frame };
 
-    ghost view = { λ frames. all_of frames.outer frames.innermost };
+    ghost view = { λ frames. with_innermost frames.outer frames.innermost };
 
     ghost invariant = { λ frames. frames.innermost ≡ None → frames.outer ≡ [] };
 }

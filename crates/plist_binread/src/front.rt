@@ -9,7 +9,7 @@ ghost use Rattle.plist_binread.specs.Slot.{event_in};
 
 use crate::counter::DecodeCounter;
 use crate::event_slot::EventSlot;
-use crate::object_faults::{Outcome, front_behind};
+use crate::object_faults::{Outcome, front_after_marker};
 
 // Is it a scalar that can be cached?
 fn is_small_outcome(outcome: Outcome, slot: &EventSlot) -> bool
@@ -43,16 +43,16 @@ pub fn decode_seen<C: DecodeCounter>(
     slot: &mut EventSlot,
 ) -> Outcome
     requires extent { length seen.now ≤ extent }
-    requires far { ShowsFront extent seen.now }
+    requires shown { ShowsFront extent seen.now }
     requires some { 0 < extent }
     requires width { (0 < width) × (width ≤ 8) }
     ensures outcome { DecodesWhole extent (object_in width) seen.now slot.new result }
-    ensures long { LeavesUnseen extent (object_in width) seen.now slot.new result }
+    ensures unseen { LeavesUnseen extent (object_in width) seen.now slot.new result }
     ensures counted { CountsOutcome C.counts C.count counter.old counter.new result slot.new }
 {
     match seen.split_first() {
         Some((marker, rest)) => {
-            let outcome = front_behind(*marker, rest, extent - 1, width, left, slot);
+            let outcome = front_after_marker(*marker, rest, extent - 1, width, left, slot);
             if is_small_outcome(outcome, slot) {
                 counter.raise();
             }

@@ -6,7 +6,7 @@ ghost use Rattle.plist_base.specs.Sources.{AnswersIo, IsIoWithin};
 ghost use Rattle.plist_binread.specs.declared.counted_content.ContentKind.TheVariants.{Text as KindText, WideText as KindWideText};
 ghost use Rattle.plist_binread.specs.FaultOffsets.{ErrWithin};
 ghost use Rattle.plist_binread.specs.Front.{EndsIn64Bits, FailsInContent};
-ghost use Rattle.plist_binread.specs.Measuring.{IsHigh, IsTextFront, IsTextPart, MeasuresAt, MeasuresContent, TakesUnit};
+ghost use Rattle.plist_binread.specs.Measuring.{IsHighSurrogate, IsTextFront, IsTextPart, MeasuresAt, MeasuresContent, TakesUnit};
 
 use crate::counted_content::{Content, ContentKind};
 use crate::numbers::read_number;
@@ -49,7 +49,7 @@ fn read_piece<S: Source>(source: &mut S, place: u64, left: u64) -> Result<u64, E
     Ok(whole_characters(piece) as u64)
 }
 
-// The size of the text in so many bytes from a place on.
+// The size of the text in this many bytes from a place on.
 fn measure_text<S: Source>(source: &mut S, start: u64, size: u64) -> Result<Option<u64>, Error>
     requires fits { start + size < 2 ^ 64 }
     // The answer.
@@ -75,7 +75,7 @@ fn measure_text<S: Source>(source: &mut S, start: u64, size: u64) -> Result<Opti
 // where a surrogate has no partner.
 fn take_first(unit: u16) -> Option<(u64, Option<u16>)>
     ensures step { TakesUnit None unit result }
-    ensures waits { IfSome result (λ step. IsHigh step.1) }
+    ensures waits { IfSome result (λ step. IsHighSurrogate step.1) }
 {
     match unit {
         0x0000..=0x007f => Some((1, None)),
@@ -86,11 +86,11 @@ fn take_first(unit: u16) -> Option<(u64, Option<u16>)>
     }
 }
 
-// The same behind the first surrogate of a pair, which may wait.
+// The same after the first surrogate of a pair, which may wait.
 fn take_unit(high: Option<u16>, unit: u16) -> Option<(u64, Option<u16>)>
-    requires { IsHigh high }
+    requires { IsHighSurrogate high }
     ensures step { TakesUnit high unit result }
-    ensures waits { IfSome result (λ step. IsHigh step.1) }
+    ensures waits { IfSome result (λ step. IsHighSurrogate step.1) }
 {
     match high {
         Some(_) => match unit {
@@ -101,7 +101,7 @@ fn take_unit(high: Option<u16>, unit: u16) -> Option<(u64, Option<u16>)>
     }
 }
 
-// The size of the text in so many units from a place on.
+// The size of the text in this many units from a place on.
 fn measure_units<S: Source>(source: &mut S, start: u64, count: u64) -> Result<Option<u64>, Error>
     requires fits { start + count * 2 < 2 ^ 64 }
     // The answer.

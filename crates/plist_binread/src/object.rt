@@ -12,7 +12,7 @@ use crate::front::decode_seen;
 use crate::head::Bounds;
 use crate::long_content::read_long;
 use crate::measure::measure;
-use crate::object_faults::{Outcome, no_text, refuse_object};
+use crate::object_faults::{Outcome, refuse_object, text_fault};
 use plist_base::{Event, Source, read_exact_at};
 use std::alloc::Global;
 
@@ -36,7 +36,7 @@ fn read_front<S: Source, C: DecodeCounter>(
     requires extent { extent ≡ bounds.now.trailer - place }
     // The answer.
     ensures outcome { DecodesAt S.known source.old bounds.now place slot.new result }
-    ensures long { UnseenAt S.known source.old bounds.now place slot.new result }
+    ensures unseen { UnseenAt S.known source.old bounds.now place slot.new result }
     // A refusal.
     ensures fault { ErrWithin place bounds.now.trailer (answer_in result slot.new) }
     // The state after it.
@@ -65,7 +65,7 @@ fn decode_front<S: Source, C: DecodeCounter>(
     requires place { place < bounds.now.trailer }
     // The answer.
     ensures outcome { DecodesAt S.known source.old bounds.now place slot.new result }
-    ensures long { UnseenAt S.known source.old bounds.now place slot.new result }
+    ensures unseen { UnseenAt S.known source.old bounds.now place slot.new result }
     // A refusal.
     ensures fault { ErrWithin place bounds.now.trailer (answer_in result slot.new) }
     // The state after it.
@@ -84,7 +84,7 @@ fn decode_front<S: Source, C: DecodeCounter>(
 
 // Refuses the text or data whose content is held, of the object at a place, where it has more than
 // `left` bytes. No memory is taken for it.
-fn weigh<S: Source>(
+fn check_size<S: Source>(
     source: &mut S,
     place: u64,
     left: u64,
@@ -112,7 +112,7 @@ fn weigh<S: Source>(
             }
             Ok(())
         }
-        Ok(None) => Err(slot.refuse(no_text(slot.content.kind, place))),
+        Ok(None) => Err(slot.refuse(text_fault(slot.content.kind, place))),
         Err(error) => Err(slot.refuse(error)),
     }
 }
@@ -140,7 +140,7 @@ fn decode_long<S: Source>(
     ensures failures { AnswersInSlot S.failures result slot.new source.old source.new }
 {
     let content = slot.content;
-    weigh(source, place, left, slot)?;
+    check_size(source, place, left, slot)?;
     // The one before it goes first, so that there is memory for one alone.
     slot.hold(Event::EndCollection);
     match read_long(alloc, source, place, content) {

@@ -9,7 +9,7 @@ ghost use Rattle.plist_base.specs.Sources.{CountsIo};
 ghost use Rattle.plist_format.specs.Object.{Faulty, Object};
 ghost use Rattle.plist_binread.specs.Decoding.{IsRefusedAs};
 ghost use Rattle.plist_binread.specs.FaultOffsets.{FailsWithin, MatchReader};
-ghost use Rattle.plist_binread.specs.Front.{DecodesWhole, LongBehind, ReachesFar, is_fault, is_wrong};
+ghost use Rattle.plist_binread.specs.Front.{DecodesWhole, UnseenAfter, ShowsFixedContent, is_fault, is_object_fault};
 ghost use Rattle.plist_binread.specs.Measuring.{Measures};
 ghost use Rattle.plist_binread.specs.DecodeOutcome.{IsOutcomeOf, small_outcome};
 ghost use Rattle.plist_binread.specs.Reading.{object_with};
@@ -53,7 +53,7 @@ pub enum Outcome {
     NoMemory,
     /// A scalar, which is the current event.
     Scalar,
-    /// A collection of so many children, whose start is the current event.
+    /// A collection of this many children, whose start is the current event.
     Collection(u64),
 }
 
@@ -66,11 +66,11 @@ impl Outcome {
     }
 }
 
-/// The object behind a marker, or the first of its faults: the marker's; that it doesn't end before
+/// The object after a marker, or the first of its faults: the marker's; that it doesn't end before
 /// the trailer; and then that of its content. A text or data of more than `left` bytes isn't all
 /// read, unless it is short.
 #[inline(always)]
-pub fn front_behind(
+pub fn front_after_marker(
     marker: u8,
     rest: &[u8],
     extent: u64,
@@ -79,10 +79,10 @@ pub fn front_behind(
     slot: &mut EventSlot,
 ) -> Outcome
     requires extent { length rest.now ≤ extent }
-    requires far { ReachesFar extent rest.now }
+    requires shown { ShowsFixedContent extent rest.now }
     requires width { (0 < width) × (width ≤ 8) }
     ensures outcome { DecodesWhole extent (object_with width marker) rest.now slot.new result }
-    ensures long { LongBehind extent (object_with width marker) rest.now slot.new result }
+    ensures unseen { UnseenAfter extent (object_with width marker) rest.now slot.new result }
 {
     match Marker::decode(marker) {
         Marker::Null => Outcome::Null,
@@ -110,7 +110,7 @@ pub fn front_behind(
 
 // What is wrong with an object.
 fn fault_kind(outcome: Outcome) -> ErrorKind
-    requires { is_wrong outcome ≡ true }
+    requires { is_object_fault outcome ≡ true }
     ensures faulty { (object : Object) (current : PlainEvent) → IsOutcomeOf object current outcome
         → object ≡ Faulty (kind_of result) }
     ensures inside { MatchFault (kind_of result) ⊥ ⊥ ⊤ }
@@ -148,7 +148,7 @@ fn object_fault(outcome: Outcome, place: u64) -> Error
 }
 
 /// The fault of the object at a place whose content isn't a text of this kind.
-pub fn no_text(kind: ContentKind, place: u64) -> Error
+pub fn text_fault(kind: ContentKind, place: u64) -> Error
     ensures refused { (object : Object) → Measures kind object None
         → IsRefusedAs object place result }
     ensures fault { (end : ℕ) → FailsWithin place end (fault_of result) }

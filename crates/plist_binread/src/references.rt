@@ -3,7 +3,7 @@
 ghost use Rattle.std.specs.Prelude.{◌≡◌, ◌+◌, ◌-◌, ◌^◌, ◌<◌, ◌≤◌, IfErr, IfNone, IfOk, IfSome, OnOk};
 ghost use Rattle.plist_binread.specs.DecodeOutcome.{reference_place, reference_index};
 ghost use Rattle.plist_binread.specs.FaultOffsets.{ErrWithin};
-ghost use Rattle.plist_binread.specs.Reading.{HasNoChild, FindsReferences, HasNoChildren, HasPairs, AreReferencesBehind, AreReferencesOf, MissesNumber, ReadsChildAt, ReadsNumber, ShowsLength};
+ghost use Rattle.plist_binread.specs.Reading.{HasNoChild, FindsReferences, HasNoChildren, HasPairs, AreReferencesOfSeen, AreReferencesOf, RefusesNumber, ReadsChildAt, ReadsNumber, ShowsLength};
 ghost use Rattle.plist_binread.specs.Step.{RefusesEach};
 ghost use Rattle.plist_binread.specs.Slot.{AnswersInSlot, answer_in};
 
@@ -19,7 +19,7 @@ use plist_format::{CountedKind, Marker};
 pub struct References {
     /// The place of the collection, if there is one.
     pub place: u64,
-    /// How far behind that its references begin.
+    /// How far after that its references begin.
     pub start: u64,
     /// How many pairs it has; none if it is an array.
     pub pairs: u64,
@@ -43,7 +43,7 @@ impl References {
 // How many pairs a collection of this kind and length has: none if it is an array.
 #[inline(always)]
 fn pairs_in(kind: CountedKind, count: u64) -> Option<u64>
-    ensures slots { IfSome result (HasPairs kind count) }
+    ensures references { IfSome result (HasPairs kind count) }
     ensures none { IfNone result (HasNoChildren kind) }
 {
     match kind {
@@ -58,9 +58,9 @@ fn pairs_in(kind: CountedKind, count: u64) -> Option<u64>
 #[inline(always)]
 fn references_in(seen: &[u8], extent: u64, width: usize, place: u64) -> Option<References>
     requires width { 0 < width }
-    requires far { ShowsLength extent seen.now }
+    requires shown { ShowsLength extent seen.now }
     ensures place { IfSome result (λ references. references.place ≡ place) }
-    ensures slots { IfSome result (AreReferencesBehind width seen.now) }
+    ensures references { IfSome result (AreReferencesOfSeen width seen.now) }
     ensures none { IfNone result (HasNoChild width extent seen.now) }
 {
     let (byte, rest) = seen.split_first()?;
@@ -92,7 +92,7 @@ fn read_references<S: Source>(
     requires extent { extent ≡ bounds.now.trailer - place }
     // The answer.
     ensures value { IfOk result (λ references. references.place ≡ place) }
-    ensures slots { FindsReferences (answer_in result slot.new) (S.known source.old) bounds.now
+    ensures references { FindsReferences (answer_in result slot.new) (S.known source.old) bounds.now
         place }
     // A refusal.
     ensures fault { ErrWithin place bounds.now.trailer (answer_in result slot.new) }
@@ -121,7 +121,7 @@ fn find_references<S: Source>(
 ) -> Result<References, Refused>
     // The answer.
     ensures value { IfOk result (λ references. references.place ≡ place) }
-    ensures slots { FindsReferences (answer_in result slot.new) (S.known source.old) bounds.now
+    ensures references { FindsReferences (answer_in result slot.new) (S.known source.old) bounds.now
         place }
     // A refusal.
     ensures fault { ErrWithin place bounds.now.trailer (answer_in result slot.new) }
@@ -147,7 +147,7 @@ fn find_references<S: Source>(
 // The number of a child's reference among those of its collection.
 fn reference_index(pairs: u64, index: u64) -> Option<u64>
     ensures value { IfSome result (λ slot. slot ≡ reference_index pairs index) }
-    ensures far { IfNone result (2 ^ 64 ≤ reference_index pairs index) }
+    ensures overflow { IfNone result (2 ^ 64 ≤ reference_index pairs index) }
 {
     if pairs == 0 {
         Some(index)
@@ -163,7 +163,7 @@ fn reference_index(pairs: u64, index: u64) -> Option<u64>
 fn reference_place(references: &References, index: u64, width: usize) -> Option<u64>
     requires { 0 < width }
     ensures value { IfSome result (λ place. place ≡ reference_place references.now index width) }
-    ensures far { IfNone result (2 ^ 64 ≤ reference_place references.now index width) }
+    ensures overflow { IfNone result (2 ^ 64 ≤ reference_place references.now index width) }
 {
     let behind = reference_index(references.pairs, index)?.checked_mul(width as u64)?;
     references
@@ -212,7 +212,7 @@ fn read_reference<S: Source>(
     // The answer.
     ensures value { ReadsNumber (answer_in result slot.new) (S.known source.old) place width }
     // A refusal.
-    ensures refused { MissesNumber (answer_in result slot.new) (S.known source.old) place width }
+    ensures refused { RefusesNumber (answer_in result slot.new) (S.known source.old) place width }
     ensures fault { ErrWithin place (place + width) (answer_in result slot.new) }
     // The state after it.
     ensures unchanged { S.known source.new ≡ S.known source.old }

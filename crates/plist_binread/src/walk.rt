@@ -4,7 +4,7 @@ ghost use Rattle.std.specs.Prelude.{◌≡◌, ◌<◌, length, reverse, true};
 ghost use Rattle.std.proofs.Props.{props};
 ghost use Rattle.plist_binread.specs.declared.walk.NextChild.TheVariants.{Closed};
 ghost use Rattle.plist_binread.specs.Remaining.{MarksOpenPath};
-ghost use Rattle.plist_binread.specs.Turns.{IsTurnWithin, closes};
+ghost use Rattle.plist_binread.specs.NextChild.{ParentIsUncached, closes};
 
 use crate::frames::{Frames, Upcoming};
 use crate::packed::unmark_open;
@@ -35,7 +35,7 @@ pub struct Walk {
 }
 
 impl Walk {
-    ghost use Rattle.plist_binread.specs.Step.{WalkWeightFalls, IsTurnOfWalk};
+    ghost use Rattle.plist_binread.specs.Step.{WalkWeightFalls, WalkTakesNextChild};
     ghost use Rattle.plist_binread.specs.Walking.{IsEmptyWalk, cached_in, walk_objects, open_in};
 
     /// A walk that knows no objects yet.
@@ -52,8 +52,8 @@ impl Walk {
     /// Takes the next child of the innermost collection, or closes it where it has no more.
     pub fn next_child(&mut self) -> NextChild
         // The answer.
-        ensures remaining { IsTurnOfWalk self.old result self.new }
-        ensures within { IsTurnWithin self.new.tags.items result }
+        ensures remaining { WalkTakesNextChild self.old result self.new }
+        ensures within { ParentIsUncached self.new.tags.items result }
         ensures closes { closes (open_in self.old) ≡ true → result ≡ Closed }
         // The state after it.
         ensures size { walk_objects self.new ≡ walk_objects self.old }

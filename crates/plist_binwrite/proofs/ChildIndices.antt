@@ -6,7 +6,7 @@ use Rattle.plist_binwrite.specs.Occurrences.{OccursAt, ItemsOccurAt, PairsOccurA
 use Rattle.plist_binwrite.specs.EventTable.{entry_kind_of, event_at, item_indices, key_indices, value_indices, keys_in, values_in}
 use Rattle.plist_binwrite.specs.declared.kinds.EntryKind.TheVariants as kind
 use Rattle.plist_binwrite.proofs.Skipping.{starts_array, starts_dictionary, stands_single}
-use Rattle.plist_binwrite.proofs.Sitting.{occurs_items, occurs_pairs}
+use Rattle.plist_binwrite.proofs.Occurring.{occurs_items, occurs_pairs}
 
 -- what holds anyhow holds where there is a value
 pub always : {T E P : Type 0} (r : Result T E) → P → OnOk r P

@@ -13,7 +13,7 @@ use Rattle.plist_binwrite.specs.declared.plan.Plan.{Plan}
 use Rattle.plist_binwrite.specs.inner.Planning.{IsPlanned, IsPlanByClass, numbers_of, firsts_of, count_of}
 use Rattle.plist_binwrite.proofs.TreeObjects.{occurs_at}
 use Rattle.plist_binwrite.specs.Occurrences.{event_count, OccursAt, ItemsOccurAt, PairsOccurAt}
-use Rattle.plist_binwrite.proofs.Sitting.{occurs_items, occurs_pairs, occurs_item, occurs_next, occurs_key, occurs_value, occurs_next_pair}
+use Rattle.plist_binwrite.proofs.Occurring.{occurs_items, occurs_pairs, occurs_item, occurs_next, occurs_key, occurs_value, occurs_next_pair}
 use Rattle.plist_binwrite.proofs.Skipping.{begins, occurs_in}
 
 pub the_scalar : (x y : Scalar) → obj.Scalar x ≡ obj.Scalar y → x ≡ y

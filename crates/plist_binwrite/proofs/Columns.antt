@@ -6,7 +6,7 @@ use Rattle.plist_binwrite.specs.declared.entries.EventEntry.TheVariants as entry
 use Rattle.plist_binwrite.specs.declared.kinds.EntryKind.{EntryKind}
 use Rattle.plist_binwrite.specs.declared.kinds.EntryKind.TheVariants as kind
 use Rattle.plist_binwrite.specs.inner.Columns.{kind_in, number_in, scalar_named, entry_of, entries_from, IsEntryNumber}
-use Rattle.plist_binwrite.specs.inner.Entries.{entry_at, is_leaf, shown}
+use Rattle.plist_binwrite.specs.inner.Entries.{entry_at, is_leaf, event_of_entry}
 use Rattle.plist_base.specs.Events.{PlainEvent}
 
 -- an entry is that of its kind and its number
@@ -31,8 +31,8 @@ pub within_lists : (kinds : List EntryKind) (numbers : List ℕ) (es : List Even
     → (p < length kinds) × (p < length numbers)
 within_lists kinds numbers es same is p lt =
     let long = long_entries kinds numbers same in
-    let told = ap length is in
-    (omega (arith, long, told), omega (arith, long, told))
+    let given = ap length is in
+    (omega (arith, long, given), omega (arith, long, given))
 
 pub entries_at : (kinds : List EntryKind) (numbers : List ℕ) (p : ℕ) → length kinds ≡ length numbers
     → entry_at (entries_from kinds numbers) p
@@ -69,12 +69,12 @@ number_read kinds numbers p same =
 pub of_kind : {A : Type 0} (f : EventEntry → A) (e : EventEntry) {k read : EntryKind} → read ≡ k
     → read ≡ kind_in e
     → f (entry_of k (number_in e)) ≡ f e
-of_kind f e is told = rw (sym is ∙ told) (ap f (same_entry e))
+of_kind f e is given = rw (sym is ∙ given) (ap f (same_entry e))
 
 pub of_number : {A : Type 0} (f : EventEntry → A) {e : EventEntry} {k read : EntryKind} (n : ℕ)
     → read ≡ k
     → read ≡ kind_in e → entry_of (kind_in e) n ≡ e → f (entry_of k n) ≡ f e
-of_number f n is told number = rw (sym is ∙ told) (ap f number)
+of_number f n is given number = rw (sym is ∙ given) (ap f number)
 
 -- the scalar that is named
 pub named : (e : EventEntry) (k : ℕ) → scalar_named e ≡ Some k → e ≡ entry.Scalar k
@@ -82,7 +82,7 @@ named entry.End k is = cc
 named e k is = cc
 
 pub unnamed : (scalars : List PlainEvent) (e : EventEntry) → scalar_named e ≡ None
-    → is_leaf (shown scalars e) ≡ false
+    → is_leaf (event_of_entry scalars e) ≡ false
 unnamed scalars (entry.Scalar index) is = cc
 unnamed scalars e is = refl
 

@@ -17,8 +17,8 @@ use Rattle.plist_binwrite.specs.declared.entries.EventEntry.TheVariants as entry
 use Rattle.plist_binwrite.specs.EventTable.{event_at, entry_kind_of}
 use Rattle.plist_binwrite.specs.Occurrences.{event_count, OccursAt}
 use Rattle.plist_binwrite.specs.inner.Columns.{kind_in, scalar_named}
-use Rattle.plist_binwrite.specs.inner.Entries.{AreApart, is_leaf, entry_at, shown, all_shown, is_sound, is_start, behind_of, behind_at, closed_at, ended_at, names, AreEntriesOf, IsKept}
-use Rattle.plist_binwrite.specs.inner.Opening.{open_behind, open_after, skip_behind, skip_after, without_innermost}
+use Rattle.plist_binwrite.specs.inner.Entries.{AreDistinct, is_leaf, entry_at, event_of_entry, events_of_entries, is_sound, is_start, index_after_entry, index_after_at, closed_at, ended_at, names, AreEntriesOf, IsValidTable}
+use Rattle.plist_binwrite.specs.inner.UnclosedStarts.{unclosed_after_event, unclosed_after, skip_after_event, skip_after, without_innermost}
 use Rattle.plist_binwrite.proofs.Changes.{at_set, at_more}
 use Rattle.plist_binwrite.proofs.Columns.{unnamed}
 use Rattle.plist_binwrite.proofs.Opened as opened
@@ -27,11 +27,11 @@ use Rattle.plist_binwrite.proofs.Opened.{open_more, skip_more, skip_ends, skip_f
 -- ---- what entries show
 
 pub long_shown : (scalars : List PlainEvent) (es : List EventEntry)
-    → length (all_shown scalars es) ≡ length es
+    → length (events_of_entries scalars es) ≡ length es
 long_shown scalars es = length-map es _
 
 shown_more : (scalars : List PlainEvent) (es : List EventEntry) (e : EventEntry)
-    → all_shown scalars (es ++ e ∷ []) ≡ all_shown scalars es ++ shown scalars e ∷ []
+    → events_of_entries scalars (es ++ e ∷ []) ≡ events_of_entries scalars es ++ event_of_entry scalars e ∷ []
 shown_more scalars es e = map-append _ es _
 
 entry_before : (es : List EventEntry) (e : EventEntry) (p : ℕ) → p < length es
@@ -71,7 +71,7 @@ leaf_without_length e h = let f = leaf_is e h in rw f.1 refl
 -- more scalars change nothing that was shown
 module _ (old more : List PlainEvent) where
   one_kept : (e : EventEntry) → is_sound old e ≡ true → (is_sound (old ++ more) e ≡ true)
-      × (shown (old ++ more) e ≡ shown old e)
+      × (event_of_entry (old ++ more) e ≡ event_of_entry old e)
   one_kept (entry.Scalar i) h =
       let same
       = get_or-append old _ _ i (below is_leaf old i refl h) in
@@ -80,7 +80,7 @@ module _ (old more : List PlainEvent) where
 
   shown_kept : (es : List EventEntry) → ((p : ℕ) → p < length es
       → is_sound old (entry_at es p) ≡ true)
-      → all_shown (old ++ more) es ≡ all_shown old es
+      → events_of_entries (old ++ more) es ≡ events_of_entries old es
   shown_kept [] sound = refl
   shown_kept (e ∷ es) sound =
       λ i. (one_kept e (sound 0 (omega arith))).1 i
@@ -88,42 +88,42 @@ module _ (old more : List PlainEvent) where
 
 -- ---- one more event
 
-pub told_none : AreEntriesOf [] [] []
-told_none = record {
+pub entries_none : AreEntriesOf [] [] []
+entries_none = record {
   sound = λ p lt. absurd (omega (arith, lt));
   starts = refl;
   skips = λ p lt. absurd (omega (arith, lt));
 }
 
-pub kept_none : (scalars : List PlainEvent) (es : List EventEntry) (begun : List ℕ) → scalars ≡ []
-    → es ≡ [] → begun ≡ [] → IsKept scalars es begun
-kept_none scalars es begun p q r = rw (p, q, r) (record {
+pub kept_none : (scalars : List PlainEvent) (es : List EventEntry) (unclosed : List ℕ) → scalars ≡ []
+    → es ≡ [] → unclosed ≡ [] → IsValidTable scalars es unclosed
+kept_none scalars es unclosed p q r = rw (p, q, r) (record {
   apart = λ i j k p q. cc;
   used = λ i lt. absurd (omega (arith, lt));
-  told = told_none;
+  entries_are = entries_none;
 })
 
-module _ {scalars : List PlainEvent} {es : List EventEntry} {begun : List ℕ}
-    (t : AreEntriesOf scalars es begun) where
+module _ {scalars : List PlainEvent} {es : List EventEntry} {unclosed : List ℕ}
+    (t : AreEntriesOf scalars es unclosed) where
   abbrev events : List PlainEvent
-  events = all_shown scalars es
+  events = events_of_entries scalars es
 
   long : length events ≡ length es
   long = long_shown _ es
 
   -- the event at an index is what the entry shows
-  shown_at : (p : ℕ) → p < length es → event_at events p ≡ shown scalars (entry_at es p)
+  shown_at : (p : ℕ) → p < length es → event_at events p ≡ event_of_entry scalars (entry_at es p)
   shown_at p lt = get_or-map _ es p _ _ lt
 
   -- entries that show one more
-  told_by : (now : List EventEntry) (after : List ℕ) (e : PlainEvent)
-      → all_shown scalars now ≡ events ++ e ∷ []
+  entries_by : (now : List EventEntry) (after : List ℕ) (e : PlainEvent)
+      → events_of_entries scalars now ≡ events ++ e ∷ []
       → ((p : ℕ) → p < length now → is_sound scalars (entry_at now p) ≡ true)
-      → reverse after ≡ open_behind e (length es) (open_after events)
+      → reverse after ≡ unclosed_after_event e (length es) (unclosed_after events)
       → ((p : ℕ) → p < length es
-      → behind_at now p ≡ skip_behind e (length es) (open_after events) p (behind_at es p))
-      → behind_at now (length es) ≡ length es + 1 → AreEntriesOf scalars now after
-  told_by now after e is sound starts before last =
+      → index_after_at now p ≡ skip_after_event e (length es) (unclosed_after events) p (index_after_at es p))
+      → index_after_at now (length es) ≡ length es + 1 → AreEntriesOf scalars now after
+  entries_by now after e is sound starts before last =
       let more : length now ≡ length es + 1 = omega (
         arith,
         long_shown scalars now,
@@ -133,64 +133,64 @@ module _ {scalars : List PlainEvent} {es : List EventEntry} {begun : List ℕ}
       ) in
       record {
         sound = sound;
-        starts = starts ∙ ap (λ n. open_behind e n (open_after events)) (sym long)
-            ∙ sym (open_more events e) ∙ ap open_after (sym is);
+        starts = starts ∙ ap (λ n. unclosed_after_event e n (unclosed_after events)) (sym long)
+            ∙ sym (open_more events e) ∙ ap unclosed_after (sym is);
         skips = λ p lt. elim (eqb_tells p (length es)) [
           | inl d ↦
-              let f = skip_forward (all_shown scalars now) p
+              let f = skip_forward (events_of_entries scalars now) p
               (omega (arith, lt, long_shown scalars now)) in
-              ap (behind_at now) d.1 ∙ last ∙ omega (arith, f, d.1, more, long_shown scalars now)
+              ap (index_after_at now) d.1 ∙ last ∙ omega (arith, f, d.1, more, long_shown scalars now)
           | inr d ↦
               let b : p < length es = omega (arith, lt, more, d.1) in
               before p b
-              ∙ ap (skip_behind e (length es) (open_after events) p) (t.skips p b)
-              ∙ ap (λ n. skip_behind e n (open_after events) p (skip_after events p)) (sym long)
+              ∙ ap (skip_after_event e (length es) (unclosed_after events) p) (t.skips p b)
+              ∙ ap (λ n. skip_after_event e n (unclosed_after events) p (skip_after events p)) (sym long)
               ∙ sym (skip_more events e p) ∙ ap (λ l. skip_after l p) (sym is)
         ];
       }
 
   -- one that ends no other
-  told_more : (e : EventEntry) (after : List ℕ) → is_sound scalars e ≡ true
-      → behind_of (length es) e ≡ length es + 1
-      → reverse after ≡ open_behind (shown scalars e) (length es) (open_after events)
-      → ((p k : ℕ) → skip_behind (shown scalars e) (length es) (open_after events) p k ≡ k)
+  entries_more : (e : EventEntry) (after : List ℕ) → is_sound scalars e ≡ true
+      → index_after_entry (length es) e ≡ length es + 1
+      → reverse after ≡ unclosed_after_event (event_of_entry scalars e) (length es) (unclosed_after events)
+      → ((p k : ℕ) → skip_after_event (event_of_entry scalars e) (length es) (unclosed_after events) p k ≡ k)
       → AreEntriesOf scalars (es ++ e ∷ []) after
-  told_more e after one behind starts same =
-      told_by (es ++ e ∷ []) after (shown scalars e) (shown_more scalars es e)
+  entries_more e after one behind starts same =
+      entries_by (es ++ e ∷ []) after (event_of_entry scalars e) (shown_more scalars es e)
       (λ p lt. at_more es e entry.End p (λ d. is_sound scalars d ≡ true) lt (λ d. one) (t.sound p))
       starts
-      (λ p lt. ap (behind_of p) (entry_before es e p lt) ∙ sym (same p (behind_at es p)))
-      (ap (behind_of (length es)) (entry_last es e) ∙ behind)
+      (λ p lt. ap (index_after_entry p) (entry_before es e p lt) ∙ sym (same p (index_after_at es p)))
+      (ap (index_after_entry (length es)) (entry_last es e) ∙ behind)
 
-  told_scalar : (i : ℕ) → is_leaf (event_at scalars i) ≡ true
-      → AreEntriesOf scalars (es ++ entry.Scalar i ∷ []) begun
-  told_scalar i leaf =
+  entries_scalar : (i : ℕ) → is_leaf (event_at scalars i) ≡ true
+      → AreEntriesOf scalars (es ++ entry.Scalar i ∷ []) unclosed
+  entries_scalar i leaf =
       let f = leaf_is (event_at scalars i) leaf in
-      told_more (entry.Scalar i) begun leaf refl (rw f.1 t.starts) (λ p k. rw f.1 refl)
+      entries_more (entry.Scalar i) unclosed leaf refl (rw f.1 t.starts) (λ p k. rw f.1 refl)
 
-  told_start : (e : EventEntry) → is_start e ≡ true → behind_of (length es) e ≡ length es + 1
-      → AreEntriesOf scalars (es ++ e ∷ []) (begun ++ length es ∷ [])
-  told_start e starts behind = by e starts behind
+  entries_start : (e : EventEntry) → is_start e ≡ true → index_after_entry (length es) e ≡ length es + 1
+      → AreEntriesOf scalars (es ++ e ∷ []) (unclosed ++ length es ∷ [])
+  entries_start e starts behind = by e starts behind
     where
-      opens : reverse (begun ++ length es ∷ []) ≡ length es ∷ open_after events
-      opens = cc (reverse-append begun (length es ∷ []))
+      opens : reverse (unclosed ++ length es ∷ []) ≡ length es ∷ unclosed_after events
+      opens = cc (reverse-append unclosed (length es ∷ []))
 
-      by : (e : EventEntry) → is_start e ≡ true → behind_of (length es) e ≡ length es + 1
-          → AreEntriesOf scalars (es ++ e ∷ []) (begun ++ length es ∷ [])
-      by (entry.Array k) s b = told_more (entry.Array k) _ refl b opens (λ p k. refl)
-      by (entry.Dictionary k) s b = told_more (entry.Dictionary k) _ refl b opens (λ p k. refl)
+      by : (e : EventEntry) → is_start e ≡ true → index_after_entry (length es) e ≡ length es + 1
+          → AreEntriesOf scalars (es ++ e ∷ []) (unclosed ++ length es ∷ [])
+      by (entry.Array k) s b = entries_more (entry.Array k) _ refl b opens (λ p k. refl)
+      by (entry.Dictionary k) s b = entries_more (entry.Dictionary k) _ refl b opens (λ p k. refl)
       by e s b = cc
 
   -- an end where nothing is begun
-  told_stray : begun ≡ [] → AreEntriesOf scalars (es ++ entry.End ∷ []) []
-  told_stray none =
-      let nothing : open_after events ≡ [] = sym t.starts ∙ ap reverse none in
-      told_more entry.End [] refl refl (sym (ap without_innermost nothing))
-      (λ p k. ap (λ b. skip_behind EndCollection (length es) b p k) nothing)
+  entries_stray : unclosed ≡ [] → AreEntriesOf scalars (es ++ entry.End ∷ []) []
+  entries_stray none =
+      let nothing : unclosed_after events ≡ [] = sym t.starts ∙ ap reverse none in
+      entries_more entry.End [] refl refl (sym (ap without_innermost nothing))
+      (λ p k. ap (λ b. skip_after_event EndCollection (length es) b p k) nothing)
 
   -- an end, which closes the innermost start
-  module _ (start : ℕ) (outer : List ℕ) (is : begun ≡ outer ++ start ∷ []) where
-    innermost : open_after events ≡ start ∷ reverse outer
+  module _ (start : ℕ) (outer : List ℕ) (is : unclosed ≡ outer ++ start ∷ []) where
+    innermost : unclosed_after events ≡ start ∷ reverse outer
     innermost = cc (reverse-append outer (start ∷ []))
 
     was_start : opened.is_start (event_at events start) ≡ true
@@ -208,7 +208,7 @@ module _ {scalars : List PlainEvent} {es : List EventEntry} {begun : List ℕ}
     within : start < length ended
     within = omega (arith, start_within, length-append es (entry.End ∷ []))
 
-    -- closing a start changes nothing but what is behind it
+    -- closing a start changes nothing but what is after it
     closing_same : {A : Type 0} (f : EventEntry → A)
         → ((m n : ℕ) → f (entry.Array m) ≡ f (entry.Array n))
         → ((m n : ℕ) → f (entry.Dictionary m) ≡ f (entry.Dictionary n))
@@ -232,17 +232,17 @@ module _ {scalars : List PlainEvent} {es : List EventEntry} {begun : List ℕ}
     closing_used i = same_named i _ _ closing within
         (closing_same (names i) (λ m n. refl) (λ m n. refl))
 
-    pub end_shown : all_shown scalars (ended_at es start) ≡ events ++ EndCollection ∷ []
+    pub end_shown : events_of_entries scalars (ended_at es start) ≡ events ++ EndCollection ∷ []
     end_shown =
         map-set_same _ _ _ _ entry.End
-        (closing_same (shown _) (λ m n. refl) (λ m n. refl)) ∙ shown_more _ es _
+        (closing_same (event_of_entry _) (λ m n. refl) (λ m n. refl)) ∙ shown_more _ es _
 
     sound_ended : (p : ℕ) → p < length ended → is_sound scalars (entry_at ended p) ≡ true
     sound_ended p lt =
         at_more es _ _ p (λ d. is_sound scalars d ≡ true) lt (λ d. refl) (t.sound p)
 
     closing_behind : (e : EventEntry) (n : ℕ) → is_sound scalars e ≡ true
-        → opened.is_start (shown scalars e) ≡ true → behind_of start (closed_at e n) ≡ n
+        → opened.is_start (event_of_entry scalars e) ≡ true → index_after_entry start (closed_at e n) ≡ n
     closing_behind (entry.Array behind) n h s = refl
     closing_behind (entry.Dictionary behind) n h s = refl
     closing_behind (entry.Scalar i) n h s =
@@ -251,31 +251,31 @@ module _ {scalars : List PlainEvent} {es : List EventEntry} {begun : List ℕ}
         ≡ false = rw f.1 refl in cc
     closing_behind entry.End n h s = cc
 
-    told_end : AreEntriesOf scalars (ended_at es start) outer
-    told_end =
-        told_by (ended_at es start) outer EndCollection end_shown
+    entries_end : AreEntriesOf scalars (ended_at es start) outer
+    entries_end =
+        entries_by (ended_at es start) outer EndCollection end_shown
         (λ p lt. at_set ended start closing entry.End p (λ d. is_sound scalars d ≡ true) within
         (λ d. closing_same (is_sound scalars) (λ m n. refl) (λ m n. refl)
         ∙ sound_ended start within)
         (λ d. sound_ended p (omega (arith, lt, length-set ended start closing))))
         (sym (ap without_innermost innermost))
         (λ p lt. rw innermost (at_set ended start closing entry.End p
-        (λ d. behind_of p d ≡ (if eqb p start then length es + 1 else behind_at es p)) within
-        (λ d. ap (λ k. behind_of k closing) d
+        (λ d. index_after_entry p d ≡ (if eqb p start then length es + 1 else index_after_at es p)) within
+        (λ d. ap (λ k. index_after_entry k closing) d
         ∙ closing_behind (entry_at ended start) (length es + 1) (sound_ended start within)
-        (ap opened.is_start (ap (shown scalars) (entry_before es entry.End start start_within)
+        (ap opened.is_start (ap (event_of_entry scalars) (entry_before es entry.End start start_within)
         ∙ sym (shown_at start start_within)) ∙ was_start)
-        ∙ sym (ap (λ b. if b then length es + 1 else behind_at es p) (eq-eqb p start d)))
-        (λ d. ap (behind_of p) (entry_before es entry.End p lt)
-        ∙ sym (ap (λ b. if b then length es + 1 else behind_at es p) (ne_eqb p start d)))))
+        ∙ sym (ap (λ b. if b then length es + 1 else index_after_at es p) (eq-eqb p start d)))
+        (λ d. ap (index_after_entry p) (entry_before es entry.End p lt)
+        ∙ sym (ap (λ b. if b then length es + 1 else index_after_at es p) (ne_eqb p start d)))))
         (at_set ended start closing entry.End (length es)
-        (λ d. behind_of (length es) d ≡ length es + 1)
+        (λ d. index_after_entry (length es) d ≡ length es + 1)
         within (λ d. absurd (omega (arith, d, start_within)))
-        (λ d. ap (behind_of (length es)) (entry_last es entry.End)))
+        (λ d. ap (index_after_entry (length es)) (entry_last es entry.End)))
 
 -- ---- the calls
 
--- an entry came, or none for want of memory
+-- an entry came, or none for lack of memory
 pub either_few : {T E : Type 0} (r : Result T E) (es now : List EventEntry)
     → OnOk r (length now < 2 ^ 63) → OnErr r (now ≡ es) → length es < 2 ^ 63 → length now < 2 ^ 63
 either_few (Ok x) es now small same few = small
@@ -287,50 +287,50 @@ pub either : {T E : Type 0} (r : Result T E) {es more now : List EventEntry} (P 
 either (Ok x) P is same new old = rw is new
 either (Err x) P is same new old = rw same old
 
-module _ {scalars : List PlainEvent} {es : List EventEntry} {begun : List ℕ}
-    (kept : IsKept scalars es begun) where
+module _ {scalars : List PlainEvent} {es : List EventEntry} {unclosed : List ℕ}
+    (kept : IsValidTable scalars es unclosed) where
   still_used : (e : EventEntry) (i : ℕ) → i < length scalars → list_any (names i) (es
       ++ e ∷ []) ≡ true
   still_used e i lt = named_more i es e (kept.used i lt)
 
-  pub kept_start : (e : EventEntry) → is_start e ≡ true → behind_of (length es) e ≡ length es + 1
-      → IsKept scalars (es ++ e ∷ []) (begun ++ length es ∷ [])
+  pub kept_start : (e : EventEntry) → is_start e ≡ true → index_after_entry (length es) e ≡ length es + 1
+      → IsValidTable scalars (es ++ e ∷ []) (unclosed ++ length es ∷ [])
   kept_start e starts behind = record {
     apart = kept.apart;
     used = still_used e;
-    told = told_start kept.told e starts behind;
+    entries_are = entries_start kept.entries_are e starts behind;
   }
 
-  pub kept_stray : begun ≡ [] → IsKept scalars (es ++ entry.End ∷ []) []
+  pub kept_stray : unclosed ≡ [] → IsValidTable scalars (es ++ entry.End ∷ []) []
   kept_stray none =
-      record { apart = kept.apart; used = still_used entry.End; told = told_stray kept.told none }
+      record { apart = kept.apart; used = still_used entry.End; entries_are = entries_stray kept.entries_are none }
 
-  pub kept_end : (start : ℕ) (outer : List ℕ) → begun ≡ outer ++ start ∷ []
-      → IsKept scalars (ended_at es start) outer
+  pub kept_end : (start : ℕ) (outer : List ℕ) → unclosed ≡ outer ++ start ∷ []
+      → IsValidTable scalars (ended_at es start) outer
   kept_end start outer is = record {
     apart = kept.apart;
-    used = λ i lt. closing_used kept.told start outer is i ∙ still_used entry.End i lt;
-    told = told_end kept.told start outer is;
+    used = λ i lt. closing_used kept.entries_are start outer is i ∙ still_used entry.End i lt;
+    entries_are = entries_end kept.entries_are start outer is;
   }
 
   -- a scalar, where the different scalars may have become one more
   module _ (more : List PlainEvent) {new : List PlainEvent} (grown : new ≡ scalars ++ more) where
-    grown_shown : all_shown new es ≡ all_shown scalars es
-    grown_shown = cc (shown_kept scalars more es kept.told.sound)
+    grown_shown : events_of_entries new es ≡ events_of_entries scalars es
+    grown_shown = cc (shown_kept scalars more es kept.entries_are.sound)
 
     module _ (i : ℕ) {e : PlainEvent} (leaf : is_leaf e ≡ true)
         (stored : slice_get new i ≡ Some e) where
       at : event_at new i ≡ e
       at = get_or_from_slice_get new i e _ stored
 
-      pub scalar_shown : all_shown new (es ++ entry.Scalar i ∷ []) ≡ all_shown scalars es ++ e ∷ []
+      pub scalar_shown : events_of_entries new (es ++ entry.Scalar i ∷ []) ≡ events_of_entries scalars es ++ e ∷ []
       scalar_shown = shown_more new es (entry.Scalar i)
           ∙ (λ j. grown_shown j ++ (ap without_length at ∙ leaf_without_length e leaf) j ∷ [])
 
       -- each scalar was there, and then it is named, or it is the one that came
-      pub kept_scalar : AreApart new
+      pub kept_scalar : AreDistinct new
           → ((j : ℕ) → j < length new → (j < length scalars) ⊎ (slice_get new j ≡ Some e))
-          → IsKept new (es ++ entry.Scalar i ∷ []) begun
+          → IsValidTable new (es ++ entry.Scalar i ∷ []) unclosed
       kept_scalar apart came = record {
         apart = apart;
         used = λ j lt. elim (came j lt) [
@@ -341,56 +341,56 @@ module _ {scalars : List PlainEvent} {es : List EventEntry} {begun : List ℕ}
               (omega (arith, length-append es (entry.Scalar i ∷ [])))
               (ap (names i) (entry_last es (entry.Scalar i)) ∙ eq-eqb i i refl))
         ];
-        told = told_scalar
+        entries_are = entries_scalar
             (record {
               sound = λ p lt. ap (λ l. is_sound l (entry_at es p)) grown
-                  ∙ (one_kept scalars more (entry_at es p) (kept.told.sound p lt)).0;
-              starts = kept.told.starts ∙ ap open_after (sym grown_shown);
-              skips = λ p lt. kept.told.skips p lt ∙ ap (λ l. skip_after l p) (sym grown_shown);
+                  ∙ (one_kept scalars more (entry_at es p) (kept.entries_are.sound p lt)).0;
+              starts = kept.entries_are.starts ∙ ap unclosed_after (sym grown_shown);
+              skips = λ p lt. kept.entries_are.skips p lt ∙ ap (λ l. skip_after l p) (sym grown_shown);
             }) i (ap is_leaf at ∙ leaf);
       }
 
   -- ---- what is read of an entry
 
-  module _ {index : ℕ} (here : index < length (all_shown scalars es)) where
+  module _ {index : ℕ} (here : index < length (events_of_entries scalars es)) where
     pub lt : index < length es
     lt = omega (arith, long_shown scalars es)
 
-    there : event_at (all_shown scalars es) index ≡ shown scalars (entry_at es index)
-    there = shown_at kept.told _ lt
+    there : event_at (events_of_entries scalars es) index ≡ event_of_entry scalars (entry_at es index)
+    there = shown_at kept.entries_are _ lt
 
     kind_shown : (e : EventEntry) → is_sound scalars e ≡ true
-        → entry_kind_of (shown scalars e) ≡ kind_in e
+        → entry_kind_of (event_of_entry scalars e) ≡ kind_in e
     kind_shown (entry.Scalar i) h = let f = leaf_is _ h in rw f.1 refl
     kind_shown e h = refl
 
     pub kind_held : kind_in (entry_at es index)
-        ≡ entry_kind_of (event_at (all_shown scalars es) index)
+        ≡ entry_kind_of (event_at (events_of_entries scalars es) index)
     kind_held =
-        sym (ap entry_kind_of there ∙ kind_shown _ (kept.told.sound _ lt))
+        sym (ap entry_kind_of there ∙ kind_shown _ (kept.entries_are.sound _ lt))
 
     pub no_scalar : scalar_named (entry_at es index) ≡ None
-        → is_leaf (event_at (all_shown scalars es) index) ≡ false
+        → is_leaf (event_at (events_of_entries scalars es) index) ≡ false
     no_scalar none = ap is_leaf there ∙ unnamed scalars (entry_at es index) none
 
     module _ {k : ℕ} (is : entry_at es index ≡ entry.Scalar k) where
       leaf_here : is_leaf (event_at scalars k) ≡ true
-      leaf_here = cc (kept.told.sound index lt)
+      leaf_here = cc (kept.entries_are.sound index lt)
 
-      stored : event_at (all_shown scalars es) index ≡ event_at scalars k
-      stored = there ∙ ap (shown scalars) is ∙ leaf_without_length _ leaf_here
+      stored : event_at (events_of_entries scalars es) index ≡ event_at scalars k
+      stored = there ∙ ap (event_of_entry scalars) is ∙ leaf_without_length _ leaf_here
 
-      pub scalar_stored : slice_get scalars k ≡ Some (event_at (all_shown scalars es) index)
+      pub scalar_stored : slice_get scalars k ≡ Some (event_at (events_of_entries scalars es) index)
       scalar_stored = slice_get-get_or _ k EndCollection (below is_leaf scalars k refl leaf_here)
           ∙ ap Some (sym stored)
 
-      pub scalar_is_leaf : is_leaf (event_at (all_shown scalars es) index) ≡ true
+      pub scalar_is_leaf : is_leaf (event_at (events_of_entries scalars es) index) ≡ true
       scalar_is_leaf = ap is_leaf stored ∙ leaf_here
 
-    pub behind_forward : (index < behind_at es index)
-        × (behind_at es index ≤ length (all_shown scalars es))
-    behind_forward = rw (kept.told.skips index lt) (skip_forward (all_shown scalars es) index here)
+    pub behind_forward : (index < index_after_at es index)
+        × (index_after_at es index ≤ length (events_of_entries scalars es))
+    behind_forward = rw (kept.entries_are.skips index lt) (skip_forward (events_of_entries scalars es) index here)
 
-    pub behind_ends : (t : Tree) → OccursAt (all_shown scalars es) t index
-        → behind_at es index ≡ index + event_count t
-    behind_ends t s = kept.told.skips index lt ∙ skip_ends (all_shown scalars es) t index s
+    pub behind_ends : (t : Tree) → OccursAt (events_of_entries scalars es) t index
+        → index_after_at es index ≡ index + event_count t
+    behind_ends t s = kept.entries_are.skips index lt ∙ skip_ends (events_of_entries scalars es) t index s

@@ -8,7 +8,7 @@ use Rattle.plist_base.specs.Bracketing.{lengthless}
 use Rattle.plist_base.specs.Events.{PlainEvent}
 use Rattle.plist_base.specs.Trees.{Tree}
 use Rattle.plist_format.specs.Object.{Object}
-use Rattle.plist_binwrite.specs.Classes.{same_class, kept, count_by, objects_by}
+use Rattle.plist_binwrite.specs.Classes.{same_class, representatives, count_by, objects_by}
 use Rattle.plist_binwrite.specs.Forms.{form}
 use Rattle.plist_binwrite.specs.EventTable.{nth_number, Describes}
 use Rattle.plist_binwrite.specs.declared.plan.Plan.{Plan}
@@ -20,7 +20,7 @@ use Rattle.plist_binwrite.specs.Written.{object_table}
 use Rattle.plist_binwrite.proofs.ClassObjects.{number_below, number_apart, number_same}
 use Rattle.plist_binwrite.proofs.Inside.{Stands, positions_stand, positions_all}
 use Rattle.plist_binwrite.proofs.SameScalars.{tells_both}
-use Rattle.plist_binwrite.proofs.Sitting.{occurs_whole}
+use Rattle.plist_binwrite.proofs.Occurring.{occurs_whole}
 use Rattle.plist_binwrite.proofs.Placing.{form_size, total_bodies}
 use Rattle.plist_binwrite.proofs.Totals.{total_below, count_below, total_all, unique_member, unique_distinct, total-map, total_equal, total_one}
 use Rattle.plist_binwrite.proofs.Uniques.{all_from, all_unique, members_self, member_has, unique_seen}
@@ -55,7 +55,7 @@ module _ {es : List PlainEvent} {plan : Plan} (planned : IsPlanned es plan) {cla
       unique_member eqb eqb_tells given q ∙ ap (λ k. is_member eqb given k) (sym f.1) ∙ m)
 
   -- and one for each class of a position
-  kept_numbers : map number (kept class whole)
+  kept_numbers : map number (representatives class whole)
       ≡ unique_keys eqb given
   kept_numbers =
       unique_seen (same_class class) eqb number (Stands es)
@@ -70,7 +70,7 @@ module _ {es : List PlainEvent} {plan : Plan} (planned : IsPlanned es plan) {cla
   planned_count =
       sym (count_below (count_of plan)) ∙ sym (total_numbers (λ x. 1))
       ∙ total_one (unique_keys eqb given)
-      ∙ ap length (sym kept_numbers) ∙ length-map (kept class whole)
+      ∙ ap length (sym kept_numbers) ∙ length-map (representatives class whole)
       number
 
   -- and their bytes
@@ -82,11 +82,11 @@ module _ {es : List PlainEvent} {plan : Plan} (planned : IsPlanned es plan) {cla
       ∙ sym (total_numbers (λ k. length (form w (objects k))))
       ∙ ap (total (λ k. length (form w (objects k)))) (sym kept_numbers)
       ∙ total-map number (λ k. length (form w (objects k)))
-      (kept class whole)
+      (representatives class whole)
       ∙ total_equal (λ one. length (form w (objects (number one))))
-      (λ one. object_size w one.1) (kept class whole)
+      (λ one. object_size w one.1) (representatives class whole)
       (all_from (λ one. length (form w (objects (number one)))
       ≡ object_size w one.1) (Stands es)
       (λ one s. ap (λ o. length (form w o)) (describes one.1 one.0 s)
       ∙ form_size w (nth_number (numbers_of plan)) one.1 one.0)
-      (kept class whole) (all_unique (Stands es) (same_class class) (positions whole 0) stand))
+      (representatives class whole) (all_unique (Stands es) (same_class class) (positions whole 0) stand))

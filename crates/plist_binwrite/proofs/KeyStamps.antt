@@ -11,11 +11,11 @@ use Rattle.plist_base.specs.Events.{PlainEvent, EndCollection, ScalarEvent}
 use Rattle.plist_base.specs.Trees.{String, Tree, Leaf, Array, Dictionary, Trees, NoTrees, TreeAnd, Members, NoMembers, MemberAnd}
 use Rattle.plist_binwrite.specs.declared.kinds.EntryKind.TheVariants as kind
 use Rattle.plist_binwrite.specs.EventTable.{AllBelow, EndsTree, LacksItem, event_at, is_end, entry_kind_of}
-use Rattle.plist_binwrite.specs.inner.Entries.{AreApart, is_leaf}
+use Rattle.plist_binwrite.specs.inner.Entries.{AreDistinct, is_leaf}
 use Rattle.plist_binwrite.specs.RepeatedKeys.{Lacks, HasDistinctKeys, HasKeysOnce, ItemsHaveKeysOnce, ValuesHaveKeysOnce}
 use Rattle.plist_binwrite.specs.Occurrences.{event_count, OccursAt, ItemsOccurAt, PairsOccurAt, positions, positions_in_items, positions_in_pairs}
 use Rattle.plist_binwrite.proofs.Inside.{positions_all}
-use Rattle.plist_binwrite.proofs.Sitting.{occurs_whole, occurs_items, occurs_pairs, occurs_item, occurs_next, occurs_key, occurs_value, occurs_next_pair}
+use Rattle.plist_binwrite.proofs.Occurring.{occurs_whole, occurs_items, occurs_pairs, occurs_item, occurs_next, occurs_key, occurs_value, occurs_next_pair}
 use Rattle.plist_binwrite.proofs.Skipping.{stands_single, starts_array}
 use Rattle.plist_binwrite.proofs.Passing.{Left, FirstPair, pairs_first, onward, pairs_stop}
 use Rattle.plist_binwrite.proofs.Uniques.{all_both}
@@ -73,7 +73,7 @@ module _ {scalars : List PlainEvent} {mark : ℕ} {es : List PlainEvent} {stamps
           → is_leaf (event_at es q) ≡ false → A
       walked_leaf h leaf = cc (ap is_leaf (key_is (pairs_first w h)))
 
-      module _ (s : ℕ) (apart : AreApart scalars) (here : slice_get scalars s ≡ Some (event_at es q))
+      module _ (s : ℕ) (apart : AreDistinct scalars) (here : slice_get scalars s ≡ Some (event_at es q))
         where
           -- a key that has the stamp stood there before
           pub walked_repeats : is_end (event_at es q) ≡ false → get_or stamps s 0 ≡ mark

@@ -6,7 +6,7 @@ use Rattle.std.proofs.lemmas.List.Quantifiers.{position-Some}
 use Rattle.std.specs.Prelude.{slice_get}
 use Rattle.std.specs.List.{AllByRecursion, IsDistinct}
 use Rattle.std.proofs.lemmas.Option.{slice_get-map, slice_get-get_or}
-use Rattle.plist_binwrite.specs.inner.Scalars.{AreApart}
+use Rattle.plist_binwrite.specs.inner.Scalars.{AreDistinct}
 use Rattle.std.specs.Cmp.Rules.{comparing}
 use Rattle.std.proofs.lemmas.Slice.Eq.{bytes_eq-Decides}
 use Rattle.std.specs.Cow.{cow_str_bytes, cow_slice_items}
@@ -103,7 +103,7 @@ module _ {T P : Type 0} (eq_of_events : T → T → Bool) (view : T → P) where
     no_key x (y ∷ cs) (suc j) a h = no_key x cs j a.1 h
 
     -- keys that are apart show different things
-    pub keys_apart : (cs : List T) → IsDistinct eq_of_events cs → AreApart (map view cs)
+    pub keys_apart : (cs : List T) → IsDistinct eq_of_events cs → AreDistinct (map view cs)
     unfolding IsDistinct
     keys_apart [] d i j k p q = cc
     keys_apart (x ∷ cs) d zero zero k p q = refl

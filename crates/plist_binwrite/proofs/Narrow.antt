@@ -1,9 +1,9 @@
--- Numbers of four bytes and those behind them, as one list.
+-- Numbers of four bytes and those after them, as one list.
 use Rattle.std.proofs.Common.{◌≡◌, ℕ, zero, suc, ◌-◌, ◌^◌, ◌<◌, List, [], ◌∷◌, ◌++◌, length, map, replicate, set, refl, ap, arith}
 use Rattle.std.proofs.lemmas.List.{map-set, set-append_left, length-map}
 use Rattle.plist_binwrite.specs.inner.Narrow.{wide_of}
 
--- so many marks of four bytes stand for as many of eight
+-- this many marks of four bytes stand for as many of eight
 pub marks_wide : (count : ℕ)
     → map wide_of (replicate count (2 ^ 32 - 1)) ++ [] ≡ replicate count (2 ^ 64 - 1)
 marks_wide zero = refl

@@ -23,7 +23,7 @@ front_more a b xs ys f = (f.0, f.1 ++ ys, f.2, cc (append_assoc f.0 f.1 ys))
 pub puts_none : {a : Option (List ℕ)} {held : List ℕ} → PutsBytes a held [] (Ok tt) a held
 puts_none = record { follow = λ first done out. rw append-nil out; waits = λ w. w }
 
--- bytes wait behind those that did
+-- bytes wait after those that did
 pub puts_waiting : {a : Option (List ℕ)} {held xs h : List ℕ} → h ≡ held ++ xs
     → length h ≤ buffer_size → PutsBytes a held xs (Ok tt) a h
 puts_waiting {held} {xs} e w = record {

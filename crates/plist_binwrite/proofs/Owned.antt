@@ -8,31 +8,31 @@ use Rattle.std.proofs.lemmas.List.{map-id}
 use Rattle.plist_base.specs.Bracketing.{lengthless, lengthless_items, lengthless_pairs}
 use Rattle.plist_base.specs.Events.{PlainEvent, EndCollection}
 use Rattle.plist_base.specs.Trees.{Scalar, Tree, Leaf, Array, Dictionary, Trees, NoTrees, TreeAnd, Members, NoMembers, MemberAnd}
-use Rattle.plist_binwrite.specs.Classes.{AreClasses, same_class, kept, count_by, objects_by, size_by}
+use Rattle.plist_binwrite.specs.Classes.{AreClasses, same_class, representatives, count_by, objects_by, size_by}
 use Rattle.plist_base.specs.Scalars.{scalar_eq}
 use Rattle.plist_binwrite.specs.ObjectCounts.{collections_among, leaf_scalars, collections_in, scalars_in, object_count}
 use Rattle.plist_binwrite.specs.Numberings.{object_of}
-use Rattle.plist_binwrite.specs.inner.Scalars.{Owner, shared, alone, own, owner, AreOwners}
+use Rattle.plist_binwrite.specs.inner.Scalars.{Identity, shared, alone, identity_of, identity_at, AreIdentities}
 use Rattle.plist_binwrite.specs.Sizes.{total, object_size, size_with, file_size}
 use Rattle.plist_binwrite.specs.Occurrences.{event_count, OccursAt, positions, positions_in_items, positions_in_pairs}
-use Rattle.plist_binwrite.specs.Written.{reference_width}
+use Rattle.plist_binwrite.specs.Widths.{reference_width}
 use Rattle.plist_binwrite.proofs.Inside.{Stands, one_tree, positions_stand}
 use Rattle.plist_binwrite.proofs.SameScalars.{owner_eq, owners_tell, tells_both}
-use Rattle.plist_binwrite.proofs.Sitting.{occurs_whole}
+use Rattle.plist_binwrite.proofs.Occurring.{occurs_whole}
 use Rattle.plist_binwrite.proofs.Skipping.{stands_single, starts_array, starts_dictionary, occurs_in}
 use Rattle.plist_binwrite.proofs.Totals.{total_one}
 use Rattle.plist_binwrite.proofs.Uniques.{unique_seen}
 
 -- ---- the owner of a tree
 
-abbrev own_tree : Tree → ℕ → Owner
+abbrev own_tree : Tree → ℕ → Identity
 own_tree (Leaf x) p = shared x
 own_tree t p = alone p
 
-owner_is : {es : List PlainEvent} (t : Tree) (p : ℕ) → OccursAt es t p → owner es p ≡ own_tree t p
-owner_is (Leaf x) p s = ap (λ e. own e p) (stands_single s)
-owner_is (Array ts) p s = ap (λ e. own e p) (starts_array s)
-owner_is (Dictionary ms) p s = ap (λ e. own e p) (starts_dictionary s)
+owner_is : {es : List PlainEvent} (t : Tree) (p : ℕ) → OccursAt es t p → identity_at es p ≡ own_tree t p
+owner_is (Leaf x) p s = ap (λ e. identity_of e p) (stands_single s)
+owner_is (Array ts) p s = ap (λ e. identity_of e p) (starts_array s)
+owner_is (Dictionary ms) p s = ap (λ e. identity_of e p) (starts_dictionary s)
 
 -- trees of one owner have one object
 same_owner : {es : List PlainEvent} (num : ℕ → ℕ) (u v : Tree) (p q : ℕ)
@@ -45,7 +45,7 @@ same_owner {es} num u v p q e s r =
     let k : q ≡ p = cc in
     let t = one_tree v u p (rw (← k) r) s in λ i. object_of num (t i) (k i)
 
-module _ {es : List PlainEvent} {class : ℕ → ℕ} {count : ℕ} (o : AreOwners es class count) where
+module _ {es : List PlainEvent} {class : ℕ → ℕ} {count : ℕ} (o : AreIdentities es class count) where
   pub class_owner : (t u : Tree) (p q : ℕ) → OccursAt es t p → OccursAt es u q → class p ≡ class q
       → own_tree t p ≡ own_tree u q
   class_owner t u p q s r e =
@@ -159,12 +159,12 @@ module _ (weight : Tree → ℕ) where
 
 -- ---- counts and sizes
 
-module _ (tree : Tree) {class : ℕ → ℕ} {count : ℕ} (o : AreOwners
+module _ (tree : Tree) {class : ℕ → ℕ} {count : ℕ} (o : AreIdentities
     (lengthless tree) class count) where
-  kept_is : kept class tree ≡ unique_keys owned_eq (positions tree 0)
+  kept_is : representatives class tree ≡ unique_keys owned_eq (positions tree 0)
   kept_is =
       cc (
-        map-id (kept class tree),
+        map-id (representatives class tree),
         unique_seen (same_class class) owned_eq (λ one. one)
             (Stands (lengthless tree)) (λ a b s r. tells_both eqb owner_eq (class a.0) (class b.0)
             (own_tree a.1 a.0) (own_tree b.1 b.0) (eqb_tells _ _) (owners_tell _ _)
@@ -174,7 +174,7 @@ module _ (tree : Tree) {class : ℕ → ℕ} {count : ℕ} (o : AreOwners
         map-id (positions tree 0),
       )
 
-  kept_total : (weight : Tree → ℕ) → total (λ (one : One). weight one.1) (kept class tree)
+  kept_total : (weight : Tree → ℕ) → total (λ (one : One). weight one.1) (representatives class tree)
       ≡ total (λ (one : One). weight one.1) (collections_in tree) + total (λ y. weight (Leaf y))
       (unique_keys scalar_eq (scalars_in tree))
   kept_total weight =
@@ -183,7 +183,7 @@ module _ (tree : Tree) {class : ℕ → ℕ} {count : ℕ} (o : AreOwners
 
   pub owned_count : count_by class tree ≡ object_count tree
   owned_count =
-      sym (total_one (kept class tree)) ∙ kept_total (λ t. 1)
+      sym (total_one (representatives class tree)) ∙ kept_total (λ t. 1)
       ∙ (λ i. total_one (collections_in tree) i + total_one
       (unique_keys scalar_eq (scalars_in tree)) i)
 
@@ -195,7 +195,7 @@ module _ (tree : Tree) {class : ℕ → ℕ} {count : ℕ} (o : AreOwners
 
 -- ---- no collection is entered twice
 
-module _ {es : List PlainEvent} {class : ℕ → ℕ} {count : ℕ} (o : AreOwners es class count)
+module _ {es : List PlainEvent} {class : ℕ → ℕ} {count : ℕ} (o : AreIdentities es class count)
     (num : ℕ → ℕ) (num_apart : (t u : Tree) (p q : ℕ) → OccursAt es t p → OccursAt es u q
     → num p ≡ num q
     → class p ≡ class q) where

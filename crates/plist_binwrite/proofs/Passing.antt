@@ -4,8 +4,8 @@ use Rattle.plist_base.specs.Events.{PlainEvent, EndCollection}
 use Rattle.plist_base.specs.Trees as trees
 use Rattle.plist_base.specs.Trees.{Tree, Leaf, Trees, NoTrees, TreeAnd, Members, NoMembers, MemberAnd}
 use Rattle.plist_binwrite.specs.Occurrences.{event_count, OccursAt, ItemsOccurAt, PairsOccurAt}
-use Rattle.plist_binwrite.specs.EventTable.{is_end, event_at, half_at, EndsTree, LacksItem}
-use Rattle.plist_binwrite.proofs.Sitting.{occurs_item, occurs_next, occurs_key, occurs_value, occurs_next_pair}
+use Rattle.plist_binwrite.specs.EventTable.{is_end, event_at, key_or_value_at, EndsTree, LacksItem}
+use Rattle.plist_binwrite.proofs.Occurring.{occurs_item, occurs_next, occurs_key, occurs_value, occurs_next_pair}
 use Rattle.plist_binwrite.proofs.Skipping.{first_event, begins, occurs_in}
 
 -- an item stands where a tree does
@@ -20,7 +20,7 @@ pub record Left {L : Type 0} (AllOccurAt : List PlainEvent → L → ℕ → Typ
   pub occurs : AllOccurAt es left q
   pub goes : Goes left q
 
--- a tree stands at p, and the other children behind it
+-- a tree stands at p, and the other children after it
 pub record First {L : Type 0} (AllOccurAt : List PlainEvent → L → ℕ → Type 0) (es : List PlainEvent)
     (Goes : Tree → L → Type 0) (p : ℕ) : Type 0 where
   pub tree : Tree
@@ -63,7 +63,7 @@ module _ {es : List PlainEvent} {Goes : Trees → ℕ → Type 0} {q : ℕ}
 
 -- ---- dictionaries
 
--- a key stands at q, and its value behind it
+-- a key stands at q, and its value after it
 pub record FirstPair (es : List PlainEvent) (Goes : Members → ℕ → Type 0) (q : ℕ) : Type 0 where
   pub key : List ℕ
   pub named : OccursAt es (Leaf (trees.String key)) q
@@ -92,13 +92,13 @@ module _ {es : List PlainEvent} {Goes : Members → ℕ → Type 0} {q : ℕ}
               };
             }
 
-    -- a key has its value behind it
+    -- a key has its value after it
     pub pairs_within : {A : Type 0} → is_end (event_at es q) ≡ false → length es ≤ q + 1 → A
     pairs_within h end = absurd (omega (arith, occurs_in (pairs_first h).here, end))
 
     -- no end stands at either
     pub stands : (b : Bool) → is_end (event_at es q) ≡ false
-        → is_end (event_at es (half_at b q)) ≡ false
+        → is_end (event_at es (key_or_value_at b q)) ≡ false
     stands true h = begins _ (q + 1) (pairs_first h).here
     stands false h = h
 

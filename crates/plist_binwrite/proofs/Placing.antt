@@ -116,7 +116,7 @@ module _ (w : ℕ) (objects : ℕ → Object) where
         )
       ]
 
--- any of the numbers, or the one behind them
+-- any of the numbers, or the one after them
 any_snoc : (q : ℕ) (xs : List ℕ) (y : ℕ)
     → list_any (eqb q) (xs ++ y ∷ []) ≡ list_any (eqb q) xs || eqb q y
 any_snoc q xs y = or_push (list_any _) _ refl (λ x l. refl) xs y
@@ -227,10 +227,10 @@ not_before xs i d h =
 
 -- ---- one more place
 
--- what is told of the place so far
+-- what is given of the place so far
 pub record Along (w : ℕ) (objects : ℕ → Object) (order places : List ℕ) (i : ℕ)
     (at : Option ℕ) : Type 0 where
-  pub told : IsSizeOrNone at (8 + length (object_table w objects (take i order)))
+  pub given : IsSizeOrNone at (8 + length (object_table w objects (take i order)))
   pub laid : IfSome at (λ n. Laid w objects places (take i order) 8)
 
 pub along_next : (w : ℕ) (objects : ℕ → Object) (order places : List ℕ) (i v : ℕ)
@@ -242,8 +242,8 @@ pub along_next : (w : ℕ) (objects : ℕ → Object) (order places : List ℕ) 
     → (at ≡ None → next ≡ None) → Along w objects order places i at → Along w objects order
     (set places (get_or order i 0) v) (i + 1) next
 along_next w objects order places i v at next lt distinct below good is sum none along = record {
-  told = subst (IsSizeOrNone next) more (sum _ along.told);
-  laid = by at next is none along.told along.laid;
+  given = subst (IsSizeOrNone next) more (sum _ along.given);
+  laid = by at next is none along.given along.laid;
 }
   where
     more : 8 + length (object_table w objects (take i order)) + length
@@ -260,11 +260,11 @@ along_next w objects order places i v at next lt distinct below good is sum none
         → IsSizeOrNone at (8 + length (object_table w objects (take i order)))
         → IfSome at (λ n. Laid w objects places (take i order) 8)
         → IfSome next (λ n. Laid w objects (set places (get_or order i 0) v) (take (i + 1) order) 8)
-    by None (Some m) is none told laid = let e : Some m ≡ None = none refl in cc
-    by (Some n) (Some m) is none told laid =
+    by None (Some m) is none given laid = let e : Some m ≡ None = none refl in cc
+    by (Some n) (Some m) is none given laid =
         rw (take_more order i 0 lt) (laid_snoc w objects places (take i order) 8 (get_or order i 0)
-        v below (not_before order i distinct lt) good (is ∙ told) laid)
-    by at next is none told laid = tt
+        v below (not_before order i distinct lt) good (is ∙ given) laid)
+    by at next is none given laid = tt
 
 -- the object of a number is that of the tree which begins at its first event
 module _ {es : List PlainEvent} {plan : Plan} (planned : IsPlanned es plan) (objects : ℕ → Object)
@@ -281,12 +281,12 @@ module _ {es : List PlainEvent} {plan : Plan} (planned : IsPlanned es plan) (obj
         ap objects (sym (ap (nth_number _) e ∙ f.1)) ∙ describes u.0 _ s,
       )
 
-  pub sized : (w : ℕ) (told : Option ℕ)
-      → ((t : Tree) → OccursAt es t first → IsSizeOrNone told (object_size w t))
+  pub sized : (w : ℕ) (given : Option ℕ)
+      → ((t : Tree) → OccursAt es t first → IsSizeOrNone given (object_size w t))
       → ((t : Tree) → OccursAt es t first → IsWritable w (object_of (nth_number
       (numbers_of plan)) t first))
-      → IsSizeOrNone told (length (form w (objects k))) × IsWritable w (objects k)
-  sized w told size good =
+      → IsSizeOrNone given (length (form w (objects k))) × IsWritable w (objects k)
+  sized w given size good =
       let d = described in (
         rw (ap (λ v. length (form w v)) d.2
             ∙ form_size w (nth_number (numbers_of plan)) d.0 first) (size d.0 d.1),

@@ -23,7 +23,7 @@ pub length_told : (high count width marker : ℕ) (digits : List ℕ) → 15 ≤
     → (high * 16 + 15) ∷ marker ∷ take (8 - (8 - width)) (drop (8 - width) digits)
     ≡ length_form high count
 length_told high count width marker digits long least h number is =
-    let told : marker ∷ big_endian width count ≡ unsigned_form count = cc in
+    let given : marker ∷ big_endian width count ≡ unsigned_form count = cc in
     cc (tail_of_digits digits width count is h, length_long high count long)
 
 high_zero : (k n : ℕ) → n < 256 ^ k → byte_at k n ≡ 0

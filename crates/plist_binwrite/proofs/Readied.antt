@@ -18,17 +18,18 @@ use Rattle.plist_binwrite.specs.Classes.{IsFileBy, count_by, objects_by, size_by
 use Rattle.plist_binwrite.specs.ObjectCounts.{collections_in}
 use Rattle.plist_binwrite.specs.Forms.{form, table_form, AllFit}
 use Rattle.plist_binwrite.specs.EventTable.{nth_number, Describes, plain_events}
-use Rattle.plist_binwrite.specs.inner.Laying.{AllOnce, laid_out, closed, IsOrder, HasAll}
+use Rattle.plist_binwrite.specs.inner.Laying.{AllOnce, laid_out, with_table_and_trailer, IsOrder, HasAll}
 use Rattle.plist_binwrite.specs.inner.Planning.{IsPlanned, IsPlanByClass, numbers_of, count_of}
 use Rattle.plist_binwrite.specs.Occurrences.{positions}
-use Rattle.plist_binwrite.specs.Written.{Laid, reference_width, offset_width, object_table, table_and_trailer}
+use Rattle.plist_binwrite.specs.Widths.{reference_width, offset_width}
+use Rattle.plist_binwrite.specs.Written.{Laid, object_table, table_and_trailer}
 use Rattle.plist_binwrite.specs.declared.plan.Plan.{Plan}
 use Rattle.plist_binwrite.proofs.ClassObjects.{Numbered, numbered, number_apart, number_below}
 use Rattle.plist_binwrite.proofs.Kept.{planned_count, planned_size}
 use Rattle.plist_binwrite.proofs.Placing.{length-magic, found_place, object_there, any_at}
 use Rattle.plist_binwrite.proofs.Reading.{form_read}
 use Rattle.plist_binwrite.proofs.ReadingNumbers.{drop_front, width_positive, last, length_closed, front_is, head_is}
-use Rattle.plist_binwrite.proofs.Sitting.{occurs_whole}
+use Rattle.plist_binwrite.proofs.Occurring.{occurs_whole}
 use Rattle.plist_binwrite.proofs.Unfold.{Shows, unfolds_whole, no_fault}
 use Rattle.plist_binwrite.proofs.LeastWidths.{width_holds}
 use Rattle.plist_base.specs.Outcomes.{IfFault, OnlyDevice}
@@ -43,7 +44,7 @@ use Rattle.plist_binwrite.specs.OutputBuffer.{IsSplit, SendsRest, SendsRestInPar
 use Rattle.plist_binwrite.specs.inner.Sizing.{ExceedsWith, FitsWith}
 use Rattle.plist_binwrite.specs.Sizes.{IsSizeOrNone, size_with}
 use Rattle.plist_binwrite.specs.SendingAs.{IsFileAs}
-use Rattle.plist_binwrite.proofs.Unhinted.{plain_lengthless}
+use Rattle.plist_binwrite.proofs.Lengthless.{plain_lengthless}
 
 module _ {es : List PlainEvent} {plan : Plan} (planned : IsPlanned es plan) {class : ℕ → ℕ}
     (goes : IsPlanByClass es class plan) (t : Tree) (e : es ≡ lengthless t) (objects : ℕ → Object)
@@ -91,7 +92,7 @@ module _ {es : List PlainEvent} {plan : Plan} (planned : IsPlanned es plan) {cla
     -- ---- what the file's own table holds
 
     abbrev before : List ℕ
-    before = take (last body places) (closed file places)
+    before = take (last body places) (with_table_and_trailer file places)
 
     abbrev entries : List TableEntry
     entries = table_of before w places
@@ -117,7 +118,7 @@ module _ {es : List PlainEvent} {plan : Plan} (planned : IsPlanned es plan) {cla
           width_holds (length file) short,
         )))
 
-    head_found : head_of (closed file places) ≡ Ok
+    head_found : head_of (with_table_and_trailer file places) ≡ Ok
         (record { trailer = last body places; reference_width = w; root = 0; places = places })
     head_found = head_is body places (omega (arith, long, planned.numbered.small)) short fit
 
@@ -137,21 +138,21 @@ module _ {es : List PlainEvent} {plan : Plan} (planned : IsPlanned es plan) {cla
         t (last body places) (occurs_whole e) in
         rw (buffer, planned.root) at all
 
-    items_are : items_of_file (closed file places) ≡ map Ok (bracketing t)
+    items_are : items_of_file (with_table_and_trailer file places) ≡ map Ok (bracketing t)
     unfolding items_of_file
     items_are =
-        ap (items_with (closed file places)) head_found ∙ ap until_fault shows.items
+        ap (items_with (with_table_and_trailer file places)) head_found ∙ ap until_fault shows.items
         ∙ no_fault (bracketing t)
 
-    visits_are : visits (closed file places) ≡ map (λ one. num one.0) (collections_in t)
+    visits_are : visits (with_table_and_trailer file places) ≡ map (λ one. num one.0) (collections_in t)
     unfolding visits
-    visits_are = ap (visits_with (closed file places)) head_found ∙ shows.visits
+    visits_are = ap (visits_with (with_table_and_trailer file places)) head_found ∙ shows.visits
 
-    ok_same : (a b : Head) → Ok a ≡ head_of (closed file places)
-        → head_of (closed file places) ≡ Ok b → b ≡ a
+    ok_same : (a b : Head) → Ok a ≡ head_of (with_table_and_trailer file places)
+        → head_of (with_table_and_trailer file places) ≡ Ok b → b ≡ a
     ok_same a b p q = cc
 
-    pub finished : IsFileBy class t (closed file places)
+    pub finished : IsFileBy class t (with_table_and_trailer file places)
     finished = record {
       written = record {
         order = order;
@@ -179,12 +180,12 @@ module _ {es : List PlainEvent} {plan : Plan} (planned : IsPlanned es plan) {cla
       fits = fits;
     }
 
-module _ {es : List PlainEvent} {plan : Plan} {order marks : List ℕ} (told : Option ℕ)
+module _ {es : List PlainEvent} {plan : Plan} {order marks : List ℕ} (given : Option ℕ)
     {width count : ℕ} (wide : width ≡ reference_width count) (many : count ≡ length marks)
     (p : IsPlanned es plan) (o : IsOrder (count_of plan) order marks)
     (all : HasAll (count_of plan) order)
     (size : (objects : ℕ → Object) → Describes es (numbers_of plan) objects
-    → IsSizeOrNone told (length (laid_out width objects order))) where
+    → IsSizeOrNone given (length (laid_out width objects order))) where
   n : count ≡ count_of plan
   n = cc
 
@@ -196,10 +197,10 @@ module _ {es : List PlainEvent} {plan : Plan} {order marks : List ℕ} (told : O
     size_of_all = objects_by class (reference_width (count_by class t)) t
 
     -- where the offset table lies
-    table_told : IsSizeOrNone told (8 + size_of_all)
+    table_told : IsSizeOrNone given (8 + size_of_all)
     table_told =
         let of = numbered p in
-        subst (IsSizeOrNone told)
+        subst (IsSizeOrNone given)
         (ap (λ v. length (laid_out v of.objects order)) (wide ∙ ap reference_width n)
         ∙ laid_length p goes t e of.objects of.describes order once)
         (size of.objects of.describes)
@@ -208,20 +209,20 @@ module _ {es : List PlainEvent} {plan : Plan} {order marks : List ℕ} (told : O
     count_told : count ≡ count_by class t
     count_told = n ∙ planned_count p goes t e
 
-    too_large : (told : Option ℕ) → IfSome told (λ table. ExceedsWith table count)
-        → IsSizeOrNone told (8 + size_of_all) → 2 ^ 64 ≤ size_by class t
+    too_large : (given : Option ℕ) → IfSome given (λ table. ExceedsWith table count)
+        → IsSizeOrNone given (8 + size_of_all) → 2 ^ 64 ≤ size_by class t
     too_large None exceeds large = omega (arith, large)
     too_large (Some table) exceeds is =
         subst (λ k. 2 ^ 64 ≤ size_with k size_of_all) count_told (exceeds size_of_all is)
 
   -- where the file doesn't fit, by any classes
-  pub oversized : IfSome told (λ table. ExceedsWith table count) → {class : ℕ → ℕ}
+  pub oversized : IfSome given (λ table. ExceedsWith table count) → {class : ℕ → ℕ}
       → IsPlanByClass es class plan → IsOversized class es
-  oversized exceeds {class} goes t e = too_large goes t e told exceeds (table_told goes t e)
+  oversized exceeds {class} goes t e = too_large goes t e given exceeds (table_told goes t e)
 
-  module _ (places : List ℕ) {table : ℕ} (known : told ≡ Some table) (fits : FitsWith table count)
+  module _ (places : List ℕ) {table : ℕ} (known : given ≡ Some table) (fits : FitsWith table count)
       (long : length places ≡ count_of plan)
-      (laid : IfSome told (λ _. (objects : ℕ → Object) → Describes es (numbers_of plan) objects
+      (laid : IfSome given (λ _. (objects : ℕ → Object) → Describes es (numbers_of plan) objects
       → Laid width objects places order 8)) where
     widths : width ≡ reference_width (length places)
     widths = wide ∙ ap reference_width (n ∙ sym long)
@@ -246,17 +247,17 @@ module _ {es : List PlainEvent} {plan : Plan} {order marks : List ℕ} (told : O
     }
 
 -- it is too long by the same number of objects
-pub exceeds_same : (told : Option ℕ) {count other : ℕ} → count ≡ other
-    → IfSome told (λ table. ExceedsWith table count)
-    → IfSome told (λ table. ExceedsWith table other)
-exceeds_same told same exceeds = subst (λ k. IfSome told (λ table. ExceedsWith table k)) same exceeds
+pub exceeds_same : (given : Option ℕ) {count other : ℕ} → count ≡ other
+    → IfSome given (λ table. ExceedsWith table count)
+    → IfSome given (λ table. ExceedsWith table other)
+exceeds_same given same exceeds = subst (λ k. IfSome given (λ table. ExceedsWith table k)) same exceeds
 
--- the parts that are put, one behind the other
+-- the parts that are put, one after the other
 pub file_is : (objects : ℕ → Object) (order places : List ℕ) (table width : ℕ)
     → width ≡ reference_width (length places)
     → table ≡ length (laid_out (reference_width (length places)) objects order)
     → magic ++ (object_table width objects order ++ table_and_trailer places table)
-    ≡ closed (laid_out (reference_width (length places)) objects order) places
+    ≡ with_table_and_trailer (laid_out (reference_width (length places)) objects order) places
 file_is objects order places table width wide e =
     cc
 
@@ -309,4 +310,4 @@ ready_needs_none contents es ready (Err error) old new s =
 -- a draft that fits is ready
 pub fitting_ready : {es : List PlainEvent} {draft : Draft} {ready : Ready} → IsDraftOf es draft
     → IsFitting draft ready → IsReady es ready
-fitting_ready {es} of fits = subst (IsReady es) (sym fits.same) (of.ready _ fits.told fits.fits)
+fitting_ready {es} of fits = subst (IsReady es) (sym fits.same) (of.ready _ fits.placed fits.fits)

@@ -13,8 +13,8 @@ use Rattle.plist_format.specs.Object.{Object, Scalar, Counted, layout_of, length
 use Rattle.plist_binwrite.specs.Forms.{big_endian, doublings, unsigned_form, integer_form, uid_form, length_form, IsInteger, AllFit, least_width, table_form, trailer_form}
 use Rattle.plist_binwrite.proofs.Pushed.{length_short, length_long}
 use Rattle.plist_binwrite.proofs.LeastWidths.{at_width, length-big_endian, number_back}
-use Rattle.plist_binwrite.specs.Written.{reference_width, offset_width}
-use Rattle.plist_binwrite.specs.inner.Laying.{closed}
+use Rattle.plist_binwrite.specs.Widths.{reference_width, offset_width}
+use Rattle.plist_binwrite.specs.inner.Laying.{with_table_and_trailer}
 
 -- ---- the front of some bytes
 
@@ -104,7 +104,7 @@ follows n rest h =
         parted (λ a b. Some (number_of a, b)) _ (big_endian w n) rest w (length-big_endian w n)
         ∙ ap (λ k. Some (k, rest)) (number_back w n small)
 
--- an object of so many elements
+-- an object of this many elements
 pub counted : {size : ℕ} {meaning : ℕ → List ℕ → Object} (width high count : ℕ)
     (content rest : List ℕ)
     → ((m : ℕ) → high * 16 ≤ m → m ≤ high * 16 + 15 → layout_of width m ≡ Counted size meaning)
@@ -134,7 +134,7 @@ counted {size} {meaning} width high count content rest layout small len =
           ) read
     ]
 
--- ---- numbers one behind the other
+-- ---- numbers one after the other
 
 pub length-table : (w : ℕ) (xs : List ℕ) → length (flat_map (big_endian w) xs) ≡ length xs * w
 length-table w [] = omega arith
@@ -227,19 +227,19 @@ module _ (body places : List ℕ) where
   length_front =
       omega (arith, length-append file table, length-table wide places)
 
-  regroup : closed file places ≡ (file ++ table) ++ trailer
+  regroup : with_table_and_trailer file places ≡ (file ++ table) ++ trailer
   regroup = sym (append_assoc file _ _)
 
-  pub length_closed : length (closed file places) ≡ last + 32
+  pub length_closed : length (with_table_and_trailer file places) ≡ last + 32
   length_closed =
       let n : length trailer ≡ 32 = refl in
       omega (arith, n, ap length regroup, length-append (file ++ table) trailer, length_front)
 
-  pub front_is : take last (closed file places) ≡ file ++ table
+  pub front_is : take last (with_table_and_trailer file places) ≡ file ++ table
   front_is = ap (take _) regroup ∙ take_front _ trailer last length_front
 
   pub head_is : length places < 2 ^ 64 → length file < 2 ^ 64 → AllFit wide places
-      → head_of (closed file places)
+      → head_of (with_table_and_trailer file places)
       ≡ Ok (record {
         trailer = last;
         reference_width = reference_width
@@ -248,21 +248,21 @@ module _ (body places : List ℕ) where
         places = places;
       })
   head_is few short fit =
-      let at : length (closed file places) - 32 ≡ last = omega (arith, length_closed) in
+      let at : length (with_table_and_trailer file places) - 32 ≡ last = omega (arith, length_closed) in
       let back : numbers_spelled wide
-      (take (length places * wide) (drop (length file) (closed file places)))
+      (take (length places * wide) (drop (length file) (with_table_and_trailer file places)))
       ≡ places
       = ap (λ l. numbers_spelled wide (take (length places * wide) l))
       (drop-append_seam file (table ++ trailer))
       ∙ ap (numbers_spelled wide) (take_front table trailer _ (length-table wide places))
       ∙ numbers_back wide places (width_positive (length file)) fit in
-      head_whole (closed file places) refl (omega (arith, length_closed))
-      ∙ (λ i. head_with (closed file places) (at i) (trailer_in (drop (at i) (closed file places))))
-      ∙ ap (λ r. head_with (closed file places) last (trailer_in r))
+      head_whole (with_table_and_trailer file places) refl (omega (arith, length_closed))
+      ∙ (λ i. head_with (with_table_and_trailer file places) (at i) (trailer_in (drop (at i) (with_table_and_trailer file places))))
+      ∙ ap (λ r. head_with (with_table_and_trailer file places) last (trailer_in r))
       (ap (drop last) regroup ∙ drop_front (file ++ table) trailer last length_front)
-      ∙ ap (head_with (closed file places) last)
+      ∙ ap (head_with (with_table_and_trailer file places) last)
       (trailer_back wide (reference_width (length places)) (length places)
       (length file) few short)
-      ∙ head_with_is (closed file places) places last wide
+      ∙ head_with_is (with_table_and_trailer file places) places last wide
       (reference_width (length places)) (length places) (length file) (width_is (length file))
       (width_is (length places - 1)) (omega arith) back

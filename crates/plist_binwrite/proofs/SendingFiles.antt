@@ -12,11 +12,11 @@ use Rattle.plist_binwrite.specs.Files.{IsFileOf}
 use Rattle.plist_binwrite.specs.EventTable.{plain_events}
 use Rattle.plist_binwrite.specs.SendingAs.{IsFileAs, FailsAs, SendsAs}
 use Rattle.plist_binwrite.specs.Sizes.{file_size}
-use Rattle.plist_binwrite.specs.inner.Scalars.{AreOwners}
+use Rattle.plist_binwrite.specs.inner.Scalars.{AreIdentities}
 use Rattle.plist_binwrite.proofs.Least.{least}
 use Rattle.plist_binwrite.proofs.Owned.{owned_count, owned_size, entered_once}
-use Rattle.plist_binwrite.proofs.Sitting.{occurs_whole}
-use Rattle.plist_binwrite.proofs.Unhinted.{plain_lengthless}
+use Rattle.plist_binwrite.proofs.Occurring.{occurs_whole}
+use Rattle.plist_binwrite.proofs.Lengthless.{plain_lengthless}
 
 -- a file of one kind is one of another, and has its size; and the events are alike
 module _ (One Other : Tree → List ℕ → Type 0) (size other : Tree → ℕ) (xs ys : List PlainEvent)
@@ -74,7 +74,7 @@ sends_too_large contents class events fault old new is whole large same = rw is 
 -- ---- a file by the plain writer's classes is the tree's file
 
 owned_file : {class : ℕ → ℕ} {count : ℕ} (tree : Tree) (file : List ℕ)
-    → AreOwners (lengthless tree) class count → IsFileBy class tree file → IsFileOf tree file
+    → AreIdentities (lengthless tree) class count → IsFileBy class tree file → IsFileOf tree file
 owned_file tree file o f = record {
   written = f.written;
   once = record {
@@ -91,12 +91,12 @@ owned_file tree file o f = record {
 
 pub sends_plainly : {W : Type 0} (contents : W → Option (List ℕ))
     (events : EventTable) {class : ℕ → ℕ}
-    {count : ℕ} (answer : Answer) (old new : W) → AreOwners (plain_events events) class count
+    {count : ℕ} (answer : Answer) (old new : W) → AreIdentities (plain_events events) class count
     → SendsBy class contents (plain_events events) answer old new
     → SendsAs IsFileOf file_size contents (plain_events events) answer old new
 sends_plainly contents events {class} {count} answer old new o s =
     let own = λ (tree : Tree) (alike : AreAlike (plain_events events) (bracketing tree)). subst
-    (λ es. AreOwners es class count) (plain_lengthless events tree alike) o in
+    (λ es. AreIdentities es class count) (plain_lengthless events tree alike) o in
     sends_as (IsFileBy class) IsFileOf (size_by class) file_size (plain_events events)
     (plain_events events) refl (λ tree alike file f. owned_file tree file (own tree alike) f)
     (λ tree alike. owned_size tree (own tree alike)) contents answer old new s

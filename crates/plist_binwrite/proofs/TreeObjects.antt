@@ -12,7 +12,7 @@ use Rattle.plist_binwrite.specs.Forms.{big_endian, length_form, units_of, is_asc
 use Rattle.plist_binwrite.specs.EventTable.{IfScalar, is_end, entry_kind_of, event_at, item_indices, key_indices, value_indices, nth_number, AllNumbered, IsBracketed}
 use Rattle.plist_binwrite.specs.Sizes.{IsSizeOrNone, dictionary_size}
 use Rattle.plist_binwrite.specs.inner.Entries.{is_leaf}
-use Rattle.plist_binwrite.proofs.Sitting.{occurs_whole, occurs_items, occurs_pairs, occurs_item, occurs_next, occurs_key, occurs_value, occurs_next_pair}
+use Rattle.plist_binwrite.proofs.Occurring.{occurs_whole, occurs_items, occurs_pairs, occurs_item, occurs_next, occurs_key, occurs_value, occurs_next_pair}
 use Rattle.plist_binwrite.proofs.Skipping.{stands_single, starts_array, starts_dictionary, no_start, begins, occurs_in, as_items, pairs_as_items}
 use Rattle.plist_binwrite.proofs.Inside.{Stands, positions_stand, positions_all}
 use Rattle.plist_binwrite.proofs.ReadingNumbers.{length-table}
@@ -140,18 +140,18 @@ dictionary_is num w count ms p s h =
     λ i. length_form 0xd ((e ∙ sym (length-pairs num ms (p + 1))) i) ++ (table_form w
     (sym (keys_are num ms (p + 1)) i) ++ table_form w (sym (values_are num ms (p + 1)) i))
 
-pub dictionary_told : (told : Option ℕ) (w count : ℕ) (ms : Members)
+pub dictionary_told : (given : Option ℕ) (w count : ℕ) (ms : Members)
     → count ≡ number_of_trees (as_items ms)
-    → IsSizeOrNone told (length (length_form 0xd (count / 2)) + count * w)
-    → IsSizeOrNone told (dictionary_size w (number_of_members ms))
-dictionary_told told w count ms h told_is =
+    → IsSizeOrNone given (length (length_form 0xd (count / 2)) + count * w)
+    → IsSizeOrNone given (dictionary_size w (number_of_members ms))
+dictionary_told given w count ms h told_is =
     let half : count / 2 ≡ number_of_members ms = omega (arith, twice ms) in
     let two : count * w ≡ number_of_members ms * w + number_of_members ms * w =
     rw (h, twice ms) (grind arith) in
     subst (IsSizeOrNone _) (λ i. length (length_form 0xd (half i)) + two i) told_is
 
-pub told_if : (told : Option ℕ) (event_count : ℕ) → SomeIff told (event_count < 2 ^ 64) event_count
-    → IsSizeOrNone told event_count
+pub told_if : (given : Option ℕ) (event_count : ℕ) → SomeIff given (event_count < 2 ^ 64) event_count
+    → IsSizeOrNone given event_count
 told_if None event_count h = elim (cases_lt _ _) [ inl l ↦ absurd (h l) | inr l ↦ l ]
 told_if (Some x) event_count h = h.1
 

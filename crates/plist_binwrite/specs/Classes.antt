@@ -11,7 +11,8 @@ use Rattle.plist_binwrite.specs.Numberings.{object_of}
 use Rattle.plist_binwrite.specs.SendingAs.{SendsAs}
 use Rattle.plist_binwrite.specs.Sizes.{total, object_size, size_with}
 use Rattle.plist_binwrite.specs.Occurrences.{OccursAt, positions}
-use Rattle.plist_binwrite.specs.Written.{IsWrittenAs, reference_width}
+use Rattle.plist_binwrite.specs.Widths.{reference_width}
+use Rattle.plist_binwrite.specs.Written.{IsWrittenAs}
 
 -- indices of one class have one object, whose references are the classes of its children
 pub record AreClasses (es : List PlainEvent) (class : ℕ → ℕ) : Type 0 where
@@ -23,16 +24,16 @@ module _ (class : ℕ → ℕ) where
   same_class a b = nat_eq (class a.0) (class b.0)
 
   -- one position of each class, with its tree
-  abbrev pub kept : Tree → List (ℕ × Tree)
-  kept tree = unique_keys same_class (positions tree 0)
+  abbrev pub representatives : Tree → List (ℕ × Tree)
+  representatives tree = unique_keys same_class (positions tree 0)
 
   -- how many objects a file has that has one for each class
   abbrev pub count_by : Tree → ℕ
-  count_by tree = length (kept tree)
+  count_by tree = length (representatives tree)
 
   -- how many bytes its objects have together, and the whole file
   abbrev pub objects_by : (width : ℕ) → Tree → ℕ
-  objects_by width tree = total (λ one. object_size width one.1) (kept tree)
+  objects_by width tree = total (λ one. object_size width one.1) (representatives tree)
 
   abbrev pub size_by : Tree → ℕ
   size_by tree = size_with (count_by tree) (objects_by (reference_width (count_by tree)) tree)

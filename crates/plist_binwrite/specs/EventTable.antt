@@ -10,7 +10,7 @@ use Rattle.plist_base.specs.Trees.{Scalar, Tree, Leaf, Array, Dictionary, Trees,
 use Rattle.plist_base.specs.Bracketing.{without_length, lengthless}
 use Rattle.plist_binwrite.specs.Occurrences.{event_count, OccursAt}
 use Rattle.plist_binwrite.specs.Numberings.{object_of}
-use Rattle.plist_binwrite.specs.inner.Entries.{all_shown, shown}
+use Rattle.plist_binwrite.specs.inner.Entries.{events_of_entries, event_of_entry}
 use Rattle.plist_binwrite.specs.declared.entries.EventEntry.{EventEntry}
 
 -- what contracts see of an event that is held: the length of a start is struck out
@@ -23,11 +23,11 @@ scalars_of held = map event_of held.scalars.keys
 
 -- the events
 abbrev pub plain_events : EventTable → List PlainEvent
-plain_events held = all_shown (scalars_of held) held.entries
+plain_events held = events_of_entries (scalars_of held) held.entries
 
 -- the event of an entry
-abbrev pub shown_in : EventTable → EventEntry → PlainEvent
-shown_in held entry = shown (scalars_of held) entry
+abbrev pub entry_event : EventTable → EventEntry → PlainEvent
+entry_event held entry = event_of_entry (scalars_of held) entry
 
 -- this holds of the scalar, if the event is one
 abbrev pub IfScalar : PlainEvent → (Scalar → Type 0) → Type 0
@@ -63,7 +63,7 @@ abbrev pub IsScalarAt : EventTable → (index scalar : ℕ) → Type 0
 IsScalarAt held p scalar =
     slice_get (scalars_of held) scalar ≡ Some (event_at (plain_events held) p)
 
--- an event came behind those held
+-- an event came after those held
 abbrev pub GrowsBy : (before : EventTable) → PlainEvent → (after : EventTable) → Type 0
 GrowsBy before event after = plain_events after ≡ plain_events before ++ event ∷ []
 
@@ -81,20 +81,20 @@ item_indices NoTrees q = []
 item_indices (TreeAnd t ts) q = q ∷ item_indices ts (q + event_count t)
 
 -- of a pair the index of the value, or of the key
-abbrev pub half_at : Bool → ℕ → ℕ
-half_at of_values q = if of_values then q + 1 else q
+abbrev pub key_or_value_at : Bool → ℕ → ℕ
+key_or_value_at of_values q = if of_values then q + 1 else q
 
 -- the indices of the values, or of the keys
-abbrev pub half_indices : Bool → Members → ℕ → List ℕ
-half_indices of_values NoMembers q = []
-half_indices of_values (MemberAnd k t ms) q =
-    half_at of_values q ∷ half_indices of_values ms (q + 1 + event_count t)
+abbrev pub key_or_value_indices : Bool → Members → ℕ → List ℕ
+key_or_value_indices of_values NoMembers q = []
+key_or_value_indices of_values (MemberAnd k t ms) q =
+    key_or_value_at of_values q ∷ key_or_value_indices of_values ms (q + 1 + event_count t)
 
 abbrev pub key_indices : Members → ℕ → List ℕ
-key_indices ms q = half_indices false ms q
+key_indices ms q = key_or_value_indices false ms q
 
 abbrev pub value_indices : Members → ℕ → List ℕ
-value_indices ms q = half_indices true ms q
+value_indices ms q = key_or_value_indices true ms q
 
 abbrev pub keys_in : Tree → ℕ → List ℕ
 keys_in (Dictionary ms) p = key_indices ms (p + 1)

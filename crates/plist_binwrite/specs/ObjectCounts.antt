@@ -35,6 +35,6 @@ scalars_in tree = leaf_scalars (positions tree 0)
 abbrev pub object_count : Tree → ℕ
 object_count tree = length (collections_in tree) + distinct_count scalar_eq (scalars_in tree)
 
--- the file's head counts so many objects
+-- the file's head counts this many objects
 abbrev pub HasObjects : (file : List ℕ) → ℕ → Type 0
 HasObjects file count = (head : Head) → head_of file ≡ Ok head → length head.places ≡ count

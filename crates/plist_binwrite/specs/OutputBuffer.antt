@@ -20,11 +20,11 @@ pub record IsSplit (first now : Option (List ℕ)) (waiting done : List ℕ) : T
 
 -- the bytes follow those that were done before; or a device failed, and a beginning of all of them
 -- went out
-abbrev pub PutsBehind : (old : Option (List ℕ)) (held bytes : List ℕ) → Answer
+abbrev pub PutsAfter : (old : Option (List ℕ)) (held bytes : List ℕ) → Answer
     → (new : Option (List ℕ)) (holds : List ℕ) → Type 0
-PutsBehind old held bytes (Ok done) new holds = (first : Option (List ℕ)) (done : List ℕ)
+PutsAfter old held bytes (Ok done) new holds = (first : Option (List ℕ)) (done : List ℕ)
     → IsSplit first old held done → IsSplit first new holds (done ++ bytes)
-PutsBehind old held bytes (Err fault) new holds = (fault ≡ fault_nowhere Io)
+PutsAfter old held bytes (Err fault) new holds = (fault ≡ fault_nowhere Io)
     × ((first : Option (List ℕ)) (done : List ℕ) → IsSplit first old held done
     → AppendsPrefix first new (done ++ bytes))
 
@@ -36,7 +36,7 @@ buffer_size = 2 ^ 16
 -- is no more than the buffer holds
 pub record PutsBytes (old : Option (List ℕ)) (held bytes : List ℕ) (answer : Answer)
     (new : Option (List ℕ)) (holds : List ℕ) : Type 0 where
-  pub follow : PutsBehind old held bytes answer new holds
+  pub follow : PutsAfter old held bytes answer new holds
   pub waits : length held ≤ buffer_size → length holds ≤ buffer_size
 
 module _ {W : Type 0} (contents : W → Option (List ℕ)) where

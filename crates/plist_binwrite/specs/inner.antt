@@ -6,7 +6,7 @@ pub mod Laws
 pub mod Laying
 pub mod Narrow
 pub mod Numbering
-pub mod Opening
+pub mod UnclosedStarts
 pub mod Planning
 pub mod PlansBy
 pub mod Putting

@@ -47,7 +47,7 @@ fn widened(narrow: &Vec<u32>, wide: &Vec<usize>) -> Result<Vec<usize>, AllocErro
     Ok(all)
 }
 
-/// A list of numbers. Those of eight bytes stand behind those of four.
+/// A list of numbers. Those of eight bytes stand after those of four.
 #[derive(Drop)]
 pub struct Numbers {
     narrow: Vec<u32>,
@@ -74,7 +74,7 @@ impl Numbers {
         }
     }
 
-    /// No numbers, with room for so many of four bytes.
+    /// No numbers, with room for this many of four bytes.
     pub fn with_capacity(alloc: Global, count: usize) -> Result<Numbers, AllocError>
         ensures { IfOk result (λ r. r ≡ []) }
     {

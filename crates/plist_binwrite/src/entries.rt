@@ -2,14 +2,14 @@
 
 ghost use Rattle.std.specs.Prelude.{◌≡◌, ◌-◌, ◌^◌, ◌<◌, ◌++◌, ◌∷◌, [], length, set, take, OnOk, OnErr};
 ghost use Rattle.plist_binwrite.specs.inner.Columns.{entry_of, kind_in, number_in, scalar_named, IsEntryNumber};
-ghost use Rattle.plist_binwrite.specs.inner.Entries.{behind_at, closed_at, ended_at, entry_at};
+ghost use Rattle.plist_binwrite.specs.inner.Entries.{index_after_at, closed_at, ended_at, entry_at};
 
 use crate::compact_numbers::Numbers;
 use crate::kinds::EntryKind;
 use std::alloc::{AllocError, Global};
 use std::marker::Model;
 
-/// A held event: a start with the index behind its end, or behind itself as long as it has none; a
+/// A held event: a start with the index after its end, or after itself as long as it has none; a
 /// scalar by its index among the different ones.
 #[derive(Clone, Copy)]
 pub enum EventEntry {
@@ -59,7 +59,7 @@ fn entry_of(kind: EntryKind, number: usize) -> EventEntry
     }
 }
 
-// The entry with this index behind its end, if it is a start.
+// The entry with this index after its end, if it is a start.
 fn closed(entry: EventEntry, behind: usize) -> EventEntry
     ensures { result ≡ closed_at entry behind }
 {
@@ -132,11 +132,11 @@ impl Entries {
         entry_of(self.kind_at(index), self.number_at(index))
     }
 
-    /// The index behind the tree that begins with the entry at an index.
+    /// The index after the tree that begins with the entry at an index.
     pub fn behind(&self, index: usize) -> usize
         requires within { index < length self.now }
         requires small { index < 2 ^ 64 - 1 }
-        ensures { result ≡ behind_at self.now index }
+        ensures { result ≡ index_after_at self.now index }
     {
         match self.kind_at(index) {
             EntryKind::Array => self.number_at(index),

@@ -4,7 +4,7 @@ ghost use Rattle.std.specs.Prelude.{◌≡◌, ◌^◌, ◌<◌, true, length, O
 ghost use Rattle.std.proofs.Props.{props};
 ghost use Rattle.plist_base.specs.Events.{EndCollection, event_of};
 ghost use Rattle.plist_base.specs.Outcomes.{OnlyMemory};
-ghost use Rattle.plist_binwrite.specs.inner.Entries.{is_leaf, KeepsScalars};
+ghost use Rattle.plist_binwrite.specs.inner.Entries.{is_leaf, AreValidEntries};
 
 use crate::entries::{Entries, EventEntry};
 use crate::kinds::EntryKind;
@@ -19,8 +19,8 @@ use std::alloc::{AllocError, Global};
 pub struct EventTable<'e> {
     scalars: IndexSet<Event<'e>>,
     entries: Entries,
-    begun: Vec<usize>,
-    ghost kept: { KeepsScalars scalars.keys entries begun.items } by { Prim.hlevel props },
+    unclosed: Vec<usize>,
+    ghost kept: { AreValidEntries scalars.keys entries unclosed.items } by { Prim.hlevel props },
     ghost few: { length entries < 2 ^ 63 },
 }
 
@@ -31,7 +31,7 @@ fn is_content(event: &Event<'_>) -> bool {
 
 impl<'e> EventTable<'e> {
     ghost use Rattle.std.specs.Prelude.{◌≤◌, [], None, Some, false, slice_get, IfSome, ◌+◌};
-    ghost use Rattle.plist_binwrite.specs.EventTable.{plain_event, plain_events, scalars_of, entry_kind_of, event_at, EndsTree, GrowsBy, HasItem, IsScalarAt, LacksItem, table_event, shown_in};
+    ghost use Rattle.plist_binwrite.specs.EventTable.{plain_event, plain_events, scalars_of, entry_kind_of, event_at, EndsTree, GrowsBy, HasItem, IsScalarAt, LacksItem, table_event, entry_event};
     ghost use Rattle.plist_binwrite.specs.inner.Entries.{is_start, IsUnclosed};
 
     /// No events. It takes no memory.
@@ -41,7 +41,7 @@ impl<'e> EventTable<'e> {
         EventTable {
             scalars: IndexSet::new(alloc),
             entries: Entries::new(alloc),
-            begun: Vec::new(alloc),
+            unclosed: Vec::new(alloc),
         }
     }
 
@@ -96,8 +96,8 @@ impl<'e> EventTable<'e> {
         }
     }
 
-    /// The index behind the tree that begins here.
-    pub fn index_behind(&self, index: usize) -> usize
+    /// The index after the tree that begins here.
+    pub fn index_after(&self, index: usize) -> usize
         requires { index < length (plain_events self.now) }
         ensures forward { (index < result) × (result ≤ length (plain_events self.now)) }
         ensures ends { EndsTree (plain_events self.now) index result }
@@ -105,8 +105,8 @@ impl<'e> EventTable<'e> {
         self.entries.behind(index)
     }
 
-    /// The index behind the pair whose key stands here.
-    pub fn index_behind_pair(&self, key: usize) -> usize
+    /// The index after the pair whose key stands here.
+    pub fn index_after_pair(&self, key: usize) -> usize
         requires { key < length (plain_events self.now) }
         ensures forward { (key < result) × (result ≤ length (plain_events self.now)) }
         ensures ends { EndsTree (plain_events self.now) (key + 1) result }
@@ -115,7 +115,7 @@ impl<'e> EventTable<'e> {
         if value >= self.len() {
             return value;
         }
-        self.index_behind(value)
+        self.index_after(value)
     }
 
     /// The index of the scalar here among the different ones, in the order in which they came.
@@ -138,17 +138,17 @@ impl<'e> EventTable<'e> {
         self.scalars.get_index(scalar)
     }
 
-    // Takes a start, with the index behind itself.
+    // Takes a start, with the index after itself.
     fn start(&mut self, entry: EventEntry) -> Result<(), AllocError>
         requires starts { is_start entry ≡ true }
-        requires behind { IsUnclosed (length (plain_events self.old)) entry }
-        ensures events { OnOk result (GrowsBy self.old (shown_in self.old entry) self.new) }
+        requires after { IsUnclosed (length (plain_events self.old)) entry }
+        ensures events { OnOk result (GrowsBy self.old (entry_event self.old entry) self.new) }
         ensures unchanged { OnErr result (plain_events self.new ≡ plain_events self.old) }
     {
-        self.begun.reserve(1)?;
+        self.unclosed.reserve(1)?;
         let index = self.entries.len();
         self.entries.push(entry)?;
-        self.begun.push_reserved(index);
+        self.unclosed.push_reserved(index);
         Ok(())
     }
 
@@ -157,11 +157,11 @@ impl<'e> EventTable<'e> {
         ensures events { OnOk result (GrowsBy self.old EndCollection self.new) }
         ensures unchanged { OnErr result (plain_events self.new ≡ plain_events self.old) }
     {
-        match self.begun.pop() {
+        match self.unclosed.pop() {
             Some(start) => match self.entries.close(start) {
                 Ok(()) => Ok(()),
                 Err(error) => {
-                    self.begun.push_reserved(start);
+                    self.unclosed.push_reserved(start);
                     Err(error)
                 }
             },
@@ -249,7 +249,7 @@ impl<'e> EventTable<'e> {
     {
         self.scalars.clear();
         self.entries.clear();
-        self.begun.clear();
+        self.unclosed.clear();
     }
 }
 

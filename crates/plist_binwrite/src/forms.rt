@@ -40,7 +40,7 @@ pub fn put_byte<W: Write>(out: &mut W, buffer: &mut Vec<u8>, byte: u8) -> Result
     put(out, buffer, &[byte])
 }
 
-// Puts a marker and the bytes behind it.
+// Puts a marker and the bytes after it.
 fn put_marked<W: Write>(
     out: &mut W,
     buffer: &mut Vec<u8>,
@@ -94,7 +94,7 @@ pub fn put_unsigned<W: Write>(out: &mut W, buffer: &mut Vec<u8>, number: u64) ->
     put_marked_number(out, buffer, number_marker(width), width, number)
 }
 
-/// Puts a marker of this kind with a length: in its low half below 15, else behind it.
+/// Puts a marker of this kind with a length: in its low half below 15, else after it.
 pub fn put_length<W: Write>(
     out: &mut W,
     buffer: &mut Vec<u8>,
@@ -209,7 +209,7 @@ pub fn put_numbers<W: Write>(
     Ok(())
 }
 
-/// Puts the trailer of a file of so many objects, whose offset table lies at `table`; the root is
+/// Puts the trailer of a file of this many objects, whose offset table lies at `table`; the root is
 /// object 0.
 pub fn put_trailer<W: Write>(
     out: &mut W,

@@ -63,12 +63,12 @@ impl FileLayout {
         let mut key = from;
         'walk: while events.has_item(key) {
             self.put(events, plan, key)?;
-            key = events.index_behind_pair(key);
+            key = events.index_after_pair(key);
         }
         Ok(())
     }
 
-    // Puts the object of the event here into the order, and behind it those of its keys.
+    // Puts the object of the event here into the order, and after it those of its keys.
     fn put_here(
         &mut self,
         events: &EventTable<'_>,

@@ -109,7 +109,7 @@ pub fn length_of_scalar(event: &Event<'_>) -> Option<u64>
     }
 }
 
-/// The length of a collection of this count with so many references, each of this width.
+/// The length of a collection of this count with this many references, each of this width.
 pub fn length_of_collection(count: u64, references: u64, width: u64) -> Option<u64>
     ensures value { (high : ℕ) → IsSizeOrNone result (marked_size high count (references * width)) }
 {

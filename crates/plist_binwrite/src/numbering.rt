@@ -27,7 +27,7 @@ struct Numbered {
 impl Numbered {
     ghost use Rattle.std.specs.Prelude.{◌≡◌, ◌<◌, [], length, IfOk, OnOk};
     ghost use Rattle.plist_binwrite.specs.EventTable.{plain_events};
-    ghost use Rattle.plist_binwrite.specs.inner.Numbering.{AreMarks, BeginsAt, IsNumberedSoFar, HaveIdsOf, IsPlanOf, KeepsNumbers, NumbersAll, NumbersChildren, NumbersHalf, NumbersItem, NumbersItems, RootIsFirst};
+    ghost use Rattle.plist_binwrite.specs.inner.Numbering.{AreMarks, BeginsAt, IsNumberedSoFar, HaveIdsOf, IsPlanOf, KeepsNumbers, NumbersAll, NumbersChildren, NumbersKeysOrValues, NumbersItem, NumbersItems, RootIsFirst};
 
     // No numbers so far. There is room for the first index of each class, since lists that grow
     // would leave gaps between those that are filled.
@@ -86,7 +86,7 @@ impl Numbered {
         let mut index = from;
         'walk: while given.events.has_item(index) {
             self.number_one(given, index)?;
-            index = given.events.index_behind(index);
+            index = given.events.index_after(index);
         }
         Ok(())
     }
@@ -101,13 +101,13 @@ impl Numbered {
         requires so_far { IsNumberedSoFar given.now self.old }
         ensures so_far { OnOk result (IsNumberedSoFar given.now self.new) }
         ensures keeps { OnOk result (KeepsNumbers self.old self.new) }
-        ensures numbered { OnOk result (NumbersHalf given.now values from self.new) }
+        ensures numbered { OnOk result (NumbersKeysOrValues given.now values from self.new) }
     {
         let mut key = from;
         'walk: while given.events.has_item(key) {
             let index = key_or_value(key, key + 1, values);
             self.number_one(given, index)?;
-            key = given.events.index_behind_pair(key);
+            key = given.events.index_after_pair(key);
         }
         Ok(())
     }

@@ -3,7 +3,7 @@
 ghost use Rattle.std.specs.Prelude.{◌<◌, length};
 ghost use Rattle.plist_binwrite.specs.EventTable.{AllBelow};
 ghost use Rattle.plist_binwrite.specs.inner.Planning.{CanPut, count_of, events_in};
-ghost use Rattle.plist_binwrite.specs.inner.Putting.{PutsArray, PutsDictionary, PutsHalf, PutsItems, PutsObject, PutsOrder};
+ghost use Rattle.plist_binwrite.specs.inner.Putting.{PutsArray, PutsDictionary, PutsKeysOrValues, PutsItems, PutsObject, PutsOrder};
 
 use crate::compact_numbers::Numbers;
 use crate::forms::{CountedKind, put_length, put_number, put_scalar};
@@ -30,7 +30,7 @@ fn put_items<W: Write>(
         if !hold_number(buffer, file.width, number) {
             put_number(out, buffer, file.width, number)?;
         }
-        index = file.events.index_behind(index);
+        index = file.events.index_after(index);
     }
     Ok(())
 }
@@ -44,7 +44,7 @@ fn put_keys_or_values<W: Write>(
     values: bool,
 ) -> Result<(), Error>
     requires file { CanPut file.now }
-    ensures { PutsHalf W.contents out.old buffer.old file.now values from result out.new
+    ensures { PutsKeysOrValues W.contents out.old buffer.old file.now values from result out.new
         buffer.new }
 {
     let mut key = from;
@@ -57,7 +57,7 @@ fn put_keys_or_values<W: Write>(
         if !hold_number(buffer, file.width, number) {
             put_number(out, buffer, file.width, number)?;
         }
-        key = file.events.index_behind(value);
+        key = file.events.index_after(value);
     }
     Ok(())
 }

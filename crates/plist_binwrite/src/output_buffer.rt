@@ -112,7 +112,7 @@ fn pass_both<W: Write>(
     put(out, buffer, second)
 }
 
-/// Puts bytes and others behind them, as `put` does.
+/// Puts bytes and others after them, as `put` does.
 ///
 /// # Errors
 /// Those of `put`.

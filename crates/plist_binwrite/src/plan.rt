@@ -62,7 +62,7 @@ pub fn plan_by_class(
     requires below { AllBelow classes.count classes.of }
     requires classes { AreClasses (plain_events events.now) (nth_number classes.of) }
     ensures planned { IfOk result (λ plan. IsPlanned (plain_events events.now) plan) }
-    ensures goes { IfOk result (IsPlanByClass (plain_events events.now) (nth_number classes.of)) }
+    ensures class { IfOk result (IsPlanByClass (plain_events events.now) (nth_number classes.of)) }
     ensures memory { OnlyMemory result }
 {
     let numbering = number_by_class(alloc, events, &classes.of, classes.count)?;

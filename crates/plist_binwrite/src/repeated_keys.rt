@@ -14,7 +14,7 @@ use std::alloc::Global;
 // Whether a scalar has this stamp already; it has it afterwards.
 fn stamp(stamps: &mut Vec<usize>, scalar: usize, mark: usize) -> bool
     requires { scalar < length stamps.old.items }
-    ensures stood { result ≡ true → get_or stamps.old.items scalar 0 ≡ mark }
+    ensures repeated { result ≡ true → get_or stamps.old.items scalar 0 ≡ mark }
     ensures other { result ≡ false → get_or stamps.old.items scalar 0 ≢ mark }
     ensures stamped { stamps.new.items ≡ set stamps.old.items scalar mark }
 {
@@ -46,7 +46,7 @@ fn repeats_at(events: &EventTable<'_>, start: usize, stamps: &mut Vec<usize>) ->
         if stamp(stamps, scalar, mark) {
             return true;
         }
-        key = events.index_behind_pair(key);
+        key = events.index_after_pair(key);
     }
     false
 }

@@ -45,7 +45,7 @@ struct Ready {
     table: usize,
 }
 
-// Plans the file of the events of a tree, with one object for each class. Behind it no memory is
+// Plans the file of the events of a tree, with one object for each class. After it no memory is
 // taken.
 fn draft_file(alloc: Global, events: &EventTable<'_>, classes: Classes) -> Result<Draft, Error>
     requires whole { IsBracketed (plain_events events.now) }
@@ -53,7 +53,7 @@ fn draft_file(alloc: Global, events: &EventTable<'_>, classes: Classes) -> Resul
     requires below { AllBelow classes.count classes.of }
     requires classes { AreClasses (plain_events events.now) (nth_number classes.of) }
     ensures draft { IfOk result (IsDraftOf (plain_events events.now)) }
-    ensures goes { IfOk result (IsDraftBy classes events.now) }
+    ensures class { IfOk result (IsDraftBy classes events.now) }
     ensures memory { OnlyMemory result }
 {
     let plan = plan_by_class(alloc, events, classes)?;

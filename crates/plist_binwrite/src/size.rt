@@ -25,7 +25,7 @@ pub fn count_items(events: &EventTable<'_>, from: usize) -> usize
     let mut index = from;
     'walk: while events.has_item(index) {
         count += 1;
-        index = events.index_behind(index);
+        index = events.index_after(index);
     }
     count
 }
@@ -90,7 +90,7 @@ pub fn place_objects(
     Ok(at)
 }
 
-// The size of a file with so many objects, whose offset table lies here.
+// The size of a file with this many objects, whose offset table lies here.
 fn size_of_file(table: u64, count: u64) -> Option<u64>
     ensures { (objects : ℕ) → table ≡ 8 + objects → IsSizeOrNone result (size_with count objects) }
 {
@@ -98,7 +98,7 @@ fn size_of_file(table: u64, count: u64) -> Option<u64>
     add(add(Some(table), offsets), Some(32))
 }
 
-// Whether a file with so many objects, whose offset table lies here, has less than 2^64 bytes.
+// Whether a file with this many objects, whose offset table lies here, has less than 2^64 bytes.
 fn has_size(table: u64, count: u64) -> bool
     ensures yes { result ≡ true → FitsWith table count }
     ensures no { result ≡ false → ExceedsWith table count }
@@ -106,7 +106,7 @@ fn has_size(table: u64, count: u64) -> bool
     size_of_file(table, count).is_some()
 }
 
-/// The place of the offset table of a file of so many objects, or none where the file would have
+/// The place of the offset table of a file of this many objects, or none where the file would have
 /// 2^64 bytes or more. It takes no memory.
 pub fn check_size(table: Option<u64>, count: u64) -> Option<u64>
     ensures table { IfSome result (λ place. table ≡ Some place) }

@@ -2,7 +2,7 @@
 
 ghost use Rattle.std.specs.Prelude.{◌≡◌, ◌≤◌, ◌<◌, ◌^◌};
 ghost use Rattle.plist_binwrite.specs.Forms.{least_width};
-ghost use Rattle.plist_binwrite.specs.Written.{reference_width, offset_width};
+ghost use Rattle.plist_binwrite.specs.Widths.{reference_width, offset_width};
 
 /// The least of 1, 2, 4 and 8 bytes that hold a number.
 #[tactic(auto, using(crate::proofs::LeastWidths::widths))]
@@ -22,7 +22,7 @@ pub fn least_width(number: u64) -> usize
     }
 }
 
-/// How many bytes a reference has among so many objects.
+/// How many bytes a reference has among this many objects.
 pub fn reference_width(count: u64) -> usize
     ensures value { result ≡ reference_width count }
     ensures range { (1 ≤ result) × (result ≤ 8) }

@@ -11,7 +11,7 @@ use std::alloc::Global;
 use std::io::Write;
 use std::marker::PhantomData;
 
-/// Writes binary property lists, one behind the other, to what takes bytes.
+/// Writes binary property lists, one after the other, to what takes bytes.
 ///
 /// It holds the events of the open property list. Where an event completes it, the whole file is
 /// planned, sent and flushed, and nothing is held; what takes the bytes isn't called before. Each
@@ -26,7 +26,7 @@ use std::marker::PhantomData;
 /// failed.
 pub type BinaryWriter<W> = FileWriter<W, EqualScalars>;
 
-/// Writes binary property lists, one behind the other, in which equal trees are one object as its
+/// Writes binary property lists, one after the other, in which equal trees are one object as its
 /// [`Sharing`] says. [`BinaryWriter`] says what a call does, and when it is refused.
 #[derive(Drop)]
 pub struct FileWriter<W: Write, S: Sharing> {

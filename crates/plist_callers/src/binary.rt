@@ -33,7 +33,7 @@ pub fn count_without_root(alloc: Global, bytes: &[u8]) -> Option<usize>
     }
 }
 
-/// What a reader gives behind a fault, be it a limit's or a device's: nothing.
+/// What a reader gives after a fault, be it a limit's or a device's: nothing.
 pub fn next_behind_a_fault<R: Source>(
     reader: &mut BinaryReader<R>,
 ) -> Option<Result<OwnedEvent, Error>>

@@ -24,7 +24,7 @@ pub fn bytes_again(bytes: Vec<u8>) -> Vec<u8>
 ///
 /// # Errors
 ///
-/// Want of memory.
+/// Lack of memory.
 pub fn bytes_of_copy(first: &Data) -> Result<Vec<u8>, Error>
     ensures { IfOk result (λ bytes. bytes.items ≡ first.now) }
 {
@@ -59,7 +59,7 @@ pub fn are_same(first: &Data, other: &Data) -> bool
 ///
 /// # Errors
 ///
-/// Want of memory.
+/// Lack of memory.
 pub fn text_of_no_data(alloc: Global) -> Result<String, AllocError>
     ensures { IfOk result (λ text. string_bytes text ≡ codes "Invalid XML data") }
 {
@@ -84,7 +84,7 @@ pub fn wrong_symbol(alloc: Global, text: &str) -> Option<(usize, u8)>
 ///
 /// # Errors
 ///
-/// Want of memory.
+/// Lack of memory.
 pub fn text_of_bytes(alloc: Global, bytes: Vec<u8>) -> Result<String, Error>
     ensures { IfOk result (λ text. string_bytes text ≡ data_text bytes.items) }
 {

@@ -38,7 +38,7 @@ pub fn date_again(alloc: Global, date: &Date) -> Result<Date, Error>
     }
 }
 
-/// The text of the half second behind 2001-01-01T00:00:00Z: there is none.
+/// The text of the half second after 2001-01-01T00:00:00Z: there is none.
 pub fn half_second(alloc: Global) -> Result<String, Error>
     ensures { IsRefused FractionalDate result }
 {

@@ -1,4 +1,4 @@
-//! Proved callers of the reader: what it gives behind its end, and where a device's failure is.
+//! Proved callers of the reader: what it gives after its end, and where a device's failure is.
 
 ghost use Rattle.std.specs.Prelude.{◌≡◌, false, true};
 
@@ -6,7 +6,7 @@ use plist_base::{ErrorKind, Source};
 use plist_reader::Reader;
 use std::alloc::Global;
 
-/// Whether something comes behind the end, or behind a fault that no text in ASCII has.
+/// Whether something comes after the end, or after a fault that no text in ASCII has.
 pub fn comes_behind_end<R: Source>(reader: &mut Reader<R>) -> bool
     ensures { result ≡ false }
 {
@@ -34,7 +34,7 @@ pub fn has_its_place<R: Source>(reader: &mut Reader<R>) -> bool
     }
 }
 
-/// Whether something comes behind XML, or behind a collection that contains itself.
+/// Whether something comes after XML, or after a collection that contains itself.
 pub fn comes_behind_refusal<R: Source>(reader: &mut Reader<R>) -> bool
     ensures { result ≡ false }
 {

@@ -35,7 +35,7 @@ pub fn count_of(pairs: &mut Pairs<u64>, key: String) -> Result<u64, (String, u64
     Ok(*count)
 }
 
-/// The same, with want of memory as the fault.
+/// The same, with lack of memory as the fault.
 pub fn count_or_fault(pairs: &mut Pairs<u64>, key: String) -> Result<u64, Error>
     ensures n { IfOk result (λ count.
         count ≡ unwrap_or (lookup (bytes_eq (string_bytes key)) pairs.old) 0) }

@@ -4,7 +4,7 @@ ghost use Rattle.std.specs.Prelude.{◌≡◌, false};
 
 use plist_base::{Error, Limited, OwnedEvent};
 
-/// Whether something comes under limits behind the `None` of an iterator that may give more.
+/// Whether something comes under limits after the `None` of an iterator that may give more.
 pub fn comes_behind_none<I: Iterator<Item = Result<OwnedEvent, Error>>>(
     limited: &mut Limited<I>,
 ) -> bool

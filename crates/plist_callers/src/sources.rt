@@ -10,7 +10,7 @@ use std::alloc::Global;
 use std::io;
 use std::io::{Read, Seek};
 
-/// Reads bytes of a slice: those that lie there, wherever there are so many.
+/// Reads bytes of a slice: those that lie there, wherever there are this many.
 pub fn read_slice(bytes: &[u8], place: u64, buf: &mut [u8]) -> Result<(), Error>
     requires { place + length buf.old < 2 ^ 64 }
     ensures bytes { OnOk result (LiesAt bytes.now place buf.new) }
@@ -20,7 +20,7 @@ pub fn read_slice(bytes: &[u8], place: u64, buf: &mut [u8]) -> Result<(), Error>
     read_exact_at(&mut source, place, buf)
 }
 
-/// Reads bytes of a vector: those that lie there, wherever there are so many.
+/// Reads bytes of a vector: those that lie there, wherever there are this many.
 pub fn read_vector(bytes: Vec<u8>, place: u64, buf: &mut [u8]) -> Result<(), Error>
     requires { place + length buf.old < 2 ^ 64 }
     ensures bytes { OnOk result (LiesAt bytes.items place buf.new) }

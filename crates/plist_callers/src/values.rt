@@ -2,7 +2,7 @@
 //! value's, which is equal to it.
 
 ghost use Rattle.std.specs.Prelude.{◌≡◌, Err, IfOk, IfSome, false, true};
-ghost use Rattle.plist_ascii.specs.Texts.{tight};
+ghost use Rattle.plist_ascii.specs.Texts.{tight_stops};
 ghost use Rattle.plist_base.specs.Faults.{WriterFailed, fault_nowhere};
 ghost use Rattle.plist_reader.specs.Reader.{items_of_input};
 ghost use Rattle.plist.specs.Collecting.{built_tree};
@@ -26,7 +26,7 @@ pub fn value_of_bytes(alloc: Global, bytes: &[u8]) -> Result<Value, Error>
 
 /// The value of an ASCII property list in the tight dialect.
 pub fn value_of_tight(alloc: Global, text: &[u8]) -> Result<Value, Error>
-    ensures value { IsValueOf (items_of_text tight text.now) (built_tree result) }
+    ensures value { IsValueOf (items_of_text tight_stops text.now) (built_tree result) }
 {
     Value::from_reader_ascii_with_dialect(alloc, text, Dialect::Tight)
 }
@@ -48,7 +48,7 @@ pub fn finishes_once(builder: &mut Builder) -> bool
     }
 }
 
-/// What a builder answers behind an event for which memory ran out: that it has failed.
+/// What a builder answers after an event for which memory ran out: that it has failed.
 pub fn finish_without_memory(
     builder: &mut Builder,
     event: Event<'_>,

@@ -30,7 +30,7 @@ pub fn begin_with<W: Write + Drop>(alloc: Global, inner: W, event: Event<'_>) ->
     writer.write(event)
 }
 
-/// What a writer answers behind an event that it had no memory for, and what takes the bytes then;
+/// What a writer answers after an event that it had no memory for, and what takes the bytes then;
 /// none where there was memory. It has failed, and nothing went out.
 pub fn next_without_memory<W: Write + Drop>(
     writer: BinaryWriter<W>,

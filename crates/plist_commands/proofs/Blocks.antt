@@ -41,7 +41,7 @@ block_more n size count bytes old line printed new none blocks i are many below 
     ∙ ap (in_notation n) (sym (take-add (i * size) size bytes)
     ∙ ap (λ k. take k bytes) {x = i * size + size} {y = (i + 1) * size} (omega arith)))
 
--- and of the bytes behind all blocks
+-- and of the bytes after all blocks
 pub blocks_end : (n : Notation) (size count : ℕ) (bytes old line new rest : List ℕ) (i : ℕ)
     → i ≡ count → line ≡ old ++ in_notation n (take (i * size) bytes) → rest ≡ drop (count * size) bytes
     → new ≡ line ++ in_notation n rest → new ≡ old ++ in_notation n bytes

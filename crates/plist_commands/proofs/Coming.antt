@@ -25,22 +25,22 @@ any_fault (Some (Err error)) = tt
 
 -- ---- a binary reader
 
-told_next : (fresh : Bool) (before after : List Item) (item : Option (Result Done Error))
-    (told : PlainEvent) → GivesCurrent fresh before item told after
-    → GivesNext before item told after
-told_next fresh before after None told h = h.0
-told_next fresh before after (Some (Ok done)) told h = h
-told_next fresh before after (Some (Err error)) told h =
+given_next : (fresh : Bool) (before after : List Item) (item : Option (Result Done Error))
+    (given : PlainEvent) → GivesCurrent fresh before item given after
+    → GivesNext before item given after
+given_next fresh before after None given h = h.0
+given_next fresh before after (Some (Ok done)) given h = h
+given_next fresh before after (Some (Err error)) given h =
     MatchFault-weaker (kind_of (error_kind_of error)) (λ _. tt) (λ _. tt)
     (λ w. w ∙ ap (λ l. Err (fault_of error) ∷ l) (sym h.0)) h.1
 
-pub told_comes : (k l : Option (List ℕ)) (before after : List ℕ → List Item) (fresh : Bool)
-    (item : Option (Result Done Error)) (told : PlainEvent) → l ≡ k
-    → IfSome k (λ bytes. GivesCurrent fresh (before bytes) item told (after bytes))
-    → ComesIfKnown (option_map before k) item told (option_map after l)
-told_comes None l before after fresh item told e h = tt
-told_comes (Some bytes) l before after fresh item told e h =
-    (after bytes, ap (option_map after) e, told_next fresh (before bytes) (after bytes) item told h)
+pub given_comes : (k l : Option (List ℕ)) (before after : List ℕ → List Item) (fresh : Bool)
+    (item : Option (Result Done Error)) (given : PlainEvent) → l ≡ k
+    → IfSome k (λ bytes. GivesCurrent fresh (before bytes) item given (after bytes))
+    → ComesIfKnown (option_map before k) item given (option_map after l)
+given_comes None l before after fresh item given e h = tt
+given_comes (Some bytes) l before after fresh item given e h =
+    (after bytes, ap (option_map after) e, given_next fresh (before bytes) (after bytes) item given h)
 
 -- ---- a reader of either format
 
@@ -83,7 +83,7 @@ module _ {S : Type 0} (failures : S → ℕ) where
 
 -- ---- the events of a value
 
--- want of memory
+-- lack of memory
 pub memory_own : (error : Error) → fault_of error ≡ fault_nowhere OutOfMemory → IsWriterError error
 memory_own error is = (
   ap (λ (f : Fault). f.offset) is,

@@ -27,7 +27,7 @@ pub on_err_of : {T E P : Type 0} (answer : Result T E) → P → OnErr answer P
 on_err_of (Ok value) p = tt
 on_err_of (Err error) p = p
 
--- ---- the writer's failure, and want of memory
+-- ---- the writer's failure, and lack of memory
 
 pub device_own : (error : Error) → fault_of error ≡ fault_nowhere Io → IsWriterError error
 device_own error is = (
@@ -60,7 +60,7 @@ one_of Io A h = h
 one_of OutOfMemory A h = h
 one_of kind A h = h
 
--- the source's count behind its own fault, or behind a device's that came after it
+-- the source's count after its own fault, or after a device's that came after it
 pub fault_counts : {A : Type 0} (error answer : Error) (old before new : ℕ) → before ≡ old
     → CountsIo error before new → ((answer ≡ error) × A) ⊎ (fault_of answer ≡ fault_nowhere Io)
     → CountsReads {A = Unit {0}} (Err answer) old new
@@ -189,7 +189,7 @@ module _ {items coming after : Option (List Item)} {old now : Option (List ℕ)}
       IfSome_then items h.next (λ all (left, next, p, to, g).
       sent_held (with_line p (rw is at g)) new front)
 
-  -- a fault, which comes behind what was held back; or a device's comes
+  -- a fault, which comes after what was held back; or a device's comes
   pub fault_passed : (new : Option (List ℕ)) (error answer : Error) → item ≡ Some (Err error)
       → ((answer ≡ error) × Appends now new held) ⊎ (fault_of answer ≡ fault_nowhere Io)
       → IfSome items (λ all. PrintsUntil answer all old new)
@@ -215,7 +215,7 @@ pub front_passed : (items coming : Option (List Item)) (old now new : Option (Li
 front_passed items coming old now new held passed front =
     IfSome_then items passed (λ all (left, is, p). sent_held p new front)
 
--- the fault behind lines is the writer's, or the one that came
+-- the fault after lines is the writer's, or the one that came
 pub whose_fault : (gives : Fault → Type 0) (error answer : Error) {A : Type 0}
     → gives (fault_of error) → ((answer ≡ error) × A) ⊎ (fault_of answer ≡ fault_nowhere Io)
     → IsWriterError answer ⊎ gives (fault_of answer)

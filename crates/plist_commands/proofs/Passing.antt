@@ -1,4 +1,4 @@
--- Bytes that are put behind those held back, part by part.
+-- Bytes that are put after those held back, part by part.
 use Rattle.std.proofs.Common.{◌≡◌, ℕ, suc, ◌+◌, ◌*◌, ◌<◌, false, true, List, [], ◌∷◌, ◌++◌, Option, length, get_or, take, drop, ap, refl, subst, sym, ◌∙◌, codes, append_assoc, append-nil, arith, true≢false}
 use Rattle.std.specs.Prelude.{◌==◌}
 use Rattle.std.specs.Simd.{first_chunks}
@@ -91,7 +91,7 @@ module _ (n : Notation) (size count : ℕ) (bytes old : List ℕ) (a b c : Optio
         (block_more n size count bytes old _ _ _ none blocks i are many below refl refl refl)
         (both_in_front a b c _ held _ so_far now)))
 
-    -- the bytes behind all blocks
+    -- the bytes after all blocks
     pub rest_passed : (rest kept : List ℕ) → i ≡ count → rest ≡ drop (count * size) bytes
         → PassesOn b c (held ++ in_notation n rest) kept → PassesOn a c (old ++ in_notation n bytes) kept
     rest_passed rest kept at is now =

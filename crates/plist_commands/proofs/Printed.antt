@@ -31,7 +31,7 @@ has_digits (suc k) n fits least below =
     let shorter = has_digits k (n / 10) (omega arith) (omega arith) (omega arith) in
     rw (decimal_step n (omega arith) fits, length-append) (omega (arith, shorter))
 
--- so many where it lies between two powers of ten, up to this one
+-- this many where it lies between two powers of ten, up to this one
 abbrev Steps : (k n digits : ℕ) → Type 0
 Steps zero n digits = n < 10 → digits ≡ 1
 Steps (suc k) n digits =
@@ -47,7 +47,7 @@ digits n fits = steps 19 n fits
 pub at_most_twenty : (n : ℕ) → n < 2 ^ 64 → length (decimal n) ≤ 20
 at_most_twenty n fits = length-decimal-le 20 n (omega arith) (omega arith) fits
 
--- digits that are written behind a front, in room for more
+-- digits that are written after a front, in room for more
 pub written_behind : (front room digits rest new : List ℕ) (start : ℕ)
     → start + length digits ≡ length front + length digits
     → take start new ≡ take start (front ++ room) → drop start new ≡ digits ++ rest
@@ -61,7 +61,7 @@ written_behind front room digits rest new start ends before written =
     rw (whole, take-append-add front (digits ++ rest) (length digits), take-append_seam digits rest)
     refl
 
--- the line of a number, whose digits and end are written behind a word, in the room of a pattern
+-- the line of a number, whose digits and end are written after a word, in the room of a pattern
 pub number_in_pattern : (line pattern spelled rest new last : List ℕ) (start end : ℕ)
     → 21 ≤ length pattern → length spelled ≤ 20
     → end ≡ length line + length pattern - (21 - length spelled) → start + length spelled ≡ end
@@ -86,7 +86,7 @@ number_in_pattern line pattern spelled rest new last start end room short ends s
     (before ∙ ap (λ l. take start l) same) written in
     is ∙ take_more_set new end 10 within ∙ ap (λ l. l ++ 10 ∷ []) kept
 
--- the line of a start, behind whose word a length comes
+-- the line of a start, after whose word a length comes
 pub start_with_length : (line word new : List ℕ) (length : Option ℕ) (n : ℕ) → length ≡ Some n
     → new ≡ line ++ (word ++ codes " ") ++ decimal n ++ codes "\n"
     → new ≡ line ++ text_of_start word length ++ codes "\n"

@@ -59,7 +59,7 @@ front_kept old now after bytes (sent, rest, appended, is) kept =
     (sent, rest, appends_kept old now after sent appended kept, is)
 
 module _ {I : Type 0} (goes : I → StepAnswer → I → Type 0) (last : I → PlainEvent) where
-  -- so many events came, whose lines were sent or are held back
+  -- this many events came, whose lines were sent or are held back
   abbrev pub HasRun : (old now : I) → (before after : Option (List ℕ)) → (held : List ℕ) → Type 0
   HasRun old now before after held =
       (events : List PlainEvent) × AdvancesOver goes last old events now
@@ -73,8 +73,8 @@ module _ {I : Type 0} (goes : I → StepAnswer → I → Type 0) (last : I → P
       → goes now (Some (Ok tt)) new → AdvancesOver goes last old (events ++ last new ∷ []) new
   one_more [] old now new is step =
       (new, subst (λ i. goes i (Some (Ok tt)) new) (sym is) step, refl, refl)
-  one_more (event ∷ events) old now new (next, first, told, more) step =
-      (next, first, told, one_more events next now new more step)
+  one_more (event ∷ events) old now new (next, first, given, more) step =
+      (next, first, given, one_more events next now new more step)
 
   -- with its line
   line_held : (events : List PlainEvent) (event : PlainEvent) (before now : Option (List ℕ))
@@ -184,7 +184,7 @@ module _ {I : Type 0} (goes : I → StepAnswer → I → Type 0) (last : I → P
   run_unbegun old before (Err error) none =
       ([], old, refl, inr (memory_own error none, inl refl, ([], [], Appends-nil before, refl)))
 
-  -- a flush behind what failed
+  -- a flush after what failed
   run_kept : (old new : I) (before now after : Option (List ℕ)) (error : Error)
       → PrintsRun goes last old (Err error) new before now → Keeps now after
       → PrintsRun goes last old (Err error) new before after
@@ -206,7 +206,7 @@ module _ {I : Type 0} (goes : I → StepAnswer → I → Type 0) (last : I → P
 -- ---- events that are held
 
 module _ {I : Type 0} (goes : I → StepAnswer → I → Type 0) (last : I → PlainEvent) where
-  -- so many events came, which are held
+  -- this many events came, which are held
   abbrev pub HasHeld : (old now : I) → (held : List PlainEvent) → Type 0
   HasHeld old now held =
       (events : List PlainEvent)

@@ -23,7 +23,7 @@ use Rattle.plist.specs.inner.Following.{taken_before, continues-accepted}
 use Rattle.plist.proofs.Gathered.{sends_tree}
 use Rattle.plist.proofs.Inputs.{all-events, event-more, no-events, stops-there}
 use Rattle.plist.proofs.KeysOnce.{keys-once}
-use Rattle.plist_keyed.proofs.Told.{same_of}
+use Rattle.plist_keyed.proofs.Answered.{same_of}
 use Rattle.plist_commands.specs.Converting.{HoldsTree, AreNoTree, BytesHaveKeysOnce, SendsRead, items_of_known}
 use Rattle.plist_commands.specs.Items.{ComesIfKnown, GivesNext}
 
@@ -46,16 +46,16 @@ taken_none (Some all) coming held e h =
 
 -- a call: what was left of all items, what is left now, and what the call gave
 abbrev pub Came : (items now : Option (List Item)) (held : List PlainEvent)
-    (item : Option (Result (Unit {0}) Error)) (told : PlainEvent) → Type 0
-Came items now held item told = IfSome items (λ all.
+    (item : Option (Result (Unit {0}) Error)) (given : PlainEvent) → Type 0
+Came items now held item given = IfSome items (λ all.
     (left : List Item) × (next : List Item) × TookOf all left held × (now ≡ Some next)
-    × GivesNext left item told next)
+    × GivesNext left item given next)
 
 pub came_next : (items before now : Option (List Item)) (held : List PlainEvent)
-    (item : Option (Result (Unit {0}) Error)) (told : PlainEvent)
-    → HasTaken items before held → ComesIfKnown before item told now → Came items now held item told
-came_next None before now held item told taken_before comes = tt
-came_next (Some all) before now held item told (left, is, took) comes =
+    (item : Option (Result (Unit {0}) Error)) (given : PlainEvent)
+    → HasTaken items before held → ComesIfKnown before item given now → Came items now held item given
+came_next None before now held item given taken_before comes = tt
+came_next (Some all) before now held item given (left, is, took) comes =
     let (next, to, gives) = rw is at comes in (left, next, took, to, gives)
 
 -- ---- whether the events held are a tree's

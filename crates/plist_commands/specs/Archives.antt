@@ -28,7 +28,7 @@ IsUnnamed root key =
     (objects : List Value) × (names : List (List ℕ × Value)) × IsArchiveOf root objects names
     × ((uid : ℕ) → ¬ (IsUidAt key names uid))
 
--- the failure says why there is no tree; want of memory may always be why
+-- the failure says why there is no tree; lack of memory may always be why
 abbrev pub IsRefusedAt : (root : Value) → (key : List ℕ) → PlainFailure → Type 0
 IsRefusedAt root key (OfPlist fault) = ⊥
 IsRefusedAt root key (OfArchive error) =

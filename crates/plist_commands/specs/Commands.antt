@@ -49,7 +49,7 @@ Answered answers contents words old answer new =
     × answers asked (contents old) answer (contents new)
 
 -- Unless the status is that of wrong words, the words ask for a command that may have answered so,
--- an output whose bytes are known then holds these, and the program ends as it does behind that
+-- an output whose bytes are known then holds these, and the program ends as it does after that
 -- answer.
 abbrev pub RunEnds : {O E : Type 0}
     → (answers : PlainCommand → Option (List ℕ) → CommandOutcome → Option (List ℕ) → Type 0)

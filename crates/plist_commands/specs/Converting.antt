@@ -82,8 +82,8 @@ abbrev pub FindsTree : (items : Option (List Item)) → Result Bool Error → (h
 FindsTree items answer held = IfOkIs answer true (HoldsTree items held)
 
 -- whatever known bytes have such items, this is so of them
-abbrev pub OfHeld : (held : List PlainEvent) → (Option (List ℕ) → Type 0) → Type 0
-OfHeld held P = (known : Option (List ℕ)) → HoldsTree (items_of_known known) held → P known
+abbrev pub ForBytesOf : (held : List PlainEvent) → (Option (List ℕ) → Type 0) → Type 0
+ForBytesOf held P = (known : Option (List ℕ)) → HoldsTree (items_of_known known) held → P known
 
 -- the only refusal is what a value of the items is refused for
 abbrev pub IsRefusedFor : {A : Type 0} → (items : Option (List Item)) → Result A Error → Type 0

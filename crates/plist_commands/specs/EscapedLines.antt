@@ -30,7 +30,7 @@ escaped_byte byte =
 abbrev pub escaped_text : List ℕ → List ℕ
 escaped_text bytes = flat_map escaped_byte bytes
 
--- a start: its word, and behind a space its length where that is known
+-- a start: its word, and after a space its length where that is known
 abbrev pub text_of_start : (word : List ℕ) → (length : Option ℕ) → List ℕ
 text_of_start word None = word
 text_of_start word (Some length) = word ++ codes " " ++ decimal length
@@ -45,7 +45,7 @@ abbrev pub in_notation : Notation → List ℕ → List ℕ
 in_notation notation.Text bytes = escaped_text bytes
 in_notation notation.Hexadecimal bytes = hexadecimal bytes
 
--- bytes behind a space, unless there are none
+-- bytes after a space, unless there are none
 abbrev pub text_of_data : List ℕ → List ℕ
 text_of_data [] = []
 text_of_data (byte ∷ bytes) = codes " " ++ hexadecimal (byte ∷ bytes)
@@ -55,7 +55,7 @@ abbrev pub text_of_real : RealBits → List ℕ
 text_of_real (Four bytes) = hexadecimal bytes
 text_of_real (Eight bytes) = hexadecimal bytes
 
--- a date's second, and behind a space its bytes where it has a fraction
+-- a date's second, and after a space its bytes where it has a fraction
 abbrev pub text_of_date : (bytes : List ℕ) → List ℕ
 text_of_date bytes =
     text_of_second (second_of_bytes bytes)

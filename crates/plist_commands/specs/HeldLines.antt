@@ -26,16 +26,16 @@ abbrev pub SendsPrefix : {W : Type 0} → (contents : W → Option (List ℕ)) �
 SendsPrefix contents old all new = AppendsPrefix (contents old) (contents new) all
 
 -- the bytes went out and this fault is the answer, or a device's own
-abbrev pub EndsBehind : {W : Type 0} → (contents : W → Option (List ℕ)) → (bytes : List ℕ) → Error
+abbrev pub EndsAfterAll : {W : Type 0} → (contents : W → Option (List ℕ)) → (bytes : List ℕ) → Error
     → (old new : W) → (answer : Error) → Type 0
-EndsBehind contents bytes fault old new answer =
+EndsAfterAll contents bytes fault old new answer =
     ((answer ≡ fault) × Appends (contents old) (contents new) bytes)
     ⊎ (fault_of answer ≡ fault_nowhere Io)
 
--- ---- bytes behind those that are held back
+-- ---- bytes after those that are held back
 
 module _ {W : Type 0} (contents : W → Option (List ℕ)) where
-  -- the bytes stand behind what was held back, and a beginning of all that went out
+  -- the bytes stand after what was held back, and a beginning of all that went out
   abbrev pub PassesBytes : Result (Unit {0}) Error → W → (held : Vec ℕ Global) → (bytes : List ℕ) → W
       → (left : Vec ℕ Global) → Type 0
   PassesBytes answer old held bytes new left =
@@ -47,7 +47,7 @@ module _ {W : Type 0} (contents : W → Option (List ℕ)) where
 
   -- ---- one line
 
-  -- its line stands behind what was held back, and a beginning of all that went out
+  -- its line stands after what was held back, and a beginning of all that went out
   abbrev pub PassesLine : Result (Unit {0}) Error → W → (held : Vec ℕ Global) → Event → W
       → (left : Vec ℕ Global) → Type 0
   PassesLine answer old held event new left =

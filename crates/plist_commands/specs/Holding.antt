@@ -4,8 +4,8 @@ use Rattle.plist_base.specs.Bracketing.{CanContinue, without_length}
 use Rattle.plist_base.specs.Events.{PlainEvent}
 use Rattle.plist_binwrite.specs.EventBuffers.{TestsWhole}
 
--- the event can follow those that were held, it is held behind them without its length, and it is
--- told whether all of them are a whole property list's
+-- the event can follow those that were held, it is held after them without its length, and it is
+-- known whether all of them are a whole property list's
 abbrev pub HoldsMore : (whole : Bool) → (before : List PlainEvent) → PlainEvent
     → (after : List PlainEvent) → Type 0
 HoldsMore whole before event after =

@@ -21,7 +21,7 @@ abbrev pub PrintsAll : List Item → (old new : Option (List ℕ)) → Type 0
 PrintsAll items old new = (first_fault items ≡ None) × Appends old new (lines_of items)
 
 -- the error is the first fault, and all the lines before it went out; but a device's failure and
--- want of memory, which come from outside, say nothing of the items
+-- lack of memory, which come from outside, say nothing of the items
 abbrev pub PrintsUntil : Error → List Item → (old new : Option (List ℕ)) → Type 0
 PrintsUntil error items old new =
     MatchFault (kind_of (error_kind_of error)) ⊤ ⊤
@@ -66,7 +66,7 @@ module _ {W : Type 0} (contents : W → Option (List ℕ)) (value : Value) (old 
   SendsPrefixOfValue =
       AppendsPrefix (contents old) (contents new) (lines_of_events (bracketing (tree_of value)))
 
--- the writer's failure, or want of memory for a line: neither has an offset
+-- the writer's failure, or lack of memory for a line: neither has an offset
 abbrev pub IsWriterFault : Fault → Type 0
 IsWriterFault fault = (fault.offset ≡ None) × IsIoOrMemory fault.kind
 

@@ -45,7 +45,7 @@ module _ {I : Type 0} (goes : I → StepAnswer → I → Type 0) (last : I → P
       ⊎ (IsWriterError error × IsAskedOnce left new
       × AppendsPrefix before after (lines_of_events events)))
 
-  -- Events came, and were held where they are a tree's: nothing came behind them then. Or a fault
+  -- Events came, and were held where they are a tree's: nothing came after them then. Or a fault
   -- came, which is the answer; or memory ran out.
   abbrev pub HoldsRun : (old : I) → Result Bool Error → (new : I) → (held : List PlainEvent)
       → Type 0
@@ -123,7 +123,7 @@ ReadsSource {S} known failed source answer held =
     × (HoldsBinary known failed front answer held ⊎ HoldsOther known failed front answer held)))
 
 -- what comes of a source that was read so: it needs a value, or is refused for the same; or what
--- was held is sent, or needs a value, or is refused for want of memory, for size or by the writer
+-- was held is sent, or needs a value, or is refused for lack of memory, for size or by the writer
 abbrev pub ComesOfReading : Result Bool Error → Result Streamed Error → Type 0
 ComesOfReading (Ok true) answer = IfErr answer (λ error. offset_of error ≡ None)
 ComesOfReading (Ok false) answer = answer ≡ Ok NeedsValue

@@ -7,7 +7,7 @@ use std::alloc::Global;
 use std::env::{Env, FillError};
 use std::{env, io};
 
-// The arguments behind the program's name.
+// The arguments after the program's name.
 #[derive(Drop)]
 struct ProgramWords<'a, R: Env> {
     rt: &'a R,
@@ -30,7 +30,7 @@ impl<'a, R: Env> Env for ProgramWords<'a, R> {
     }
 }
 
-/// The words behind the program's name, which need be no text; none if one of them isn't UTF-8,
+/// The words after the program's name, which need be no text; none if one of them isn't UTF-8,
 /// since neither a command nor a path has such a word here.
 ///
 /// # Errors

@@ -5,7 +5,7 @@ ghost use Rattle.plist_base.specs.Bracketing.{AreTreeEvents};
 ghost use Rattle.plist_base.specs.Faults.{offset_of};
 ghost use Rattle.plist_binwrite.specs.EventBuffers.{buffered_events, is_whole};
 ghost use Rattle.plist_reader.specs.Formats.{format_of};
-ghost use Rattle.plist_commands.specs.Converting.{AreNoTree, FindsTree, IfOkIs, IsRefusedFor, IsStoppedFor, LeavesToValue, OfHeld, SendsAll, items_of_known};
+ghost use Rattle.plist_commands.specs.Converting.{AreNoTree, FindsTree, IfOkIs, IsRefusedFor, IsStoppedFor, LeavesToValue, ForBytesOf, SendsAll, items_of_known};
 ghost use Rattle.plist_commands.specs.Holding.{IsEmpty};
 ghost use Rattle.plist_commands.specs.Printing.{CountsReads};
 ghost use Rattle.plist_commands.specs.ReaderRuns.{ConvertsSource, HoldsBinary, HoldsOther, HoldsRun, ReadsSource};
@@ -122,11 +122,11 @@ fn send_events<W: Write>(
     writer: &mut W,
 ) -> Result<Streamed, Error>
     requires { AreTreeEvents (buffered_events pending.now) }
-    ensures sent { OfHeld (buffered_events pending.now) (λ known. IfOkIs result Sent
+    ensures sent { ForBytesOf (buffered_events pending.now) (λ known. IfOkIs result Sent
         (SendsAll W.contents known writer.old writer.new)) }
-    ensures left { OfHeld (buffered_events pending.now) (λ known. IfOkIs result NeedsValue
+    ensures left { ForBytesOf (buffered_events pending.now) (λ known. IfOkIs result NeedsValue
         (LeavesToValue known writer.old writer.new)) }
-    ensures refused { OfHeld (buffered_events pending.now)
+    ensures refused { ForBytesOf (buffered_events pending.now)
         (λ known. IsStoppedFor W.contents known result writer.old writer.new) }
     ensures nowhere { IfErr result (λ error. offset_of error ≡ None) }
 {

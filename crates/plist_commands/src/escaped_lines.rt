@@ -15,11 +15,11 @@ use std::alloc::AllocError;
 pub enum Notation {
     /// As those of a text, between its quotes.
     Text,
-    /// As those of data, behind its word.
+    /// As those of data, after its word.
     Hexadecimal,
 }
 
-// No number has more digits, and behind them comes the end of its line.
+// No number has more digits, and after them comes the end of its line.
 const MOST_BEHIND: usize = 21;
 
 #[inline(always)]

@@ -26,7 +26,7 @@ pub(crate) trait EventSink {
     /// # Errors
     /// `OutOfMemory`, without an offset, for an event that can follow those held.
     fn take(&mut self, alloc: Global, event: Event<'_>, scalars: usize) -> Result<bool, Error>
-        requires told { TestsWhole (whole self.old) (held self.old) }
+        requires tested { TestsWhole (whole self.old) (held self.old) }
         ensures taken { IfOkIs result true (HoldsMore (whole self.new) (held self.old)
             (event_of event.entry) (held self.new)) }
         ensures refused { IfOkIs result false

@@ -6,7 +6,7 @@ ghost use Rattle.plist_base.specs.Faults.{fault_of};
 ghost use Rattle.plist_base.specs.Trees.{Data, String};
 ghost use Rattle.plist_binread.specs.BinaryReader.{binary_source};
 ghost use Rattle.plist_commands.specs.Converting.{items_left};
-ghost use Rattle.plist_commands.specs.HeldLines.{EndsBehind, MakesRoom, PassesBytes, PassesLine, SendsBytesInPart, SendsPrefix, SendsLineInPart};
+ghost use Rattle.plist_commands.specs.HeldLines.{EndsAfterAll, MakesRoom, PassesBytes, PassesLine, SendsBytesInPart, SendsPrefix, SendsLineInPart};
 ghost use Rattle.plist_commands.specs.EscapedLines.{line_of, in_notation};
 ghost use Rattle.plist_commands.specs.Printing.{CountsReads, CountsReadsOf, PrintsFileUntil, PrintsItemsUntil, IsWriterError, PrintsFile, PrintsItems, SendsPrefixOfFile, SendsPrefixOfItems};
 ghost use Rattle.plist_commands.specs.ReaderRuns.{PrintsReader, PrintsRun, PrintsSource};
@@ -54,7 +54,7 @@ fn make_room<W: Write>(writer: &mut W, lines: &mut Vec<u8>, size: usize) -> Resu
     send_waiting(writer, lines)
 }
 
-// Puts a block behind what is held back, which is sent before that where it may not fit.
+// Puts a block after what is held back, which is sent before that where it may not fit.
 fn pass_block<W: Write>(
     out: &mut W,
     lines: &mut Vec<u8>,
@@ -141,7 +141,7 @@ fn pass_data<W: Write>(out: &mut W, lines: &mut Vec<u8>, bytes: &[u8]) -> Result
     pass_parts(out, lines, b"Data ", bytes, Notation::Hexadecimal, b"\n")
 }
 
-// Puts a line behind what is held back, that of a text or data by blocks.
+// Puts a line after what is held back, that of a text or data by blocks.
 fn pass_long<W: Write>(out: &mut W, lines: &mut Vec<u8>, event: &Event<'_>) -> Result<(), Error>
     ensures passed { PassesLine W.contents result out.old lines.old event.now out.new lines.new }
     ensures fault { IfErr result IsWriterError }
@@ -169,7 +169,7 @@ fn pass_anew<W: Write>(out: &mut W, lines: &mut Vec<u8>, event: &Event<'_>) -> R
     pass_long(out, lines, event)
 }
 
-// Puts the line of an event behind the lines that are held back, which are sent before that where
+// Puts the line of an event after the lines that are held back, which are sent before that where
 // it may not fit. So they never need more memory.
 #[inline(always)]
 fn pass_line<W: Write>(out: &mut W, lines: &mut Vec<u8>, event: &Event<'_>) -> Result<(), Error>
@@ -184,9 +184,9 @@ fn pass_line<W: Write>(out: &mut W, lines: &mut Vec<u8>, event: &Event<'_>) -> R
     Ok(())
 }
 
-// The fault that comes behind lines, once they are sent; or the one for which they can't be.
+// The fault that comes after lines, once they are sent; or the one for which they can't be.
 fn fault_behind<W: Write>(writer: &mut W, lines: &[u8], fault: Error) -> Error
-    ensures sent { EndsBehind W.contents lines.now fault writer.old writer.new result }
+    ensures sent { EndsAfterAll W.contents lines.now fault writer.old writer.new result }
     ensures prefix { SendsPrefix W.contents writer.old lines.now writer.new }
 {
     match send(writer, lines) {

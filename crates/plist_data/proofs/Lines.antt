@@ -1,4 +1,4 @@
--- Lines of base64: one behind the other, and read back.
+-- Lines of base64: one after the other, and read back.
 use Rattle.std.proofs.Common.{◌≡◌, ℕ, zero, suc, ◌+◌, ◌-◌, ◌*◌, ◌%◌, ◌<◌, ◌≤◌, Bool, true, ◌↔◌, not, cond, List, [], ◌∷◌, ◌++◌, length, map, min, take, drop, replicate, slice_index, Some, refl, subst, sym, ap, ◌∙◌, append_assoc, rules, arith}
 use Rattle.std.proofs.lemmas.List.{append-nil, length-take-le, length-drop, take_all, take_min}
 use Rattle.std.proofs.lemmas.List.Elements.{filter-append}
@@ -64,7 +64,7 @@ dark-base64 bytes =
 abbrev pub written : List ℕ → ℕ → List ℕ
 written bytes line = encode_of standard (bytes_of_line bytes line)
 
--- without LF between them they stand one behind the other
+-- without LF between them they stand one after the other
 dark-lines : (bytes lines : List ℕ)
     → without_white (join_with_byte 10 (map (written bytes) lines))
     ≡ concat (map (written bytes) lines)

@@ -60,7 +60,7 @@ abbrev pub IsReadWhereSpelled : (text bytes : List ℕ) → Type 0
 IsReadWhereSpelled text bytes =
     (data_of_text text ≡ Some bytes) ↔ (without_white text ≡ encode_of standard bytes)
 
--- these bytes stand behind the text
+-- these bytes stand after the text
 abbrev pub GrowsByBytes : List ℕ → (old new : String Global) → Type 0
 GrowsByBytes bytes old new = string_bytes new ≡ string_bytes old ++ bytes
 

@@ -134,7 +134,7 @@ fn decoded(alloc: Global, symbols: &[u8]) -> Result<Vec<u8>, DecodeAllocError>
     STANDARD.decode(alloc, symbols)
 }
 
-// Puts the base64 of some bytes behind a text.
+// Puts the base64 of some bytes after a text.
 fn push_base64(text: &mut String, bytes: &[u8]) -> Result<(), AllocError>
     ensures { OnOk result (GrowsByBytes (encode_of standard bytes.now) text.old text.new) }
 {

@@ -4,7 +4,7 @@ use crate::rows::{Row, bytes_given, unreadable};
 use crate::words::value_of;
 use plist::{Uid, Value};
 use plist_keyed::{Archive, KeyedError};
-use plist_support::{Wrong, expect_same, told, words_of_events};
+use plist_support::{Wrong, expect_same, fail, words_of_events};
 use std::alloc::{AllocError, Global};
 
 // The words of an answer's tree, or the text of its fault.
@@ -22,7 +22,7 @@ fn expect_tree(alloc: Global, root: &Value, wanted: &str) -> Result<(), Wrong> {
             let words = words_of_tree(alloc, archive.tree(alloc, Uid::new(1)))?;
             expect_same(alloc, words.as_str(), wanted)
         }
-        Err(error) => told(error.to_string(alloc)),
+        Err(error) => fail(error.to_string(alloc)),
     }
 }
 
@@ -40,7 +40,7 @@ fn expect_tree_of_file(alloc: Global, given: &str, wanted: &str) -> Result<(), W
     let bytes = bytes_given(alloc, given)?;
     match Value::from_reader(alloc, bytes.as_slice()) {
         Ok(root) => expect_tree(alloc, &root, wanted),
-        Err(error) => told(error.to_string(alloc)),
+        Err(error) => fail(error.to_string(alloc)),
     }
 }
 

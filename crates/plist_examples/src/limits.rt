@@ -14,7 +14,7 @@ fn expect(alloc: Global, limits: Limits, bytes: &[u8], items: &str) -> Result<()
     expect_on_devices(alloc, by, bytes, items)
 }
 
-// So many items come of these bytes.
+// This many items come of these bytes.
 fn expect_count(alloc: Global, limits: Limits, bytes: &[u8], count: &str) -> Result<(), Wrong> {
     let mut found: u64 = 0;
     for _ in BinaryReader::with_limits(alloc, bytes, limits) {

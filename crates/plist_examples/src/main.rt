@@ -3,12 +3,12 @@
 #![tactic(auto)]
 
 mod archives;
+mod decoded;
 mod limits;
 mod porting;
 mod reading;
 mod rows;
 mod scalars;
-mod told;
 mod values;
 mod words;
 mod writes;
@@ -22,7 +22,7 @@ use std::{fs, io};
 
 // The tables, in the order in which they are run.
 const TABLES: [&str; 14] = [
-    "reading", "hostile", "bits", "ascii", "dialects", "whole", "limits", "told", "scalars",
+    "reading", "hostile", "bits", "ascii", "dialects", "whole", "limits", "decoded", "scalars",
     "writing", "sharing", "values", "archives", "porting",
 ];
 
@@ -34,7 +34,7 @@ fn run<R: Files + AllocGlobal>(rt: &R, table: &str, row: Row<'_>) -> Result<(), 
             reading::run(alloc, row)
         }
         "limits" => limits::run(alloc, row),
-        "told" => told::run(alloc, row),
+        "decoded" => decoded::run(alloc, row),
         "scalars" => scalars::run(alloc, row),
         "writing" | "sharing" => writing::run(alloc, row),
         "values" => values::run(alloc, row),

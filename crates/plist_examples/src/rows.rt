@@ -5,7 +5,7 @@
 
 use percent_encoding::percent_decode;
 use plist_base::Limits;
-use plist_support::{Wrong, bytes_of, file, file_of_object, told};
+use plist_support::{Wrong, bytes_of, fail, file, file_of_object};
 use std::alloc::Global;
 
 /// An example.
@@ -17,7 +17,7 @@ pub(crate) struct Row<'a> {
     pub wanted: &'a str,
 }
 
-// The example of a line, if it has so many fields.
+// The example of a line, if it has this many fields.
 pub(crate) fn row_of(line: &str) -> Option<Row<'_>> {
     let (check, rest) = line.split_once('|')?;
     let (name, rest) = rest.split_once('|')?;
@@ -32,7 +32,7 @@ pub(crate) fn row_of(line: &str) -> Option<Row<'_>> {
 
 // What is wrong with a row that can't be read.
 pub(crate) fn unreadable<T>(alloc: Global, text: &str) -> Result<T, Wrong> {
-    told(format!(in alloc; "unreadable: {text}"))
+    fail(format!(in alloc; "unreadable: {text}"))
 }
 
 // The bytes of a text.
@@ -42,12 +42,12 @@ pub(crate) fn decoded(alloc: Global, text: &str) -> Result<Vec<u8>, Wrong> {
     Ok(bytes)
 }
 
-// The first word of a text, and what stands behind it.
+// The first word of a text, and what stands after it.
 pub(crate) fn first_word(text: &str) -> (&str, &str) {
     text.split_once(' ').unwrap_or((text, ""))
 }
 
-// The first number of a text, and what stands behind it.
+// The first number of a text, and what stands after it.
 pub(crate) fn first_number(alloc: Global, text: &str) -> Result<(u64, &str), Wrong> {
     let (first, rest) = first_word(text);
     match first.parse::<u64>() {
@@ -56,7 +56,7 @@ pub(crate) fn first_number(alloc: Global, text: &str) -> Result<(u64, &str), Wro
     }
 }
 
-// The first number of a text, in one byte, and what stands behind it.
+// The first number of a text, in one byte, and what stands after it.
 fn first_byte(alloc: Global, text: &str) -> Result<(u8, &str), Wrong> {
     let (number, rest) = first_number(alloc, text)?;
     match u8::try_from(number) {
@@ -92,7 +92,7 @@ pub(crate) fn bytes_given(alloc: Global, given: &str) -> Result<Vec<u8>, Wrong> 
     }
 }
 
-// The limits that are given, and what is given behind them: the depth, how many items, and, where
+// The limits that are given, and what is given after them: the depth, how many items, and, where
 // they are `bounded`, how many bytes of texts and data.
 pub(crate) fn limits_given<'a>(
     alloc: Global,

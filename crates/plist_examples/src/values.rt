@@ -80,7 +80,7 @@ fn expect_converted(alloc: Global, bytes: &[u8], wanted: &str) -> Result<(), Wro
             expect_done(alloc, value.to_writer_binary(alloc, &mut found))?;
             expect_bytes(alloc, found.as_slice(), file.as_slice())
         }
-        Err(error) => told(error.to_string(alloc)),
+        Err(error) => fail(error.to_string(alloc)),
     }
 }
 

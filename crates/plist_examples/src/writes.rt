@@ -6,7 +6,7 @@ use plist_base::{Error, Writer};
 use plist_binwrite::{FileWriter, Sharing};
 use plist_support::{
     Device, DeviceFault, Wrong, event_of, expect_answers, expect_bytes, expect_io, expect_that,
-    front, told, write_all,
+    fail, front, write_all,
 };
 use std::alloc::Global;
 use std::io::ErrorKind;
@@ -108,7 +108,7 @@ fn answer_by<S: Sharing>(
 pub(crate) fn expect_done(alloc: Global, answer: Result<(), Error>) -> Result<(), Wrong> {
     match answer {
         Ok(()) => Ok(()),
-        Err(error) => told(error.to_string(alloc)),
+        Err(error) => fail(error.to_string(alloc)),
     }
 }
 
@@ -133,7 +133,7 @@ fn kind_of(fault: DeviceFault) -> ErrorKind {
     }
 }
 
-// The file went out, a byte a call, and one flush behind it.
+// The file went out, a byte a call, and one flush after it.
 fn expect_whole(alloc: Global, device: &Device, bytes: &[u8]) -> Result<(), Wrong> {
     expect_bytes(alloc, device.bytes.as_slice(), bytes)?;
     let calls = (bytes.len() as u64).saturating_add(1);
@@ -151,7 +151,7 @@ fn expect_whole(alloc: Global, device: &Device, bytes: &[u8]) -> Result<(), Wron
     )
 }
 
-// So many bytes of the file went out, and the device, which failed, wasn't asked again.
+// This many bytes of the file went out, and the device, which failed, wasn't asked again.
 fn expect_cut(alloc: Global, device: &Device, bytes: &[u8], call: u64) -> Result<(), Wrong> {
     expect_bytes(alloc, device.bytes.as_slice(), front(bytes, call as usize))?;
     let is_last = device.failures == 1 && device.calls == call.saturating_add(1);
@@ -206,7 +206,7 @@ fn expect_sent<S: Sharing>(
     Ok(())
 }
 
-// Whether this call is made to fail: of a large file the last byte's, and one before and one behind
+// Whether this call is made to fail: of a large file the last byte's, and one before and one after
 // the byte at which what waits is sent.
 fn is_tried(call: u64, size: usize) -> bool {
     size < 200 || call.saturating_add(1) == size as u64 || call == 65_535 || call == 65_537

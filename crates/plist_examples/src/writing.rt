@@ -8,7 +8,7 @@ use plist_binread::BinaryReader;
 use plist_binwrite::{BinaryWriter, EqualScalars, FileWriter, Sharing};
 use plist_share::{EqualTrees, SharingWriter};
 use plist_support::{
-    DeviceFault, Wrong, expect_answers, expect_bytes, expect_same, told, words_of, write_all,
+    DeviceFault, Wrong, expect_answers, expect_bytes, expect_same, fail, words_of, write_all,
 };
 use std::alloc::Global;
 use std::io::ErrorKind;
@@ -128,7 +128,7 @@ fn expect_rebuilt(alloc: Global, row: Row<'_>) -> Result<(), Wrong> {
     let bytes = bytes_given(alloc, row.given)?;
     let value = match Value::from_reader_ascii(alloc, bytes.as_slice()) {
         Ok(value) => value,
-        Err(error) => return told(error.to_string(alloc)),
+        Err(error) => return fail(error.to_string(alloc)),
     };
     let mut builder = Builder::new(alloc);
     expect_done(alloc, write_value(alloc, &value, &mut builder))?;
@@ -148,7 +148,7 @@ fn fault_of(alloc: Global, name: &str) -> Result<DeviceFault, Wrong> {
     }
 }
 
-// The events behind the name of a fault are sent to devices with that.
+// The events after the name of a fault are sent to devices with that.
 fn expect_faulty<S: Sharing>(
     alloc: Global,
     given: &str,
@@ -160,7 +160,7 @@ fn expect_faulty<S: Sharing>(
     expect_sent::<S>(alloc, words, bytes, fault, ways)
 }
 
-// What stands before, within and behind the first parentheses.
+// What stands before, within and after the first parentheses.
 fn parts_of(field: &str) -> Option<(&str, &str, &str)> {
     let (before, rest) = field.split_once('(')?;
     let (within, behind) = rest.split_once(')')?;

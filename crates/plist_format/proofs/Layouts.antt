@@ -2,7 +2,7 @@
 use Rattle.std.proofs.Common.{rules, refl, ap, ◌≡◌, ℕ, ◌-◌, ◌*◌, ◌%◌, ◌≤◌, List}
 use Rattle.plist_base.specs.Trees.{Data, Uid}
 use Rattle.plist_format.specs.Container.{number_of, numbers_spelled}
-use Rattle.plist_format.specs.Object.{Scalar, Array, Layout, Refused, Fixed, Counted, text, wide_text, dictionary, layout_of, length_in, meaning_counted, object_behind}
+use Rattle.plist_format.specs.Object.{Scalar, Array, Layout, Refused, Fixed, Counted, text, wide_text, dictionary, layout_of, length_in, meaning_counted, object_after_marker}
 
 pub layout-data : (w m : ℕ) → 64 ≤ m → m ≤ 79
     → layout_of w m ≡ Counted 1 (λ _ content. Scalar (Data content))
@@ -32,7 +32,7 @@ length_by_half : (m low : ℕ) (rest : List ℕ) → m % 16 ≡ low % 16 → len
 length_by_half m low rest half = rw half refl
 
 pub behind_by_half : (m low : ℕ) (layout : Layout) (rest : List ℕ) → m % 16 ≡ low % 16
-    → object_behind m layout rest ≡ object_behind low layout rest
+    → object_after_marker m layout rest ≡ object_after_marker low layout rest
 behind_by_half m low (Refused kind) rest half = refl
 behind_by_half m low (Fixed size meaning) rest half = refl
 behind_by_half m low (Counted size meaning) rest half =

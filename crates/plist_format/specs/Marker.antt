@@ -1,4 +1,4 @@
--- What the byte of each marker is, and what stands behind it (CFBinaryPList.c, "OBJECT TABLE").
+-- What the byte of each marker is, and what stands after it (CFBinaryPList.c, "OBJECT TABLE").
 use Rattle.std.specs.Prelude.{ℕ, ◌+◌, ◌*◌, Option, None, Some, if◌then◌else◌}
 use Rattle.plist_base.specs.Faults.{NullObjectUnimplemented, FillObjectUnimplemented, UnknownObjectType}
 use Rattle.plist_base.specs.declared.real.RealBits.TheVariants.{Four, Eight}
@@ -40,7 +40,7 @@ abbrev pub counted_in : Marker → Option (CountedKind × ℕ)
 counted_in (marker.Counted kind low) = Some (kind, low)
 counted_in other = None
 
--- what stands behind one that has a length, where a reference has this width
+-- what stands after one that has a length, where a reference has this width
 abbrev pub counted_layout : (width : ℕ) → CountedKind → Layout
 counted_layout width kind.Data = Counted 1 (λ _ content. Scalar (Data content))
 counted_layout width kind.Text = Counted 1 (λ _. text)
@@ -50,19 +50,20 @@ counted_layout width kind.Array =
 counted_layout width kind.Dictionary = Counted (2 * width)
     (λ count content. dictionary count (numbers_spelled width content))
 
--- and behind any marker
-abbrev pub layout_behind : (width : ℕ) → Marker → Layout
-layout_behind width marker.Null = Refused NullObjectUnimplemented
-layout_behind width (marker.Boolean value) = Fixed 0 (λ _. Scalar (Boolean value))
-layout_behind width marker.Fill = Refused FillObjectUnimplemented
-layout_behind width marker.Integer1 = Fixed 1 unsigned_integer
-layout_behind width marker.Integer2 = Fixed 2 unsigned_integer
-layout_behind width marker.Integer4 = Fixed 4 unsigned_integer
-layout_behind width marker.Integer8 = Fixed 8 signed_integer
-layout_behind width marker.Integer16 = Fixed 16 wide_integer
-layout_behind width marker.Real4 = Fixed 4 (λ content. Scalar (Real (Four content)))
-layout_behind width marker.Real8 = Fixed 8 (λ content. Scalar (Real (Eight content)))
-layout_behind width marker.Date = Fixed 8 date
-layout_behind width (marker.Counted kind low) = counted_layout width kind
-layout_behind width (marker.Uid bytes) = Fixed bytes (λ content. Scalar (Uid (number_of content)))
-layout_behind width (marker.Unknown byte) = Refused (UnknownObjectType byte)
+-- and after any marker
+abbrev pub layout_after_marker : (width : ℕ) → Marker → Layout
+layout_after_marker width marker.Null = Refused NullObjectUnimplemented
+layout_after_marker width (marker.Boolean value) = Fixed 0 (λ _. Scalar (Boolean value))
+layout_after_marker width marker.Fill = Refused FillObjectUnimplemented
+layout_after_marker width marker.Integer1 = Fixed 1 unsigned_integer
+layout_after_marker width marker.Integer2 = Fixed 2 unsigned_integer
+layout_after_marker width marker.Integer4 = Fixed 4 unsigned_integer
+layout_after_marker width marker.Integer8 = Fixed 8 signed_integer
+layout_after_marker width marker.Integer16 = Fixed 16 wide_integer
+layout_after_marker width marker.Real4 = Fixed 4 (λ content. Scalar (Real (Four content)))
+layout_after_marker width marker.Real8 = Fixed 8 (λ content. Scalar (Real (Eight content)))
+layout_after_marker width marker.Date = Fixed 8 date
+layout_after_marker width (marker.Counted kind low) = counted_layout width kind
+layout_after_marker width (marker.Uid bytes) =
+    Fixed bytes (λ content. Scalar (Uid (number_of content)))
+layout_after_marker width (marker.Unknown byte) = Refused (UnknownObjectType byte)

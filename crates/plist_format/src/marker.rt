@@ -1,7 +1,7 @@
-//! The marker of an object: the byte at its front, which says what stands behind it.
+//! The marker of an object: the byte at its front, which says what stands after it.
 
 ghost use Rattle.std.specs.Prelude.{◌≡◌, ℕ, ◌%◌, ◌<◌, ◌≤◌, IfNone, IfSome};
-ghost use Rattle.plist_format.specs.Marker.{byte_of, counted_in, high_half, layout_behind};
+ghost use Rattle.plist_format.specs.Marker.{byte_of, counted_in, high_half, layout_after_marker};
 ghost use Rattle.plist_format.specs.Object.{layout_of};
 
 use std::marker::Model;
@@ -90,7 +90,7 @@ impl Model for UidWidth {
 }
 
 impl UidWidth {
-    /// So many bytes.
+    /// This many bytes.
     #[inline(always)]
     pub fn new(bytes: usize) -> UidWidth
         requires { (1 ≤ bytes) × (bytes ≤ 8) }
@@ -109,7 +109,7 @@ impl UidWidth {
     }
 }
 
-/// What has a length behind its marker.
+/// What has a length after its marker.
 #[derive(Clone, Copy)]
 pub enum CountedKind {
     /// Data.
@@ -179,7 +179,7 @@ impl Marker {
     #[inline(always)]
     pub fn decode(byte: u8) -> Marker
         ensures byte { byte_of result ≡ byte }
-        ensures layout { (width : ℕ) → layout_of width byte ≡ layout_behind width result }
+        ensures layout { (width : ℕ) → layout_of width byte ≡ layout_after_marker width result }
     {
         match byte {
             0x00 => Marker::Null,

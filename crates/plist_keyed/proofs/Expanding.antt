@@ -41,7 +41,7 @@ abbrev pub Gives : Result Tree ArchiveFault → List Item → Type 0
 Gives answer items = AreItemsOf bracketing answer items
 
 module _ {V : Type 0} (inner : V → List PlainEvent) where
-  -- behind one event, and behind some
+  -- after one event, and after some
   behind-one : (e : PlainEvent) (a : Result V ArchiveFault) (xs : List Item) → AreItemsOf inner a xs
       → AreItemsOf (λ v. e ∷ inner v) a (Ok e ∷ xs)
   behind-one e (Ok v) xs (es, is, alike) =
@@ -49,7 +49,7 @@ module _ {V : Type 0} (inner : V → List PlainEvent) where
   behind-one e (Err f) xs (es, more, is, (rest, v, alike)) =
       (e ∷ es, more, ap (λ l. Ok e ∷ l) is, (rest, v, ap (λ l. without_length e ∷ l) alike))
 
-  -- with an event behind
+  -- with an event after
   before-one : (e : PlainEvent) (a : Result V ArchiveFault) (xs : List Item) → AreItemsOf inner a xs
       → AreItemsOf (λ v. inner v ++ e ∷ []) a (xs ++ Ok e ∷ [])
   before-one e (Ok v) xs (es, is, alike) =

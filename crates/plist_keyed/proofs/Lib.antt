@@ -1,4 +1,4 @@
 pub mod Opened
 pub mod Expanding
-pub mod Told
+pub mod Answered
 pub mod Walked

@@ -148,13 +148,13 @@ module _ (old new : Walk) (uid : ℕ) (object : Value) (o : IsWalk old)
       (path_push uid o.0 (slice_get_within _ uid _ at) off_path, ap suc o.1)
   entered-walk (Err e) h (same, keys, items) = rw (same, keys, items) o
 
-  pub entered-owes : {A : Type 0} (r : Result A Error) → OnOk r (IsOpened old uid object new)
+  pub entered-remains : {A : Type 0} (r : Result A Error) → OnOk r (IsOpened old uid object new)
       → OnOk r (follow old uid ++ remaining_steps old ≡ None ∷ remaining_steps new)
-  entered-owes (Ok a) (same, keys, (level, items, is)) =
+  entered-remains (Ok a) (same, keys, (level, items, is)) =
       rw (same, keys, reverse-snoc old.path.keys uid, items, reverse-snoc old.levels.items level)
       (opened (objects_seen old.objects.now) (levels_of old) (open_uids old) uid level _ o.0 at
       off_path is)
-  entered-owes (Err e) h = tt
+  entered-remains (Err e) h = tt
 
 -- ---- an event
 
@@ -180,19 +180,19 @@ refuses old new e uid fault is same h =
     )
 
 -- the innermost place has one event less
-pub taken-owes : (walk : Walk) (items below : List Events) (left after : Events) (e : PlainEvent)
+pub taken-remains : (walk : Walk) (items below : List Events) (left after : Events) (e : PlainEvent)
     → IsWalk walk → walk.levels.items ≡ below ++ left ∷ [] → items ≡ below ++ after ∷ []
     → remaining_events left ≡ e ∷ remaining_events after
     → remaining_steps walk ≡ steps_of_event (follow walk) e
     ++ remaining_steps_of (objects_seen walk.objects.now) (reverse items) (open_uids walk)
-taken-owes walk items below left after e o had has is =
-    let owes = λ (l : List Events).
+taken-remains walk items below left after e o had has is =
+    let remains = λ (l : List Events).
     remaining_steps_of (objects_seen walk.objects.now) l (open_uids walk) in
     let first : levels_of walk ≡ left ∷ reverse below = ap reverse had ∙ reverse-snoc below left in
-    ap owes first
+    ap remains first
     ∙ takes (objects_seen walk.objects.now) left after (reverse below) (open_uids walk) e
     (sym (ap length first) ∙ o.1) is
-    ∙ ap (λ l. steps_of_event (follow walk) e ++ owes l)
+    ∙ ap (λ l. steps_of_event (follow walk) e ++ remains l)
     (sym (ap reverse has ∙ reverse-snoc below after))
 
 -- the innermost object is left

@@ -11,7 +11,7 @@ pub data ArchiveFault : Type 0 where
   UidOutOfRange : ℕ → ArchiveFault
   RecursiveUid : ℕ → ArchiveFault
 
--- one answer behind another; the first fault decides
+-- one answer after another; the first fault decides
 abbrev pub and_then : {A B : Type 0} → Result A ArchiveFault → (A → Result B ArchiveFault)
     → Result B ArchiveFault
 and_then (Ok a) f = f a

@@ -12,7 +12,7 @@ text_of_error (error.UidOutOfRange uid) = codes "UidOutOfRange(" ++ decimal uid 
 text_of_error (error.RecursiveUid uid) = codes "RecursiveUid(" ++ decimal uid ++ codes ")"
 text_of_error error.OutOfMemory = codes "OutOfMemory"
 
--- one fact where the property list is no archive, one for want of memory, and one for a fault of
+-- one fact where the property list is no archive, one for lack of memory, and one for a fault of
 -- the archive
 abbrev pub MatchError : KeyedError → (closed memory : Type 0) → (ArchiveFault → Type 0) → Type 0
 MatchError error.NotAnArchive closed memory fault = closed
@@ -20,11 +20,11 @@ MatchError (error.UidOutOfRange uid) closed memory fault = fault (UidOutOfRange 
 MatchError (error.RecursiveUid uid) closed memory fault = fault (RecursiveUid uid)
 MatchError error.OutOfMemory closed memory fault = memory
 
--- it is this fault of the archive, or want of memory
+-- it is this fault of the archive, or lack of memory
 abbrev pub IsFaultOf : {A : Type 0} → Result A ArchiveFault → KeyedError → Type 0
 IsFaultOf answer e = MatchError e ⊥ ⊤ (λ fault. answer ≡ Err fault)
 
--- the fault of an archive that stands in the place of an event, and want of memory for every other
+-- the fault of an archive that stands in the place of an event, and lack of memory for every other
 -- one
 abbrev pub error_by : FaultKind → (offset : Option ℕ) → KeyedError
 error_by ObjectReferenceTooLarge (Some uid) = error.UidOutOfRange uid

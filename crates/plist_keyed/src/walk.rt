@@ -51,7 +51,7 @@ struct Walk<'a> {
 }
 
 impl<'a> Walk<'a> {
-    ghost use Rattle.plist_keyed.specs.inner.RemainingSteps.{FailsAt, GivesOfUid, WalkIsKept, IsOpened, IsWalk, Yields, follow, remaining_steps};
+    ghost use Rattle.plist_keyed.specs.inner.RemainingSteps.{FailsAt, GivesItemOfUid, WalkIsKept, IsOpened, IsWalk, Yields, follow, remaining_steps};
 
     fn new(alloc: Global, objects: &'a [Value]) -> Walk<'a>
         ensures objects { result.objects ≡ objects.entry }
@@ -145,12 +145,12 @@ impl<'a> Walk<'a> {
         }
     }
 
-    // The next item, behind the steps that give nothing.
+    // The next item, after the steps that give nothing.
     fn advance(&mut self) -> Option<Result<Event<'a>, Error>>
         requires { IsWalk self.old }
         ensures path { IsWalk self.new }
         ensures objects { self.new.objects ≡ self.old.objects }
-        ensures gives { GivesOfUid self.old result self.new }
+        ensures gives { GivesItemOfUid self.old result self.new }
         ensures shorter { OnSome result (length (remaining_steps self.new) < length
             (remaining_steps self.old)) }
     {
@@ -169,11 +169,11 @@ impl<'a> Iterator for Walk<'a> {
     type Item = Result<Event<'a>, Error>;
 
     ghost use Rattle.std.specs.Iterator.{at_most};
-    ghost use Rattle.plist_keyed.specs.inner.RemainingSteps.{GivesOfUid, IsWalk, remaining_steps};
+    ghost use Rattle.plist_keyed.specs.inner.RemainingSteps.{GivesItemOfUid, IsWalk, remaining_steps};
 
     ghost can_next = { IsWalk };
 
-    ghost next_gives = { GivesOfUid };
+    ghost next_gives = { GivesItemOfUid };
 
     ghost remaining = { λ walk. at_most (length (remaining_steps walk)) };
 

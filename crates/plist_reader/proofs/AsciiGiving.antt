@@ -23,19 +23,19 @@ use Rattle.plist_ascii.specs.AsciiReader as ascii
 use Rattle.plist_ascii.specs.Kinds.{IsAsciiFault, IsAsciiItem, IsFaultOfBytes}
 use Rattle.plist_ascii.specs.Incoming as incoming
 use Rattle.plist_ascii.specs.declared.dialect.Dialect.TheVariants.{Lax}
-use Rattle.plist_ascii.specs.Texts.{lax, ends_bare}
+use Rattle.plist_ascii.specs.Texts.{lax_stops, ends_bare}
 use Rattle.plist_reader.specs.declared.reader.State.{State}
 use Rattle.plist_reader.specs.declared.reader.State.TheVariants as state
-use Rattle.plist_reader.specs.Reader.{MatchText, AsciiReaderOf, TextGives, state_items, input_within, items_by, items_of_input, text_to_come, GivesItem, GivesIfKnown, EndsAfter, IsReaderFault, IsReaderItem, StateGives, ItemHasOffset, FaultHasOffset, MatchOffset}
+use Rattle.plist_reader.specs.Reader.{MatchText, AsciiReaderOf, AsciiGives, state_items, input_within, items_by, items_of_input, ascii_items_to_come, GivesItem, GivesIfKnown, EndsAfter, IsReaderFault, IsReaderItem, StateGives, ItemHasOffset, FaultHasOffset, MatchOffset}
 use Rattle.plist_reader.specs.declared.format.Format.TheVariants as format
 use Rattle.plist_reader.specs.Formats.{format_of, input_front}
-use Rattle.plist_reader.proofs.Giving.{Given, chosen-gives, one-owed, text-or-all}
+use Rattle.plist_reader.proofs.Giving.{Given, chosen-gives, one-remain, text-or-all}
 
 -- ---- where memory is wanted something is to come
 
-text-owed : (before : List Item) → BeginsWithText before → SomeRemain before
-text-owed [] h = absurd h
-text-owed (x ∷ xs) h = one-owed x xs
+text-remain : (before : List Item) → BeginsWithText before → SomeRemain before
+text-remain [] h = absurd h
+text-remain (x ∷ xs) h = one-remain x xs
 
 -- ---- one call
 
@@ -51,7 +51,7 @@ ascii-item stops bytes rest p q None h = (h.0, none-left stops rest q h.1)
 ascii-item stops bytes rest p q (Some (Ok event)) h = h.items
 ascii-item stops bytes rest p q (Some (Err error)) h =
     MatchFault-weaker (kind_of (error_kind_of error)) (λ e. none-left stops rest q e)
-    (λ m. (none-left stops rest q m.0, text-owed (items_of_ascii stops bytes p) m.1))
+    (λ m. (none-left stops rest q m.0, text-remain (items_of_ascii stops bytes p) m.1))
     (λ b. b.items) h
 
 pub ascii-goes : (stops : ℕ → Bool) (k l : Option (List ℕ)) (p q : ℕ) (item : Given)
@@ -126,11 +126,11 @@ ascii-placed place (Some (Err error)) h = placed _ _ h
     placed kind offset p = absurd p.0
 
 -- a count that is told
-told-failures : (a b : ℕ) (item : Given) → incoming.ItemCountsIoIfCounted item (Some a) (Some b)
+counted-failures : (a b : ℕ) (item : Given) → incoming.ItemCountsIoIfCounted item (Some a) (Some b)
     → ItemCountsIo item a b
-told-failures a b None h = same-count a b h
-told-failures a b (Some (Ok event)) h = same-count a b h
-told-failures a b (Some (Err error)) h =
+counted-failures a b None h = same-count a b h
+counted-failures a b (Some (Ok event)) h = same-count a b h
+counted-failures a b (Some (Err error)) h =
     MatchFault-weaker (kind_of (error_kind_of error)) (λ r. r) (same-count a b) (same-count a b) h
 
 -- ---- the items to come before the first one is asked for
@@ -139,7 +139,7 @@ take-twice : (bytes : List ℕ) → input_front (input_front bytes) ≡ input_fr
 take-twice bytes = take-take (2 ^ 64 - 1) (2 ^ 64 - 1) bytes (omega arith)
 
 ascii-items : (k l : Option (List ℕ)) → l ≡ k → IfSome k (λ bytes. format.Ascii ≡ format_of bytes)
-    → option_map (λ bytes. items_of_ascii lax bytes 0)
+    → option_map (λ bytes. items_of_ascii lax_stops bytes 0)
     (option_map input_front (option_map (λ bytes. [] ++ from_place 0 bytes) l))
     ≡ option_map items_of_input k
 ascii-items None l e is = rw e refl
@@ -155,17 +155,17 @@ limit-other : (kind : FaultKind) (limit : Limit) (X Y Z : Type 0) → kind ≡ L
     → MatchFault kind X Y Z
 limit-other kind limit X Y Z is z = rw is z
 
-reached-owed : (reached : Option Limit) (event : PlainEvent) (behind : List Item)
+reached-remain : (reached : Option Limit) (event : PlainEvent) (behind : List Item)
     → SomeRemain (event_or_limit reached event behind)
-reached-owed None event behind = one-owed {A = Item} (Ok event) behind
-reached-owed (Some limit) event behind =
-    one-owed {A = Item} (Err (fault_nowhere (LimitReached limit))) []
+reached-remain None event behind = one-remain {A = Item} (Ok event) behind
+reached-remain (Some limit) event behind =
+    one-remain {A = Item} (Err (fault_nowhere (LimitReached limit))) []
 
-limits-owed : (limiter : Limiter) (items : List Item) → SomeRemain items
+limits-remain : (limiter : Limiter) (items : List Item) → SomeRemain items
     → SomeRemain (limited_by limiter items)
-limits-owed limiter [] h = h
-limits-owed limiter (Ok event ∷ items) h = reached-owed _ _ _
-limits-owed limiter (Err fault ∷ items) h = one-owed {A = Item} (Err fault) []
+limits-remain limiter [] h = h
+limits-remain limiter (Ok event ∷ items) h = reached-remain _ _ _
+limits-remain limiter (Err fault ∷ items) h = one-remain {A = Item} (Err fault) []
 
 limited-item : (was now : Bool) (old new : Limiter) (before after : List Item) (asked item : Given)
     → was ≡ false → GivesItem before asked after → PassesNext old asked item new now
@@ -182,7 +182,7 @@ limited-item was now old new before after (Some (Ok asked)) (Some (Err error)) w
 limited-item was now old new before after (Some (Err fault)) None w g p = absurd p
 limited-item was now old new before after (Some (Err fault)) (Some given) w g p =
     rw (p.0, w, p.1) (MatchFault-weaker (kind_of (error_kind_of fault)) (λ _. refl)
-    (λ m. (refl, limits-owed old before m.1)) (λ b. ap (limited_by old) b) g)
+    (λ m. (refl, limits-remain old before m.1)) (λ b. ap (limited_by old) b) g)
 
 limited-goes : (was now : Bool) (old new : Limiter) (k l : Option (List Item)) (asked item : Given)
     → was ≡ false → GivesIfKnown k asked l → PassesNext old asked item new now
@@ -240,15 +240,15 @@ fresh-text : {R : Type 0} (known : R → Option (List ℕ)) (source : R) (sequen
     → ascii.untaken_bytes (stream_bytes_left known) reader
     ≡ option_map input_front (stream_bytes_left known sequence)
     → ascii.place_of reader ≡ 0 → ascii.dialect_of reader ≡ Lax
-    → text_to_come known reader ≡ option_map items_of_input (known source)
+    → ascii_items_to_come known reader ≡ option_map items_of_input (known source)
 fresh-text known source sequence reader from at none is bytes place dialect =
     ap (λ d. option_map (λ b. items_of_ascii (ends_bare d) b (ascii.place_of reader))
     (ascii.untaken_bytes (stream_bytes_left known) reader)) dialect
-    ∙ (λ i. option_map (λ b. items_of_ascii lax b (place i)) (bytes i))
-    ∙ ap (λ p. option_map (λ b. items_of_ascii lax b 0)
+    ∙ (λ i. option_map (λ b. items_of_ascii lax_stops b (place i)) (bytes i))
+    ∙ ap (λ p. option_map (λ b. items_of_ascii lax_stops b 0)
     (option_map input_front (option_map (λ bytes. held sequence ++ from_place p bytes)
     (known (stream_source sequence))))) at
-    ∙ ap (λ w. option_map (λ b. items_of_ascii lax b 0)
+    ∙ ap (λ w. option_map (λ b. items_of_ascii lax_stops b 0)
     (option_map input_front (option_map (λ bytes. w ++ from_place 0 bytes)
     (known (stream_source sequence))))) none
     ∙ ascii-items _ (known (stream_source sequence)) (ap known from) is
@@ -260,7 +260,7 @@ joined limits (Some bytes) = refl
 
 module _ {R : Type 0} {g : Ghosts R} (known : R → Option (List ℕ)) (failed : R → ℕ) where
   pub ascii-gives : (old new : AsciiReaderOf R) (item : Given)
-      → TextGives known failed old item new
+      → AsciiGives known failed old item new
       → StateGives {R = R} {g = g} known failed (state.Ascii old) item (state.Ascii new)
   ascii-gives old new item h = record {
     items = subst (λ d. GivesIfKnown ((let before : State R g = state.Ascii old in state_items known
@@ -271,7 +271,7 @@ module _ {R : Type 0} {g : Ghosts R} (known : R → Option (List ℕ)) (failed :
         (ascii.untaken_bytes (stream_bytes_left known) new) (ascii.place_of old)
         (ascii.place_of new) item
         h.items);
-    failures = told-failures (failed (stream_source (ascii.device_of old)))
+    failures = counted-failures (failed (stream_source (ascii.device_of old)))
         (failed (stream_source (ascii.device_of new))) item h.failures;
     offset = ascii-placed (ascii.place_of new) item h.offset;
     ended = h.ended;
@@ -285,7 +285,7 @@ module _ {R : Type 0} {g : Ghosts R} (known : R → Option (List ℕ)) (failed :
   over-gives : (old : Limited (AsciiReaderOf R)) → old.ended ≡ true
       → StateGives {R = R} {g = g} known failed (state.Limited old) None (state.Limited old)
   over-gives old over = record {
-    items = stays (text_to_come known (iterator_of old));
+    items = stays (ascii_items_to_come known (iterator_of old));
     failures = refl;
     offset = tt;
     ended = λ _. refl;
@@ -301,12 +301,12 @@ module _ {R : Type 0} {g : Ghosts R} (known : R → Option (List ℕ)) (failed :
       stays (Some all) = (items_admitted old all, refl, rw over (refl, refl))
 
   pub limited-gives : (old new : Limited (AsciiReaderOf R)) (item : Given)
-      → GivesLimited (TextGives known failed) old item new
+      → GivesLimited (AsciiGives known failed) old item new
       → StateGives {R = R} {g = g} known failed (state.Limited old) item (state.Limited new)
   limited-gives old new item h = by old.ended refl h
     where
       by : (b : Bool) → old.ended ≡ b → MatchBool b ((item ≡ None) × (new ≡ old))
-          ((asked : Given) × TextGives known failed old.inner asked new.inner
+          ((asked : Given) × AsciiGives known failed old.inner asked new.inner
           × PassesNext old.limiter asked item new.limiter new.ended)
           → StateGives {R = R} {g = g} known failed (state.Limited old) item (state.Limited new)
       by true over (none, same) = rw (same, none) (over-gives old over)
@@ -314,7 +314,7 @@ module _ {R : Type 0} {g : Ghosts R} (known : R → Option (List ℕ)) (failed :
           let inner = ascii-gives old.inner new.inner asked gave in
           record {
             items = limited-goes old.ended new.ended old.limiter new.limiter
-                (text_to_come known old.inner) (text_to_come known new.inner) asked
+                (ascii_items_to_come known old.inner) (ascii_items_to_come known new.inner) asked
                 item going inner.items passes;
             failures = passes-count new.ended old.limiter new.limiter asked item
                 (failed (stream_source (ascii.device_of old.inner)))
@@ -334,14 +334,14 @@ module _ {R : Type 0} {g : Ghosts R} (known : R → Option (List ℕ)) (failed :
       → ascii.untaken_bytes (stream_bytes_left known) old ≡ option_map input_front
       (stream_bytes_left known sequence)
       → ascii.place_of old ≡ 0 → ascii.dialect_of old ≡ Lax
-      → TextGives known failed old item new
+      → AsciiGives known failed old item new
       → StateGives {R = R} {g = g} known failed (state.Unread source None) item (state.Ascii new)
   begun-ascii source sequence old new item from inside at none is bytes place dialect h =
       chosen-gives {g = g} known failed source None (state.Ascii old) (state.Ascii new) item
       (fresh-text known source sequence old from at none is bytes place dialect) refl
       (subst (λ n. ItemCountsIo item n (failed (stream_source (ascii.device_of new))))
       (ap (λ s. failed (stream_source s)) inside ∙ ap failed from)
-      (told-failures _ _ item h.failures))
+      (counted-failures _ _ item h.failures))
       (old, place, refl, h) (ascii-gives old new item h)
 
   pub begun-limited : (source : R) (limits : Limits) (sequence : SourceBytes R) (fresh : AsciiReaderOf R)
@@ -352,14 +352,14 @@ module _ {R : Type 0} {g : Ghosts R} (known : R → Option (List ℕ)) (failed :
       → ascii.untaken_bytes (stream_bytes_left known) fresh
       ≡ option_map input_front (stream_bytes_left known sequence)
       → ascii.place_of fresh ≡ 0 → ascii.dialect_of fresh ≡ Lax
-      → GivesLimited (TextGives known failed) old item new
+      → GivesLimited (AsciiGives known failed) old item new
       → StateGives {R = R} {g = g} known failed (state.Unread source (Some limits)) item
       (state.Limited new)
   begun-limited source limits sequence fresh old new item come is-fresh from inside at none is bytes
       place dialect h =
       let gives = limited-gives old new item h in
       chosen-gives {g = g} known failed source (Some limits) (state.Limited old) (state.Limited new) item
-      ((λ i. option_map (come i) (text_to_come known (is-fresh i)))
+      ((λ i. option_map (come i) (ascii_items_to_come known (is-fresh i)))
       ∙ ap (option_map (limited_items limits))
       (fresh-text known source sequence fresh from at none is bytes place dialect)
       ∙ joined limits (known source)) refl

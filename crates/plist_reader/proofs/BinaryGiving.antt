@@ -12,23 +12,23 @@ use Rattle.plist_binread.specs.BinaryReader as binary
 use Rattle.plist_binread.specs.FaultOffsets.{HasOffset, MatchGiven, ItemGivenWithin}
 use Rattle.plist_binread.specs.Remaining.{SomeRemain, AllocatesFirst}
 use Rattle.plist_reader.specs.declared.reader.State.TheVariants as state
-use Rattle.plist_reader.specs.Reader.{FileGives, BinaryReaderOf, file_within, input_within, items_by, GivesItem, GivesIfKnown, EndsAfter, IsReaderFault, IsReaderItem, StateGives, ItemHasOffset, MatchOffset}
+use Rattle.plist_reader.specs.Reader.{BinaryGives, BinaryReaderOf, file_within, input_within, items_by, GivesItem, GivesIfKnown, EndsAfter, IsReaderFault, IsReaderItem, StateGives, ItemHasOffset, MatchOffset}
 use Rattle.plist_reader.specs.declared.format.Format.TheVariants as format
 use Rattle.plist_reader.specs.Formats.{format_of}
 use Rattle.plist_reader.proofs.Fronts.{within-placed}
-use Rattle.plist_reader.proofs.Giving.{Given, chosen-gives, one-owed, same-items, text-or-all}
+use Rattle.plist_reader.proofs.Giving.{Given, chosen-gives, one-remain, same-items, text-or-all}
 
 -- ---- where memory is wanted something is to come
 
-wants-owed : (before : List Item) → AllocatesFirst before → SomeRemain before
-wants-owed [] h = absurd h
-wants-owed (x ∷ xs) h = one-owed x xs
+wants-remain : (before : List Item) → AllocatesFirst before → SomeRemain before
+wants-remain [] h = absurd h
+wants-remain (x ∷ xs) h = one-remain x xs
 
-either-owed : (new : Bool) (before : List Item) → MatchBool new (SomeRemain before)
+either-remain : (new : Bool) (before : List Item) → MatchBool new (SomeRemain before)
     (AllocatesFirst before)
     → SomeRemain before
-either-owed true before h = h
-either-owed false before h = wants-owed _ h
+either-remain true before h = h
+either-remain false before h = wants-remain _ h
 
 -- ---- one call
 
@@ -38,7 +38,7 @@ binary-item new before after None h = h
 binary-item new before after (Some (Ok event)) h = h
 binary-item new before after (Some (Err error)) h =
     MatchFault-weaker (kind_of (error_kind_of error)) (λ _. h.0)
-    (λ m. (h.0, either-owed new before m))
+    (λ m. (h.0, either-remain new before m))
     (λ e. e ∙ ap (λ l. Err (fault_of error) ∷ l) (sym h.0)) h.1
 
 binary-goes : (k l : Option (List ℕ)) (f g : List ℕ → List Item) (new : Bool) (item : Given) → l ≡ k
@@ -122,7 +122,7 @@ file-input None bytes is = ap (λ f. items_by f bytes) is
 file-input (Some limits) bytes is = ap (λ f. limited_items limits (items_by f bytes)) is
 
 module _ {R : Type 0} {g : Ghosts R} (known : R → Option (List ℕ)) (failed : R → ℕ) where
-  pub binary-gives : (old new : BinaryReaderOf R g) (item : Given) → FileGives {g = g} known failed old item new
+  pub binary-gives : (old new : BinaryReaderOf R g) (item : Given) → BinaryGives {g = g} known failed old item new
       → StateGives known failed (state.Binary old) item (state.Binary new)
   binary-gives old new item h = record {
     items = binary-goes (known (binary.binary_source old)) (known (binary.binary_source new))
@@ -150,7 +150,7 @@ module _ {R : Type 0} {g : Ghosts R} (known : R → Option (List ℕ)) (failed :
       → binary.has_limits old ≡ is_some limits
       → IfSome (known source) (λ bytes. format.Binary ≡ format_of bytes)
       → IfSome (known source) (λ bytes. binary.items_to_come bytes old ≡ file_within limits bytes)
-      → FileGives {g = g} known failed old item new
+      → BinaryGives {g = g} known failed old item new
       → StateGives known failed (state.Unread source limits) item (state.Binary new)
   begun-binary source limits old new item at fresh limited is begins h =
       chosen-gives {g = g} known failed source limits (state.Binary old) (state.Binary new) item

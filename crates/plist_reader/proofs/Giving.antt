@@ -22,8 +22,8 @@ abbrev pub Given : Type 0
 Given = Option (Result Event Error)
 
 -- where memory is wanted something is to come
-pub one-owed : {A : Type 0} (x : A) (xs : List A) → 0 < length (x ∷ xs)
-one-owed x xs = omega arith
+pub one-remain : {A : Type 0} (x : A) (xs : List A) → 0 < length (x ∷ xs)
+one-remain x xs = omega arith
 
 pub text-or-all : (kind : FaultKind) (E : Type 0) → E → MatchText kind ⊤ E
 text-or-all UnclosedString E h = tt

@@ -19,7 +19,7 @@ same_front p n xs h =
     (sym all) ∙ drop-take p _ xs in
     sym (ap (take n) cut ∙ take-take n (2 ^ 64 - 1 - p) _ fits)
 
--- the first n bytes that a read gave, and what lies behind them
+-- the first n bytes that a read gave, and what lies after them
 read_front : (p n count : ℕ) (xs part : List ℕ) → n ≤ count → p + n ≤ 2 ^ 64 - 1
     → take count part ≡ take count (drop p xs)
     → take n part ++ from_place (p + n) xs ≡ from_place p xs
@@ -59,7 +59,7 @@ read_none (Some xs) now p n count part e none room z within g =
     ended (inl h) = absurd (let no : ⊥ = omega (arith, h, room) in no)
     ended (inr h) = nothing_after (p + n) xs (omega (arith, h))
 
--- where there is no room for a read, nothing is behind what is held
+-- where there is no room for a read, nothing is after what is held
 pub full_none : (k : Option (List ℕ)) (p : ℕ) (hand : List ℕ) → 2 ^ 64 - 1 ≤ p → hand ≡ []
     → IsAtEnd (option_map (λ bytes. hand ++ from_place p bytes) k)
 full_none None p hand h e = tt

@@ -21,7 +21,7 @@ use Rattle.plist_ascii.specs.Ascii.{items_of_ascii}
 use Rattle.plist_ascii.specs.AsciiReader as ascii
 use Rattle.plist_ascii.specs.declared.reader.AsciiReader.{AsciiReader}
 use Rattle.plist_reader.specs.declared.bytes.SourceBytes.{SourceBytes}
-use Rattle.plist_ascii.specs.Texts.{lax}
+use Rattle.plist_ascii.specs.Texts.{lax_stops}
 use Rattle.plist_reader.specs.declared.format.Format.{Format}
 use Rattle.plist_reader.specs.declared.format.Format.TheVariants as format
 use Rattle.plist_reader.specs.declared.reader.Reader.{Reader}
@@ -35,7 +35,7 @@ use Rattle.plist_reader.specs.Streams.{stream_bytes_left}
 abbrev pub items_by : Format → List ℕ → List Item
 items_by format.Binary bytes = items_of_file bytes
 items_by (format.Xml place) bytes = Err (fault_at XmlUnsupported place) ∷ []
-items_by format.Ascii bytes = items_of_ascii lax (input_front bytes) 0
+items_by format.Ascii bytes = items_of_ascii lax_stops (input_front bytes) 0
 
 -- the items of some bytes, by the format that their first bytes show
 abbrev pub items_of_input : List ℕ → List Item
@@ -62,9 +62,9 @@ abbrev pub AsciiReaderOf : Type 0 → Type 0
 AsciiReaderOf R = AsciiReader (SourceBytes R)
 
 -- what a reader of ASCII has still to give
-abbrev pub text_to_come : {R : Type 0} (known : R → Option (List ℕ)) → AsciiReaderOf R
+abbrev pub ascii_items_to_come : {R : Type 0} (known : R → Option (List ℕ)) → AsciiReaderOf R
     → Option (List Item)
-text_to_come known reader =
+ascii_items_to_come known reader =
     option_map (λ bytes. items_of_ascii (ascii.stops_of reader) bytes (ascii.place_of reader))
     (ascii.untaken_bytes (stream_bytes_left known) reader)
 
@@ -75,8 +75,8 @@ module _ {R : Type 0} {g : Ghosts R} (known : R → Option (List ℕ)) where
   state_items (state.Unread source limits) = option_map (input_within limits) (known source)
   state_items (state.Binary reader) =
       option_map (λ bytes. binary.items_to_come bytes reader) (known (binary.binary_source reader))
-  state_items (state.Ascii reader) = text_to_come known reader
-  state_items (state.Limited reader) = option_map (items_admitted reader) (text_to_come known
+  state_items (state.Ascii reader) = ascii_items_to_come known reader
+  state_items (state.Limited reader) = option_map (items_admitted reader) (ascii_items_to_come known
       (iterator_of reader))
   state_items (state.Refused source) = Some []
   state_items state.Moved = Some []
@@ -181,7 +181,7 @@ abbrev pub IsSourceRefusal : Option (Result Event Error) → Type 0
 IsSourceRefusal item = MatchOption item ⊥ (λ answer. MatchResult answer (λ _. ⊥)
     (λ error. IsRefusedKind (kind_of (error_kind_of error))))
 
--- a fact for want of memory and the fault of a limit, which have no offset, and one for every other
+-- a fact for lack of memory and the fault of a limit, which have no offset, and one for every other
 -- fault of a reader
 abbrev pub MatchOffset : FaultKind → (nowhere placed : Type 0) → Type 0
 MatchOffset OutOfMemory nowhere placed = nowhere
@@ -196,13 +196,13 @@ abbrev pub ItemHasOffset : Option (Result Event Error) → Type 0
 ItemHasOffset item = MatchOption item ⊤ (λ answer. IfErr answer (λ error. FaultHasOffset (fault_of error)))
 
 -- one call of a reader that was chosen
-abbrev pub FileGives : {R : Type 0} {g : Ghosts R} (known : R → Option (List ℕ)) (failed : R → ℕ)
+abbrev pub BinaryGives : {R : Type 0} {g : Ghosts R} (known : R → Option (List ℕ)) (failed : R → ℕ)
     → BinaryReaderOf R g → Option (Result Event Error) → BinaryReaderOf R g → Type 0
-FileGives known failed = binary.GivesBinary known failed ⊥ (λ _. 0)
+BinaryGives known failed = binary.GivesBinary known failed ⊥ (λ _. 0)
 
-abbrev pub TextGives : {R : Type 0} (known : R → Option (List ℕ)) (failed : R → ℕ)
+abbrev pub AsciiGives : {R : Type 0} (known : R → Option (List ℕ)) (failed : R → ℕ)
     → AsciiReaderOf R → Option (Result Event Error) → AsciiReaderOf R → Type 0
-TextGives known failed =
+AsciiGives known failed =
     ascii.GivesAscii (stream_bytes_left known) (λ bytes. Some (failed (stream.stream_source bytes)))
 
 module _ {R : Type 0} {g : Ghosts R} (known : R → Option (List ℕ)) (failed : R → ℕ) where
@@ -210,12 +210,12 @@ module _ {R : Type 0} {g : Ghosts R} (known : R → Option (List ℕ)) (failed :
   abbrev pub BeginsInside : Option Limits → Option (Result Event Error) → State R g → Type 0
   BeginsInside limits item (state.Binary new) = (fresh : BinaryReaderOf R g)
       × (binary.is_new fresh ≡ true) × (binary.has_limits fresh ≡ is_some limits)
-      × FileGives known failed fresh item new
+      × BinaryGives known failed fresh item new
   BeginsInside limits item (state.Ascii new) = (fresh : AsciiReaderOf R)
-      × (ascii.place_of fresh ≡ 0) × (limits ≡ None) × TextGives known failed fresh item new
+      × (ascii.place_of fresh ≡ 0) × (limits ≡ None) × AsciiGives known failed fresh item new
   BeginsInside limits item (state.Limited new) = (fresh : Limited (AsciiReaderOf R))
       × (ascii.place_of (iterator_of fresh) ≡ 0) × (is_some limits ≡ true)
-      × GivesLimited (TextGives known failed) fresh item new
+      × GivesLimited (AsciiGives known failed) fresh item new
   BeginsInside limits item (state.Refused source) = IsSourceRefusal item
   BeginsInside limits item new = ⊥
 
@@ -224,11 +224,11 @@ module _ {R : Type 0} {g : Ghosts R} (known : R → Option (List ℕ)) (failed :
       → Type 0
   GivesInside (state.Unread source limits) item new = BeginsInside limits item new
   GivesInside (state.Binary old) item new =
-      (reader : BinaryReaderOf R g) × (new ≡ state.Binary reader) × FileGives known failed old item reader
+      (reader : BinaryReaderOf R g) × (new ≡ state.Binary reader) × BinaryGives known failed old item reader
   GivesInside (state.Ascii old) item new =
-      (reader : AsciiReaderOf R) × (new ≡ state.Ascii reader) × TextGives known failed old item reader
+      (reader : AsciiReaderOf R) × (new ≡ state.Ascii reader) × AsciiGives known failed old item reader
   GivesInside (state.Limited old) item new = (reader : Limited (AsciiReaderOf R))
-      × (new ≡ state.Limited reader) × GivesLimited (TextGives known failed) old item reader
+      × (new ≡ state.Limited reader) × GivesLimited (AsciiGives known failed) old item reader
   GivesInside old item new = (item ≡ None) × (new ≡ old)
 
 -- one call of `next`
@@ -260,7 +260,7 @@ steps_in_state (state.Limited reader) = ascii.ascii_steps (iterator_of reader)
 steps_in_state (state.Refused source) = 0
 steps_in_state state.Moved = 0
 
--- where nothing was asked for yet, this is the first item, and the state behind it
+-- where nothing was asked for yet, this is the first item, and the state after it
 abbrev pub GivesFirst : {R : Type 0} {g : Ghosts R} (known : R → Option (List ℕ)) (failed : R → ℕ)
     → State R g → Option (Result Event Error) → State R g → Type 0
 GivesFirst {R} known failed old item new = (source : R) (limits : Option Limits)
@@ -268,6 +268,6 @@ GivesFirst {R} known failed old item new = (source : R) (limits : Option Limits)
     → StateGives known failed (state.Unread source limits) item new
 
 -- where nothing was asked for yet and an item comes, fewer steps are left
-abbrev pub FirstFalls : {R A : Type 0} {g : Ghosts R} → State R g → Option A → State R g → Type 0
-FirstFalls {R} old item new = (source : R) (limits : Option Limits)
+abbrev pub FirstAdvances : {R A : Type 0} {g : Ghosts R} → State R g → Option A → State R g → Type 0
+FirstAdvances {R} old item new = (source : R) (limits : Option Limits)
     → old ≡ state.Unread source limits → IfSome item (λ _. steps_in_state new < all_steps)

@@ -4,7 +4,7 @@ ghost use Rattle.std.specs.Prelude.{◌≡◌, ◌≤◌, Some, slice_get};
 ghost use Rattle.plist_base.specs.Sources.{CountsFailure};
 ghost use Rattle.plist_base.specs.Outcomes.{DecodesBy};
 
-use plist_ascii::Bytes;
+use plist_ascii::ByteReader;
 use plist_base::Source;
 use std::io;
 
@@ -71,12 +71,12 @@ impl<R: Source> SourceBytes<R> {
         if self.from < self.end {
             return Ok(());
         }
-        let room = u64::MAX - self.place;
-        if room == 0 {
+        let limit = u64::MAX - self.place;
+        if limit == 0 {
             return Ok(());
         }
         let got = self.source.read_at(self.place, &mut self.window)?;
-        let count = room.min(got as u64);
+        let count = limit.min(got as u64);
         self.from = 0;
         self.end = count as usize;
         self.place += count;
@@ -84,7 +84,7 @@ impl<R: Source> SourceBytes<R> {
     }
 }
 
-impl<R: Source> Bytes for SourceBytes<R> {
+impl<R: Source> ByteReader for SourceBytes<R> {
     ghost use Rattle.std.specs.Prelude.{Some};
     ghost use Rattle.plist_reader.specs.Streams.{stream_bytes_left, held};
 

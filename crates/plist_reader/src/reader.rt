@@ -112,7 +112,7 @@ fn begin<R: Source>(
 /// `XmlUnsupported`, after which nothing comes. `Io` where a read failed while it chose, with the
 /// place of that read: then nothing comes either. Once it has chosen, those of the reader chosen,
 /// which stands then as that one says: a binary reader has ended after each of its faults, an ASCII
-/// one goes on behind those of its bytes. `LimitReached` where there are limits
+/// one goes on after those of its bytes. `LimitReached` where there are limits
 /// ([`Reader::with_limits`]).
 #[derive(Drop)]
 pub struct Reader<R: Source> {
@@ -123,7 +123,7 @@ pub struct Reader<R: Source> {
 impl<R: Source> Reader<R> {
     ghost use Rattle.std.specs.Prelude.{◌≡◌, true, false};
     ghost use Rattle.std.specs.Option.{option_map};
-    ghost use Rattle.plist_reader.specs.Reader.{FirstFalls, GivesFirst, reader_is_limited, items_of_input, limited_input, reader_items, reader_source};
+    ghost use Rattle.plist_reader.specs.Reader.{FirstAdvances, GivesFirst, reader_is_limited, items_of_input, limited_input, reader_items, reader_source};
 
     /// A reader over a source. It reads nothing before its first item is asked for.
     pub fn new(alloc: Global, source: R) -> Self
@@ -159,7 +159,7 @@ impl<R: Source> Reader<R> {
     // The first item. Only here is the state moved: it may be as large as a source's windows.
     fn first(&mut self) -> Option<Result<OwnedEvent, Error>>
         ensures gives { GivesFirst R.known R.failures self.old.state result self.new.state }
-        ensures falls { FirstFalls self.old.state result self.new.state }
+        ensures falls { FirstAdvances self.old.state result self.new.state }
     {
         match mem::replace(&mut self.state, State::Moved) {
             State::Unread(source, limits) => {

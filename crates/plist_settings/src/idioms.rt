@@ -258,7 +258,7 @@ fn text_of<R: Files + AllocGlobal>(
 }
 
 // The text of an idiom, or why there is none.
-fn told<R: Files + AllocGlobal>(
+fn idiom_text<R: Files + AllocGlobal>(
     rt: &R,
     alloc: Global,
     group: &str,
@@ -280,7 +280,7 @@ pub fn print<R: Files + AllocGlobal, W: Write>(
     let idioms = fs::read_to_string(rt, file)?;
     for line in idioms.as_str().lines() {
         if let Some((group, name)) = line.split_once(" | ") {
-            let text = told(rt, alloc, group, name)?;
+            let text = idiom_text(rt, alloc, group, name)?;
             writeln!(out, "{line} | {}", text.as_str().trim_end())?;
         }
     }

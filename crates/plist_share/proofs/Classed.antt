@@ -5,21 +5,21 @@ use Rattle.plist_base.specs.Trees.{Tree, Leaf, Array, Dictionary, Trees, NoTrees
 use Rattle.plist_format.specs.Object as obj
 use Rattle.plist_binwrite.specs.Numberings.{references, pairs, object_of}
 use Rattle.plist_binwrite.specs.Occurrences.{event_count, OccursAt, ItemsOccurAt, PairsOccurAt}
-use Rattle.plist_binwrite.proofs.Sitting.{occurs_items, occurs_pairs, occurs_item, occurs_next, occurs_key, occurs_value, occurs_next_pair}
+use Rattle.plist_binwrite.proofs.Occurring.{occurs_items, occurs_pairs, occurs_item, occurs_next, occurs_key, occurs_value, occurs_next_pair}
 
 module _ (es : List PlainEvent) (class : ℕ → ℕ)
-    (told : (t : Tree) (p q : ℕ) → OccursAt es t p → OccursAt es t q
+    (given : (t : Tree) (p q : ℕ) → OccursAt es t p → OccursAt es t q
     → object_of class t p ≡ object_of class t q
     → class p ≡ class q) where
   mutual
     -- indices of one tree have one class
     pub complete : (t : Tree) (p q : ℕ) → OccursAt es t p → OccursAt es t q → class p ≡ class q
-    complete (Leaf x) p q s r = told (Leaf x) p q s r refl
+    complete (Leaf x) p q s r = given (Leaf x) p q s r refl
     complete (Array ts) p q s r =
-        told _ p q s r (ap obj.Array
+        given _ p q s r (ap obj.Array
         (complete_items ts _ _ (occurs_items s) (occurs_items r)))
     complete (Dictionary ms) p q s r =
-        told _ p q s r (ap obj.Dictionary
+        given _ p q s r (ap obj.Dictionary
         (complete_pairs ms _ _ (occurs_pairs s) (occurs_pairs r)))
 
     complete_items : (ts : Trees) (p q : ℕ) → ItemsOccurAt es ts p → ItemsOccurAt es ts q
@@ -34,7 +34,7 @@ module _ (es : List PlainEvent) (class : ℕ → ℕ)
         → pairs class ms p ≡ pairs class ms q
     complete_pairs NoMembers p q s r = refl
     complete_pairs (MemberAnd k t ms) p q s r =
-        let key = told _ p q (occurs_key s) (occurs_key r) refl in
+        let key = given _ p q (occurs_key s) (occurs_key r) refl in
         let first = complete t _ _ (occurs_value s) (occurs_value r) in
         let more = complete_pairs ms _ _ (occurs_next_pair s)
         (occurs_next_pair r) in

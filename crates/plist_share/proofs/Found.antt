@@ -15,7 +15,7 @@ use Rattle.plist_binwrite.specs.Numberings.{pairs, object_of}
 use Rattle.plist_binwrite.specs.Occurrences.{OccursAt}
 use Rattle.plist_binwrite.specs.declared.kinds.EntryKind.{EntryKind}
 use Rattle.plist_binwrite.specs.declared.kinds.EntryKind.TheVariants as kind
-use Rattle.plist_binwrite.specs.inner.Scalars.{AreOwners, AreApart}
+use Rattle.plist_binwrite.specs.inner.Scalars.{AreIdentities, AreDistinct}
 use Rattle.plist_binwrite.proofs.Changes.{at_set}
 use Rattle.plist_binwrite.proofs.ClassObjects.{sound, the_items, the_pairs}
 use Rattle.plist_binwrite.proofs.Owned.{class_owner, owner_class}
@@ -23,7 +23,7 @@ use Rattle.plist_binwrite.proofs.TreeObjects.{refs_are, keys_are, values_are}
 use Rattle.plist_binwrite.proofs.Reading.{dictionary_is, length-keys_of, length-values_of}
 use Rattle.plist_binwrite.proofs.Skipping.{stands_single, starts_array, starts_dictionary, occurs_in}
 use Rattle.plist_share.proofs.Classed.{complete}
-use Rattle.plist_share.specs.inner.Keys.{Key, is_dictionary, IsIndexed, IsClass, HaveTreeClasses, Extends, SeparatesTrees}
+use Rattle.plist_share.specs.inner.Nodes.{Node, is_dictionary, IsIndexed, IsClass, HaveTreeClasses, Extends, SeparatesTrees}
 
 -- ---- a dictionary's pairs by their keys and their values, and the other way
 
@@ -58,8 +58,8 @@ same_halves f g ms p q e = λ i.
 
 -- ---- all indices have their classes
 
-module _ {es : List PlainEvent} {scalar class : ℕ → ℕ} {count : ℕ} {keys : List Key} {from : ℕ}
-    (owners : AreOwners es scalar count) (have : HaveTreeClasses class count scalar es keys from)
+module _ {es : List PlainEvent} {scalar class : ℕ → ℕ} {count : ℕ} {keys : List Node} {from : ℕ}
+    (owners : AreIdentities es scalar count) (have : HaveTreeClasses class count scalar es keys from)
     (none : from ≡ 0) where
   all : (t : Tree) (p : ℕ) → OccursAt es t p → IsClass class count scalar keys t p (class p)
   all t p s = have.behind t p (omega arith) s
@@ -71,11 +71,11 @@ module _ {es : List PlainEvent} {scalar class : ℕ → ℕ} {count : ℕ} {keys
       cc
 
   -- the index has this key's class
-  abbrev At : Key → ℕ → Type 0
+  abbrev At : Node → ℕ → Type 0
   At k p = (i : ℕ) × (class p ≡ count + i) × (slice_get keys i ≡ Some k)
 
   -- two collections of one class have one key
-  one_key : (k l : Key) (p q : ℕ) → At k p → At l q → class p ≡ class q → k ≡ l
+  one_key : (k l : Node) (p q : ℕ) → At k p → At l q → class p ≡ class q → k ≡ l
   one_key k l p q a b e =
       let same : a.0 ≡ b.0 = omega arith in
       same_Some k l (cc)
@@ -83,7 +83,7 @@ module _ {es : List PlainEvent} {scalar class : ℕ → ℕ} {count : ℕ} {keys
   apart_kinds : {A : Type 0} (a b : List ℕ) (p q : ℕ) → At (false, a) p → At (true, b) q
       → class p ≡ class q → A
   apart_kinds a b p q s r e =
-      let no = ap (λ (k : Key). k.0) (one_key _ _ p q s r e) in cc
+      let no = ap (λ (k : Node). k.0) (one_key _ _ p q s r e) in cc
 
   -- one class, one object
   pub one_object : (t u : Tree) (p q : ℕ) → OccursAt es t p → OccursAt es u q → class p ≡ class q
@@ -91,7 +91,7 @@ module _ {es : List PlainEvent} {scalar class : ℕ → ℕ} {count : ℕ} {keys
   one_object (Leaf x) (Leaf y) p q s r e = ap obj.Scalar (one_scalar x y p q s r e)
   one_object (Array ts) (Array us) p q s r e =
       let k = one_key _ _ p q (all (Array ts) p s) (all (Array us) q r) e in
-      ap obj.Array (refs_are class ts (p + 1) ∙ ap (λ (k : Key). k.1) k
+      ap obj.Array (refs_are class ts (p + 1) ∙ ap (λ (k : Node). k.1) k
       ∙ sym (refs_are class us (q + 1)))
   one_object (Array ts) (Dictionary ns) p q s r e =
       apart_kinds _ _ p q (all (Array ts) p s) (all _ q r) e
@@ -99,7 +99,7 @@ module _ {es : List PlainEvent} {scalar class : ℕ → ℕ} {count : ℕ} {keys
       apart_kinds _ _ q p (all (Array us) q r) (all _ p s) (sym e)
   one_object (Dictionary ms) (Dictionary ns) p q s r e =
       let k = one_key _ _ p q (all (Dictionary ms) p s) (all (Dictionary ns) q r) e in
-      same_pairs _ ms ns _ _ (ap (λ (k : Key). k.1) k)
+      same_pairs _ ms ns _ _ (ap (λ (k : Node). k.1) k)
   one_object t u p q s r e =
       let a = all t p s in
       let b = all u q r in
@@ -109,30 +109,30 @@ module _ {es : List PlainEvent} {scalar class : ℕ → ℕ} {count : ℕ} {keys
   pub found_classes : AreClasses es class
   found_classes = record { object = one_object }
 
-  module _ (apart : AreApart keys) where
-    one_class : (p q : ℕ) (k l : Key) → k ≡ l → At k p → At l q → class p ≡ class q
+  module _ (apart : AreDistinct keys) where
+    one_class : (p q : ℕ) (k l : Node) → k ≡ l → At k p → At l q → class p ≡ class q
     one_class p q k l e a b =
         let same = apart a.0 b.0 k a.2 (cc) in
         omega arith
 
-    told : (t : Tree) (p q : ℕ) → OccursAt es t p → OccursAt es t q
+    given : (t : Tree) (p q : ℕ) → OccursAt es t p → OccursAt es t q
         → object_of class t p ≡ object_of class t q
         → class p ≡ class q
-    told (Leaf x) p q s r e =
+    given (Leaf x) p q s r e =
         all (Leaf x) p s ∙ owner_class owners _ _ p q s r refl ∙ sym (all _ q r)
-    told (Array ts) p q s r e =
+    given (Array ts) p q s r e =
         let k = sym (refs_are class ts (p + 1)) ∙ the_items _ _ e ∙ refs_are class ts (q + 1) in
         one_class p q _ _ (ap (λ l. (false, l)) k) (all (Array ts) p s) (all (Array ts) q r)
-    told (Dictionary ms) p q s r e =
+    given (Dictionary ms) p q s r e =
         let k = same_halves _ _ ms _ _ (the_pairs _ _ e) in
         one_class p q _ _ (ap (λ l. (true, l)) k) (all (Dictionary ms) p s)
         (all (Dictionary ms) q r)
 
     -- so one class is one tree
-    pub told_trees : SeparatesTrees es class
-    told_trees t u p q s r = (
+    pub separate_trees : SeparatesTrees es class
+    separate_trees t u p q s r = (
       sound found_classes t u p q s r,
-      λ e. complete es class told t p q s (rw e r),
+      λ e. complete es class given t p q s (rw e r),
     )
 
 -- ---- one more index
@@ -160,8 +160,8 @@ module _ (class after : ℕ → ℕ) (lo : ℕ) (agree : (q : ℕ) → lo ≤ q 
   children_agree (Dictionary ms) p h =
       same_halves _ _ ms _ _ (pairs_agree ms (p + 1) h)
 
-  -- a class stays one where the keys and the classes behind it stay
-  module _ (scalar : ℕ → ℕ) (count : ℕ) (keys new : List Key)
+  -- a class stays one where the keys and the classes after it stay
+  module _ (scalar : ℕ → ℕ) (count : ℕ) (keys new : List Node)
       (kept : (i : ℕ) → i < length keys → slice_get new i ≡ slice_get keys i) where
     indexed_stays : (b : _) (t : Tree) (p c : ℕ) → lo ≤ p + 1 → IsIndexed class count keys b t p c
         → IsIndexed after count new b t p c
@@ -177,7 +177,7 @@ module _ (class after : ℕ → ℕ) (lo : ℕ) (agree : (q : ℕ) → lo ≤ q 
     class_stays (Array ts) p c h k = indexed_stays false (Array ts) p c h k
     class_stays (Dictionary ms) p c h k = indexed_stays true (Dictionary ms) p c h k
 
-module _ (es : List PlainEvent) (scalar class : ℕ → ℕ) (count : ℕ) (keys : List Key) where
+module _ (es : List PlainEvent) (scalar class : ℕ → ℕ) (count : ℕ) (keys : List Node) where
   -- where a collection begins, the class is one of a collection
   by_collection : (t : Tree) (p c : ℕ) → OccursAt es t p
       → entry_kind_of (event_at es p) ≢ kind.Scalar
@@ -206,7 +206,7 @@ module _ (classes : List ℕ) (p c : ℕ) where
   other : (q : ℕ) → q ≢ p → after q ≡ nth_number classes q
   other q h = get_or-set_other _ p q c 0 h
 
-  pub collection_written : {es : List PlainEvent} {scalar : ℕ → ℕ} {count : ℕ} {keys new : List Key}
+  pub collection_written : {es : List PlainEvent} {scalar : ℕ → ℕ} {count : ℕ} {keys new : List Node}
       → HaveTreeClasses (nth_number classes) count scalar es keys (p + 1)
       → Extends keys new → p < length classes → c < count + length new
       → entry_kind_of (event_at es p) ≢ kind.Scalar
@@ -226,7 +226,7 @@ module _ (classes : List ℕ) (p c : ℕ) where
         (λ d. omega (arith, old.below q h, more.grows));
   }
     where
-      stays : (keys : List Key)
+      stays : (keys : List Node)
           → ((i : ℕ) → i < length keys → slice_get new i ≡ slice_get keys i)
           → (t : Tree) (q v : ℕ) → p + 1 ≤ q + 1
           → IsClass (nth_number classes) count scalar keys t q v
@@ -242,7 +242,7 @@ no_scalar (inl is) = λ e. cc
 no_scalar (inr is) = λ e. cc
 
 -- where no collection begins, the classes are there
-pub none_written : {es : List PlainEvent} {scalar class : ℕ → ℕ} {count : ℕ} {keys : List Key}
+pub none_written : {es : List PlainEvent} {scalar class : ℕ → ℕ} {count : ℕ} {keys : List Node}
     (p : ℕ) → entry_kind_of (event_at es p) ≢ kind.Array
     → entry_kind_of (event_at es p) ≢ kind.Dictionary
     → HaveTreeClasses class count scalar es keys (p + 1)

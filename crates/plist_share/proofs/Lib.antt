@@ -4,6 +4,6 @@ pub mod Least
 pub mod Classed
 pub mod Alike
 pub mod Found
-pub mod Telling
+pub mod Separating
 pub mod Shares
 pub mod SharedFile

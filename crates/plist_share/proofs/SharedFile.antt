@@ -9,16 +9,16 @@ use Rattle.plist_binwrite.specs.declared.event_table.EventTable.{EventTable}
 use Rattle.plist_binwrite.specs.EventTable.{plain_events}
 use Rattle.plist_binwrite.specs.Occurrences.{OccursAt}
 use Rattle.plist_binwrite.proofs.SendingFiles.{sends_as}
-use Rattle.plist_binwrite.proofs.Sitting.{occurs_whole}
-use Rattle.plist_binwrite.proofs.Unhinted.{plain_lengthless}
-use Rattle.plist_share.specs.inner.Keys.{SeparatesTrees}
+use Rattle.plist_binwrite.proofs.Occurring.{occurs_whole}
+use Rattle.plist_binwrite.proofs.Lengthless.{plain_lengthless}
+use Rattle.plist_share.specs.inner.Nodes.{SeparatesTrees}
 use Rattle.plist_share.specs.SharedFiles.{IsSharedFileOf}
 use Rattle.plist_share.specs.SharedSizes.{shared_file_size}
 use Rattle.plist_share.specs.Sharing.{SendsShared}
 use Rattle.plist_share.proofs.Shares.{shared_file, size_is}
 
 module _ {W : Type 0} (contents : W → Option (List ℕ)) (events : EventTable) (class : ℕ → ℕ)
-    (told : SeparatesTrees (plain_events events) class) where
+    (given : SeparatesTrees (plain_events events) class) where
   occurs : (t : Tree) → AreAlike (plain_events events) (bracketing t)
       → OccursAt (plain_events events) t 0
   occurs t alike = occurs_whole (plain_lengthless events t alike)
@@ -29,8 +29,8 @@ module _ {W : Type 0} (contents : W → Option (List ℕ)) (events : EventTable)
   sends_shared answer old new s =
       sends_as (IsFileBy class) IsSharedFileOf (size_by class) shared_file_size
       (plain_events events) (plain_events events) refl
-      (λ t alike file f. shared_file (plain_events events) class told t (occurs t alike) file f)
-      (λ t alike. size_is (plain_events events) class told t (occurs t alike)) contents answer old
+      (λ t alike file f. shared_file (plain_events events) class given t (occurs t alike) file f)
+      (λ t alike. size_is (plain_events events) class given t (occurs t alike)) contents answer old
       new s
 
 -- where memory was refused before anything was planned, nothing went out

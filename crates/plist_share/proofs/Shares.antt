@@ -5,18 +5,18 @@ use Rattle.std.proofs.lemmas.Bool.Decides.{eqb_tells}
 use Rattle.std.proofs.lemmas.List.{length-map, map-append}
 use Rattle.plist_base.specs.Events.{PlainEvent}
 use Rattle.plist_base.specs.Trees.{Tree, Leaf, Array, Dictionary, Trees, NoTrees, TreeAnd, Members, NoMembers, MemberAnd, String}
-use Rattle.plist_binwrite.specs.Classes.{same_class, kept, count_by, objects_by, size_by, IsFileBy}
+use Rattle.plist_binwrite.specs.Classes.{same_class, representatives, count_by, objects_by, size_by, IsFileBy}
 use Rattle.plist_binwrite.specs.Sizes.{total, size_with}
 use Rattle.plist_binwrite.specs.Occurrences.{OccursAt, positions, positions_in_items, positions_in_pairs}
-use Rattle.plist_binwrite.specs.Written.{reference_width}
+use Rattle.plist_binwrite.specs.Widths.{reference_width}
 use Rattle.plist_binwrite.proofs.Inside.{Stands, positions_stand}
 use Rattle.plist_binwrite.proofs.Uniques.{unique_seen}
 use Rattle.plist_share.specs.Distinct.{tree_eq, subtrees, subtrees_of_items, subtrees_of_pairs, distinct_subtrees}
-use Rattle.plist_share.specs.inner.Keys.{SeparatesTrees}
+use Rattle.plist_share.specs.inner.Nodes.{SeparatesTrees}
 use Rattle.plist_share.specs.SharedFiles.{IsSharedFileOf}
 use Rattle.plist_share.specs.SharedSizes.{shared_objects_size, shared_file_size}
 use Rattle.plist_share.proofs.Least.{least}
-use Rattle.plist_share.proofs.Telling.{tree_same, tree_other}
+use Rattle.plist_share.proofs.Separating.{tree_same, tree_other}
 
 abbrev tree_positions : ℕ × Tree → Tree
 tree_positions a = a.1
@@ -50,24 +50,24 @@ total_trees : (weight : Tree → ℕ) (xs : List (ℕ × Tree))
 total_trees weight [] = refl
 total_trees weight (x ∷ xs) = ap (λ n. weight x.1 + n) (total_trees _ xs)
 
-module _ (es : List PlainEvent) (class : ℕ → ℕ) (told : SeparatesTrees es class) where
-  told_alike : (a b : ℕ × Tree) → OccursAt es a.1 a.0 → OccursAt es b.1 b.0
+module _ (es : List PlainEvent) (class : ℕ → ℕ) (given : SeparatesTrees es class) where
+  separate_alike : (a b : ℕ × Tree) → OccursAt es a.1 a.0 → OccursAt es b.1 b.0
       → nat_eq (class a.0) (class b.0) ≡ tree_eq a.1 b.1
-  told_alike a b s r =
+  separate_alike a b s r =
       elim (eqb_tells (class a.0) (class b.0)) [
-        | inl y ↦ y.0 ∙ sym (subst (λ w. tree_eq a.1 w ≡ true) ((told a.1 b.1 a.0 b.0 s r).0 y.1)
+        | inl y ↦ y.0 ∙ sym (subst (λ w. tree_eq a.1 w ≡ true) ((given a.1 b.1 a.0 b.0 s r).0 y.1)
             (tree_same a.1))
-        | inr n ↦ n.0 ∙ sym (tree_other a.1 b.1 (λ e. n.1 ((told a.1 b.1 a.0 b.0 s r).1 e)))
+        | inr n ↦ n.0 ∙ sym (tree_other a.1 b.1 (λ e. n.1 ((given a.1 b.1 a.0 b.0 s r).1 e)))
       ]
 
   module _ (t : Tree) (s : OccursAt es t 0) where
-    trees_kept : map tree_positions (kept class t) ≡ unique_keys tree_eq (subtrees t)
+    trees_kept : map tree_positions (representatives class t) ≡ unique_keys tree_eq (subtrees t)
     trees_kept =
-        unique_seen (same_class class) tree_eq tree_positions (Stands es) told_alike (positions t 0)
+        unique_seen (same_class class) tree_eq tree_positions (Stands es) separate_alike (positions t 0)
         (positions_stand es t 0 s) ∙ ap (unique_keys tree_eq) (trees_positions t 0)
 
     pub count_is : count_by class t ≡ distinct_subtrees t
-    count_is = sym (length-map (kept class t) tree_positions) ∙ ap length trees_kept
+    count_is = sym (length-map (representatives class t) tree_positions) ∙ ap length trees_kept
 
     objects_are : (width : ℕ) → objects_by class width t ≡ shared_objects_size width t
     objects_are width =

@@ -49,7 +49,7 @@ abbrev mutual
 abbrev pub distinct_subtrees : Tree → ℕ
 distinct_subtrees tree = distinct_count tree_eq (subtrees tree)
 
--- the file's head counts at least so many objects
+-- the file's head counts at least this many objects
 abbrev pub HasAtLeast : (file : List ℕ) → ℕ → Type 0
 HasAtLeast file count = (head : Head) × (head_of file ≡ Ok head) × (count ≤ length head.places)
 

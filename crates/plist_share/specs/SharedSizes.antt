@@ -3,7 +3,7 @@ use Rattle.std.specs.Prelude.{ℕ}
 use Rattle.std.specs.Set.{unique_keys}
 use Rattle.plist_base.specs.Trees.{Tree}
 use Rattle.plist_binwrite.specs.Sizes.{total, object_size, size_with}
-use Rattle.plist_binwrite.specs.Written.{reference_width}
+use Rattle.plist_binwrite.specs.Widths.{reference_width}
 use Rattle.plist_share.specs.Distinct.{tree_eq, subtrees, distinct_subtrees}
 
 -- the objects of its different subtrees

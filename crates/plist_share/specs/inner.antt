@@ -1,2 +1,2 @@
 -- What bodies and proofs speak of, and no public clause.
-pub mod Keys
+pub mod Nodes

@@ -4,8 +4,8 @@ ghost use Rattle.std.specs.Prelude.{◌≡◌, ◌+◌, ◌<◌, length, IfOk, O
 ghost use Rattle.plist_base.specs.Outcomes.{OnlyMemory};
 ghost use Rattle.plist_binwrite.specs.Classes.{AreClasses};
 ghost use Rattle.plist_binwrite.specs.EventTable.{plain_events, AllBelow, nth_number, table_event, entry_kind_of};
-ghost use Rattle.plist_binwrite.specs.inner.Scalars.{AreApart, AreClassesOf};
-ghost use Rattle.plist_share.specs.inner.Keys.{SeparatesAll, SeparatesTrees, Extends, keys_seen, AddsClasses, AreClassesWithin, HaveFrom, IsClassAt, IsKeyAt, is_dictionary};
+ghost use Rattle.plist_binwrite.specs.inner.Scalars.{AreDistinct, AreClassesOf};
+ghost use Rattle.plist_share.specs.inner.Nodes.{SeparatesAll, SeparatesTrees, Extends, nodes_seen, AddsClasses, AreClassesWithin, AreClassesFrom, IsClassAt, IsNodeAt, is_dictionary};
 
 use indexmap::IndexSet;
 use plist_base::{Error, ErrorKind};
@@ -37,13 +37,13 @@ pub struct Indices {
 // The index of a collection: that of its equal which came before, or a new one.
 fn index_of(seen: &mut IndexSet<Collection>, collection: Collection) -> Result<usize, Error>
     // The answer.
-    ensures stored { IfOk result (IsKeyAt seen.new.keys collection) }
-    ensures below { IfOk result (λ index. index < length (keys_seen seen.new.keys)) }
+    ensures stored { IfOk result (IsNodeAt seen.new.keys collection) }
+    ensures below { IfOk result (λ index. index < length (nodes_seen seen.new.keys)) }
     // A refusal.
     ensures memory { OnlyMemory result }
     // The state after it.
-    ensures extends { OnOk result (Extends (keys_seen seen.old.keys) (keys_seen seen.new.keys)) }
-    ensures apart { OnOk result (AreApart (keys_seen seen.new.keys)) }
+    ensures extends { OnOk result (Extends (nodes_seen seen.old.keys) (nodes_seen seen.new.keys)) }
+    ensures apart { OnOk result (AreDistinct (nodes_seen seen.new.keys)) }
 {
     let (index, _) = seen.insert_full(collection)?;
     Ok(index)
@@ -93,7 +93,7 @@ fn begins_dictionary(events: &EventTable<'_>, index: usize) -> bool
 }
 
 // The class of the collection that begins here: those of collections go from the base on,
-// behind the ones of scalars.
+// after the ones of scalars.
 fn class_of_collection(
     alloc: Global,
     events: &EventTable<'_>,
@@ -107,12 +107,12 @@ fn class_of_collection(
     requires long { length classes.now ≡ length (plain_events events.now) }
     // The answer.
     ensures class { IfOk result (IsClassAt events.now classes.now base seen.new.keys index) }
-    ensures below { IfOk result (λ class. class < base + length (keys_seen seen.new.keys)) }
+    ensures below { IfOk result (λ class. class < base + length (nodes_seen seen.new.keys)) }
     // A refusal.
     ensures memory { OnlyMemory result }
     // The state after it.
-    ensures extends { OnOk result (Extends (keys_seen seen.old.keys) (keys_seen seen.new.keys)) }
-    ensures apart { OnOk result (AreApart (keys_seen seen.new.keys)) }
+    ensures extends { OnOk result (Extends (nodes_seen seen.old.keys) (nodes_seen seen.new.keys)) }
+    ensures apart { OnOk result (AreDistinct (nodes_seen seen.new.keys)) }
 {
     let children = classes_within(alloc, events, classes, index, indices)?;
     let collection = Collection {
@@ -136,11 +136,11 @@ fn give_class(
 ) -> Result<(), Error>
     requires index { index < length (plain_events events.now) }
     requires long { length classes.old ≡ length (plain_events events.now) }
-    requires classes { HaveFrom events.now base classes.old seen.old.keys (index + 1) }
-    requires apart { AreApart (keys_seen seen.old.keys) }
-    ensures classes { OnOk result (HaveFrom events.now base classes.new seen.new.keys index) }
+    requires classes { AreClassesFrom events.now base classes.old seen.old.keys (index + 1) }
+    requires apart { AreDistinct (nodes_seen seen.old.keys) }
+    ensures classes { OnOk result (AreClassesFrom events.now base classes.new seen.new.keys index) }
     ensures long { OnOk result (length classes.new ≡ length (plain_events events.now)) }
-    ensures apart { OnOk result (AreApart (keys_seen seen.new.keys)) }
+    ensures apart { OnOk result (AreDistinct (nodes_seen seen.new.keys)) }
     ensures memory { OnlyMemory result }
 {
     match events.kind_at(index) {
@@ -162,9 +162,9 @@ fn give_classes(
     seen: &mut IndexSet<Collection>,
 ) -> Result<(), Error>
     requires long { length found.old.of ≡ length (plain_events events.now) }
-    requires classes { HaveFrom events.now found.old.count found.old.of seen.old.keys
+    requires classes { AreClassesFrom events.now found.old.count found.old.of seen.old.keys
         (length found.old.of) }
-    requires apart { AreApart (keys_seen seen.old.keys) }
+    requires apart { AreDistinct (nodes_seen seen.old.keys) }
     ensures classes { OnOk result (SeparatesAll events.now found.new) }
     ensures memory { OnlyMemory result }
 {

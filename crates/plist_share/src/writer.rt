@@ -3,7 +3,7 @@
 use crate::completion::EqualTrees;
 use plist_binwrite::FileWriter;
 
-/// Writes binary property lists, one behind the other, to what takes bytes, and stores each
+/// Writes binary property lists, one after the other, to what takes bytes, and stores each
 /// different array, dictionary and scalar once: no file of the same events has fewer objects.
 ///
 /// Arrays and dictionaries are the same where they hold the same in the same order. It holds the

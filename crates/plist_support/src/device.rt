@@ -3,7 +3,7 @@
 ghost use Rattle.std.specs.Prelude.{None};
 ghost use Rattle.plist_base.specs.Sources.{CountsFailure};
 
-use crate::wrong::{Wrong, told};
+use crate::wrong::{Wrong, fail};
 use plist_base::{Error, Source};
 use std::alloc::Global;
 use std::io;
@@ -16,7 +16,7 @@ pub enum DeviceFault {
     Fails(ErrorKind),
     /// A read gives nothing; a write takes nothing, and that is a failure.
     MovesNothing,
-    /// From there on so many bytes are left to be read.
+    /// From there on this many bytes are left to be read.
     Shrinks(usize),
 }
 
@@ -184,7 +184,7 @@ pub fn expect_io<T: Drop>(
     }
 }
 
-// The device failed once, at its last call, and behind the items before that stands that fault,
+// The device failed once, at its last call, and after the items before that stands that fault,
 // with the place of the call.
 pub(crate) fn expect_cut(
     alloc: Global,
@@ -195,12 +195,12 @@ pub(crate) fn expect_cut(
     let call = device.faulty_call;
     let (failures, calls) = (device.failures, device.calls);
     if failures != 1 || calls != call.saturating_add(1) {
-        return told(format!(in alloc; "{failures} failures and {calls} calls at call {call}"));
+        return fail(format!(in alloc; "{failures} failures and {calls} calls at call {call}"));
     }
     let fault = format!(in alloc; "Io (offset {})", device.place)?;
     match items.strip_suffix(fault.as_str()) {
         Some(found) if found.trim_end() == before.trim_end() => Ok(()),
-        _ => told(format!(in alloc; "at call {call} came {items}, and not {before} {fault}")),
+        _ => fail(format!(in alloc; "at call {call} came {items}, and not {before} {fault}")),
     }
 }
 

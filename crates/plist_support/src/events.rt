@@ -1,7 +1,7 @@
 //! Events of words, and what a writer answers to them.
 
 use crate::words::add_words;
-use crate::wrong::{Wrong, told};
+use crate::wrong::{Wrong, fail};
 use hex::FromHex;
 use plist_base::{Date, Event, Integer, RealBits, Uid, Writer};
 use std::alloc::Global;
@@ -9,7 +9,7 @@ use std::borrow::{CowSlice, CowStr};
 
 // That a word stands for no event.
 fn no_event<T>(alloc: Global, word: &str) -> Result<T, Wrong> {
-    told(format!(in alloc; "no event is {word}"))
+    fail(format!(in alloc; "no event is {word}"))
 }
 
 // What stands between two marks.
@@ -27,7 +27,7 @@ fn number_of(alloc: Global, digits: &str) -> Result<u64, Wrong> {
     }
 }
 
-// The length behind a bracket, if there is one.
+// The length after a bracket, if there is one.
 fn length_of(alloc: Global, digits: &str) -> Result<Option<u64>, Wrong> {
     if digits.is_empty() {
         return Ok(None);
@@ -119,7 +119,7 @@ pub fn write_all<W: Writer>(alloc: Global, writer: &mut W, words: &str) -> Resul
         let event = event_of(alloc, word)?;
         match writer.write(event) {
             Ok(()) => {}
-            Err(error) => return told(error.to_string(alloc)),
+            Err(error) => return fail(error.to_string(alloc)),
         }
     }
     Ok(())
@@ -142,7 +142,7 @@ pub fn expect_answers<W: Writer>(
         }
     }
     if all.as_str() != answers {
-        return told(format!(in alloc; "to {words} came {all}, and not {answers}"));
+        return fail(format!(in alloc; "to {words} came {all}, and not {answers}"));
     }
     Ok(())
 }

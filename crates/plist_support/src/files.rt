@@ -1,6 +1,6 @@
 //! Files of the binary format, in hexadecimal.
 
-use crate::wrong::{Wrong, told};
+use crate::wrong::{Wrong, fail};
 use std::alloc::{AllocError, Global};
 
 /// The bytes that hexadecimal digits spell; blanks between them mean nothing.
@@ -9,7 +9,7 @@ pub fn bytes_of(alloc: Global, digits: &str) -> Result<Vec<u8>, Wrong> {
     for word in digits.split(' ') {
         match hex::decode(alloc, word) {
             Ok(some) => bytes.extend_from_slice(some.as_slice())?,
-            Err(error) => return told(format!(in alloc; "{error:?} in {word}")),
+            Err(error) => return fail(format!(in alloc; "{error:?} in {word}")),
         }
     }
     Ok(bytes)

@@ -3,7 +3,7 @@
 
 use crate::device::{Device, DeviceFault, expect_cut};
 use crate::words::words_of;
-use crate::wrong::{Wrong, told};
+use crate::wrong::{Wrong, fail};
 use plist_ascii::{AsciiReader, Dialect};
 use plist_base::{Limits, Sequential, Source};
 use plist_binread::BinaryReader;
@@ -27,7 +27,7 @@ pub enum By {
 // More items than any example has.
 const MOST: usize = 100;
 
-/// The words of the items over a source, so many at most.
+/// The words of the items over a source, this many at most.
 pub fn words_over<S: Source + Read>(
     alloc: Global,
     by: By,
@@ -64,7 +64,7 @@ fn device_of(
 
 const INTERRUPTED: DeviceFault = DeviceFault::Fails(ErrorKind::Interrupted);
 
-// The device fails at this call, which is made for an item behind these. In the place of that comes
+// The device fails at this call, which is made for an item after these. In the place of that comes
 // `Io` with the place of the read, and then nothing, however often the reader is asked.
 fn expect_failure(
     alloc: Global,
@@ -81,17 +81,17 @@ fn expect_failure(
     let all = words_over(alloc, by, &mut device, usize::MAX)?;
     if all.as_str() != found.as_str() || device.calls != call.saturating_add(1) {
         let calls = device.calls;
-        return told(format!(in alloc; "at call {call} of {calls} came {found}, and then {all}"));
+        return fail(format!(in alloc; "at call {call} of {calls} came {found}, and then {all}"));
     }
     Ok(())
 }
 
-// Asked for so many items, a reader gives these words and makes so many calls.
+// Asked for this many items, a reader gives these words and makes this many calls.
 fn run_over(alloc: Global, by: By, bytes: &[u8], most: usize) -> Result<(String, u64), Wrong> {
     let mut device = device_of(alloc, bytes, u64::MAX, INTERRUPTED)?;
     let found = words_over(alloc, by, &mut device, most)?;
     if device.failures != 0 {
-        return told(format!(in alloc; "a failure behind {found}"));
+        return fail(format!(in alloc; "a failure behind {found}"));
     }
     Ok((found, device.calls))
 }
@@ -107,13 +107,13 @@ pub fn expect_on_devices(alloc: Global, by: By, bytes: &[u8], items: &str) -> Re
         }
         if found.as_str() == before.as_str() {
             if found.as_str() != items {
-                return told(format!(in alloc; "{found} came, and not {items}"));
+                return fail(format!(in alloc; "{found} came, and not {items}"));
             }
             return Ok(());
         }
         (before, made) = (found, calls);
     }
-    told(format!(in alloc; "more than {MOST} items"))
+    fail(format!(in alloc; "more than {MOST} items"))
 }
 
 // After its first call the source has `left` bytes. The items are as they were, or a beginning of
@@ -122,7 +122,7 @@ fn expect_shrunk(alloc: Global, bytes: &[u8], items: &str, left: usize) -> Resul
     let mut device = device_of(alloc, bytes, 1, DeviceFault::Shrinks(left))?;
     let found = words_over(alloc, By::Binary, &mut device, usize::MAX)?;
     if device.failures != 0 {
-        return told(format!(in alloc; "a failure with {left} bytes left"));
+        return fail(format!(in alloc; "a failure with {left} bytes left"));
     }
     if found.as_str() == items {
         return Ok(());
@@ -130,18 +130,18 @@ fn expect_shrunk(alloc: Global, bytes: &[u8], items: &str, left: usize) -> Resul
     let fault = format!(in alloc; "UnexpectedEof (offset {})", device.place)?;
     match found.strip_suffix(fault.as_str()) {
         Some(before) if items.starts_with(before.trim_end()) => Ok(()),
-        _ => told(format!(in alloc; "with {left} bytes left came {found}, and not {fault}")),
+        _ => fail(format!(in alloc; "with {left} bytes left came {found}, and not {fault}")),
     }
 }
 
-/// Wherever a source of these bytes ends behind its first call, each reader of it comes to an end.
+/// Wherever a source of these bytes ends after its first call, each reader of it comes to an end.
 pub fn expect_on_shrinking_devices(alloc: Global, bytes: &[u8], items: &str) -> Result<(), Wrong> {
     for left in 0..bytes.len() {
         expect_shrunk(alloc, bytes, items, left)?;
         let mut device = device_of(alloc, bytes, 1, DeviceFault::Shrinks(left))?;
         let _ = words_over(alloc, By::Either, &mut device, usize::MAX)?;
         if device.failures != 0 {
-            return told(format!(in alloc; "a failure with {left} bytes left"));
+            return fail(format!(in alloc; "a failure with {left} bytes left"));
         }
     }
     Ok(())

@@ -53,7 +53,7 @@ pub fn word_of(alloc: Global, event: &Event<'_>) -> Result<String, AllocError> {
     }
 }
 
-// Adds an item's word, or the text of its fault, behind those that are there.
+// Adds an item's word, or the text of its fault, after those that are there.
 fn add_item(
     alloc: Global,
     all: &mut String,

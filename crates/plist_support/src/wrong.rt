@@ -13,7 +13,7 @@ pub enum Wrong {
     /// A fault has this offset, and this kind where it is a device's own.
     OtherFault(Option<u64>, Option<ErrorKind>),
     /// Anything else, in words.
-    Told(String),
+    Words(String),
 }
 
 impl From<AllocError> for Wrong {
@@ -23,8 +23,8 @@ impl From<AllocError> for Wrong {
 }
 
 /// What is wrong, in these words.
-pub fn told<T>(text: Result<String, AllocError>) -> Result<T, Wrong> {
-    Err(Wrong::Told(text?))
+pub fn fail<T>(text: Result<String, AllocError>) -> Result<T, Wrong> {
+    Err(Wrong::Words(text?))
 }
 
 /// What is found is what is wanted.
@@ -32,7 +32,7 @@ pub fn expect_same(alloc: Global, found: &str, wanted: &str) -> Result<(), Wrong
     if found == wanted {
         return Ok(());
     }
-    told(format!(in alloc; "{found} came, and not {wanted}"))
+    fail(format!(in alloc; "{found} came, and not {wanted}"))
 }
 
 /// The bytes that are found are those that are wanted.
@@ -41,7 +41,7 @@ pub fn expect_bytes(alloc: Global, found: &[u8], wanted: &[u8]) -> Result<(), Wr
         return Ok(());
     }
     let found = hex::encode(alloc, found)?;
-    told(format!(in alloc; "the bytes {found} came"))
+    fail(format!(in alloc; "the bytes {found} came"))
 }
 
 /// Something holds; what it is, is said in this text.
@@ -49,5 +49,5 @@ pub fn expect_that(alloc: Global, holds: bool, text: &str) -> Result<(), Wrong> 
     if holds {
         return Ok(());
     }
-    told(format!(in alloc; "not so: {text}"))
+    fail(format!(in alloc; "not so: {text}"))
 }

@@ -51,7 +51,7 @@ fn looks_up(rt: HostRuntime) {
 }
 
 // An archive of arrays, each of which names the next one so often; the last one names the object
-// behind it, which is a text, or the first one again.
+// after it, which is a text, or the first one again.
 fn chain_of(rt: &(impl Abort + AllocGlobal), length: u64, times: u64, last: u64) -> Value {
     let mut builder = Builder::new(rt.alloc());
     must(

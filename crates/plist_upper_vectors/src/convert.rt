@@ -130,7 +130,7 @@ fn an_integer_is_no_key(rt: HostRuntime) {
     expect_missing(&rt, "of_integer_key");
 }
 
-// What is sent without a value is this, with a flush behind it.
+// What is sent without a value is this, with a flush after it.
 fn expect_sent(rt: &(impl Abort + AllocGlobal), bytes: &[u8], wanted: &[u8]) {
     let mut writer = sound(rt);
     let done = must(rt, convert_binary(rt.alloc(), bytes, &mut writer));

@@ -28,7 +28,7 @@ fn pair(rt: &(impl Abort + AllocGlobal), key: &str, value: Value) -> Value {
     Value::Dictionary(pairs)
 }
 
-// The value in arrays, behind a number.
+// The value in arrays, after a number.
 fn in_arrays(rt: &(impl Abort + AllocGlobal), value: Value, levels: u32) -> Value {
     let mut whole = value;
     for level in 0..levels {

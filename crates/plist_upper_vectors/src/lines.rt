@@ -5,7 +5,7 @@ use plist::{Date, Integer, RealBits, Uid, Value};
 use plist_commands::print_value;
 use std::process::Abort;
 
-// A value's lines are these, and stand behind what was there.
+// A value's lines are these, and stand after what was there.
 fn expect_lines(rt: &(impl Abort + AllocGlobal), value: Value, lines: &[u8]) {
     let mut out = must(rt, Vec::from_slice(rt.alloc(), b"before\n"));
     must(rt, print_value(rt.alloc(), &value, &mut out));
@@ -105,7 +105,7 @@ fn lines_of_texts(rt: HostRuntime) {
     );
 }
 
-// The same bytes 30,000 times, behind a front and before an end.
+// The same bytes 30,000 times, after a front and before an end.
 fn repeated(rt: &(impl Abort + AllocGlobal), front: &[u8], bytes: &[u8], end: &[u8]) -> Vec<u8> {
     let mut all = must(rt, Vec::from_slice(rt.alloc(), front));
     for _ in 0..30_000 {

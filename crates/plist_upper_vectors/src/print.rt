@@ -82,7 +82,7 @@ fn a_read_that_fails(rt: HostRuntime) {
 }
 
 // What was held back goes out before the failure: the last read is that of the second reference,
-// behind two lines.
+// after two lines.
 #[test]
 fn a_later_read_that_fails(rt: HostRuntime) {
     let mut sent = 0;

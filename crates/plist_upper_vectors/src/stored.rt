@@ -66,7 +66,7 @@ fn write_watched(
     write_to(rt, from, to.as_str(), failure)
 }
 
-// The file is made once, behind the last read, written, and stored behind that. A sync that has
+// The file is made once, after the last read, written, and stored after that. A sync that has
 // nowhere to store it is no failure, and another one is.
 fn expect_stored(rt: &(impl Abort + AllocGlobal + Env + Files), from: Origin<'_>, wanted: &[u8]) {
     for failure in [None, Some(ErrorKind::InvalidInput)] {
@@ -89,7 +89,7 @@ fn makes_its_file_once(rt: HostRuntime) {
     expect_stored(&rt, Origin::File("to_be_read"), TEXT);
 }
 
-// Behind a write or a flush that fails the file isn't stored, and nothing is tried again: the
+// After a write or a flush that fails the file isn't stored, and nothing is tried again: the
 // answer is that failure, and not that of a sync.
 fn expect_unstored(rt: &(impl Abort + AllocGlobal + Env + Files), from: Origin<'_>) {
     let late = Some((Stage::Stored, ErrorKind::TimedOut));

@@ -115,7 +115,7 @@ fn readings_are_written_from_events(rt: HostRuntime) {
     );
 }
 
-// An array in an array, and so on, of so many.
+// An array in an array, and so on, of this many.
 fn nested(rt: &(impl Abort + AllocGlobal), levels: usize) -> Vec<u8> {
     let mut text = Vec::new(rt.alloc());
     for _ in 0..levels {
@@ -135,8 +135,8 @@ fn a_strangers_file_nests_64_collections(rt: HostRuntime) {
     match read_upload(rt.alloc(), too_deep.as_slice()) {
         Ok(_) => panic!(&rt; "one collection too many is open"),
         Err(error) => {
-            let told = must(&rt, error.to_string(rt.alloc()));
-            assert_eq!(&rt; told.as_str(), "LimitReached(Depth)");
+            let text = must(&rt, error.to_string(rt.alloc()));
+            assert_eq!(&rt; text.as_str(), "LimitReached(Depth)");
         }
     }
 }

@@ -17,7 +17,7 @@ fn prints_a_value(rt: HostRuntime) {
     expect_taken(&rt, &writer, b"Boolean true\n", 14, 13);
 }
 
-// The writer is flushed, and what the flush says comes behind what the write said.
+// The writer is flushed, and what the flush says comes after what the write said.
 #[test]
 fn stops_where_the_writer_fails(rt: HostRuntime) {
     let mut writer = Stuck {

@@ -1,4 +1,4 @@
--- A writer that is handed one list of events behind another.
+-- A writer that is handed one list of events after another.
 use Rattle.std.proofs.Common.{◌≡◌, List, [], ◌∷◌, ◌++◌, length, map, refl, append_assoc, arith}
 use Rattle.plist_base.specs.Bracketing.{bracketing, bracketing_of_items}
 use Rattle.plist_base.specs.Events.{PlainEvent, EndCollection}
@@ -29,7 +29,7 @@ module _ {S : Type 0} (Step : S → PlainEvent → Answer → S → Type 0) wher
   took-more (event ∷ first) second before between after (next, step, took) more =
       (next, step, took-more first second next between after took more)
 
-  -- an item is handed over, and then those behind it
+  -- an item is handed over, and then those after it
   pub item-more : (tree : Tree) (trees : List Tree) (before between after : S)
       → TakesAll Step before (bracketing tree) between
       → TakesAll Step between (events_left trees) after

@@ -49,7 +49,7 @@ abbrev pub StopAt : List Item → Fault → Type 0
 StopAt items fault = (events : List PlainEvent) × (behind : List Item)
     × (items ≡ map Ok events ++ Err fault ∷ behind)
 
--- an error is a device's or want of memory, or the first fault of the items
+-- an error is a device's or lack of memory, or the first fault of the items
 abbrev pub IsRefusedBy : List Item → Result Counts Error → Type 0
 IsRefusedBy items answer = IfErr answer (λ error.
     MatchFault (kind_of (error_kind_of error)) ⊤ ⊤ (StopAt items (fault_of error)))

@@ -27,7 +27,7 @@ tree_in settings = Dictionary (pair_trees settings.pairs)
 abbrev pub IsReadOf : (known : Option (List ℕ)) → Tree → Type 0
 IsReadOf known tree = IfSome known (λ bytes. IsValueOf (items_of_input bytes) (Ok tree))
 
--- it is the fault of a device or want of memory, or that of those items
+-- it is the fault of a device or lack of memory, or that of those items
 abbrev pub IsFaultOfFile : (known : Option (List ℕ)) → Fault → Type 0
 IsFaultOfFile known fault = IfSome known (λ bytes. IsValueOf (items_of_input bytes) (Err fault))
 

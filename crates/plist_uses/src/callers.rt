@@ -97,7 +97,7 @@ pub fn counted(alloc: Global, bytes: &[u8]) -> Result<Counts, Error>
 ///
 /// Those of [`write_readings`].
 pub fn write_one<W: Writer>(reading: Reading, writer: &mut W) -> Result<(), Error>
-    ensures handed { OnOk result
+    ensures written { OnOk result
         (TakesAll W.Step writer.old (list_events (reading ∷ [])) writer.new) }
 {
     write_readings(&[reading], writer)

@@ -17,7 +17,7 @@ pub struct Reading {
 
 // Writes a reading as a dictionary.
 fn write_reading<W: Writer>(reading: &Reading, writer: &mut W) -> Result<(), Error>
-    ensures handed { OnOk result
+    ensures written { OnOk result
         (TakesAll W.Step writer.old (reading_events reading.now) writer.new) }
 {
     writer.write_start_dictionary(Some(2))?;
@@ -35,7 +35,7 @@ fn write_reading<W: Writer>(reading: &Reading, writer: &mut W) -> Result<(), Err
 ///
 /// The writer's first refusal, after which nothing more is written.
 pub fn write_readings<W: Writer>(readings: &[Reading], writer: &mut W) -> Result<(), Error>
-    ensures handed { OnOk result
+    ensures written { OnOk result
         (TakesAll W.Step writer.old (list_events readings.now) writer.new) }
 {
     writer.write_start_array(Some(readings.len() as u64))?;

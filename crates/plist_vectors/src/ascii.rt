@@ -89,7 +89,7 @@ fn expect_asked(rt: &(impl Abort + AllocGlobal), text: &str, wanted: &str, calls
     assert_eq!(rt; device.calls, calls);
 }
 
-// Behind an item that is refused none is asked for, and behind the last one just once.
+// After an item that is refused none is asked for, and after the last one just once.
 #[test]
 fn a_value_takes_no_item_more(rt: HostRuntime) {
     expect_asked(&rt, "(a)", "[1 'a' end", 4);

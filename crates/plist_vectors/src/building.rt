@@ -110,7 +110,7 @@ fn count_borrowed(rt: &(impl Abort + AllocGlobal), value: &Value) -> u64 {
     count
 }
 
-// The value's events, of which so many borrow.
+// The value's events, of which this many borrow.
 fn expect_borrowed(rt: &(impl Abort + AllocGlobal), value: &Value, words: &str, borrowed: u64) {
     assert_eq!(rt; words_of_value(rt, value).as_str(), words);
     assert_eq!(rt; count_borrowed(rt, value), borrowed);

@@ -1,5 +1,5 @@
-//! That a ledger can be the counter of a reader. Its count is no number at run time: `told` of the
-//! examples looks at counts.
+//! That a ledger can be the counter of a reader. Its count is no number at run time: `decoded` of
+//! the examples looks at counts.
 
 ghost use Rattle.std.specs.Prelude.{◌≡◌, ◌<◌};
 

@@ -175,7 +175,7 @@ fn a_vacant_entry_is_filled(rt: HostRuntime) {
     expect_dictionary(&rt, pairs, "{2 'a' 1 'd' 2 end");
 }
 
-// What the key has behind `or_insert` of 2.
+// What the key has after `or_insert` of 2.
 fn expect_or_insert(rt: &(impl Abort + AllocGlobal), pairs: &mut Dictionary, key: &str, has: u8) {
     match pairs.entry(text(rt, key)).or_insert(number(2)) {
         Err(_back) => panic!(rt; "there is memory"),
@@ -192,7 +192,7 @@ fn or_insert_adds(rt: HostRuntime) {
     expect_dictionary(&rt, pairs, "{2 'a' 1 'd' 2 end");
 }
 
-// What the key has behind `or_insert_with` of 2.
+// What the key has after `or_insert_with` of 2.
 fn expect_or_insert_with(
     rt: &(impl Abort + AllocGlobal),
     pairs: &mut Dictionary,

@@ -1,4 +1,4 @@
-//! What comes behind a read that was interrupted, or failed in another way: its error, and no call.
+//! What comes after a read that was interrupted, or failed in another way: its error, and no call.
 
 use crate::sources::sample;
 use crate::support::must;

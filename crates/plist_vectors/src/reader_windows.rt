@@ -7,7 +7,7 @@ use plist_support::{Device, DeviceFault, Disk, expect_io, file, words_of};
 use std::io::ErrorKind;
 use std::process::Abort;
 
-// These bytes of a file are one text of so many letters, and few calls read them.
+// These bytes of a file are one text of this many letters, and few calls read them.
 fn expect_few_calls(rt: &(impl Abort + AllocGlobal), bytes: &[u8], length: usize) {
     let bytes = must(rt, Vec::from_slice(rt.alloc(), bytes));
     let mut disk = Disk::new(bytes, u64::MAX);

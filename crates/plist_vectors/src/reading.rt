@@ -37,7 +37,7 @@ fn device_of(rt: &(impl Abort + AllocGlobal), call: u64, fault: DeviceFault) -> 
     )
 }
 
-// The reader's last item, behind which nothing comes.
+// The reader's last item, after which nothing comes.
 fn last_item(
     rt: &(impl Abort + AllocGlobal),
     device: &mut Device,

@@ -29,7 +29,7 @@ fn expect_bytes(rt: &impl Abort, bytes: &[u8], place: u32) {
     }
 }
 
-// A read of so many bytes of a file of this size.
+// A read of this many bytes of a file of this size.
 fn expect_read<S: Source>(
     rt: &(impl Abort + AllocGlobal),
     source: &mut S,
@@ -117,7 +117,7 @@ fn keeps_its_windows(rt: HostRuntime) {
     expect_calls(&rt, &[8_190, 8_192], 4);
 }
 
-// The calls of the reader under a source, of which so many rounds go over these places.
+// The calls of the reader under a source, of which this many rounds go over these places.
 fn calls_of_rounds(
     rt: &(impl Abort + AllocGlobal),
     windows: bool,
@@ -144,7 +144,7 @@ const OF_ONE: [u32; 4] = [0, 32_768, 65_536, 98_304];
 const OF_LAST: [u32; 4] = [57_344, 122_880, 188_416, 253_952];
 
 // The ninth window that is filled again makes twice as many, in which the four have two slots. Of
-// the last slot they have them once the seventeenth behind that makes twice as many again.
+// the last slot they have them once the seventeenth after that makes twice as many again.
 #[test]
 fn windows_grow(rt: HostRuntime) {
     assert_eq!(rt; calls_of_rounds(&rt, true, OF_ONE, 3), 24);
@@ -244,10 +244,10 @@ fn items_of_failing_files(rt: HostRuntime) {
 fn expect_next<R: Read>(
     rt: &(impl Abort + AllocGlobal),
     reader: &mut R,
-    room: usize,
+    size: usize,
     wanted: &[u8],
 ) {
-    let mut buf = must(rt, vec![in rt.alloc(); 0u8; room]);
+    let mut buf = must(rt, vec![in rt.alloc(); 0u8; size]);
     match reader.read(&mut buf) {
         Ok(count) => assert_eq!(rt; &buf[..count], wanted),
         Err(failure) => panic!(rt; "{failure:?}"),

@@ -83,7 +83,7 @@ fn clear_empties(rt: HostRuntime) {
     assert_eq!(rt; pairs.len(), 1);
 }
 
-// So many are left, as the iterator says by each of its bounds.
+// This many are left, as the iterator says by each of its bounds.
 fn expect_length<I: ExactSizeIterator>(rt: &impl Abort, iter: &I, length: usize) {
     assert_eq!(rt; iter.len(), length);
     assert_eq!(rt; iter.size_hint(), (length, Some(length)));

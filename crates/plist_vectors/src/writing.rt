@@ -5,7 +5,7 @@ use plist_binwrite::BinaryWriter;
 use plist_support::{Device, file};
 use std::process::Abort;
 
-// Two files went to the device, a byte a call and a flush behind each, and no call failed.
+// Two files went to the device, a byte a call and a flush after each, and no call failed.
 fn expect_two_sent(rt: &(impl Abort + AllocGlobal), device: &Device) {
     let mut both = file_of_true(rt);
     let second = must(rt, file(rt.alloc(), "a20101 5161 080b", [1, 1], [2, 0, 13]));

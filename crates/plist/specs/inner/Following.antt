@@ -7,8 +7,8 @@ use Rattle.plist_base.specs.Trees.{Tree, Leaf, Array, Dictionary, trees_of, memb
 use Rattle.plist_base.specs.Bracketing.{bracketing, bracketing_of_items, bracketing_of_pairs, without_length, AreAlike, CanContinue, ContinueAlike}
 use Rattle.plist_base.proofs.Grammar.{alike_behind, all_taken, can_continue, continue_alike, continues, none_is, steps_snoc, wanted_alike}
 use Rattle.plist.specs.LastWins.{TreePairs}
-use Rattle.plist.specs.Building.{OpenCollection, InArray, InDictionary, AfterKey, Unfinished, NotBegun, Within, Complete, events_within, events_round, events_so_far, expected_within, if_refused, refusal_of, refusal_at, AllTakeValue, IsNested, TakesValue, last_wins_within, last_wins_so_far, complete_tree}
-use Rattle.plist.specs.inner.Steps.{and_pair, and_tree, begun, in_array, in_dictionary, carried_on}
+use Rattle.plist.specs.Building.{OpenCollection, InArray, InDictionary, AfterKey, Unfinished, NotBegun, Within, Complete, events_within, events_around, events_so_far, expected_within, if_refused, refusal_of, refusal_at, AllTakeValue, IsNested, TakesValue, last_wins_within, last_wins_so_far, complete_tree}
+use Rattle.plist.specs.inner.Steps.{and_pair, and_tree, at_value, in_array, in_dictionary, and_event}
 use Rattle.plist_base.specs.declared.expects.Expect.{Expect}
 use Rattle.plist_base.specs.declared.expects.Expect.TheVariants.{OneValue, Items, Pairs}
 use Rattle.plist_base.specs.declared.expects.Change.{Change}
@@ -38,100 +38,101 @@ pairs-append (p ∷ ps) k t =
 -- a tree that is complete inside collections that take values adds its events
 tree-goes : (t : Tree) (outer : List OpenCollection) → AllTakeValue outer
     → IsNested (and_tree and_pair t outer)
-    × (events_so_far (and_tree and_pair t outer) ≡ events_round outer ++ bracketing t)
+    × (events_so_far (and_tree and_pair t outer) ≡ events_around outer ++ bracketing t)
 tree-goes t [] ok = (tt, refl)
 tree-goes t (InArray ts ∷ outer) ok = (
   ok.1,
-  ap (λ l. events_round outer ++ StartArray None ∷ l) (items-append ts t)
-      ∙ sym (append_assoc (events_round outer) (StartArray None ∷ bracketing_of_items (trees_of ts))
+  ap (λ l. events_around outer ++ StartArray None ∷ l) (items-append ts t)
+      ∙ sym (append_assoc (events_around outer) (StartArray None
+      ∷ bracketing_of_items (trees_of ts))
       (bracketing t)),
 )
 tree-goes t (InDictionary ps ∷ outer) ok = absurd ok.0
 tree-goes t (AfterKey ps k ∷ outer) ok =
     let before = bracketing_of_pairs (members_of ps) in (
       ok.1,
-      ap (λ l. events_round outer ++ StartDictionary None ∷ l) (pairs-append ps k t
+      ap (λ l. events_around outer ++ StartDictionary None ∷ l) (pairs-append ps k t
           ∙ sym (append_assoc before (ScalarEvent (String k) ∷ []) (bracketing t)))
-          ∙ sym (append_assoc (events_round outer)
+          ∙ sym (append_assoc (events_around outer)
           (StartDictionary None ∷ (before ++ ScalarEvent (String k) ∷ [])) (bracketing t)),
     )
 
--- behind the events so far the event is refused, or what is held then has them and it, up to
+-- after the events so far the event is refused, or what is held then has them and it, up to
 -- lengths
-abbrev Goes : Option FaultKind → List PlainEvent → PlainEvent → Option Unfinished → Type 0
-Goes refusal before e held = MatchOption held (refusal ≡ None → ⊥)
+abbrev Follows : Option FaultKind → List PlainEvent → PlainEvent → Option Unfinished → Type 0
+Follows refusal before e held = MatchOption held (refusal ≡ None → ⊥)
     (λ w. IsNested w × AreAlike (events_so_far w) (before ++ e ∷ []))
 
-begun-goes : (outer : List OpenCollection) (e : PlainEvent) → AllTakeValue outer
-    → Goes (refusal_of OneValue e) (events_round outer) e (begun and_pair outer e)
-begun-goes outer (StartArray n) ok =
-    (ok, alike_behind (events_round outer) (StartArray None ∷ []) (StartArray n ∷ []) refl)
-begun-goes outer (StartDictionary n) ok = (
+value-goes : (outer : List OpenCollection) (e : PlainEvent) → AllTakeValue outer
+    → Follows (refusal_of OneValue e) (events_around outer) e (at_value and_pair outer e)
+value-goes outer (StartArray n) ok =
+    (ok, alike_behind (events_around outer) (StartArray None ∷ []) (StartArray n ∷ []) refl)
+value-goes outer (StartDictionary n) ok = (
   ok,
-  alike_behind (events_round outer) (StartDictionary None ∷ [])
+  alike_behind (events_around outer) (StartDictionary None ∷ [])
       (StartDictionary n ∷ []) refl,
 )
-begun-goes outer EndCollection ok = λ p. none-some _ (sym p)
-begun-goes outer (ScalarEvent x) ok =
+value-goes outer EndCollection ok = λ p. none-some _ (sym p)
+value-goes outer (ScalarEvent x) ok =
     let t = tree-goes (Leaf x) outer ok in (t.0, ap (map without_length) t.1)
 
 -- an end makes a tree of its collection, which has the events from its start on
 closed-goes : (t : Tree) (start : PlainEvent) (inside : List PlainEvent)
     (outer : List OpenCollection) → AllTakeValue outer
     → AreAlike (bracketing t) (start ∷ (inside ++ EndCollection ∷ []))
-    → Goes None (events_round outer ++ start ∷ inside) EndCollection
+    → Follows None (events_around outer ++ start ∷ inside) EndCollection
     (Some (and_tree and_pair t outer))
 closed-goes t start inside outer ok alike =
     let g = tree-goes t outer ok in (
       g.0,
-      ap (map without_length) g.1 ∙ alike_behind (events_round outer) _ _ alike
+      ap (map without_length) g.1 ∙ alike_behind (events_around outer) _ _ alike
           ∙ sym (ap (map without_length)
-          (append_assoc (events_round outer) (start ∷ inside) (EndCollection ∷ []))),
+          (append_assoc (events_around outer) (start ∷ inside) (EndCollection ∷ []))),
     )
 
 array-goes : (ts : List Tree) (outer : List OpenCollection) (e : PlainEvent) → AllTakeValue outer
-    → Goes (refusal_of Items e) (events_round outer ++ events_within (InArray ts)) e
+    → Follows (refusal_of Items e) (events_around outer ++ events_within (InArray ts)) e
     (in_array and_pair ts outer e)
 array-goes ts outer EndCollection ok =
     closed-goes (Array (trees_of ts)) (StartArray None) _ outer ok refl
-array-goes ts outer e ok = begun-goes (InArray ts ∷ outer) e (tt, ok)
+array-goes ts outer e ok = value-goes (InArray ts ∷ outer) e (tt, ok)
 
 dictionary-goes : (ps : TreePairs) (outer : List OpenCollection) (e : PlainEvent)
     → AllTakeValue outer
-    → Goes (refusal_of Pairs e) (events_round outer ++ events_within (InDictionary ps)) e
+    → Follows (refusal_of Pairs e) (events_around outer ++ events_within (InDictionary ps)) e
     (in_dictionary and_pair ps outer e)
 dictionary-goes ps outer EndCollection ok =
     closed-goes (Dictionary (members_of ps)) (StartDictionary None) _ outer ok refl
 dictionary-goes ps outer (ScalarEvent (String s)) ok = (
   ok,
-  sym (ap (map without_length) (append_assoc (events_round outer)
+  sym (ap (map without_length) (append_assoc (events_around outer)
       (StartDictionary None ∷ bracketing_of_pairs (members_of ps)) (ScalarEvent (String s) ∷ []))),
 )
 dictionary-goes ps outer e ok = λ p. none-some _ (sym p)
 
 goes : (u : Unfinished) (e : PlainEvent) → IsNested u
-    → Goes (refusal_at u e) (events_so_far u) e (carried_on and_pair u e)
-goes NotBegun e ok = begun-goes [] e tt
+    → Follows (refusal_at u e) (events_so_far u) e (and_event and_pair u e)
+goes NotBegun e ok = value-goes [] e tt
 goes (Within (InArray ts) outer) e ok = array-goes ts outer e ok
 goes (Within (InDictionary ps) outer) e ok = dictionary-goes ps outer e ok
-goes (Within (AfterKey ps k) outer) e ok = begun-goes (AfterKey ps k ∷ outer) e (tt, ok)
+goes (Within (AfterKey ps k) outer) e ok = value-goes (AfterKey ps k ∷ outer) e (tt, ok)
 goes (Complete t) e ok = λ p. none-some _ (sym p)
 
 -- what is held after an event has the events before it, and it, up to lengths
-pub carried : (u : Unfinished) (e : PlainEvent) (w : Unfinished) → IsNested u
-    → carried_on and_pair u e ≡ Some w
+pub extended : (u : Unfinished) (e : PlainEvent) (w : Unfinished) → IsNested u
+    → and_event and_pair u e ≡ Some w
     → IsNested w × AreAlike (events_so_far w) (events_so_far u ++ e ∷ [])
-carried u e w ok p = subst (Goes (refusal_at u e) (events_so_far u) e) p (goes u e ok)
+extended u e w ok p = subst (Follows (refusal_at u e) (events_so_far u) e) p (goes u e ok)
 
 -- what isn't refused is carried on
 pub taken_before : (u : Unfinished) (e : PlainEvent) → IsNested u → refusal_at u e ≡ None
-    → (w : Unfinished) × (carried_on and_pair u e ≡ Some w) × IsNested w
+    → (w : Unfinished) × (and_event and_pair u e ≡ Some w) × IsNested w
     × AreAlike (events_so_far w) (events_so_far u ++ e ∷ [])
-taken_before u e ok r = by (carried_on and_pair u e) refl (goes u e ok)
+taken_before u e ok r = by (and_event and_pair u e) refl (goes u e ok)
   where
-    by : (o : Option Unfinished) → carried_on and_pair u e ≡ o
-        → Goes (refusal_at u e) (events_so_far u) e o
-        → (w : Unfinished) × (carried_on and_pair u e ≡ Some w) × IsNested w
+    by : (o : Option Unfinished) → and_event and_pair u e ≡ o
+        → Follows (refusal_at u e) (events_so_far u) e o
+        → (w : Unfinished) × (and_event and_pair u e ≡ Some w) × IsNested w
         × AreAlike (events_so_far w) (events_so_far u ++ e ∷ [])
     by None q g = absurd (g r)
     by (Some w) q g = (w, q, g.0, g.1)
@@ -139,30 +140,31 @@ taken_before u e ok r = by (carried_on and_pair u e) refl (goes u e ok)
 -- ---- what is expected after what is held
 
 -- what is expected in a collection, once a value that is open in it is complete
-abbrev expect_round : OpenCollection → Expect
-expect_round (InArray items) = Items
-expect_round (InDictionary pairs) = Pairs
-expect_round (AfterKey pairs key) = Pairs
+abbrev expect_around : OpenCollection → Expect
+expect_around (InArray items) = Items
+expect_around (InDictionary pairs) = Pairs
+expect_around (AfterKey pairs key) = Pairs
 
 -- what is expected after what is expected within it
-abbrev want_behind : OpenCollection → (round : Stack) → Stack
-want_behind (AfterKey pairs key) round = Pairs ∷ round
-want_behind collection round = round
+abbrev stack_within : OpenCollection → (round : Stack) → Stack
+stack_within (AfterKey pairs key) round = Pairs ∷ round
+stack_within collection round = round
 
-abbrev want_in : List OpenCollection → Stack
-want_in [] = OneValue ∷ []
-want_in (collection ∷ outer) =
-    expected_within collection ∷ want_behind collection (map expect_round outer)
+abbrev stack_around : List OpenCollection → Stack
+stack_around [] = OneValue ∷ []
+stack_around (collection ∷ outer) =
+    expected_within collection ∷ stack_within collection (map expect_around outer)
 
-abbrev want_of : Unfinished → Stack
-want_of NotBegun = want_in []
-want_of (Within collection outer) = want_in (collection ∷ outer)
-want_of (Complete tree) = []
+abbrev stack_of : Unfinished → Stack
+stack_of NotBegun = stack_around []
+stack_of (Within collection outer) = stack_around (collection ∷ outer)
+stack_of (Complete tree) = []
 
 starts : (outer : List OpenCollection) (es : List PlainEvent) → AllTakeValue outer
-    → (steps (want_in outer) (StartArray None ∷ es) ≡ steps (Items ∷ map expect_round outer) es)
-    × (steps (want_in outer) (StartDictionary None ∷ es) ≡ steps (Pairs
-    ∷ map expect_round outer) es)
+    → (steps (stack_around outer) (StartArray None ∷ es) ≡ steps (Items
+    ∷ map expect_around outer) es)
+    × (steps (stack_around outer) (StartDictionary None ∷ es) ≡ steps (Pairs
+    ∷ map expect_around outer) es)
 starts [] es ok = (refl, refl)
 starts (InArray ts ∷ outer) es ok = (refl, refl)
 starts (InDictionary ps ∷ outer) es ok = absurd ok.0
@@ -170,36 +172,36 @@ starts (AfterKey ps k ∷ outer) es ok = (refl, refl)
 
 pairs-within : (ps : TreePairs) (outer : List OpenCollection) (es : List PlainEvent)
     → AllTakeValue outer
-    → steps (want_in outer) (events_within (InDictionary ps) ++ es) ≡ steps
-    (Pairs ∷ map expect_round outer) es
+    → steps (stack_around outer) (events_within (InDictionary ps) ++ es) ≡ steps
+    (Pairs ∷ map expect_around outer) es
 pairs-within ps outer es ok =
     (starts outer (bracketing_of_pairs (members_of ps) ++ es) ok).1
-    ∙ steps_pairs (members_of ps) (map expect_round outer) es
+    ∙ steps_pairs (members_of ps) (map expect_around outer) es
 
 steps-within : (c : OpenCollection) (outer : List OpenCollection) (es : List PlainEvent)
-    → AllTakeValue outer → steps (want_in outer) (events_within c ++ es) ≡ steps
-    (want_in (c ∷ outer)) es
+    → AllTakeValue outer → steps (stack_around outer) (events_within c ++ es) ≡ steps
+    (stack_around (c ∷ outer)) es
 steps-within (InArray ts) outer es ok =
     (starts outer (bracketing_of_items (trees_of ts) ++ es) ok).0
-    ∙ steps_items (trees_of ts) (map expect_round outer) es
+    ∙ steps_items (trees_of ts) (map expect_around outer) es
 steps-within (InDictionary ps) outer es ok = pairs-within ps outer es ok
 steps-within (AfterKey ps k) outer es ok =
-    ap (λ l. steps (want_in outer) (StartDictionary None ∷ l))
+    ap (λ l. steps (stack_around outer) (StartDictionary None ∷ l))
     (append_assoc (bracketing_of_pairs (members_of ps)) (ScalarEvent (String k) ∷ []) es)
     ∙ pairs-within ps outer (ScalarEvent (String k) ∷ es) ok
 
 steps-round : (outer : List OpenCollection) (es : List PlainEvent) → AllTakeValue outer
-    → expected_after (events_round outer ++ es) ≡ steps (want_in outer) es
+    → expected_after (events_around outer ++ es) ≡ steps (stack_around outer) es
 steps-round [] es ok = refl
 steps-round (c ∷ outer) es ok =
-    ap expected_after (append_assoc (events_round outer) (events_within c) es)
+    ap expected_after (append_assoc (events_around outer) (events_within c) es)
     ∙ steps-round outer (events_within c ++ es) ok.1 ∙ steps-within c outer es ok.1
 
-wanted : (u : Unfinished) → IsNested u → expected_after (events_so_far u) ≡ Some (want_of u)
+wanted : (u : Unfinished) → IsNested u → expected_after (events_so_far u) ≡ Some (stack_of u)
 wanted NotBegun ok = refl
 wanted (Within c outer) ok =
     steps-round outer (events_within c) ok
-    ∙ ap (steps (want_in outer)) (sym (append-nil (events_within c)))
+    ∙ ap (steps (stack_around outer)) (sym (append-nil (events_within c)))
     ∙ steps-within c outer [] ok
 wanted (Complete t) ok = all_taken (bracketing t) t refl
 
@@ -214,7 +216,7 @@ top-stops : (top : Expect) (rest : Stack) (e : PlainEvent) → (refusal_of top e
     → step (top ∷ rest) e ≡ None
 top-stops top rest e no_ = change-stops (change_of top e) _ top rest no_
 
-stops : (u : Unfinished) (e : PlainEvent) → (refusal_at u e ≡ None → ⊥) → step (want_of u) e ≡ None
+stops : (u : Unfinished) (e : PlainEvent) → (refusal_at u e ≡ None → ⊥) → step (stack_of u) e ≡ None
 stops NotBegun e no_ = top-stops OneValue [] e no_
 stops (Within c outer) e no_ = top-stops (expected_within c) _ e no_
 stops (Complete t) e no_ = refl
@@ -233,7 +235,7 @@ refused-ends u e ok no_ can =
 pub taken-continues : (u w : Unfinished) (e : PlainEvent) → IsNested w
     → AreAlike (events_so_far w) (events_so_far u ++ e ∷ []) → CanContinue (events_so_far u) e
 taken-continues u w e ok a =
-    can_continue (events_so_far u) e (want_of w)
+    can_continue (events_so_far u) e (stack_of w)
     (sym (wanted_alike (events_so_far w) (events_so_far u ++ e ∷ []) a) ∙ wanted w ok)
 
 -- an event that isn't refused can come next
@@ -274,7 +276,7 @@ nested-last NotBegun ok = tt
 nested-last (Within c outer) ok = all-take-last _ ok
 nested-last (Complete t) ok = tt
 
--- what can come next behind events is what can come next behind their last values
+-- what can come next after events is what can come next after their last values
 pub last-continues : (taken_before : Unfinished) (events : List PlainEvent) → IsNested taken_before
     → AreAlike (events_so_far taken_before) events
     → ContinueAlike (events_so_far (last_wins_so_far taken_before)) events
@@ -294,7 +296,7 @@ pub complete : (u : Unfinished) (t : Tree) → IsNested u → AreAlike (events_s
     → u ≡ Complete t
 complete u t ok p = by u p (sym (wanted u ok) ∙ all_taken (events_so_far u) t p)
   where
-    by : (u : Unfinished) → AreAlike (events_so_far u) (bracketing t) → Some (want_of u) ≡ Some []
+    by : (u : Unfinished) → AreAlike (events_so_far u) (bracketing t) → Some (stack_of u) ≡ Some []
         → u ≡ Complete t
     by NotBegun p q = absurd (cc)
     by (Within (InArray ts) outer) p q = absurd (cc)

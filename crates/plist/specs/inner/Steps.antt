@@ -19,17 +19,17 @@ module _ (add : TreePairs → List ℕ → Tree → TreePairs) where
   and_tree tree (AfterKey pairs key ∷ outer) = Within (InDictionary (add pairs key tree)) outer
 
   -- where a value is to come
-  abbrev pub begun : (outer : List OpenCollection) → PlainEvent → Option Unfinished
-  begun outer (StartArray length) = Some (Within (InArray []) outer)
-  begun outer (StartDictionary length) = Some (Within (InDictionary []) outer)
-  begun outer EndCollection = None
-  begun outer (ScalarEvent scalar) = Some (and_tree (Leaf scalar) outer)
+  abbrev pub at_value : (outer : List OpenCollection) → PlainEvent → Option Unfinished
+  at_value outer (StartArray length) = Some (Within (InArray []) outer)
+  at_value outer (StartDictionary length) = Some (Within (InDictionary []) outer)
+  at_value outer EndCollection = None
+  at_value outer (ScalarEvent scalar) = Some (and_tree (Leaf scalar) outer)
 
   -- where an item or an array's end is to come
   abbrev pub in_array : (items : List Tree) → (outer : List OpenCollection) → PlainEvent
       → Option Unfinished
   in_array items outer EndCollection = Some (and_tree (Array (trees_of items)) outer)
-  in_array items outer event = begun (InArray items ∷ outer) event
+  in_array items outer event = at_value (InArray items ∷ outer) event
 
   -- where a key or a dictionary's end is to come
   abbrev pub in_dictionary : (pairs : TreePairs) → (outer : List OpenCollection) → PlainEvent
@@ -39,9 +39,9 @@ module _ (add : TreePairs → List ℕ → Tree → TreePairs) where
   in_dictionary pairs outer event = None
 
   -- what is held after the event, unless it can't come
-  abbrev pub carried_on : Unfinished → PlainEvent → Option Unfinished
-  carried_on NotBegun event = begun [] event
-  carried_on (Within (InArray items) outer) event = in_array items outer event
-  carried_on (Within (InDictionary pairs) outer) event = in_dictionary pairs outer event
-  carried_on (Within (AfterKey pairs key) outer) event = begun (AfterKey pairs key ∷ outer) event
-  carried_on (Complete tree) event = None
+  abbrev pub and_event : Unfinished → PlainEvent → Option Unfinished
+  and_event NotBegun event = at_value [] event
+  and_event (Within (InArray items) outer) event = in_array items outer event
+  and_event (Within (InDictionary pairs) outer) event = in_dictionary pairs outer event
+  and_event (Within (AfterKey pairs key) outer) event = at_value (AfterKey pairs key ∷ outer) event
+  and_event (Complete tree) event = None

@@ -18,18 +18,18 @@ weight = fold-Value ℕ weight_step
 abbrev pub weights : List Value → ℕ
 weights values = sum (map weight values)
 
--- the values behind the first
+-- the values after the first
 abbrev pub others : List Value → List Value
 others [] = []
 others (value ∷ values) = values
 
--- What falls as values are dropped: there are fewer, or as many, of which fewer stand behind the
+-- What falls as values are dropped: there are fewer, or as many, of which fewer stand after the
 -- first.
 abbrev pub to_drop : List Value → ℕ
 to_drop values = weights values * weights values + weights (others values)
 
 -- One list of the values of two, of which a collection held the second: fewer than there were with
--- the collection, or as many, and no more behind the first than the collection held.
+-- the collection, or as many, and no more after the first than the collection held.
 abbrev pub IsLess : (joined left below : List Value) → Type 0
 IsLess joined left below =
     (weights joined < weights left + 1 + weights below)

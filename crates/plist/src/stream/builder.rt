@@ -29,7 +29,7 @@ pub struct Builder {
 }
 
 impl Builder {
-    ghost use Rattle.plist.specs.Builder.{Carries, IsBuilt, IsBuildingStep, IsWholeOf, RefusesWith, RefusesWorking, TakesItem, built_of};
+    ghost use Rattle.plist.specs.Builder.{BuilderAddsEvent, IsBuilt, IsBuildingStep, IsWholeOf, RefusesWith, RefusesWorking, TakesItem, built_of};
     ghost use Rattle.plist.specs.Collecting.{item_by};
 
     /// A builder that holds no events.
@@ -46,7 +46,7 @@ impl Builder {
     // Takes one event.
     pub(crate) fn take(&mut self, event: Event<'_>) -> Result<(), Error>
         ensures step { IsBuildingStep self.old (event_of event.entry) (answer_of result) self.new }
-        ensures carried { OnOk result (Carries self.old (event_of event.entry) self.new) }
+        ensures added { OnOk result (BuilderAddsEvent self.old (event_of event.entry) self.new) }
         ensures refused { RefusesWorking self.old (Ok (event_of event.entry)) result }
     {
         if self.failed {
@@ -73,7 +73,7 @@ impl Builder {
         ensures refused { RefusesWith self.old (item_by E.plain item) result }
     {
         let event = item?;
-        event.hand_to(self)
+        event.write_to(self)
     }
 
     /// The value of the events, which leaves the builder empty. It takes no memory.
@@ -117,7 +117,7 @@ pub trait AnyEvent: Drop {
     ///
     /// # Errors
     /// Those of the builder's `write`.
-    fn hand_to(self, builder: &mut Builder) -> Result<(), Error>
+    fn write_to(self, builder: &mut Builder) -> Result<(), Error>
         requires { (built_of builder.old).failed ≡ false }
         ensures taken { OnOk result (TakesItem builder.old (Ok (plain self)) builder.new) }
         ensures refused { RefusesWith builder.old (Ok (plain self)) result };
@@ -128,7 +128,7 @@ impl<'a> AnyEvent for Event<'a> {
 
     ghost plain = { event_of };
 
-    fn hand_to(self, builder: &mut Builder) -> Result<(), Error> {
+    fn write_to(self, builder: &mut Builder) -> Result<(), Error> {
         builder.take(self)
     }
 }

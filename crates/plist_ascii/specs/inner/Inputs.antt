@@ -16,7 +16,7 @@ use Rattle.plist_ascii.specs.Texts.{Token, bare}
 use Rattle.plist_ascii.specs.Ascii.{lead_of, token_by, placed_items, IsTextToken}
 use Rattle.plist_ascii.specs.Kinds.{IfBracket}
 use Rattle.plist_ascii.specs.Incoming.{AnswersIoIfCounted, ItemCountsIoIfCounted}
-use Rattle.plist_ascii.specs.Unread.{unread, IfKnown, first, stops, IsFaultAt, is_io_or_memory, FirstIsTaken, TakesPart, Answers}
+use Rattle.plist_ascii.specs.Unread.{unread, IfKnown, first, stops, IsFaultAt, is_io_or_memory, FirstIsTaken, TakesPart, GivesFront}
 use Rattle.plist_ascii.specs.AsciiReader.{GivesAsciiItem, IfQuotedItem, bytes_to_come}
 use Rattle.plist_ascii.specs.inner.Parts.{escaped_bytes, Parts, EndsRun}
 
@@ -34,7 +34,7 @@ abbrev pub ItemCountsFailed : {R A : Type 0} → (R → Option ℕ) → Input R
 ItemCountsFailed failures old item new = ItemCountsIoIfCounted item (failures old.inner)
     (failures new.inner)
 
--- a device's fault or want of memory alone, where the bytes taken end
+-- a device's fault or lack of memory alone, where the bytes taken end
 abbrev pub OnlyIoOrMemory : {R A : Type 0} → Result A Error → Input R → Type 0
 OnlyIoOrMemory answer input = IfErr answer (λ error. IsFaultAt (fault_of error) input.taken
     × (is_io_or_memory (kind_of (error_kind_of error)) ≡ true))
@@ -55,18 +55,18 @@ abbrev pub TakesNoMore : {R : Type 0} → Input R → Type 0
 TakesNoMore input = (input.ended ≡ true) ⊎ (input.taken ≡ 2 ^ 64 - 1)
 
 -- one more byte is taken
-abbrev pub IsOneOn : {R : Type 0} → Input R → Input R → Type 0
-IsOneOn old new = (new.taken ≡ old.taken + 1) × (new.taken < 2 ^ 64)
+abbrev pub TakesOneMore : {R : Type 0} → Input R → Input R → Type 0
+TakesOneMore old new = (new.taken ≡ old.taken + 1) × (new.taken < 2 ^ 64)
 
 -- one more byte is taken where one came, else none
 abbrev pub CountsByte : {R : Type 0} → Input R → Option ℕ → Input R → Type 0
-CountsByte old byte new = MatchOption byte (new.taken ≡ old.taken) (λ _. IsOneOn old new)
+CountsByte old byte new = MatchOption byte (new.taken ≡ old.taken) (λ _. TakesOneMore old new)
 
 -- ---- several bytes
 
 -- one byte or more was taken
-abbrev pub IsFurther : {R : Type 0} → Input R → Input R → Type 0
-IsFurther old new = (old.taken < new.taken) × (old.taken < 2 ^ 64)
+abbrev pub TakesSomeMore : {R : Type 0} → Input R → Input R → Type 0
+TakesSomeMore old new = (old.taken < new.taken) × (old.taken < 2 ^ 64)
 
 -- ---- what stands at the front
 
@@ -77,18 +77,18 @@ bare_until stop byte = bare (stops stop) byte
 abbrev pub token_until : Stop → ℕ → List ℕ → Token
 token_until stop byte = token_by (stops stop) (lead_of byte) byte
 
--- behind a bracket no byte has been looked at
+-- after a bracket no byte has been looked at
 abbrev pub StopsAtBracket : {R : Type 0} → Input R → Event → Type 0
 StopsAtBracket new event = IfBracket (event_of event) (new.peeked ≡ None)
 
 -- more than the items that are still to come
-abbrev pub to_come_of : {R : Type 0} → Input R → ℕ
-to_come_of input = bytes_to_come input.ended input.taken
+abbrev pub input_steps : {R : Type 0} → Input R → ℕ
+input_steps input = bytes_to_come input.ended input.taken
 
 module _ {R : Type 0} (known : R → Option (List ℕ)) where
   -- the byte is the first of those to be taken, which stay
-  abbrev pub LooksAt : Input R → Option ℕ → Input R → Type 0
-  LooksAt old byte new =
+  abbrev pub Peeks : Input R → Option ℕ → Input R → Type 0
+  Peeks old byte new =
       IfKnown (unread known old) (λ xs. (unread known new ≡ Some xs) × (byte ≡ first xs))
 
   -- the first byte is taken
@@ -115,7 +115,7 @@ module _ {R : Type 0} (known : R → Option (List ℕ)) where
   TakesPlain stop old byte new = IfKnown (unread known old) (λ xs.
       (ys : List ℕ) × (xs ≡ byte ∷ ys) × (unread known new ≡ Some ys) × (stops stop byte ≡ false))
 
-  -- a device's fault or want of memory; or the text isn't closed, where nothing is left
+  -- a device's fault or lack of memory; or the text isn't closed, where nothing is left
   abbrev pub IsUnclosedText : Input R → Input R → Error → Type 0
   IsUnclosedText old new error = IsFaultAt (fault_of error) new.taken
       × (is_io_or_memory (kind_of (error_kind_of error)) ≡ false
@@ -127,7 +127,7 @@ module _ {R : Type 0} (known : R → Option (List ℕ)) where
       (unread known new ≡ Some (drop (run (stops stop) xs) xs))
       × (new.taken ≡ old.taken + run (stops stop) xs))
 
-  -- the run was taken, and stands behind the text
+  -- the run was taken, and stands after the text
   abbrev pub AddsRun : Stop → Input R
       → (text : Vec ℕ Global) → Input R → (longer : Vec ℕ Global) → Type 0
   AddsRun stop old text new longer = IfKnown (unread known old) (λ xs.
@@ -140,30 +140,30 @@ module _ {R : Type 0} (known : R → Option (List ℕ)) where
   SkipsSome stop old new = IfKnown (unread known old) (λ xs. (part : List ℕ)
       × TakesPart (stops stop) old.taken [] (unread known new) new.taken part xs)
 
-  -- some of the run was taken, and stands behind the text
+  -- some of the run was taken, and stands after the text
   abbrev pub AddsTo : Stop → Input R
       → (text : Vec ℕ Global) → Input R → (longer : Vec ℕ Global) → Type 0
   AddsTo stop old text new longer = IfKnown (unread known old)
       (TakesPart (stops stop) old.taken text.items (unread known new) new.taken longer.items)
 
-  -- what stands behind a run was taken: the closing quote, or an escape that stands for a piece
+  -- what stands after a run was taken: the closing quote, or an escape that stands for a piece
   abbrev pub TakesEnd : (quote : ℕ) → Input R → Input R
       → Option Escaped → Type 0
   TakesEnd quote old new piece = IfKnown (unread known old) (λ xs. (n : ℕ)
       × EndsRun quote xs piece n × (unread known new ≡ Some (drop n xs))
       × (new.taken ≡ old.taken + n))
 
-  -- a run and what stands behind it were taken, and what they mean stands behind the text
+  -- a run and what stands after it were taken, and what they mean stands after the text
   abbrev pub Quotes : (quote : ℕ) → Input R
       → (text : Vec ℕ Global) → Input R → (longer : Vec ℕ Global) → (closed : Bool) → Type 0
   Quotes quote old text new longer closed = IfKnown (unread known old) (λ xs. (n : ℕ)
       × (part : List ℕ) × Parts quote xs closed n part × (longer.items ≡ text.items ++ part)
       × (unread known new ≡ Some (drop n xs)) × (new.taken ≡ old.taken + n))
 
-  -- a device's fault or want of memory; or a fault that n bytes have, which were taken
-  abbrev pub FailsBehind : (fails : List ℕ → FaultKind → ℕ → Type 0) → Input R → Input R → Error
+  -- a device's fault or lack of memory; or a fault that n bytes have, which were taken
+  abbrev pub FailsAfter : (fails : List ℕ → FaultKind → ℕ → Type 0) → Input R → Input R → Error
       → Type 0
-  FailsBehind fails old new error = IsFaultAt (fault_of error) new.taken
+  FailsAfter fails old new error = IsFaultAt (fault_of error) new.taken
       × (old.taken ≤ new.taken)
       × (is_io_or_memory (kind_of (error_kind_of error)) ≡ false
       → IfKnown (unread known old) (λ xs. (n : ℕ) × fails xs (kind_of (error_kind_of error)) n
@@ -173,7 +173,7 @@ module _ {R : Type 0} (known : R → Option (List ℕ)) where
   abbrev pub GivesBy : {X A : Type 0} → (view : X → A) → (List ℕ → Taken A) → Input R
       → Result X Error → Input R → Type 0
   GivesBy view front old answer new =
-      Answers view front (unread known old) old.taken (unread known new) new.taken answer
+      GivesFront view front (unread known old) old.taken (unread known new) new.taken answer
 
   -- the same of a token, which gives an event or nothing
   abbrev pub GivesToken : (List ℕ → Token) → Input R → Result (Option Event) Error → Input R
@@ -212,7 +212,7 @@ module _ {R : Type 0} (known : R → Option (List ℕ)) where
       × (unread known new ≡ Some ys)
       × GivesAsciiItem (stops stop) xs old.taken item ys new.taken)
 
-  -- behind a quoted text no byte has been looked at
+  -- after a quoted text no byte has been looked at
   abbrev pub StopsAtQuote : Stop → Input R → Option (Result Event Error) → Input R → Type 0
   StopsAtQuote stop old item new = IfKnown (unread known old) (λ xs.
       IfQuotedItem (placed_items (stops stop) xs old.taken) item (new.peeked ≡ None))

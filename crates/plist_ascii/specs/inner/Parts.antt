@@ -10,7 +10,7 @@ use Rattle.plist_ascii.specs.Escapes.{is_surrogate}
 use Rattle.plist_ascii.specs.declared.unescape.Escaped.{Escaped}
 use Rattle.plist_ascii.specs.declared.unescape.Escaped.TheVariants as piece
 use Rattle.plist_ascii.specs.Taken.{Taken, taken}
-use Rattle.plist_ascii.specs.Quoted.{behind, run_end, quoted_by}
+use Rattle.plist_ascii.specs.Quoted.{piece_then, run_end, quoted_by}
 
 -- the bytes of the text that a piece stands for
 abbrev pub escaped_bytes : Escaped → List ℕ
@@ -39,27 +39,27 @@ abbrev pub IsCharOr : FaultKind → Result (List ℕ) FaultKind → Option ℕ �
 IsCharOr fault outcome char =
     MatchOption char (outcome ≡ Err fault) (λ c. outcome ≡ Ok (encode_utf8 c))
 
--- From these bytes n were taken, which stand for `part`; behind them the text is closed, or goes
+-- From these bytes n were taken, which stand for `part`; after them the text is closed, or goes
 -- on.
 abbrev pub Parts : (quote : ℕ) → List ℕ → (closed : Bool) → ℕ → List ℕ → Type 0
 Parts quote bytes true n part =
     (more : List ℕ → Taken (List ℕ)) → quoted_by quote more bytes ≡ taken n (Ok part)
 Parts quote bytes false n part =
     (more : List ℕ → Taken (List ℕ)) → quoted_by quote more bytes
-    ≡ behind n part (more (drop n bytes))
+    ≡ piece_then n part (more (drop n bytes))
 
 -- or there is a fault at their end
 abbrev pub PartFails : (quote : ℕ) → List ℕ → FaultKind → ℕ → Type 0
 PartFails quote bytes kind n =
     (more : List ℕ → Taken (List ℕ)) → quoted_by quote more bytes ≡ taken n (Err kind)
 
--- behind a run stands the closing quote, or an escape that stands for a piece
+-- after a run stands the closing quote, or an escape that stands for a piece
 abbrev pub EndsRun : (quote : ℕ) → List ℕ → Option Escaped → ℕ → Type 0
 EndsRun quote bytes None n =
     (more : List ℕ → Taken (List ℕ)) → run_end quote more bytes ≡ taken n (Ok [])
 EndsRun quote bytes (Some piece) n =
     (more : List ℕ → Taken (List ℕ)) → run_end quote more bytes
-    ≡ behind n (escaped_bytes piece) (more (drop n bytes))
+    ≡ piece_then n (escaped_bytes piece) (more (drop n bytes))
 
 -- or a fault
 abbrev pub EndFails : (quote : ℕ) → List ℕ → FaultKind → ℕ → Type 0

@@ -32,7 +32,7 @@ has_magic bytes = starts_with nat_eq bytes magic
 
 -- ---- what is read of a trailer
 
--- where the bytes end behind it, this is what the trailer there says
+-- where the bytes end after it, this is what the trailer there says
 abbrev pub IsTrailerAt : (trailer : ℕ) → List ℕ → code.Trailer → Type 0
 IsTrailerAt trailer bytes t =
     length bytes ≡ trailer + 32 → trailer_seen t ≡ trailer_in (drop trailer bytes)
@@ -67,7 +67,7 @@ IsFaultOfHead bytes fault = MatchFault fault.kind ⊤ ⊤ (head_of bytes ≡ Err
 abbrev pub LiesWithin : List ℕ → held.Head → Type 0
 LiesWithin bytes head = head.trailer ≤ length bytes
 
--- the same of bytes that end behind the trailer that begins here
+-- the same of bytes that end after the trailer that begins here
 abbrev pub IsHeadBefore : (trailer : ℕ) → List ℕ → held.Head → Type 0
 IsHeadBefore trailer bytes head =
     length bytes ≡ trailer + 32

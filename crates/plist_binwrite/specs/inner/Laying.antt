@@ -31,5 +31,5 @@ pub record AllOnce (count : ℕ) (order : List ℕ) : Type 0 where
   pub numbered : (k : ℕ) → (list_any (eqb k) order ≡ true) ↔ (k < count)
 
 -- the file with its table and trailer
-abbrev pub closed : (file places : List ℕ) → List ℕ
-closed file places = file ++ table_and_trailer places (length file)
+abbrev pub with_table_and_trailer : (file places : List ℕ) → List ℕ
+with_table_and_trailer file places = file ++ table_and_trailer places (length file)

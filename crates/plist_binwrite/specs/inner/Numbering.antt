@@ -8,10 +8,10 @@ use Rattle.plist_binwrite.specs.declared.event_table.EventTable.{EventTable}
 use Rattle.plist_binwrite.specs.declared.numbering.Classed.{Classed}
 use Rattle.plist_binwrite.specs.declared.numbering.Numbered.{Numbered}
 use Rattle.plist_binwrite.specs.declared.numbering.Numbering.{Numbering}
-use Rattle.plist_binwrite.specs.EventTable.{plain_events, is_end, event_at, nth_number, item_indices, half_indices, keys_in, values_in, AllNumbered, IsNumbered, KeepsNumbering}
+use Rattle.plist_binwrite.specs.EventTable.{plain_events, is_end, event_at, nth_number, item_indices, key_or_value_indices, keys_in, values_in, AllNumbered, IsNumbered, KeepsNumbering}
 use Rattle.plist_binwrite.specs.inner.PlansBy.{IsPlan, HaveIds}
 
--- so many numbers, none of which is given yet
+-- this many numbers, none of which is given yet
 abbrev pub AreMarks : (count : ℕ) → List ℕ → Type 0
 AreMarks count numbers = numbers ≡ replicate count (2 ^ 64 - 1)
 
@@ -56,10 +56,11 @@ module _ (given : Classed) where
       → AllByRecursion (IsNumbered found.numbers found.firsts) (item_indices ts from)
 
   -- the values of a dictionary have, or its keys
-  abbrev pub NumbersHalf : (of_values : Bool) → (from : ℕ) → Numbered → Type 0
-  NumbersHalf of_values from found =
+  abbrev pub NumbersKeysOrValues : (of_values : Bool) → (from : ℕ) → Numbered → Type 0
+  NumbersKeysOrValues of_values from found =
       (ms : Members) → PairsOccurAt (plain_events given.events.now) ms from
-      → AllByRecursion (IsNumbered found.numbers found.firsts) (half_indices of_values ms from)
+      → AllByRecursion (IsNumbered found.numbers found.firsts)
+      (key_or_value_indices of_values ms from)
 
   -- the keys and the values of the collection that begins here have
   abbrev pub NumbersChildren : (index : ℕ) → Numbered → Type 0

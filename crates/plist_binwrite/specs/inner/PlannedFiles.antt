@@ -11,13 +11,13 @@ use Rattle.plist_binwrite.specs.declared.event_table.EventTable.{EventTable}
 use Rattle.plist_binwrite.specs.Classes.{IsFileBy, IsOversized}
 use Rattle.plist_base.specs.Prefixes.{AppendsPrefix}
 use Rattle.plist_binwrite.specs.EventTable.{AllBelow, Describes, nth_number, plain_events}
-use Rattle.plist_binwrite.specs.inner.Laying.{laid_out, closed}
+use Rattle.plist_binwrite.specs.inner.Laying.{laid_out, with_table_and_trailer}
 use Rattle.plist_base.specs.Events.{PlainEvent}
 use Rattle.plist_base.specs.Trees.{Tree}
 use Rattle.plist_base.specs.Bracketing.{lengthless}
 use Rattle.plist_binwrite.specs.inner.Planning.{IsPlanned, IsPlanByClass, count_of, numbers_of}
 use Rattle.plist_binwrite.specs.inner.Sizing.{ExceedsWith, FitsWith}
-use Rattle.plist_binwrite.specs.Written.{reference_width}
+use Rattle.plist_binwrite.specs.Widths.{reference_width}
 
 -- by event, the number of its object
 abbrev pub numbers_in : Ready → List ℕ
@@ -26,7 +26,7 @@ numbers_in ready = numbers_of ready.plan
 -- the file that is planned, where its objects are these
 abbrev pub file_of : Ready → (ℕ → Object) → List ℕ
 file_of ready objects =
-    closed (laid_out (reference_width (length ready.places)) objects ready.order)
+    with_table_and_trailer (laid_out (reference_width (length ready.places)) objects ready.order)
     ready.places
 
 -- all is ready for sending the file of the tree whose events these are
@@ -53,7 +53,7 @@ IsDraftTooLarge draft = IfSome draft.table (λ table. ExceedsWith table (length 
 -- it has less
 pub record IsFitting (draft : Draft) (ready : Ready) : Type 0 where
   pub same : ready ≡ ready_at draft ready.table
-  pub told : draft.table ≡ Some ready.table
+  pub placed : draft.table ≡ Some ready.table
   pub fits : FitsWith ready.table (length draft.places)
 
 -- the file of the tree whose events these are is planned: where it has less than 2^64 bytes it is
@@ -67,7 +67,7 @@ pub record IsDraftOf (es : List PlainEvent) (draft : Draft) : Type 0 where
 abbrev pub IsDraftBy : Classes → EventTable → Draft → Type 0
 IsDraftBy classes held draft = IsPlanByClass (plain_events held) (nth_number classes.of) draft.plan
 
--- want of memory isn't why
+-- lack of memory isn't why
 abbrev pub NeedsNoMemory : Fault → Type 0
 NeedsNoMemory fault = MatchFault fault.kind ⊤ ⊥ ⊤
 

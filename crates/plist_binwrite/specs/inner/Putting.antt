@@ -7,7 +7,7 @@ use Rattle.plist_base.specs.declared.error.Error.{Error}
 use Rattle.plist_base.specs.Trees.{Tree, Trees, Members, Array, Dictionary}
 use Rattle.plist_format.specs.Object.{Object}
 use Rattle.plist_binwrite.specs.Forms.{form, table_form}
-use Rattle.plist_binwrite.specs.EventTable.{plain_events, item_indices, half_indices, Describes}
+use Rattle.plist_binwrite.specs.EventTable.{plain_events, item_indices, key_or_value_indices, Describes}
 use Rattle.plist_binwrite.specs.Numberings.{object_of}
 use Rattle.plist_binwrite.specs.OutputBuffer.{Puts}
 use Rattle.plist_binwrite.specs.Occurrences.{OccursAt, ItemsOccurAt, PairsOccurAt}
@@ -30,12 +30,12 @@ module _ {W : Type 0} (contents : W → Option (List ℕ)) (old : W) (buffer : V
       (table_form file.width (map (numbers_by file) (item_indices ts from))) result new holds
 
   -- those to the values of a dictionary, or to its keys
-  abbrev pub PutsHalf : Planned → (of_values : Bool) → (from : ℕ) → Result (Unit {0}) Error
+  abbrev pub PutsKeysOrValues : Planned → (of_values : Bool) → (from : ℕ) → Result (Unit {0}) Error
       → (new : W) → (holds : Vec ℕ Global) → Type 0
-  PutsHalf file of_values from result new holds =
+  PutsKeysOrValues file of_values from result new holds =
       (ms : Members) → PairsOccurAt (events_in file) ms from
       → Puts contents old buffer
-      (table_form file.width (map (numbers_by file) (half_indices of_values ms from)))
+      (table_form file.width (map (numbers_by file) (key_or_value_indices of_values ms from)))
       result new holds
 
   -- the object of the array that begins here, of the dictionary, and of any tree

@@ -20,12 +20,12 @@ MarksItem held plan index marks = index < length (plain_events held)
     → is_end (table_event held index) ≡ false
     → get_or marks (nth_number (numbers_of plan) index) 0 ≢ 0
 
--- so many items of an array stand from here on
+-- this many items of an array stand from here on
 abbrev pub CountsItems : EventTable → (from count : ℕ) → Type 0
 CountsItems held from count =
     (ts : Trees) → ItemsOccurAt (plain_events held) ts from → count ≡ number_of_trees ts
 
--- a file with so many objects, whose offset table lies here, has less than 2^64 bytes, or hasn't
+-- a file with this many objects, whose offset table lies here, has less than 2^64 bytes, or hasn't
 abbrev pub FitsWith : (table count : ℕ) → Type 0
 FitsWith table count =
     (objects : ℕ) → table ≡ 8 + objects → size_with count objects < 2 ^ 64

@@ -35,7 +35,7 @@ abbrev pub expected_now : (complete : Bool) → List Expect → List Expect
 expected_now true stack = []
 expected_now false stack = with_root stack
 
--- the code holds what is expected behind these events
+-- the code holds what is expected after these events
 abbrev pub AreExpected : List PlainEvent → (complete : Bool) → List Expect → Type 0
 AreExpected events complete expects =
     expected_after events ≡ Some (expected_now complete (reverse expects))

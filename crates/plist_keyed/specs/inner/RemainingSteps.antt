@@ -34,7 +34,7 @@ uid_of_event (ScalarEvent scalar) = number_of_uid scalar
 uid_of_event event = None
 
 module _ (objects : List (List PlainEvent)) where
-  -- the steps of a Uid behind the path
+  -- the steps of a Uid after the path
   abbrev pub follow_in : (path : List ℕ) → ℕ → List Step
   follow_in path uid = steps_at objects (length objects - length path) path uid
 
@@ -104,13 +104,13 @@ Yields before (Err error) after =
 abbrev pub Enters : Walk → ℕ → Walk → Type 0
 Enters old uid new = follow old uid ++ remaining_steps old ≡ None ∷ remaining_steps new
 
--- the first step of an event and of what remains behind it is taken
+-- the first step of an event and of what remains after it is taken
 abbrev pub YieldsFor : Walk → PlainEvent → Result Move Error → Walk → Type 0
 YieldsFor old event answer new =
     Yields (steps_of_event (follow old) event ++ remaining_steps old) answer (remaining_steps new)
 
 -- the items that are to come begin with this one
-abbrev pub GivesOfUid : Walk → Option (Result Event Error) → Walk → Type 0
-GivesOfUid old item new =
+abbrev pub GivesItemOfUid : Walk → Option (Result Event Error) → Walk → Type 0
+GivesItemOfUid old item new =
     BeginsWith (items_of_steps (remaining_steps old)) (option_map (item_by event_of) item)
     (items_of_steps (remaining_steps new))

@@ -36,7 +36,7 @@ impl<V> Pairs<V> {
     /// # Errors
     ///
     /// `OutOfMemory`: the pairs before the one that found no memory are inserted; that one and
-    /// those behind it are dropped.
+    /// those after it are dropped.
     pub fn extend<I: IntoIterator<Item = (String, V)>>(&mut self, more: I) -> Result<(), Error>
     where
         V: Drop,

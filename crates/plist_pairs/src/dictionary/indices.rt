@@ -103,7 +103,7 @@ impl<V> Pairs<V> {
         self.store.as_ref().unwrap().pair_at(index)
     }
 
-    // Drops the pairs behind the first ones.
+    // Drops the pairs after the first ones.
     pub(crate) fn truncate(&mut self, count: usize)
     where
         V: Drop,

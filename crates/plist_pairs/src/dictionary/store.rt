@@ -240,7 +240,7 @@ impl<V> Store<V> {
         (self.keys.as_slice()[index].as_str(), &self.items[index])
     }
 
-    // Drops the pairs behind the first ones.
+    // Drops the pairs after the first ones.
     pub(crate) fn truncate(&mut self, count: usize)
     where
         V: Drop,

@@ -17,8 +17,8 @@ pub(crate) fn sound(rt: &impl AllocGlobal) -> Device {
     Device::new(Vec::new(rt.alloc()), u64::MAX)
 }
 
-// A device took just these bytes, in so many calls, the last flush of which that was done came
-// behind so many bytes.
+// A device took just these bytes, in this many calls, the last flush of which that was done came
+// after this many bytes.
 pub(crate) fn expect_taken(
     rt: &impl Abort,
     device: &Device,

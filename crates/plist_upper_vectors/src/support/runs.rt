@@ -8,7 +8,7 @@ use std::io::Write;
 use std::process::Abort;
 use std::rt::Files;
 
-// A word of a line: behind an `@` stands the name of a file in the folder for temporary files.
+// A word of a line: after an `@` stands the name of a file in the folder for temporary files.
 fn word_of(rt: &(impl Abort + AllocGlobal + Env), word: &str) -> String {
     match word.strip_prefix('@') {
         Some(name) => path_of(rt, name),

@@ -15,7 +15,7 @@ pub(crate) enum Stage {
     Written,
     Stored,
     // Something came out of turn: it was made again, nothing was written before it was to be
-    // stored, or anything came behind that; or a file was read once it was made.
+    // stored, or anything came after that; or a file was read once it was made.
     OutOfTurn,
 }
 

@@ -10,7 +10,7 @@ returns g c =
     let made = c.new-writer.ensures in
     let s = all-sent g.S.Sharing.IsFile g.S.Sharing.size (λ (v : Vec ℕ Global). Some v.items) tree
     c.new.result c.new-writer.result c.write_value.new.writer made.held made.failed made.inner
-    c.in_ok-write_value.ensures.handed in
+    c.in_ok-write_value.ensures.written in
     record {
       file = subst (g.S.Sharing.IsFile tree)
           (sym (ap (λ (v : Vec ℕ Global). v.items) c.into_inner.ensures.inner ∙ s.2

@@ -11,24 +11,24 @@ loop-item-init g c = ([], sym c.events-events.ensures.items, refl)
 
 pub loop-item-preserved : goal.loop-item-preserved
 loop-item-preserved g c =
-    one-more g.W.Writer.Step c.args.writer.now c.loop-item.writer c.hand.new.writer
+    one-more g.W.Writer.Step c.args.writer.now c.loop-item.writer c.write_item.new.writer
     (bracketing (tree_of c.args.value.now)) c.loop-item.events c.next.new.self c.in-Some.item
-    c.loop-item.invariant c.in-Some.ensures.steps c.in_ok-hand.ensures
+    c.loop-item.invariant c.in-Some.ensures.steps c.in_ok-write_item.ensures
 
-pub returns-in_err-hand : goal.returns-in_err-hand
-returns-in_err-hand g c =
+pub returns-in_err-write_item : goal.returns-in_err-write_item
+returns-in_err-write_item g c =
     let f = err_from_is_err_and c.from_residual.result c.from_residual.ensures.1 in
     record {
-      handed = rw (f.1, f.2)
-          (refused g.W.Writer.Step c.args.writer.now c.loop-item.writer c.hand.new.writer
+      written = rw (f.1, f.2)
+          (refused g.W.Writer.Step c.args.writer.now c.loop-item.writer c.write_item.new.writer
           (bracketing (tree_of c.args.value.now)) c.loop-item.events c.next.new.self c.in-Some.item
-          (fault_of c.in_err-hand.field-0.0)
-          c.loop-item.invariant c.in-Some.ensures.steps c.in_err-hand.ensures);
+          (fault_of c.in_err-write_item.field-0.0)
+          c.loop-item.invariant c.in-Some.ensures.steps c.in_err-write_item.ensures);
     }
 
 pub returns : goal.returns
 returns g c = record {
-  handed = all-handed g.W.Writer.Step c.args.writer.now c.loop-item.writer
+  written = all-handed g.W.Writer.Step c.args.writer.now c.loop-item.writer
       (bracketing (tree_of c.args.value.now)) c.loop-item.events c.next.new.self
       c.loop-item.invariant c.in_default.ensures.steps;
 }

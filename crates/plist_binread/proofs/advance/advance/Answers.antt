@@ -6,16 +6,16 @@ use Rattle.plist_binread.specs.Slot.{answer_in, event_in}
 use Rattle.plist_binread.specs.Walking.{weight_in}
 use Rattle.plist_binread.proofs.Lengths.{child_limits}
 use Rattle.plist_binread.proofs.Steps.{steps_positive}
-use Rattle.plist_binread.proofs.KnownTurns.{Turned, known_turned, child_failed, child_first, child_kept, child_yields}
+use Rattle.plist_binread.proofs.KnownChildren.{ChildTaken, known_child_taken, child_failed, child_first, child_kept, child_yields}
 use Rattle.plist_binread.proofs.advance.advance.Goals as goal
 use Rattle.plist_binread.proofs.advance.advance.Goals.{In-Child, After-enter, After-read_child}
 
 -- what taking the next child does
-turned : (g : _) (c : In-Child g) → IfSome (g.S.Source.known c.args.source.now) (λ bytes.
-    Turned bytes c.args.bounds.now c.args.walk.now (Child c.in-Child.object c.in-Child.index)
+taken : (g : _) (c : In-Child g) → IfSome (g.S.Source.known c.args.source.now) (λ bytes.
+    ChildTaken bytes c.args.bounds.now c.args.walk.now (Child c.in-Child.object c.in-Child.index)
     c.next_child.new.self)
-turned g c =
-    known_turned _ _ c.args.walk.now c.next_child.new.self (Child _ _) c.requires.known
+taken g c =
+    known_child_taken _ _ c.args.walk.now c.next_child.new.self (Child _ _) c.requires.known
     c.in-Child.ensures.remaining
 
 -- the place of the collection
@@ -43,7 +43,7 @@ pub returns-in-Err-clause-yields : goal.returns-in-Err-clause-yields
 returns-in-Err-clause-yields g c =
     let t = goal.at.returns-in-Err-clause-yields g c in
     child_failed _ _ c.args.walk.now c.next_child.new.self _ _ c.in-Child.ensures.within.0
-    c.in-Child.ensures.within.1 (turned g t.In-Child) _
+    c.in-Child.ensures.within.1 (taken g t.In-Child) _
     (rw (place g t.After-read_child) at c.in-Err.ensures.child)
 
 -- ---- a child that is entered
@@ -61,18 +61,18 @@ returns-in-Ok-clause-yields g c =
     let t = goal.at.returns-in-Ok-clause-yields g c in
     let at = place g t.After-read_child in
     child_yields _ _ c.args.walk.now c.next_child.new.self _ _ c.in-Child.ensures.within.0
-    c.in-Child.ensures.within.1 (turned g t.In-Child) _ c.in-Ok.ensures.unchanged c.in-Ok.number
+    c.in-Child.ensures.within.1 (taken g t.In-Child) _ c.in-Ok.ensures.unchanged c.in-Ok.number
     (rw at at c.in-Ok.ensures.child) _ _ c.enter.new.walk (rw at at c.enter.ensures.yields)
 
-pub returns-in-Ok-clause-kept : goal.returns-in-Ok-clause-kept
-returns-in-Ok-clause-kept g c =
-    let t = goal.at.returns-in-Ok-clause-kept g c in
+pub returns-in-Ok-clause-cached : goal.returns-in-Ok-clause-cached
+returns-in-Ok-clause-cached g c =
+    let t = goal.at.returns-in-Ok-clause-cached g c in
     child_kept _ c.args.bounds.now c.args.walk.now c.next_child.new.self _ _
-    c.in-Child.ensures.within.0 c.in-Child.ensures.within.1 (turned g t.In-Child) _
+    c.in-Child.ensures.within.0 c.in-Child.ensures.within.1 (taken g t.In-Child) _
     c.in-Ok.ensures.unchanged c.in-Ok.number
     (rw (place g t.After-read_child) at c.in-Ok.ensures.child)
     (answer_in c.enter.result c.enter.new.slot) (event_in c.enter.new.slot)
-    c.enter.new.walk.tags.items c.enter.ensures.kept
+    c.enter.new.walk.tags.items c.enter.ensures.cached
 
 pub returns-in-Ok-clause-limit : goal.returns-in-Ok-clause-limit
 returns-in-Ok-clause-limit g c =
@@ -80,6 +80,6 @@ returns-in-Ok-clause-limit g c =
     child_limits c.enter.result c.args.left c.enter.new.slot _ _ c.args.bounds.now c.args.walk.now
     c.next_child.new.self _ c.in-Ok.number c.in-Ok.ensures.unchanged
     (child_first _ c.args.bounds.now c.args.walk.now c.next_child.new.self _ _
-    c.in-Child.ensures.within.0 c.in-Child.ensures.within.1 (turned g t.In-Child) _
+    c.in-Child.ensures.within.0 c.in-Child.ensures.within.1 (taken g t.In-Child) _
     c.in-Ok.ensures.unchanged c.in-Ok.number
     (rw (place g t.After-read_child) at c.in-Ok.ensures.child)) c.enter.ensures.limit

@@ -24,5 +24,5 @@ returns-in_default-clause-refused c = λ meaning current more whole.
 
 pub returns-in-None-clause-refused : goal.returns-in-None-clause-refused
 returns-in-None-clause-refused c = λ meaning current more whole.
-    count_none c.args.low c.args.size c.args.extent c.args.rest.now more whole c.requires.far
+    count_none c.args.low c.args.size c.args.extent c.args.rest.now more whole c.requires.shown
     c.in-None.ensures.cut meaning

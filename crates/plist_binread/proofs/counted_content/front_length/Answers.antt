@@ -17,8 +17,8 @@ returns-clause-length c = λ more.
     _ more c.if-behind-width.false
     (tail_whole c.number_width-width.result c.in_ok-byte.behind.now))
 
-pub returns-clause-behind : goal.returns-clause-behind
-returns-clause-behind c =
+pub returns-clause-after : goal.returns-clause-after
+returns-clause-after c =
     lies_behind c.in_ok-byte.byte.now c.number_width-width.result c.args.rest.now
     c.in_ok-byte.behind.now _ c.in_ok-byte.ensures.cases.0 c.if-behind-width.false
     (tail_whole c.number_width-width.result c.in_ok-byte.behind.now)

@@ -7,7 +7,7 @@ use Rattle.plist_binread.proofs.Steps.{steps_positive}
 use Rattle.plist_binread.specs.Reading.{object_at}
 use Rattle.plist_binread.specs.Slot.{event_in}
 use Rattle.plist_binread.proofs.enter.enter.Goals as goal
-use Rattle.plist_binread.proofs.enter.enter.Goals.{After-keep_or_open}
+use Rattle.plist_binread.proofs.enter.enter.Goals.{After-cache_or_open}
 
 pub returns-in-None-clause-falls : goal.returns-in-None-clause-falls
 returns-in-None-clause-falls g c = omega (arith, steps_positive)
@@ -33,38 +33,38 @@ returns-in_err-outcome-in-Some-clause-limit g c =
     (rw c.in-Some.is at c.in_ok-look_up.ensures.found) c.in_err-outcome-in-Some.ensures.limit)
 
 -- the object is what was decoded
-there : (g : _) (c : After-keep_or_open g)
+there : (g : _) (c : After-cache_or_open g)
     → IfSome (g.S.Source.known c.args.source.now) (λ bytes. OutcomeAt bytes c.args.bounds.now
     c.args.number (event_in c.decode.new.slot) c.in_ok-outcome-in-Some.outcome)
 there g c =
     known_decoded _ _ c.args.walk.now _ c.requires.known c.in_ok-look_up.ensures.below _ _ _
     (rw c.in-Some.is at c.in_ok-look_up.ensures.found) c.in_ok-outcome-in-Some.ensures.decoded
 
-pub returns-then-keep_or_open-clause-known : goal.returns-then-keep_or_open-clause-known
-returns-then-keep_or_open-clause-known g c =
-    second _ _ _ (known_opens _ _ c.args.walk.now c.keep_or_open.new.walk _ _ _ c.requires.known
-    (there g (goal.at.returns-then-keep_or_open-clause-known g c).After-keep_or_open)
-    (c.keep_or_open.ensures.yields c.if-keep_or_open.true))
+pub returns-then-cache_or_open-clause-known : goal.returns-then-cache_or_open-clause-known
+returns-then-cache_or_open-clause-known g c =
+    second _ _ _ (known_opens _ _ c.args.walk.now c.cache_or_open.new.walk _ _ _ c.requires.known
+    (there g (goal.at.returns-then-cache_or_open-clause-known g c).After-cache_or_open)
+    (c.cache_or_open.ensures.yields c.if-cache_or_open.true))
 
-pub returns-then-keep_or_open-clause-yields : goal.returns-then-keep_or_open-clause-yields
-returns-then-keep_or_open-clause-yields g c =
-    from_any _ _ _ (first _ _ _ (known_opens _ _ c.args.walk.now c.keep_or_open.new.walk _ _ _
+pub returns-then-cache_or_open-clause-yields : goal.returns-then-cache_or_open-clause-yields
+returns-then-cache_or_open-clause-yields g c =
+    from_any _ _ _ (first _ _ _ (known_opens _ _ c.args.walk.now c.cache_or_open.new.walk _ _ _
     c.requires.known
-    (there g (goal.at.returns-then-keep_or_open-clause-yields g c).After-keep_or_open)
-    (c.keep_or_open.ensures.yields c.if-keep_or_open.true)))
+    (there g (goal.at.returns-then-cache_or_open-clause-yields g c).After-cache_or_open)
+    (c.cache_or_open.ensures.yields c.if-cache_or_open.true)))
 
-pub returns-then-keep_or_open-clause-kept : goal.returns-then-keep_or_open-clause-kept
-returns-then-keep_or_open-clause-kept g c =
+pub returns-then-cache_or_open-clause-cached : goal.returns-then-cache_or_open-clause-cached
+returns-then-cache_or_open-clause-cached g c =
     known_small _ c.args.bounds.now c.args.number _ _ _
-    (there g (goal.at.returns-then-keep_or_open-clause-kept g c).After-keep_or_open)
-    (c.keep_or_open.ensures.kept c.if-keep_or_open.true)
+    (there g (goal.at.returns-then-cache_or_open-clause-cached g c).After-cache_or_open)
+    (c.cache_or_open.ensures.cached c.if-cache_or_open.true)
 
-pub returns-else-keep_or_open-clause-yields : goal.returns-else-keep_or_open-clause-yields
-returns-else-keep_or_open-clause-yields g c =
+pub returns-else-cache_or_open-clause-yields : goal.returns-else-cache_or_open-clause-yields
+returns-else-cache_or_open-clause-yields g c =
     known_refused _ _ c.args.walk.now c.args.number c.requires.known
     c.in_ok-look_up.ensures.below c.args.at c.in-Some.place _ c.in_ok-look_up.ensures.new
     (rw c.in-Some.is at c.in_ok-look_up.ensures.found)
     (known_full _ c.args.bounds.now.trailer c.in-Some.place
     (object_at c.args.bounds.now c.in-Some.place) (event_in c.decode.new.slot)
     c.in_ok-outcome-in-Some.outcome c.refuse_memory.new.self.fault c.refuse_memory.ensures.fault
-    (c.keep_or_open.ensures.wanted c.if-keep_or_open.false) c.in_ok-outcome-in-Some.ensures.decoded)
+    (c.cache_or_open.ensures.wanted c.if-cache_or_open.false) c.in_ok-outcome-in-Some.ensures.decoded)

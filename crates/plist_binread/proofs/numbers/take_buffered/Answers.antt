@@ -19,7 +19,7 @@ loop-i-preserved g c =
     let number = c.number_from.ensures.value ∙ ap (λ k. number_of (take k (drop at seen))) width in
     record {
       len = search rules;
-      room = search rules;
+      capacity = search rules;
       items = numbers_more _ c.loop-i.numbers.items _ c.args.place w c.number_from.result
           c.push_reserved.ensures.items
           (numbers_at_hand _ seen c.loop-i.numbers.items c.args.place w c.len-read.result c.loop-i.i

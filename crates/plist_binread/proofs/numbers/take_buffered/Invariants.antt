@@ -5,6 +5,6 @@ use Rattle.plist_binread.proofs.numbers.take_buffered.Given as goal
 abbrev pub invariant-loop-i : goal.invariant-loop-i
 invariant-loop-i g l = record {
   len : vec_len l.numbers ≡ l.read + l.i;
-  room : vec_capacity l.numbers ≡ vec_capacity l.initial.numbers;
+  capacity : vec_capacity l.numbers ≡ vec_capacity l.initial.numbers;
   items : AreFirstNumbers (g.S.Source.known l.source) l.place l.width l.numbers.items;
 }

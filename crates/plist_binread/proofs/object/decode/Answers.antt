@@ -14,13 +14,13 @@ pub returns-in-Unseen-clause-decoded : goal.returns-in-Unseen-clause-decoded
 returns-in-Unseen-clause-decoded g c =
     long_decodes _ _ c.args.bounds.now c.args.place c.decode_front.new.slot.content
     (event_in c.decode_long.new.slot) (answer_in c.decode_long.result c.decode_long.new.slot)
-    c.in-Ok.ensures.unchanged (rw c.in-Unseen.is at c.in-Ok.ensures.long)
+    c.in-Ok.ensures.unchanged (rw c.in-Unseen.is at c.in-Ok.ensures.unseen)
     c.decode_long.ensures.current
 
 pub returns-in-Unseen-clause-limit : goal.returns-in-Unseen-clause-limit
 returns-in-Unseen-clause-limit g c =
     long_limits c.decode_long.result c.args.left c.decode_long.new.slot _ _ c.args.bounds.now c.args.place c.decode_front.new.slot.content
-    c.in-Ok.ensures.unchanged (rw c.in-Unseen.is at c.in-Ok.ensures.long)
+    c.in-Ok.ensures.unchanged (rw c.in-Unseen.is at c.in-Ok.ensures.unseen)
     c.decode_long.ensures.limit
 
 pub returns-in-Overrun : goal.returns-in-Overrun

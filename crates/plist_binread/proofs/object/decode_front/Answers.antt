@@ -8,8 +8,8 @@ returns-then-buffered-min-clause-outcome g c =
     (known_prefix _ _ _ _ (omega arith) c.buffered-buffered.ensures.bytes) c.decode_seen.result
     c.decode_seen.new.slot c.decode_seen.ensures.outcome
 
-pub returns-then-buffered-min-clause-long : goal.returns-then-buffered-min-clause-long
-returns-then-buffered-min-clause-long g c =
+pub returns-then-buffered-min-clause-unseen : goal.returns-then-buffered-min-clause-unseen
+returns-then-buffered-min-clause-unseen g c =
     seen_long _ c.args.bounds.now c.args.place _ (search rules)
     (known_prefix _ _ _ _ (omega arith) c.buffered-buffered.ensures.bytes) c.decode_seen.result
-    c.decode_seen.new.slot c.decode_seen.ensures.long
+    c.decode_seen.new.slot c.decode_seen.ensures.unseen

@@ -8,8 +8,8 @@ returns-in-Ok-clause-outcome g c =
     c.in-Ok.ensures.bytes c.decode_seen.result c.decode_seen.new.slot
     (rw c.requires.extent at c.decode_seen.ensures.outcome)
 
-pub returns-in-Ok-clause-long : goal.returns-in-Ok-clause-long
-returns-in-Ok-clause-long g c =
+pub returns-in-Ok-clause-unseen : goal.returns-in-Ok-clause-unseen
+returns-in-Ok-clause-unseen g c =
     seen_long _ c.args.bounds.now c.args.place c.read_exact_at.new.buf (search rules)
     c.in-Ok.ensures.bytes c.decode_seen.result c.decode_seen.new.slot
-    (rw c.requires.extent at c.decode_seen.ensures.long)
+    (rw c.requires.extent at c.decode_seen.ensures.unseen)

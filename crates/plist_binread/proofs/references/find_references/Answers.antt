@@ -3,20 +3,20 @@ use Rattle.plist_binread.proofs.Children.{known_references, known_beyond, known_
 use Rattle.plist_binread.proofs.Seen.{known_front, known_prefix}
 use Rattle.plist_binread.proofs.references.find_references.Goals as goal
 
-pub returns-then-place-bounds-clause-slots : goal.returns-then-place-bounds-clause-slots
-returns-then-place-bounds-clause-slots g c = λ index.
+pub returns-then-place-bounds-clause-references : goal.returns-then-place-bounds-clause-references
+returns-then-place-bounds-clause-references g c = λ index.
     known_beyond _ c.args.bounds.now _ _
     (Err c.refuse_overrun.new.self.fault) c.if-place-bounds.true
 
-pub returns-in-Some-clause-slots : goal.returns-in-Some-clause-slots
-returns-in-Some-clause-slots g c =
+pub returns-in-Some-clause-references : goal.returns-in-Some-clause-references
+returns-in-Some-clause-references g c =
     known_references _ c.args.bounds.now _ _ _ c.in-Some.ensures.place
     (known_front _ c.buffered-buffered.result.now _ _ _ _ (omega arith) (omega arith) refl
     c.buffered-buffered.ensures.bytes)
-    c.in-Some.ensures.slots
+    c.in-Some.ensures.references
 
-pub returns-in-None-clause-slots : goal.returns-in-None-clause-slots
-returns-in-None-clause-slots g c = λ index.
+pub returns-in-None-clause-references : goal.returns-in-None-clause-references
+returns-in-None-clause-references g c = λ index.
     known_childless _ c.args.bounds.now c.args.place index _
     (Err c.refuse_overrun-in-None.new.self.fault) (search rules)
     (known_prefix _ _ _ _ (omega arith) c.buffered-buffered.ensures.bytes) c.in-None.ensures.none

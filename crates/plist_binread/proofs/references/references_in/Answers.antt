@@ -5,18 +5,18 @@ use Rattle.plist_binread.proofs.Markers.{object_by_half, uncounted_childless}
 use Rattle.plist_binread.proofs.Seen.{front_slots}
 use Rattle.plist_binread.proofs.references.references_in.Goals as goal
 
-pub returns-clause-slots : goal.returns-clause-slots
-returns-clause-slots c = λ more.
-    front_slots _ _ c.in_ok-kind.low c.in_ok-kind.kind _ _ _ _ _ _ _ c.in_ok-pairs.ensures.slots
+pub returns-clause-references : goal.returns-clause-references
+returns-clause-references c = λ more.
+    front_slots _ _ c.in_ok-kind.low c.in_ok-kind.kind _ _ _ _ _ _ _ c.in_ok-pairs.ensures.references
     c.requires.width
     (object_by_half _ _ c.decode.result _ _ c.decode.ensures.byte
     (c.decode.ensures.layout c.args.width) (sym c.in_ok-kind.ensures))
     c.in_ok-byte.ensures.cases.0 c.in_ok-count.ensures.short refl
-    (c.in_ok-count.ensures.length _) c.in_ok-count.ensures.behind
+    (c.in_ok-count.ensures.length _) c.in_ok-count.ensures.after
 
 pub returns-in_err-byte-clause-none : goal.returns-in_err-byte-clause-none
 returns-in_err-byte-clause-none c = rw c.from_residual.ensures (λ more whole.
-    nothing_there c.args.width c.args.extent c.args.seen.now more whole c.requires.far
+    nothing_there c.args.width c.args.extent c.args.seen.now more whole c.requires.shown
     c.in_err-byte.ensures.cases)
 
 pub returns-in_err-kind-clause-none : goal.returns-in_err-kind-clause-none
@@ -31,7 +31,7 @@ returns-in_err-count-clause-none c = rw c.from_residual-in_err-count.ensures (λ
     let first = c.in_ok-byte.ensures.cases.0 in
     let short = c.in_err-count.ensures.cut in
     rw (nothing_more c.args.extent c.args.seen.now more whole
-    (c.requires.far (omega (arith, ap length first, short.0))))
+    (c.requires.shown (omega (arith, ap length first, short.0))))
     (childless c.args.width _ c.args.seen.now _ first
     (rw (object_by_half c.args.width _ c.decode.result _ _ c.decode.ensures.byte
     (c.decode.ensures.layout _) (sym c.in_ok-kind.ensures))

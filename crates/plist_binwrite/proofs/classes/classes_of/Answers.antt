@@ -1,7 +1,7 @@
 use Rattle.std.proofs.Common.{arith}
 use Rattle.plist_binwrite.specs.EventTable.{scalars_of}
 use Rattle.plist_binwrite.proofs.HeldEntries.{long_shown}
-use Rattle.plist_binwrite.proofs.Owners.{owners}
+use Rattle.plist_binwrite.proofs.Identities.{owners}
 use Rattle.plist_binwrite.proofs.classes.classes_of.Goals as goal
 
 pub give_class-requires-clause-high : goal.give_class-requires-clause-high

@@ -1,6 +1,6 @@
 use Rattle.std.proofs.Common.{◌+◌, Some, ap, ◌∙◌, arith, refl}
 use Rattle.plist_binwrite.specs.inner.Scalars.{is_leaf}
-use Rattle.plist_binwrite.proofs.Owners.{one_more}
+use Rattle.plist_binwrite.proofs.Identities.{one_more}
 use Rattle.plist_binwrite.proofs.classes.give_class.Goals as goal
 
 pub returns-in_ok-set-in-Some-clause-before : goal.returns-in_ok-set-in-Some-clause-before

@@ -20,7 +20,7 @@ walk-preserved g c = λ ts s.
           (c.hold_number.ensures.waits w.if-not-hold_number.false))
     ] in
     onward (items_first (c.walk.invariant ts s) (c.walk-test.ensures.yes refl).1)
-    c.index_behind-index.ensures.ends (λ goes answer d k p. goes _ d k
+    c.index_after-index.ensures.ends (λ goes answer d k p. goes _ d k
     (puts_then (rw c.number-number.ensures at put) p))
 
 pub returns-in_err-put_number : goal.returns-in_err-put_number

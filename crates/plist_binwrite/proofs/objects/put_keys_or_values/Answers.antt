@@ -20,14 +20,14 @@ walk-preserved g c = λ ms s.
           (c.hold_number.ensures.waits w.if-not-hold_number.false))
     ] in
     onward (pairs_first (c.walk.invariant ms s) (c.walk-test.ensures.yes refl).1).value
-    c.index_behind-key.ensures.ends (λ goes answer d k p. goes _ d k
-    (puts_then (rw (c.number-number.ensures, c.key_or_value.ensures.half) at put) p))
+    c.index_after-key.ensures.ends (λ goes answer d k p. goes _ d k
+    (puts_then (rw (c.number-number.ensures, c.key_or_value.ensures.chosen) at put) p))
 
 pub returns-in_err-put_number : goal.returns-in_err-put_number
 returns-in_err-put_number g c = λ ms s.
     (pairs_first (c.walk.invariant ms s) (c.walk-test.ensures.yes refl).1).goes _ _ _
     (puts_refused _ _ _ c.from_residual.ensures.1
-    (rw (c.number-number.ensures, c.key_or_value.ensures.half) at
+    (rw (c.number-number.ensures, c.key_or_value.ensures.chosen) at
     (puts_from (c.hold_number.ensures.no c.if-not-hold_number.true) c.in_err-put_number.ensures)))
 
 pub returns : goal.returns

@@ -33,7 +33,7 @@ pub returns-then-stamp-clause-repeats : goal.returns-then-stamp-clause-repeats
 returns-then-stamp-clause-repeats c = λ ms s.
     walked_repeats (c.walk.invariant.walked ms s) c.in-Some.scalar c.args.events.now.kept.apart
     c.in-Some.ensures.some (c.has_item.ensures.yes c.walk-test.true).1
-    (c.stamp.ensures.stood c.if-stamp.true)
+    (c.stamp.ensures.repeated c.if-stamp.true)
 
 pub walk-preserved : goal.walk-preserved
 walk-preserved c =
@@ -52,10 +52,10 @@ walk-preserved c =
           (omega arith) c.walk.invariant.newer);
       walked = λ ms s. rw c.stamp.ensures.stamped
           (walked_next (c.walk.invariant.walked ms s) c.in-Some.scalar c.args.events.now.kept.apart
-          c.in-Some.ensures.some c.index_behind_pair-key.result
+          c.in-Some.ensures.some c.index_after_pair-key.result
           (c.stamp.ensures.other c.if-stamp.false)
           within
-          (c.has_item.ensures.yes c.walk-test.true).1 c.index_behind_pair-key.ensures.ends);
+          (c.has_item.ensures.yes c.walk-test.true).1 c.index_after_pair-key.ensures.ends);
     }
 
 pub returns-clause-repeats : goal.returns-clause-repeats

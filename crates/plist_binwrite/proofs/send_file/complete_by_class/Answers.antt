@@ -2,7 +2,7 @@ use Rattle.std.proofs.Common.{rules}
 use Rattle.std.proofs.lemmas.Result.{err_from_is_err_and}
 use Rattle.plist_binwrite.specs.EventTable.{nth_number}
 use Rattle.plist_binwrite.proofs.SendingFiles.{sends_nothing}
-use Rattle.plist_binwrite.proofs.Unhinted.{whole_bracketed}
+use Rattle.plist_binwrite.proofs.Lengthless.{whole_bracketed}
 use Rattle.plist_binwrite.proofs.send_file.complete_by_class.Goals as goal
 
 pub draft_file-requires : goal.draft_file-requires
@@ -14,7 +14,7 @@ draft_file-requires g c = record {
 }
 
 pub returns : goal.returns
-returns g c = c.send_draft.ensures.sent (nth_number c.args.classes.of) c.in_ok-draft.ensures.goes
+returns g c = c.send_draft.ensures.sent (nth_number c.args.classes.of) c.in_ok-draft.ensures.class
 
 pub returns-in_err-buffer : goal.returns-in_err-buffer
 returns-in_err-buffer g c =

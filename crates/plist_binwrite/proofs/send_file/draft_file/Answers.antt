@@ -9,8 +9,8 @@ returns-clause-draft c =
     let table = c.in_ok-table.ensures in
     let same = table.long ∙ sym (c.len-count.ensures ∙ layout.order.long) in
     record {
-      ready = λ place told fits. is_ready _ c.reference_width.ensures.value c.len-count.ensures
-          c.in_ok-plan.ensures.planned layout.order layout.all table.size _ told
+      ready = λ place given fits. is_ready _ c.reference_width.ensures.value c.len-count.ensures
+          c.in_ok-plan.ensures.planned layout.order layout.all table.size _ given
           (subst (FitsWith place) same fits) table.long table.laid;
       oversized = λ exceeds class goes. oversized _ c.reference_width.ensures.value
           c.len-count.ensures c.in_ok-plan.ensures.planned layout.order layout.all table.size

@@ -10,7 +10,7 @@ pub walk-preserved : goal.walk-preserved
 walk-preserved c =
     let y = c.walk-test.ensures.yes refl in (
       omega arith,
-      λ ts s. onward (items_first (c.walk.invariant.1 ts s) y.1) c.index_behind-index.ensures.ends
+      λ ts s. onward (items_first (c.walk.invariant.1 ts s) y.1) c.index_after-index.ensures.ends
           (λ goes. omega arith),
     )
 

@@ -12,7 +12,7 @@ low count order marks i k o is within =
     rw is (o.below _ (any_at _ i within))
 
 pub loop-index-init : goal.loop-index-init
-loop-index-init c = (c.requires.order.long, λ objects d. record { told = refl; laid = tt })
+loop-index-init c = (c.requires.order.long, λ objects d. record { given = refl; laid = tt })
 
 pub set-requires : goal.set-requires
 set-requires c =
@@ -50,7 +50,7 @@ loop-index-preserved c =
           rw put (along_next c.args.file.now.width objects order c.loop-index.places i
           c.place_or_none.result c.loop-index.at c.add-at.result within
           c.requires.order.distinct (omega (arith, below, c.loop-index.invariant.0)) z.1
-          c.place_or_none.ensures (λ a told. c.add-at.ensures.sum a _ told z.0)
+          c.place_or_none.ensures (λ a given. c.add-at.ensures.sum a _ given z.0)
           c.add-at.ensures.none (c.loop-index.invariant.1 objects d)),
     )
 
@@ -59,7 +59,7 @@ returns-clause-size c = λ objects d.
     rw (length-magic (object_table c.args.file.now.width objects c.args.order.now))
     (rw (take_all c.loop-index.index c.args.order.now
     (omega (arith, c.loop-index-test.false, c.len-index-end.ensures)))
-    at (c.loop-index.invariant.1 objects d).told)
+    at (c.loop-index.invariant.1 objects d).given)
 
 pub returns-clause-laid : goal.returns-clause-laid
 returns-clause-laid c =

@@ -17,7 +17,7 @@ came g c = came_next _ _ _ _ _ _ c.loop-item.invariant.so_far c.next_item.ensure
 pub loop-item-init : goal.loop-item-init
 loop-item-init g c = record {
   failures = refl;
-  told = tells_none _ _ c.requires.empty.1 c.requires.empty.0;
+  tested = tells_none _ _ c.requires.empty.1 c.requires.empty.0;
   so_far = taken_none _ _ _ refl c.requires.empty.0;
   ran = held_none g.I.Items.goes g.I.Items.last _ _ c.requires.empty.0;
 }
@@ -73,7 +73,7 @@ loop-item-preserved g c =
     let is : c.next_item.result ≡ Some (Ok c.in_ok-item.field-0) = search rules in
     record {
       failures = search rules;
-      told = tells_next (g.H.EventSink.whole c.take.new.self) (g.H.EventSink.held c.loop-item.sink)
+      tested = tells_next (g.H.EventSink.whole c.take.new.self) (g.H.EventSink.held c.loop-item.sink)
           (g.H.EventSink.held c.take.new.self) (g.I.Items.last c.next_item.new.self) taken.1
           taken.2;
       so_far = IfSome_then (g.I.Items.coming c.args.items.now)
@@ -87,7 +87,7 @@ loop-item-preserved g c =
 pub returns-clause-held : goal.returns-clause-held
 returns-clause-held g c = λ e.
     let is : c.next_item.result ≡ None = search rules in
-    let whole = (rw (sym c.is_whole.ensures ∙ e) at c.loop-item.invariant.told).0 in (
+    let whole = (rw (sym c.is_whole.ensures ∙ e) at c.loop-item.invariant.tested).0 in (
       whole,
       IfSome_then (g.I.Items.coming c.args.items.now)
           (came g (goal.at.returns-clause-held g c).After-next_item)
@@ -100,7 +100,7 @@ returns-clause-none g c = λ e.
     IfSome_then (g.I.Items.coming c.args.items.now)
     (came g (goal.at.returns-clause-none g c).After-next_item)
     (λ all (left, next, took, to, t) tree of.
-    (rw (sym c.is_whole.ensures ∙ e) at c.loop-item.invariant.told)
+    (rw (sym c.is_whole.ensures ∙ e) at c.loop-item.invariant.tested)
     (whole_at_end all left _ took (rw is at t) tree of))
 
 pub returns-clause-answers : goal.returns-clause-answers

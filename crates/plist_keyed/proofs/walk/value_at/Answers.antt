@@ -6,7 +6,7 @@ use Rattle.plist.specs.Collecting.{built_tree}
 use Rattle.plist.specs.ValueOfItems.{IsValueOf}
 use Rattle.plist_keyed.specs.inner.RemainingSteps.{items_at, remaining_steps}
 use Rattle.plist_keyed.specs.inner.Walks.{items_of_steps}
-use Rattle.plist_keyed.proofs.Told.{fault-read}
+use Rattle.plist_keyed.proofs.Answered.{fault-read}
 use Rattle.plist_keyed.proofs.Walked.{begun, not-begun}
 use Rattle.plist_keyed.proofs.walk.value_at.Goals as goal
 

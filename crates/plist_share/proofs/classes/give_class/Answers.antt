@@ -1,6 +1,6 @@
 use Rattle.std.proofs.Common.{arith, sym, ◌∙◌, subst}
 use Rattle.plist_binwrite.proofs.Skipping.{no_start}
-use Rattle.plist_share.specs.inner.Keys.{HaveFrom}
+use Rattle.plist_share.specs.inner.Nodes.{AreClassesFrom}
 use Rattle.plist_share.proofs.Found.{collection_written, no_scalar, none_written}
 use Rattle.plist_share.proofs.classes.give_class.Goals as goal
 
@@ -8,7 +8,7 @@ pub returns-in_ok-set-in-Array-clause-classes : goal.returns-in_ok-set-in-Array-
 returns-in_ok-set-in-Array-clause-classes c =
     let have = c.requires.classes in
     let found = c.in_ok-class-in-Array.ensures in
-    subst (λ classes. HaveFrom c.args.events.now c.args.base classes
+    subst (λ classes. AreClassesFrom c.args.events.now c.args.base classes
     c.class_of_collection.new.seen.keys c.args.index) (sym c.in_ok-set-in-Array.ensures.set) (
       have.0,
       have.1,

@@ -1,12 +1,12 @@
 use Rattle.std.proofs.Common.{arith, sym, subst}
 use Rattle.std.proofs.lemmas.List.{length-map}
-use Rattle.plist_share.specs.inner.Keys.{HaveFrom, Key, key_of}
-use Rattle.plist_share.proofs.Found.{found_classes, told_trees}
+use Rattle.plist_share.specs.inner.Nodes.{AreClassesFrom, Node, node_of}
+use Rattle.plist_share.proofs.Found.{found_classes, separate_trees}
 use Rattle.plist_share.proofs.classes.give_classes.Goals as goal
 
 pub back-init : goal.back-init
 back-init c = record {
-  have = subst (HaveFrom c.args.events.now c.args.found.now.count c.args.found.now.of
+  have = subst (AreClassesFrom c.args.events.now c.args.found.now.count c.args.found.now.of
       c.args.seen.now.keys) (sym c.len-index.ensures) c.requires.classes;
   long = c.requires.long;
   within = omega (arith, c.len-index.ensures, c.requires.long);
@@ -19,13 +19,13 @@ returns-in-Some-clause-classes c =
     let long = c.back.invariant.long in
     record {
       objects = found_classes have.1 have.2 (omega (arith, c.back-test.false));
-      trees = told_trees have.1 have.2 (omega (arith, c.back-test.false))
+      trees = separate_trees have.1 have.2 (omega (arith, c.back-test.false))
           c.back.invariant.apart;
       long = long;
       below = λ i h. omega (
         arith,
         have.2.below i (omega (arith, long, h)),
-        length-map {B = Key} c.back.seen.keys key_of,
+        length-map {B = Node} c.back.seen.keys node_of,
         c.in-Some.ensures,
         c.len.ensures,
       );

@@ -1,15 +1,15 @@
 use Rattle.std.proofs.Common.{◌≡◌, ◌≤◌, length}
 use Rattle.plist_binwrite.specs.EventTable.{plain_events}
-use Rattle.plist_binwrite.specs.inner.Scalars.{AreApart}
-use Rattle.plist_share.specs.inner.Keys.{HaveFrom, keys_seen}
+use Rattle.plist_binwrite.specs.inner.Scalars.{AreDistinct}
+use Rattle.plist_share.specs.inner.Nodes.{AreClassesFrom, nodes_seen}
 use Rattle.plist_share.proofs.classes.give_classes.Given as goal
 
 abbrev pub invariant-back : goal.invariant-back
 invariant-back l = record {
-  have : HaveFrom l.events l.base l.found.of l.seen.keys l.index;
+  have : AreClassesFrom l.events l.base l.found.of l.seen.keys l.index;
   long : length l.found.of ≡ length (plain_events l.events);
   within : l.index ≤ length (plain_events l.events);
-  apart : AreApart (keys_seen l.seen.keys);
+  apart : AreDistinct (nodes_seen l.seen.keys);
 }
 
 abbrev pub decreases-back : goal.decreases-back

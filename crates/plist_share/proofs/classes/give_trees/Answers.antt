@@ -1,8 +1,8 @@
 use Rattle.std.proofs.Common.{arith, refl, sym, subst}
 use Rattle.plist_binwrite.specs.EventTable.{nth_number}
-use Rattle.plist_binwrite.specs.inner.Scalars.{AreApart}
+use Rattle.plist_binwrite.specs.inner.Scalars.{AreDistinct}
 use Rattle.plist_binwrite.proofs.Skipping.{occurs_in}
-use Rattle.plist_share.specs.inner.Keys.{keys_seen}
+use Rattle.plist_share.specs.inner.Nodes.{nodes_seen}
 use Rattle.plist_share.proofs.classes.give_trees.Goals as goal
 
 pub give_classes-requires-clause-long : goal.give_classes-requires-clause-long
@@ -23,4 +23,4 @@ give_classes-requires-clause-classes c =
 
 pub give_classes-requires-clause-apart : goal.give_classes-requires-clause-apart
 give_classes-requires-clause-apart c =
-    subst (λ l. AreApart (keys_seen l)) (sym c.new-seen.ensures.empty) (λ i j k p q. cc)
+    subst (λ l. AreDistinct (nodes_seen l)) (sym c.new-seen.ensures.empty) (λ i j k p q. cc)

@@ -1,6 +1,6 @@
 use Rattle.std.proofs.lemmas.Option.{slice_get_within}
 use Rattle.plist_binwrite.proofs.Keyed.{key_at, keys_kept, keys_apart, keys_grow}
-use Rattle.plist_share.specs.inner.Keys.{key_of}
+use Rattle.plist_share.specs.inner.Nodes.{node_of}
 use Rattle.plist_share.proofs.Alike.{same, same_key, key_same}
 use Rattle.plist_share.proofs.classes.index_of.Goals as goal
 
@@ -18,8 +18,8 @@ returns-clause-below c =
 
 pub returns-clause-extends : goal.returns-clause-extends
 returns-clause-extends c = record {
-  keeps = keys_kept same key_of _ _ _ _ c.in_ok-index.ensures.keys;
-  grows = (keys_grow same key_of _ _ _ _ c.in_ok-index.ensures.keys).0;
+  keeps = keys_kept same node_of _ _ _ _ c.in_ok-index.ensures.keys;
+  grows = (keys_grow same node_of _ _ _ _ c.in_ok-index.ensures.keys).0;
 }
 
 pub returns-clause-apart : goal.returns-clause-apart

@@ -19,11 +19,11 @@ loop-reading-preserved g c = λ last took.
     (rw (drop_more c.args.readings.now c.loop-reading.reading-index none
     c.loop-reading-test.true) (item-more g.W.Writer.Step (reading_tree reading)
     (map reading_tree rest) c.loop-reading.writer
-    c.write_reading.new.writer last c.in_ok-write_reading.ensures.handed took))
+    c.write_reading.new.writer last c.in_ok-write_reading.ensures.written took))
 
 pub returns : goal.returns
 returns g c = record {
-  handed = c.loop-reading.invariant c.write_end_collection.new.self
+  written = c.loop-reading.invariant c.write_end_collection.new.self
       (rw (drop_all c.loop-reading.reading-index c.args.readings.now (omega arith))
       (c.write_end_collection.new.self, c.in_ok-write_end_collection.ensures, refl));
 }

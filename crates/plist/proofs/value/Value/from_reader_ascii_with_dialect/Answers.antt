@@ -12,9 +12,9 @@ returns-clause-value g c =
     of-items (λ bytes. items_of_ascii (ends_bare c.args.dialect) (input_front bytes) 0) _ _
     (built_tree c.collect.result)
     (ascii-start _ c.args.dialect _ _ _ reader.dialect reader.bytes reader.place)
-    (c.collect.ensures.shown (ascii_coming g.R.Bytes.remaining) (λ old item new gives.
-    ascii-shows (dialect_of old) (dialect_of new) (untaken_bytes g.R.Bytes.remaining old)
-    (untaken_bytes g.R.Bytes.remaining new) (place_of old) (place_of new) item gives.dialect
+    (c.collect.ensures.shown (ascii_coming g.R.ByteReader.remaining) (λ old item new gives.
+    ascii-shows (dialect_of old) (dialect_of new) (untaken_bytes g.R.ByteReader.remaining old)
+    (untaken_bytes g.R.ByteReader.remaining new) (place_of old) (place_of new) item gives.dialect
     gives.items))
 
 pub returns-clause-read : goal.returns-clause-read

@@ -5,7 +5,7 @@ use Rattle.plist_ascii.proofs.input.Input.expect_byte.Goals as goal
 
 pub returns-in_err-byte-clause-fault : goal.returns-in_err-byte-clause-fault
 returns-in_err-byte-clause-fault g c =
-    passed_on (IsUnclosedText g.R.Bytes.remaining c.args.self.now c.take.new.self) _ _
+    passed_on (IsUnclosedText g.R.ByteReader.remaining c.args.self.now c.take.new.self) _ _
     c.from_residual.ensures.1 (io_unclosed _ _ c.in_err-byte.ensures.fault)
 
 pub returns-in-None-clause-fault : goal.returns-in-None-clause-fault

@@ -3,7 +3,7 @@ use Rattle.plist_ascii.proofs.input.Input.fetch.Goals as goal
 
 pub returns-in-Ok-Some-clause-next : goal.returns-in-Ok-Some-clause-next
 returns-in-Ok-Some-clause-next g c =
-    λ xs e. one_looks _ _ _ _ _ _ xs c.requires.going c.requires.none c.requires.room
+    λ xs e. one_looks _ _ _ _ _ _ xs c.requires.going c.requires.none c.requires.countable
     (rw c.in-Ok-Some.field-0-is at c.in-Ok-Some.ensures.byte) e
 
 pub returns-in-Ok-None-clause-next : goal.returns-in-Ok-None-clause-next

@@ -6,7 +6,7 @@ use Rattle.plist_ascii.proofs.input.Input.item.Given as goal
 
 abbrev pub invariant-tokens : goal.invariant-tokens
 invariant-tokens g l =
-    Since g.R.Bytes.remaining g.R.Bytes.failures l.fn.self l.self (Going (stops l.stop))
+    Since g.R.ByteReader.remaining g.R.ByteReader.failures l.fn.self l.self (Going (stops l.stop))
 
 abbrev pub decreases-tokens : goal.decreases-tokens
 decreases-tokens g l = 2 ^ 64 - l.self.taken

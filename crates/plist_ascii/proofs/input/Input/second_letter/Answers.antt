@@ -31,5 +31,5 @@ returns-in_default-clause-answers g c =
             (first_none _ xs (nothing_taken _ w.in_default.not-Some) h.1) refl
       ],
     ))
-    c.look.ensures.place (answers_fault escaped_bytes (λ _. bad_unit 0) _ _ _ _ c.fault.result
+    c.peek.ensures.place (answers_fault escaped_bytes (λ _. bad_unit 0) _ _ _ _ c.fault.result
     InvalidUtf16String c.fault.ensures tt (omega arith) (λ xs e. (refl, e, omega arith)))

@@ -5,7 +5,7 @@ use Rattle.plist_ascii.proofs.input.Input.skip_run.Given as goal
 
 abbrev pub invariant-loop-byte : goal.invariant-loop-byte
 invariant-loop-byte g l =
-    Since g.R.Bytes.remaining g.R.Bytes.failures l.fn.self l.self
+    Since g.R.ByteReader.remaining g.R.ByteReader.failures l.fn.self l.self
     (λ xs p ys q. (more : List ℕ) × RunsOn (stops l.stop) [] more xs p ys q)
 
 abbrev pub decreases-loop-byte : goal.decreases-loop-byte

@@ -15,7 +15,7 @@ pub returns-in-Some-eq47-clause-answers : goal.returns-in-Some-eq47-clause-answe
 returns-in-Some-eq47-clause-answers g c =
     answers_past _ _ _ _ _ 47 _ _ _ _ _
     (takes_looked _ _ _ _ _ (cc)
-    c.in_ok-look.ensures.next c.advance.ensures.next)
+    c.in_ok-peek.ensures.next c.advance.ensures.next)
     (omega arith) (λ ys. refl)
     c.line_comment.ensures.answers
 
@@ -23,7 +23,7 @@ pub returns-in-Some-eq42-clause-answers : goal.returns-in-Some-eq42-clause-answe
 returns-in-Some-eq42-clause-answers g c =
     answers_past _ _ _ _ _ 42 _ _ _ _ _
     (takes_looked _ _ _ _ _ (cc)
-    c.in_ok-look.ensures.next c.advance-in-Some-eq42.ensures.next)
+    c.in_ok-peek.ensures.next c.advance-in-Some-eq42.ensures.next)
     (omega arith) (λ ys. refl)
     c.block_comment.ensures.answers
 
@@ -31,9 +31,9 @@ pub returns-in_ok-event-in-Some-clause-answers : goal.returns-in_ok-event-in-Som
 returns-in_ok-event-in-Some-clause-answers g c =
     answers_looked (λ e. Some (event_of e)) _
     _ _ _ _ _ _ _ (Ok c.in_ok-event-in-Some.event)
-    (bare_looked _ _ _ _ _ c.in-Some.is c.in_ok-look.ensures.next c.in-Some._byte-test.0.1
+    (bare_looked _ _ _ _ _ c.in-Some.is c.in_ok-peek.ensures.next c.in-Some._byte-test.0.1
     c.in-Some._byte-test.1)
-    c.look.ensures.place c.in_ok-event-in-Some.ensures.answers
+    c.peek.ensures.place c.in_ok-event-in-Some.ensures.answers
 
 pub returns-in_err-event-in-Some-clause-answers : goal.returns-in_err-event-in-Some-clause-answers
 returns-in_err-event-in-Some-clause-answers g c =
@@ -41,23 +41,23 @@ returns-in_err-event-in-Some-clause-answers g c =
     c.from_residual-in_err-event-in-Some.ensures.1 in
     rw (p.1, p.2) (answers_looked (λ e. Some (event_of e)) (slash (stops c.args.stop))
     (bare (stops c.args.stop) 47) _ _ _ _ _ _ (Err c.in_err-event-in-Some.field-0.0)
-    (bare_looked _ _ _ _ _ c.in-Some.is c.in_ok-look.ensures.next c.in-Some._byte-test.0.1
+    (bare_looked _ _ _ _ _ c.in-Some.is c.in_ok-peek.ensures.next c.in-Some._byte-test.0.1
     c.in-Some._byte-test.1)
-    c.look.ensures.place c.in_err-event-in-Some.ensures.answers)
+    c.peek.ensures.place c.in_err-event-in-Some.ensures.answers)
 
 pub returns-in_err-event-in-Some-clause-memory : goal.returns-in_err-event-in-Some-clause-memory
 returns-in_err-event-in-Some-clause-memory g c =
     let p = err_from_is_err_and c.from_residual-in_err-event-in-Some.result
     c.from_residual-in_err-event-in-Some.ensures.1 in
     rw (p.1, p.2) (λ m xs e. slash_wants (stops c.args.stop) xs
-    (bare_looked _ _ _ _ _ c.in-Some.is c.in_ok-look.ensures.next c.in-Some._byte-test.0.1
+    (bare_looked _ _ _ _ _ c.in-Some.is c.in_ok-peek.ensures.next c.in-Some._byte-test.0.1
     c.in-Some._byte-test.1 xs e).1)
 
 pub returns-in-None-clause-answers : goal.returns-in-None-clause-answers
 returns-in-None-clause-answers g c =
-    let next = rw c.in-None.is at c.in_ok-look.ensures.next in
+    let next = rw c.in-None.is at c.in_ok-peek.ensures.next in
     answers_fault (option_map event_of) (slash (stops c.args.stop)) _ _ _ _ _ IncompleteComment
-    c.fault.ensures tt (omega (arith, c.look.ensures.place))
+    c.fault.ensures tt (omega (arith, c.peek.ensures.place))
     (λ xs e. let h = next xs e in
     front_from (slash (stops c.args.stop) xs) _ _ _ _ 0 xs (rw (first_none _ xs refl h.1) refl)
-    h.0 (omega (arith, c.look.ensures.place)))
+    h.0 (omega (arith, c.peek.ensures.place)))

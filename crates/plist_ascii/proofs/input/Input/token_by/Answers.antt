@@ -35,7 +35,7 @@ returns-in_err-event-in-Quote-clause-answers g c =
 
 pub returns-in_err-event-in-Quote-clause-memory : goal.returns-in_err-event-in-Quote-clause-memory
 returns-in_err-event-in-Quote-clause-memory g c =
-    passed_on (AllocatesForText g.R.Bytes.remaining (token_until c.args.stop c.args.byte)
+    passed_on (AllocatesForText g.R.ByteReader.remaining (token_until c.args.stop c.args.byte)
     c.args.self.now) _ _ c.from_residual.ensures.1
     (λ m xs e. wants_led (stops c.args.stop) c.args.byte _ _ c.lead_of.ensures c.in-Quote.is xs
     (quoted_wants c.args.byte xs))
@@ -57,7 +57,7 @@ returns-in-Slash-clause-brackets g c = λ _. texts_no_bracket c.slash.result _ c
 
 pub returns-in-Slash-clause-memory : goal.returns-in-Slash-clause-memory
 returns-in-Slash-clause-memory g c =
-    subst (λ l. IfErr c.slash.result (AllocatesForText g.R.Bytes.remaining
+    subst (λ l. IfErr c.slash.result (AllocatesForText g.R.ByteReader.remaining
     (token_by (stops c.args.stop) l c.args.byte) c.args.self.now))
     (sym (sym c.lead_of.ensures ∙ c.in-Slash.is)) c.slash.ensures.memory
 
@@ -85,7 +85,7 @@ returns-in_err-event-in-Bare-clause-answers g c =
 
 pub returns-in_err-event-in-Bare-clause-memory : goal.returns-in_err-event-in-Bare-clause-memory
 returns-in_err-event-in-Bare-clause-memory g c =
-    passed_on (AllocatesForText g.R.Bytes.remaining (token_until c.args.stop c.args.byte)
+    passed_on (AllocatesForText g.R.ByteReader.remaining (token_until c.args.stop c.args.byte)
     c.args.self.now) _ _ c.from_residual-in_err-event-in-Bare.ensures.1
     (λ m xs e. wants_led (stops c.args.stop) c.args.byte _ _ c.lead_of.ensures c.in-Bare.is xs
     (bare_wants (stops c.args.stop) c.args.byte xs))

@@ -30,7 +30,7 @@ returns-in-Fresh-clause-walks g c =
     first_walks _ _ _ _ c.args.self.now _ c.begin.ensures.unchanged c.begin.ensures.counted refl
     c.begin.result c.in-Fresh.is c.state_after-self.ensures c.begin.ensures.yields
     c.begin.ensures.fault c.begin.ensures.bounded c.begin.ensures.objects c.begin.ensures.known
-    c.begin.ensures.kept c.begin.ensures.falls c.begin.ensures.failures
+    c.begin.ensures.cached c.begin.ensures.falls c.begin.ensures.failures
 
 pub returns-in-Walking-clause-walks : goal.returns-in-Walking-clause-walks
 returns-in-Walking-clause-walks g c =
@@ -38,7 +38,7 @@ returns-in-Walking-clause-walks g c =
     c.advance-item.ensures.counted refl c.advance-item.result c.in-Walking.is
     c.state_after-self-in-Walking.ensures c.advance-item.ensures.yields c.advance-item.ensures.fault
     c.advance-item.ensures.size c.args.self.now.bounded c.advance-item.ensures.known
-    c.advance-item.ensures.kept c.advance-item.ensures.falls c.advance-item.ensures.failures
+    c.advance-item.ensures.cached c.advance-item.ensures.falls c.advance-item.ensures.failures
 
 pub returns-in-Fresh-clause-objects : goal.returns-in-Fresh-clause-objects
 returns-in-Fresh-clause-objects g c = c.begin.ensures.objects

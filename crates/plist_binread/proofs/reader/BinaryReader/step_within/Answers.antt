@@ -2,7 +2,7 @@ use Rattle.std.proofs.Common.{◌^◌, ◌∙◌, refl, subst, arith}
 use Rattle.plist_base.specs.declared.limits.Limit.TheVariants as limit
 use Rattle.plist_base.specs.Faults.{fault_of}
 use Rattle.plist_base.specs.Limits.{AdmitsAny, RefusesAny}
-use Rattle.plist_binread.specs.BinaryReader.{has_limits, is_new, binary_source, walk_to_come}
+use Rattle.plist_binread.specs.BinaryReader.{has_limits, is_new, binary_source, unlimited_items}
 use Rattle.plist_binread.specs.Slot.{event_in}
 use Rattle.plist_binread.proofs.Limiting.{event-current, fault-current, limit-counts, limit-given, limit-current, limited-below, long-current, none-current, refused-given, refused-other, still-given}
 use Rattle.plist_binread.proofs.OverKnown.{IfSome-all, IfSome-never}
@@ -20,8 +20,8 @@ returns-in-Ok g c =
     let admitted = subst (λ l. AdmitsAny l current c.admit.new.limiter)
     c.step.ensures.limiter (rw (← same) at c.in-Ok.ensures.admitted) in
     let items = event-current (is_new old) current (g.R.Source.known (binary_source old))
-    old.limiter c.admit.new.limiter (λ bytes. walk_to_come bytes old)
-    (λ bytes. walk_to_come bytes mid) admitted (rw (← same) at w.items) in
+    old.limiter c.admit.new.limiter (λ bytes. unlimited_items bytes old)
+    (λ bytes. unlimited_items bytes mid) admitted (rw (← same) at w.items) in
     let cached = rw (← same) at w.cached in
     let limited = c.admit.ensures.limited ∙ w.kept.0 in
     search (walks, items, cached, limited)
@@ -40,7 +40,7 @@ returns-in-Err g c =
         unchanged = w.unchanged;
         items = limit-current (is_new old) (event_in mid.slot)
             (g.R.Source.known (binary_source old)) old.limiter c.admit.new.limiter
-            (λ bytes. walk_to_come bytes old) (λ bytes. walk_to_come bytes mid) error r w.items;
+            (λ bytes. unlimited_items bytes old) (λ bytes. unlimited_items bytes mid) error r w.items;
         failures = refused-other old.limiter (event_in mid.slot) (fault_of error) _ _ _ r
             w.failures;
         ended = λ e. (let no = w.ended e in absurd (cc));
@@ -63,8 +63,8 @@ returns-in-Some-Err-Fault g c =
     let walks = rw c.in-Some-Err-Fault.field-0-is at c.in-Some-Err-Fault.ensures.walks in
     let w = walks.gives in
     let items = fault-current (is_new old) (event_in new.slot)
-    (g.R.Source.known (binary_source old)) old.limiter new.limiter (λ bytes. walk_to_come bytes old)
-    (λ bytes. walk_to_come bytes new) new.slot.fault w.items in
+    (g.R.Source.known (binary_source old)) old.limiter new.limiter (λ bytes. unlimited_items bytes old)
+    (λ bytes. unlimited_items bytes new) new.slot.fault w.items in
     search (
       walks,
       items,
@@ -86,7 +86,7 @@ returns-in-Some-Err-TooLong g c =
         unchanged = w.unchanged;
         items = long-current (is_new old) (event_in c.refuse_limit.new.self)
             (g.R.Source.known (binary_source old)) old.limiter mid.limiter
-            (λ bytes. walk_to_come bytes old) (λ bytes. walk_to_come bytes mid) error mid.slot.fault
+            (λ bytes. unlimited_items bytes old) (λ bytes. unlimited_items bytes mid) error mid.slot.fault
             c.refuse_limit.ensures.fault reached.1 w.items reached.2;
         failures = limit-counts error mid.slot.fault _ _ c.refuse_limit.ensures.fault reached.0
             w.failures;
@@ -112,6 +112,6 @@ returns-in-None g c =
     let walks = c.in-None.ensures.walks in
     let w = walks.gives in
     let items = none-current (is_new old) (event_in new.slot) (g.R.Source.known (binary_source old))
-    old.limiter new.limiter (λ bytes. walk_to_come bytes old) (λ bytes. walk_to_come bytes new)
+    old.limiter new.limiter (λ bytes. unlimited_items bytes old) (λ bytes. unlimited_items bytes new)
     w.items in
     search (walks, items)

@@ -2,7 +2,7 @@ use Rattle.std.proofs.Common.{Some, ap, refl, reverse, ◌∙◌}
 use Rattle.plist_base.specs.Events.{event_of}
 use Rattle.plist_base.specs.Expects.{expected_after}
 use Rattle.plist_binwrite.specs.EventBuffers.{buffered_events}
-use Rattle.plist_binwrite.proofs.Pended.{same_wants, stack_shown, tests_whole, took}
+use Rattle.plist_binwrite.proofs.Buffered.{same_wants, stack_shown, tests_whole, took}
 use Rattle.plist_binwrite.proofs.event_buffer.EventBuffer.hold.Goals as goal
 
 pub invariant_of-self-2 : goal.invariant_of-self-2

@@ -1,7 +1,7 @@
 use Rattle.std.proofs.Common.{refl}
 use Rattle.std.proofs.lemmas.Result.{err_from_is_err_and}
 use Rattle.plist_base.specs.Events.{event_of}
-use Rattle.plist_binwrite.proofs.Pended.{seen, can_take, cannot_take}
+use Rattle.plist_binwrite.proofs.Buffered.{seen, can_take, cannot_take}
 use Rattle.plist_binwrite.proofs.event_buffer.EventBuffer.try_push.Goals as goal
 
 pub returns-in-Refused-clause-refused : goal.returns-in-Refused-clause-refused

@@ -1,6 +1,6 @@
 use Rattle.std.proofs.Common.{inl, sym, append-nil}
 use Rattle.plist_binwrite.specs.EventTable.{scalars_of}
-use Rattle.plist_binwrite.specs.inner.Entries.{IsKept}
+use Rattle.plist_binwrite.specs.inner.Entries.{IsValidTable}
 use Rattle.plist_binwrite.proofs.HeldEntries.{kept_scalar, scalar_shown, leaf_stored, either, either_few}
 use Rattle.plist_binwrite.proofs.event_table.EventTable.repeat.Goals as goal
 
@@ -8,7 +8,7 @@ pub invariant_of-self : goal.invariant_of-self
 invariant_of-self c =
     let s = c.args.self.now in
     record {
-      kept = either c.push.result (λ l. IsKept (scalars_of s) l s.begun.items)
+      kept = either c.push.result (λ l. IsValidTable (scalars_of s) l s.unclosed.items)
           c.push.ensures.pushed c.push.ensures.unchanged
           (kept_scalar s.kept _ (sym (append-nil (scalars_of s))) _ c.requires
           (leaf_stored (scalars_of s) _ c.requires) s.kept.apart (λ j lt. inl lt))

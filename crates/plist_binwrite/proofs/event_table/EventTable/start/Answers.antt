@@ -1,6 +1,6 @@
 use Rattle.std.proofs.Common.{◌≡◌, ◌+◌, subst}
 use Rattle.plist_binwrite.specs.EventTable.{scalars_of}
-use Rattle.plist_binwrite.specs.inner.Entries.{behind_of}
+use Rattle.plist_binwrite.specs.inner.Entries.{index_after_entry}
 use Rattle.plist_binwrite.proofs.HeldEntries.{long_shown, kept_start}
 use Rattle.plist_binwrite.proofs.event_table.EventTable.start.Goals as goal
 
@@ -14,7 +14,7 @@ invariant_of-self-2 c =
         c.len-index.ensures,
         c.in_ok-push.ensures.pushed,
       ) (kept_start s.kept c.args.entry c.requires.starts
-          (subst (λ n. behind_of n c.args.entry ≡ n + 1) (long_shown (scalars_of s) s.entries)
-          c.requires.behind));
+          (subst (λ n. index_after_entry n c.args.entry ≡ n + 1) (long_shown (scalars_of s) s.entries)
+          c.requires.after));
       few = c.in_ok-push.ensures.small;
     }

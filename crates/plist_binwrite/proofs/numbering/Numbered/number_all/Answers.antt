@@ -3,7 +3,7 @@ use Rattle.plist_binwrite.specs.EventTable.{IsNumbered}
 use Rattle.plist_binwrite.proofs.Inside.{positions_all, positions_have}
 use Rattle.plist_binwrite.proofs.Skipping.{begins, occurs_in}
 use Rattle.plist_binwrite.proofs.PlannedBy.{keeps_then}
-use Rattle.plist_binwrite.proofs.Sitting.{occurs_whole}
+use Rattle.plist_binwrite.proofs.Occurring.{occurs_whole}
 use Rattle.plist_binwrite.proofs.Uniques.{all_from}
 use Rattle.plist_binwrite.proofs.numbering.Numbered.number_all.Goals as goal
 

@@ -9,7 +9,7 @@ walk-preserved c =
     let one = c.in_ok-number_one.ensures in (
       record { long = c.requires.so_far.long; plan = one.plan; ids = one.ids },
       keeps_then c.walk.invariant.1 one.keeps,
-      λ ts s. onward (items_first (c.walk.invariant.2 ts s) y.1) c.index_behind-index.ensures.ends
+      λ ts s. onward (items_first (c.walk.invariant.2 ts s) y.1) c.index_after-index.ensures.ends
           (λ goes ns fs k all. goes ns fs (keeps_then one.keeps k)
           (k.numbered _ (one.numbered y.1), all)),
     )

@@ -12,11 +12,11 @@ walk-preserved c =
       record { long = c.requires.so_far.long; plan = one.plan; ids = one.ids },
       keeps_then c.walk.invariant.1 one.keeps,
       λ ms s. let i = c.walk.invariant.2 ms s in
-          onward (pairs_first i y.1).value c.index_behind_pair-key.ensures.ends
+          onward (pairs_first i y.1).value c.index_after_pair-key.ensures.ends
           (λ goes ns fs k all. goes ns fs (keeps_then one.keeps k) (
             k.numbered _ (subst (λ p. is_end (event_at
                 (plain_events c.args.given.now.events.now) p)
-                ≡ false → IsNumbered found.numbers found.firsts p) c.key_or_value-index.ensures.half
+                ≡ false → IsNumbered found.numbers found.firsts p) c.key_or_value-index.ensures.chosen
                 one.numbered (stands i c.args.values y.1)),
             all,
           )),

@@ -7,7 +7,7 @@ use Rattle.plist_binwrite.specs.EventBuffers.{BuffersNext, buffered_events, is_w
 use Rattle.plist_commands.specs.Holding.{HoldsMore}
 use Rattle.plist_commands.proofs.event_sink.EventBufferEventSink.take.Goals as goal
 
--- one more is held behind the same events
+-- one more is held after the same events
 holds_more : (before after : EventBuffer) (held : List PlainEvent) (event : PlainEvent)
     → buffered_events before ≡ held
     → CanContinue (buffered_events before) event × BuffersNext before event after
@@ -17,7 +17,7 @@ holds_more before after held event is h =
 
 pub returns-then-is_whole-clause-refused : goal.returns-then-is_whole-clause-refused
 returns-then-is_whole-clause-refused c = λ e.
-    (rw (sym c.is_whole.ensures ∙ c.if-is_whole.true) at c.requires.told).1
+    (rw (sym c.is_whole.ensures ∙ c.if-is_whole.true) at c.requires.tested).1
     (event_of c.args.event)
 
 pub returns-clause-taken : goal.returns-clause-taken

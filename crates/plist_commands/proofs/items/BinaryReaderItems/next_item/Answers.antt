@@ -1,11 +1,11 @@
 use Rattle.plist_binread.specs.BinaryReader.{is_new, binary_source, items_to_come}
 use Rattle.plist_binread.specs.Advancing.{current_event}
-use Rattle.plist_commands.proofs.Coming.{any_fault, told_comes}
+use Rattle.plist_commands.proofs.Coming.{any_fault, given_comes}
 use Rattle.plist_commands.proofs.items.BinaryReaderItems.next_item.Goals as goal
 
 pub returns-clause-items : goal.returns-clause-items
 returns-clause-items g c =
-    told_comes (g.S.Source.known (binary_source c.args.self.now))
+    given_comes (g.S.Source.known (binary_source c.args.self.now))
     (g.S.Source.known (binary_source c.advance.new.self)) (λ bytes. items_to_come bytes
     c.args.self.now)
     (λ bytes. items_to_come bytes c.advance.new.self) (is_new c.args.self.now) c.advance.result

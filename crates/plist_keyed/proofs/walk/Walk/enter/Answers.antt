@@ -3,7 +3,7 @@ use Rattle.std.specs.Option.{option_copied}
 use Rattle.plist_base.specs.Bracketing.{bracketing}
 use Rattle.plist_base.specs.Faults.{fault_of}
 use Rattle.plist.specs.ValueTrees.{tree_of}
-use Rattle.plist_keyed.proofs.Walked.{seen_at, missing, open_already, entered-walk, entered-owes}
+use Rattle.plist_keyed.proofs.Walked.{seen_at, missing, open_already, entered-walk, entered-remains}
 use Rattle.plist_keyed.proofs.walk.Walk.enter.Goals as goal
 
 pub returns-in_default-clause-refused : goal.returns-in_default-clause-refused
@@ -33,5 +33,5 @@ pub returns-clause-entered : goal.returns-clause-entered
 returns-clause-entered c =
     let at = seen_at _ c.args.uid _ (Some c.in-Some.object.now) c.look_up.ensures
     (ap option_copied c.in-Some.is) in
-    entered-owes c.args.self.now c.open.new.self c.args.uid c.in-Some.object.now c.requires at
+    entered-remains c.args.self.now c.open.new.self c.args.uid c.in-Some.object.now c.requires at
     (sym c.contains.ensures ∙ c.if-contains.false) c.open.result c.open.ensures.opened

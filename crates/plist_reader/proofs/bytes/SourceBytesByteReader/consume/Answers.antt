@@ -1,6 +1,6 @@
 use Rattle.std.proofs.Common.{take}
 use Rattle.plist_reader.proofs.Streams.{several_there}
-use Rattle.plist_reader.proofs.bytes.SourceBytesBytes.consume.Goals as goal
+use Rattle.plist_reader.proofs.bytes.SourceBytesByteReader.consume.Goals as goal
 
 pub returns-clause-bytes : goal.returns-clause-bytes
 returns-clause-bytes g c =

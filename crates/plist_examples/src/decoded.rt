@@ -23,7 +23,7 @@ impl<'a> DecodeCounter for &'a mut Tally {
 }
 
 // The current event in its compact form, as a word.
-fn told_word<C: DecodeCounter>(
+fn compact_word<C: DecodeCounter>(
     alloc: Global,
     reader: &BinaryReader<&[u8], C>,
 ) -> Result<String, AllocError> {
@@ -50,14 +50,14 @@ fn told_word<C: DecodeCounter>(
 }
 
 // Adds the next event, or the text of the fault that comes in its place, after a blank.
-fn add_told<C: DecodeCounter>(
+fn add_compact<C: DecodeCounter>(
     alloc: Global,
     words: &mut String,
     reader: &mut BinaryReader<&[u8], C>,
 ) -> Result<(), AllocError> {
     let word = match reader.advance() {
         None => return Ok(()),
-        Some(Ok(())) => told_word(alloc, reader)?,
+        Some(Ok(())) => compact_word(alloc, reader)?,
         Some(Err(error)) => error.to_string(alloc)?,
     };
     words.push(' ')?;
@@ -65,11 +65,11 @@ fn add_told<C: DecodeCounter>(
 }
 
 // What eight calls give of these bytes, each word after a blank.
-fn told_words(alloc: Global, bytes: &[u8], tally: &mut Tally) -> Result<String, AllocError> {
+fn compact_words(alloc: Global, bytes: &[u8], tally: &mut Tally) -> Result<String, AllocError> {
     let mut reader = BinaryReader::with_counter(alloc, bytes, tally);
     let mut words = String::new(alloc);
     for _ in 0..8 {
-        add_told(alloc, &mut words, &mut reader)?;
+        add_compact(alloc, &mut words, &mut reader)?;
     }
     Ok(words)
 }
@@ -82,20 +82,20 @@ fn twice(alloc: Global, object: &str) -> Result<Vec<u8>, Wrong> {
 }
 
 // What a file gives, after how many small scalars are decoded.
-fn wanted_of(alloc: Global, check: &str, told: &str) -> Result<String, AllocError> {
+fn wanted_of(alloc: Global, check: &str, words: &str) -> Result<String, AllocError> {
     match check {
-        "kept" => format!(in alloc; "1 array:2 {told} {told} end"),
-        "anew" => format!(in alloc; "0 array:2 {told} {told} end"),
-        _ => format!(in alloc; "0 array:2 {told}"),
+        "kept" => format!(in alloc; "1 array:2 {words} {words} end"),
+        "anew" => format!(in alloc; "0 array:2 {words} {words} end"),
+        _ => format!(in alloc; "0 array:2 {words}"),
     }
 }
 
 /// An example of an object: `kept` is a small scalar, decoded once and then given from the cache;
-/// what isn't small is read `anew` each time; behind a `fault` nothing comes.
+/// what isn't small is read `anew` each time; after a `fault` nothing comes.
 pub(crate) fn run(alloc: Global, row: Row<'_>) -> Result<(), Wrong> {
     let bytes = twice(alloc, row.given)?;
     let mut tally = Tally { raised: 0 };
-    let words = told_words(alloc, bytes.as_slice(), &mut tally)?;
+    let words = compact_words(alloc, bytes.as_slice(), &mut tally)?;
     let found = format!(in alloc; "{}{}", tally.raised, words.as_str())?;
     let wanted = wanted_of(alloc, row.check, row.wanted)?;
     expect_same(alloc, found.as_str(), wanted.as_str())

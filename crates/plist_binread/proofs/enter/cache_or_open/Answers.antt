@@ -7,7 +7,7 @@ use Rattle.plist_binread.proofs.Steps.{yields_scalar, yields_collection, collect
 use Rattle.plist_binread.proofs.Opened.{IsOpen-push, not_open, admits_more, cached_count-keep, cached_count-mark}
 use Rattle.plist_binread.proofs.Known.{as_many, known_kept, known_opened}
 use Rattle.plist_binread.proofs.Packing.{kind_of_tag-some}
-use Rattle.plist_binread.proofs.enter.keep_or_open.Goals as goal
+use Rattle.plist_binread.proofs.enter.cache_or_open.Goals as goal
 
 pub returns-in-Some-clause-counted : goal.returns-in-Some-clause-counted
 returns-in-Some-clause-counted c =
@@ -16,8 +16,8 @@ returns-in-Some-clause-counted c =
     ∙ ap (λ b. cached_count c.args.walk.now.tags.items + cond b 1 0)
     (sym c.in-Some.ensures.small))
 
-pub returns-in-Some-clause-kept : goal.returns-in-Some-clause-kept
-returns-in-Some-clause-kept c = λ _ object outcome small.
+pub returns-in-Some-clause-cached : goal.returns-in-Some-clause-cached
+returns-in-Some-clause-cached c = λ _ object outcome small.
     kind_of_tag-some _ _ c.cache.ensures.tags.here
 
 pub returns-in-Some-clause-falls : goal.returns-in-Some-clause-falls
@@ -61,8 +61,8 @@ returns-in-Ok-clause-counted c =
     let same = cached_count-mark _ _ _ _ c.mark_open.ensures in
     rw c.in-Collection.is (omega arith)
 
-pub returns-in-Ok-clause-kept : goal.returns-in-Ok-clause-kept
-returns-in-Ok-clause-kept c = λ _ object outcome small.
+pub returns-in-Ok-clause-cached : goal.returns-in-Ok-clause-cached
+returns-in-Ok-clause-cached c = λ _ object outcome small.
     absurd (false≢true (cc (collection_large object (event_in c.args.slot.now) c.in-Collection.count
     (rw c.in-Collection.is at outcome))))
 

@@ -15,8 +15,8 @@ use Rattle.plist_binread.specs.Packed.{unmarked}
 use Rattle.plist_format.specs.Unfolding.{until_fault}
 use Rattle.plist_binread.specs.Reading.{ReadsChildAt}
 use Rattle.plist_binread.specs.Remaining.{place_at, children_at, entries_of, next_number, Explains}
-use Rattle.plist_binread.specs.Step.{IsTurnOfWalk}
-use Rattle.plist_binread.specs.Turns.{IsCurrentCached, IsTurn}
+use Rattle.plist_binread.specs.Step.{WalkTakesNextChild}
+use Rattle.plist_binread.specs.NextChild.{IsCurrentCached, TakesNextChild}
 use Rattle.plist_binread.specs.Walking.{IsWalkOf, open_in, remaining_entering, remaining_in, walk_objects}
 use Rattle.plist_binread.proofs.Known.{as_many, entry_there, held_place}
 use Rattle.std.proofs.lemmas.Option.{IfSome_then}
@@ -24,15 +24,15 @@ use Rattle.plist_binread.proofs.OverKnown.{IfSome-both}
 
 -- ---- the next child
 
-abbrev pub Turned : (bytes : List ℕ) → Bounds → (old : Walk) → NextChild → (new : Walk) → Type 0
-Turned bytes bounds old turn new =
-    IsTurn (entries_of bytes bounds) (open_in old) turn (open_in new) × IsWalkOf bytes bounds new
+abbrev pub ChildTaken : (bytes : List ℕ) → Bounds → (old : Walk) → NextChild → (new : Walk) → Type 0
+ChildTaken bytes bounds old child new =
+    TakesNextChild (entries_of bytes bounds) (open_in old) child (open_in new) × IsWalkOf bytes bounds new
 
-pub known_turned : (known : Option (List ℕ)) (bounds : Bounds) (old new : Walk) (turn : NextChild)
-    → IsKnownWalk known bounds old → IsTurnOfWalk old turn new
-    → IfSome known (λ bytes. Turned bytes bounds old turn new)
-known_turned known bounds old new turn k turns =
-    IfSome_then known k (λ bytes k. turns bytes bounds k)
+pub known_child_taken : (known : Option (List ℕ)) (bounds : Bounds) (old new : Walk) (child : NextChild)
+    → IsKnownWalk known bounds old → WalkTakesNextChild old child new
+    → IfSome known (λ bytes. ChildTaken bytes bounds old child new)
+known_child_taken known bounds old new child k takes =
+    IfSome_then known k (λ bytes k. takes bytes bounds k)
 
 -- the number of the child of an object
 abbrev pub child_of : (bytes : List ℕ) → Bounds → (object index : ℕ) → ℕ
@@ -41,20 +41,20 @@ child_of bytes bounds object index =
 
 module _ (known : Option (List ℕ)) (bounds : Bounds) (old mid : Walk) (object index : ℕ)
     (h : object < walk_objects mid) (none : unmarked (get_or mid.tags.items object 0) ≡ 0)
-    (turned : IfSome known (λ bytes. Turned bytes bounds old (Child object index) mid)) where
+    (taken : IfSome known (λ bytes. ChildTaken bytes bounds old (Child object index) mid)) where
   -- the number that was read is that of the child
   pub child_read : (answer : Result ℕ Error)
       → ReadsChildAt answer known bounds (get_or mid.contents.items object 0) index
-      → IfSome known (λ bytes. Turned bytes bounds old (Child object index) mid
+      → IfSome known (λ bytes. ChildTaken bytes bounds old (Child object index) mid
       × MatchResult answer (λ number. number ≡ child_of bytes bounds object index)
       (λ error. IsIo (kind_of (error_kind_of error))))
-  child_read answer reads = IfSome-both known turned reads (λ bytes turned reads.
-      let k = turned.1 in
+  child_read answer reads = IfSome-both known taken reads (λ bytes taken reads.
+      let k = taken.1 in
       let there = entry_there bytes bounds mid.tags.items mid.contents.items (open_in mid) k object
       h in
       let place = held_place bytes bounds mid.tags.items mid.contents.items (open_in mid) k object h
       none ∙ ap place_at there in
-      (turned, rw there ((rw place at (reads k.within)) (rw there at turned.0.1))))
+      (taken, rw there ((rw place at (reads k.within)) (rw there at taken.0.1))))
 
   -- a read of the reference failed
   pub child_failed : (e : Error)

@@ -68,7 +68,7 @@ pub stack_shown : (ws : List Expect) (n : ℕ) (b : Bool) → n ≡ length ws �
     → (reverse ws ≡ expected_now b (reverse ws)) × (b ≡ is_nothing (reverse ws))
 stack_shown ws n b h e = root_shown (reverse ws) n b (omega (arith, h, length-reverse ws)) e
 
--- nothing more is expected exactly behind a tree's events
+-- nothing more is expected exactly after a tree's events
 pub tests_whole : (es : List PlainEvent) (s : List Expect) (b : Bool) → expected_after es ≡ Some s
     → b ≡ is_nothing s → TestsWhole b es
 tests_whole es [] true w n = complete_of_whole es (bracketed es w)
@@ -84,7 +84,7 @@ pub same_wants : (es : List PlainEvent) (e : PlainEvent)
     → expected_after (es ++ without_length e ∷ []) ≡ expected_after (es ++ e ∷ [])
 same_wants es e = wanted_alike _ _ (alike_last es e)
 
--- a change, told of the stack that the code has, is refused just where the event can't follow
+-- a change, given of the stack that the code has, is refused just where the event can't follow
 module _ (s : EventBuffer) (e : PlainEvent) (c : Change) (still : s.whole ≡ false)
     {expects : List Expect} (same : expects ≡ s.expects.items)
     (is : c ≡ change_on_top (reverse expects) e) where

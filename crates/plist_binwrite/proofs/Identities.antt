@@ -5,7 +5,7 @@ use Rattle.std.proofs.lemmas.Option.{slice_get_within}
 use Rattle.plist_base.specs.Events.{ScalarEvent, PlainEvent}
 use Rattle.plist_base.specs.Trees.{Scalar}
 use Rattle.plist_binwrite.specs.EventTable.{event_at, nth_number}
-use Rattle.plist_binwrite.specs.inner.Scalars.{owner, own, shared, alone, AreApart, HaveClasses, AreOwners, is_leaf}
+use Rattle.plist_binwrite.specs.inner.Scalars.{identity_at, identity_of, shared, alone, AreDistinct, HaveClasses, AreIdentities, is_leaf}
 use Rattle.plist_binwrite.proofs.Changes.{at_set}
 
 -- ---- one more event gets its class
@@ -48,16 +48,16 @@ module _ {es scalars : List PlainEvent} {top index : ℕ} (cs : List ℕ) (v : �
 -- ---- at the end
 
 module _ {es keys : List PlainEvent} {class : ℕ → ℕ} {top index : ℕ}
-    (full : length es ≤ index) (have : HaveClasses es class keys top index) (apart : AreApart keys)
+    (full : length es ≤ index) (have : HaveClasses es class keys top index) (apart : AreDistinct keys)
     (low : length keys ≤ top) where
   record IsShared (p : ℕ) : Type 0 where
     scalar : Scalar
-    owned : owner es p ≡ shared scalar
+    owned : identity_at es p ≡ shared scalar
     key : slice_get keys (class p) ≡ Some (ScalarEvent scalar)
     early : class p < length keys
 
   record IsAlone (p : ℕ) : Type 0 where
-    owned : owner es p ≡ alone p
+    owned : identity_at es p ≡ alone p
     other : is_leaf (event_at es p) ≡ false
     late : (length keys ≤ class p) × (class p < top)
 
@@ -67,18 +67,18 @@ module _ {es keys : List PlainEvent} {class : ℕ → ℕ} {top index : ℕ}
       let key = have.scalars p (omega arith) x is in
       inl (record {
         scalar = x;
-        owned = ap (λ e. own e p) is;
+        owned = ap (λ e. identity_of e p) is;
         key = key;
         early = slice_get_within keys (class p) _ key;
       })
   known e p l is =
       inr (record {
-        owned = ap (λ e. own e p) is;
+        owned = ap (λ e. identity_of e p) is;
         other = ap is_leaf is;
         late = have.others p (omega (arith, l, full)) (ap is_leaf is);
       })
 
-  pub owners : AreOwners es class top
+  pub owners : AreIdentities es class top
   owners = record {
     below = λ p l. elim (known _ p l refl) [
       | inl s ↦ omega
@@ -92,7 +92,7 @@ module _ {es keys : List PlainEvent} {class : ℕ → ℕ} {top index : ℕ}
       ]
       | inr n ↦ elim (known _ q m refl) [
         | inl t ↦ absurd (omega (arith, t.early, n.late.0, h))
-        | inr o ↦ ap (owner es) (have.apart p q (omega (arith, l, full))
+        | inr o ↦ ap (identity_at es) (have.apart p q (omega (arith, l, full))
             (omega (arith, m, full)) n.other o.other h)
       ]
     ];

@@ -6,7 +6,7 @@ use Rattle.plist_base.specs.Faults.{Fault, IsIo, kind_of, error_kind_of}
 use Rattle.plist_base.specs.Events.{PlainEvent, EndCollection}
 use Rattle.plist_binread.specs.declared.frames.Frame.{Frame}
 use Rattle.plist_binread.specs.declared.walk.NextChild.{NextChild}
-use Rattle.plist_binread.specs.declared.walk.NextChild.TheVariants as turn
+use Rattle.plist_binread.specs.declared.walk.NextChild.TheVariants as child
 use Rattle.plist_binread.specs.declared.head.Bounds.{Bounds}
 use Rattle.plist_format.specs.Container.{Head, head_of}
 use Rattle.plist_binread.specs.Packed.{is_small_event, unmarked, cached, scalar_event}
@@ -19,11 +19,11 @@ use Rattle.plist_binread.specs.Remaining.{SomeRemain, children_at, entries_of, n
 
 -- ---- the next child of the innermost frame
 
-abbrev pub IsTurn : List TableEntry → List Frame → NextChild → List Frame → Type 0
-IsTurn table old turn.Done new = (old ≡ []) × (new ≡ [])
-IsTurn table old turn.Closed new = remaining_items table old ≡ Ok EndCollection
+abbrev pub TakesNextChild : List TableEntry → List Frame → NextChild → List Frame → Type 0
+TakesNextChild table old child.Done new = (old ≡ []) × (new ≡ [])
+TakesNextChild table old child.Closed new = remaining_items table old ≡ Ok EndCollection
     ∷ remaining_items table new
-IsTurn table old (turn.Child object index) new =
+TakesNextChild table old (child.Child object index) new =
     (remaining_items table old ≡ unfolding_of table (length table - length new) (path_of new)
     (place_at (slice_get table object)) (get_or (children_at (slice_get table object)) index 0)
     ++ remaining_items table new)
@@ -32,9 +32,9 @@ IsTurn table old (turn.Child object index) new =
     × (next_number table old ≡ Some (get_or (children_at (slice_get table object)) index 0))
 
 abbrev pub WeightFalls : (count : ℕ) → List Frame → NextChild → List Frame → Type 0
-WeightFalls count old turn.Done new = Unit {0}
-WeightFalls count old turn.Closed new = walk_weight count old ≡ walk_weight count new + 1
-WeightFalls count old (turn.Child object index) new =
+WeightFalls count old child.Done new = Unit {0}
+WeightFalls count old child.Closed new = walk_weight count old ≡ walk_weight count new + 1
+WeightFalls count old (child.Child object index) new =
     walk_weight count old ≡ walk_weight count new + walk_steps (count - length new)
 
 abbrev pub is_fresh : WalkState → Bool
@@ -67,7 +67,7 @@ IsFound tag content current found = MatchOption found
     ((0 < unmarked tag) × (scalar_event (cached tag content) ≡ Some current))
     (λ place. (unmarked tag ≡ 0) × (place ≡ content))
 
--- a child's number, where the object has so many
+-- a child's number, where the object has this many
 abbrev pub ReadsChild : Object → (index : ℕ) → Result ℕ Error → Type 0
 ReadsChild object index answer =
     index < length (children_in object)
@@ -75,10 +75,10 @@ ReadsChild object index answer =
     (λ error. IsIo (kind_of (error_kind_of error)))
 
 -- the next child is one of an open object, which isn't cached
-abbrev pub IsTurnWithin : (tags : List ℕ) → NextChild → Type 0
-IsTurnWithin tags (turn.Child object index) =
+abbrev pub ParentIsUncached : (tags : List ℕ) → NextChild → Type 0
+ParentIsUncached tags (child.Child object index) =
     (object < length tags) × (unmarked (get_or tags object 0) ≡ 0)
-IsTurnWithin tags _ = Unit {0}
+ParentIsUncached tags _ = Unit {0}
 
 -- ---- which object comes next
 

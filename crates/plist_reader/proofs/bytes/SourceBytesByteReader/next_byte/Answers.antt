@@ -1,6 +1,6 @@
 use Rattle.std.proofs.Common.{arith}
 use Rattle.plist_reader.proofs.Streams.{first_held, one_there}
-use Rattle.plist_reader.proofs.bytes.SourceBytesBytes.next_byte.Goals as goal
+use Rattle.plist_reader.proofs.bytes.SourceBytesByteReader.next_byte.Goals as goal
 
 pub returns-clause-byte : goal.returns-clause-byte
 returns-clause-byte g c =

@@ -1,5 +1,5 @@
 use Rattle.plist_binwrite.proofs.HeldEntries.{lt, behind_forward, behind_ends}
-use Rattle.plist_binwrite.proofs.event_table.EventTable.index_behind.Goals as goal
+use Rattle.plist_binwrite.proofs.event_table.EventTable.index_after.Goals as goal
 
 pub behind-requires-clause-within : goal.behind-requires-clause-within
 behind-requires-clause-within c = lt c.args.self.now.kept c.requires

@@ -2,7 +2,7 @@ use Rattle.std.proofs.Common.{refl}
 use Rattle.plist_format.specs.declared.marker.Marker.TheVariants.{Counted}
 use Rattle.plist_binread.proofs.Markers.{object_by_half}
 use Rattle.plist_binread.proofs.Seen.{long_as}
-use Rattle.plist_binread.proofs.object_faults.front_behind.Goals as goal
+use Rattle.plist_binread.proofs.object_faults.front_after_marker.Goals as goal
 
 pub returns-in-Integer1-clause-outcome : goal.returns-in-Integer1-clause-outcome
 returns-in-Integer1-clause-outcome c = rw (c.in-Integer1.ensures.layout _) c.front_unsigned.ensures.outcome
@@ -37,11 +37,11 @@ returns-in-Data-clause-outcome c = λ more whole.
     c.in-Counted.ensures.byte (c.in-Counted.ensures.layout _) refl)
     (rw c.in-Data.is (c.front_data.ensures.outcome more whole))
 
-pub returns-in-Data-clause-long : goal.returns-in-Data-clause-long
-returns-in-Data-clause-long c = long_as _ _ _ _ _ _
+pub returns-in-Data-clause-unseen : goal.returns-in-Data-clause-unseen
+returns-in-Data-clause-unseen c = long_as _ _ _ _ _ _
     (λ xs. object_by_half c.args.width c.args.marker (Counted c.in-Counted.kind c.in-Counted.low)
     _ xs c.in-Counted.ensures.byte (c.in-Counted.ensures.layout _) refl)
-    (rw c.in-Data.is c.front_data.ensures.long)
+    (rw c.in-Data.is c.front_data.ensures.unseen)
 
 pub returns-in-Text-clause-outcome : goal.returns-in-Text-clause-outcome
 returns-in-Text-clause-outcome c = λ more whole.
@@ -49,11 +49,11 @@ returns-in-Text-clause-outcome c = λ more whole.
     c.in-Counted.ensures.byte (c.in-Counted.ensures.layout _) refl)
     (rw c.in-Text.is (c.front_text.ensures.outcome more whole))
 
-pub returns-in-Text-clause-long : goal.returns-in-Text-clause-long
-returns-in-Text-clause-long c = long_as _ _ _ _ _ _
+pub returns-in-Text-clause-unseen : goal.returns-in-Text-clause-unseen
+returns-in-Text-clause-unseen c = long_as _ _ _ _ _ _
     (λ xs. object_by_half c.args.width c.args.marker (Counted c.in-Counted.kind c.in-Counted.low)
     _ xs c.in-Counted.ensures.byte (c.in-Counted.ensures.layout _) refl)
-    (rw c.in-Text.is c.front_text.ensures.long)
+    (rw c.in-Text.is c.front_text.ensures.unseen)
 
 pub returns-in-WideText-clause-outcome : goal.returns-in-WideText-clause-outcome
 returns-in-WideText-clause-outcome c = λ more whole.
@@ -61,11 +61,11 @@ returns-in-WideText-clause-outcome c = λ more whole.
     c.in-Counted.ensures.byte (c.in-Counted.ensures.layout _) refl)
     (rw c.in-WideText.is (c.front_wide_text.ensures.outcome more whole))
 
-pub returns-in-WideText-clause-long : goal.returns-in-WideText-clause-long
-returns-in-WideText-clause-long c = long_as _ _ _ _ _ _
+pub returns-in-WideText-clause-unseen : goal.returns-in-WideText-clause-unseen
+returns-in-WideText-clause-unseen c = long_as _ _ _ _ _ _
     (λ xs. object_by_half c.args.width c.args.marker (Counted c.in-Counted.kind c.in-Counted.low)
     _ xs c.in-Counted.ensures.byte (c.in-Counted.ensures.layout _) refl)
-    (rw c.in-WideText.is c.front_wide_text.ensures.long)
+    (rw c.in-WideText.is c.front_wide_text.ensures.unseen)
 
 pub returns-in-Array-clause-outcome : goal.returns-in-Array-clause-outcome
 returns-in-Array-clause-outcome c = λ more whole.

@@ -8,15 +8,15 @@ use Rattle.plist_binwrite.specs.declared.entries.EventEntry.{EventEntry}
 use Rattle.plist_binwrite.specs.declared.entries.EventEntry.TheVariants as entry
 use Rattle.plist_binwrite.specs.declared.event_table.EventTable.{EventTable}
 use Rattle.plist_binwrite.specs.EventTable.{plain_events, IsBracketed}
-use Rattle.plist_binwrite.specs.inner.Entries.{shown, all_shown}
+use Rattle.plist_binwrite.specs.inner.Entries.{event_of_entry, events_of_entries}
 
 shown_twice : (scalars : List PlainEvent) (e : EventEntry)
-    → without_length (shown scalars e) ≡ shown scalars e
+    → without_length (event_of_entry scalars e) ≡ event_of_entry scalars e
 shown_twice scalars (entry.Scalar index) = without_length-twice _
 shown_twice scalars e = refl
 
 all_twice : (scalars : List PlainEvent) (es : List EventEntry)
-    → map without_length (all_shown scalars es) ≡ all_shown scalars es
+    → map without_length (events_of_entries scalars es) ≡ events_of_entries scalars es
 all_twice scalars [] = refl
 all_twice scalars (e ∷ es) =
     cc (shown_twice scalars e, all_twice scalars es)

@@ -10,22 +10,22 @@ use Rattle.plist_binwrite.specs.declared.classes.Classes.{Classes}
 use Rattle.plist_binwrite.specs.declared.event_table.EventTable.{EventTable}
 use Rattle.plist_binwrite.specs.declared.kinds.EntryKind.{EntryKind}
 use Rattle.plist_binwrite.specs.declared.kinds.EntryKind.TheVariants as kind
-use Rattle.plist_binwrite.specs.inner.Scalars.{AreOwners}
+use Rattle.plist_binwrite.specs.inner.Scalars.{AreIdentities}
 use Rattle.plist_binwrite.specs.Occurrences.{OccursAt}
 use Rattle.plist_share.specs.declared.classes.Collection.{Collection}
 
 -- a collection: whether it is a dictionary, and the classes of its children
-abbrev pub Key : Type 0
-Key = Bool × List ℕ
+abbrev pub Node : Type 0
+Node = Bool × List ℕ
 
-abbrev pub key_of : Collection → Key
-key_of collection = (collection.is_dictionary, collection.children.items)
+abbrev pub node_of : Collection → Node
+node_of collection = (collection.is_dictionary, collection.children.items)
 
-abbrev pub keys_seen : List Collection → List Key
-keys_seen collections = map key_of collections
+abbrev pub nodes_seen : List Collection → List Node
+nodes_seen collections = map node_of collections
 
 -- some came after those that were there, which stayed
-pub record Extends (old new : List Key) : Type 0 where
+pub record Extends (old new : List Node) : Type 0 where
   pub keeps : (i : ℕ) → i < length old → slice_get new i ≡ slice_get old i
   pub grows : length old ≤ length new
 
@@ -33,23 +33,23 @@ pub record Extends (old new : List Key) : Type 0 where
 
 module _ (class : ℕ → ℕ) (count : ℕ) where
   -- a collection by the classes of its children, a dictionary's keys before its values
-  abbrev pub key_by : (is_dictionary : Bool) → Tree → ℕ → Key
-  key_by is_dictionary t p = (is_dictionary, map class (keys_in t p) ++ map class (values_in t p))
+  abbrev pub node_by : (is_dictionary : Bool) → Tree → ℕ → Node
+  node_by is_dictionary t p = (is_dictionary, map class (keys_in t p) ++ map class (values_in t p))
 
   -- a collection's class: after `count` others, its index among the collections seen
-  abbrev pub IsIndexed : List Key → (is_dictionary : Bool) → Tree → ℕ → ℕ → Type 0
+  abbrev pub IsIndexed : List Node → (is_dictionary : Bool) → Tree → ℕ → ℕ → Type 0
   IsIndexed keys is_dictionary t p c =
-      (i : ℕ) × (c ≡ count + i) × (slice_get keys i ≡ Some (key_by is_dictionary t p))
+      (i : ℕ) × (c ≡ count + i) × (slice_get keys i ≡ Some (node_by is_dictionary t p))
 
   module _ (scalar : ℕ → ℕ) where
     -- the class that a tree at an index has; a scalar's is known
-    abbrev pub IsClass : List Key → Tree → ℕ → ℕ → Type 0
+    abbrev pub IsClass : List Node → Tree → ℕ → ℕ → Type 0
     IsClass keys (Leaf x) p c = c ≡ scalar p
     IsClass keys (Array items) p c = IsIndexed keys false (Array items) p c
     IsClass keys (Dictionary pairs) p c = IsIndexed keys true (Dictionary pairs) p c
 
     -- from this index on each tree has its class, and before it nothing has changed
-    pub record HaveTreeClasses (es : List PlainEvent) (keys : List Key) (from : ℕ) : Type 0 where
+    pub record HaveTreeClasses (es : List PlainEvent) (keys : List Node) (from : ℕ) : Type 0 where
       pub behind : (t : Tree) (p : ℕ) → from ≤ p → OccursAt es t p → IsClass keys t p (class p)
       pub before : (p : ℕ) → p < from → class p ≡ scalar p
       pub below : (p : ℕ) → p < length es → class p < count + length keys
@@ -62,8 +62,8 @@ SeparatesTrees es class =
 -- ---- of held events
 
 -- this is the index of a collection among those seen
-abbrev pub IsKeyAt : (seen : List Collection) → Collection → (index : ℕ) → Type 0
-IsKeyAt seen collection index = slice_get (keys_seen seen) index ≡ Some (key_of collection)
+abbrev pub IsNodeAt : (seen : List Collection) → Collection → (index : ℕ) → Type 0
+IsNodeAt seen collection index = slice_get (nodes_seen seen) index ≡ Some (node_of collection)
 
 -- the classes of the events at these indices are added
 abbrev pub AddsClasses : (old : Vec ℕ Global) → (classes indices : List ℕ) → (new : Vec ℕ Global)
@@ -83,20 +83,20 @@ is_dictionary kind.Dictionary = true
 is_dictionary kind.Scalar = false
 is_dictionary kind.End = false
 
--- the class of the collection that begins here, behind so many others
+-- the class of the collection that begins here, after this many others
 abbrev pub IsClassAt : EventTable → (classes : List ℕ) → (base : ℕ) → (seen : List Collection)
     → (index class : ℕ) → Type 0
 IsClassAt held classes base seen index class = (t : Tree) → OccursAt (plain_events held) t index
-    → IsIndexed (nth_number classes) base (keys_seen seen)
+    → IsIndexed (nth_number classes) base (nodes_seen seen)
     (is_dictionary (entry_kind_of (table_event held index)))
     t index class
 
 -- from this index on each tree has its class, and before it the scalars have theirs
-abbrev pub HaveFrom : EventTable → (base : ℕ) → (classes : List ℕ) → (seen : List Collection)
+abbrev pub AreClassesFrom : EventTable → (base : ℕ) → (classes : List ℕ) → (seen : List Collection)
     → (from : ℕ) → Type 0
-HaveFrom held base classes seen from =
-    (scalar : ℕ → ℕ) × AreOwners (plain_events held) scalar base
-    × HaveTreeClasses (nth_number classes) base scalar (plain_events held) (keys_seen seen) from
+AreClassesFrom held base classes seen from =
+    (scalar : ℕ → ℕ) × AreIdentities (plain_events held) scalar base
+    × HaveTreeClasses (nth_number classes) base scalar (plain_events held) (nodes_seen seen) from
 
 -- each event has a class below the count, and they tell the trees that begin there apart
 pub record SeparatesAll (held : EventTable) (found : Classes) : Type 0 where

@@ -29,7 +29,7 @@ use Rattle.plist_keyed.specs.inner.RemainingSteps.{items_at, objects_seen}
 use Rattle.plist_keyed.specs.inner.Walks.{fault_of_archive, items_of_steps, steps_at}
 use Rattle.plist_keyed.proofs.Expanding.{Begins, Gives, uid-gives, resolved-once}
 
--- what stands behind some events: the fault, or an event before it
+-- what stands after some events: the fault, or an event before it
 stands : (es events : List PlainEvent) (f : Fault) (more next : List Item)
     → map Ok es ++ Err f ∷ more ≡ map Ok events ++ next
     → (next ≡ Err f ∷ more) ⊎ ((x : PlainEvent) × (left : List PlainEvent) × (m : List Item)
@@ -43,7 +43,7 @@ stands (x ∷ es) (y ∷ events) f more next p =
       | inr (z, left, m, is, q) ↦ inr (z, left, m, is, cc)
     ]
 
--- reading stops at the fault, or for want of memory: an event before it can come next
+-- reading stops at the fault, or for lack of memory: an event before it can come next
 only : (es : List PlainEvent) (f : Fault) (more : List Item) (fault : Fault) → Begins bracketing es
     → IsFirstFault (map Ok es ++ Err f ∷ more) fault → (fault ≡ f)
     ⊎ (fault ≡ fault_nowhere OutOfMemory)
@@ -69,20 +69,20 @@ by_kind faults.Io offset Q R h g = tt
 by_kind OutOfMemory offset Q R h g = tt
 by_kind kind offset Q R h g = g h
 
-itself_told : (f : ArchiveFault) → IsFaultOf {A = Tree} (Err f) (error_of_fault
+itself_answered : (f : ArchiveFault) → IsFaultOf {A = Tree} (Err f) (error_of_fault
     (fault_of_archive f))
-itself_told (UidOutOfRange uid) = refl
-itself_told (RecursiveUid uid) = refl
+itself_answered (UidOutOfRange uid) = refl
+itself_answered (RecursiveUid uid) = refl
 
--- a fault is the tree's, or want of memory
-fault-told : (answer : Result Tree ArchiveFault) (items : List Item) (fault : Fault)
+-- a fault is the tree's, or lack of memory
+fault-answered : (answer : Result Tree ArchiveFault) (items : List Item) (fault : Fault)
     → Gives answer items → IsValueOf items (Err fault) → IsFaultOf answer (error_of_fault fault)
-fault-told (Ok t) items fault g h =
+fault-answered (Ok t) items fault g h =
     by_kind fault.kind fault.offset (IsFirstFault items fault) _ h (λ s. absurd (s.1 t g))
-fault-told (Err f) items fault (es, more, is, begins) h =
+fault-answered (Err f) items fault (es, more, is, begins) h =
     by_kind fault.kind fault.offset (IsFirstFault items fault) _ h
     (λ s. elim (only es (fault_of_archive f) more fault begins (rw is at s)) [
-      | inl p ↦ rw p (itself_told f)
+      | inl p ↦ rw p (itself_answered f)
       | inr p ↦ rw p tt
     ])
 
@@ -94,12 +94,12 @@ same_of all t u (events, same, alike) (others, also, like) =
     one_tree t u (sym alike ∙ ap (map without_length) (sym e) ∙ like)
 
 -- a tree that is read is the tree, where no key stands twice in it
-tree-told : (answer : Result Tree ArchiveFault) (items : List Item) (tree : Tree)
+tree-answered : (answer : Result Tree ArchiveFault) (items : List Item) (tree : Tree)
     → Gives answer items → IsValueOf items (Ok tree) → IfOk answer HasKeysOnce
     → answer ≡ Ok tree
-tree-told (Ok t) items tree g (whole, of, last) once =
+tree-answered (Ok t) items tree g (whole, of, last) once =
     ap Ok (sym ((keys-once t).0 once) ∙ ap last_wins (same_of items t whole g of) ∙ sym last)
-tree-told (Err f) items tree (es, more, is, begins) (whole, (events, same, alike), last) once =
+tree-answered (Err f) items tree (es, more, is, begins) (whole, (events, same, alike), last) once =
     let s = all-events es events _ (sym is ∙ same) in no_fault (fault_of_archive f) more s.0 s.1
 
 -- a fault alone is read as that fault
@@ -133,7 +133,7 @@ pub tree-read : (objects slice : List Value) (uid : ℕ) (tree : Tree) → slice
     → resolved_tree (map tree_of objects) uid ≡ Ok tree
 tree-read objects slice uid tree e itself h =
     let trees = map tree_of objects in
-    tree-told _ (items_at objects uid) tree (gives-at objects uid) (rw e at h)
+    tree-answered _ (items_at objects uid) tree (gives-at objects uid) (rw e at h)
     (resolved-once trees (λ u t p. of_value (slice_get objects u) t itself
     (sym (slice_get-map tree_of objects u) ∙ p)) (length trees) [] uid)
 
@@ -142,4 +142,4 @@ pub error-read : (objects slice : List Value) (uid : ℕ) (fault : Fault) (error
     → slice ≡ objects → error ≡ error_of_fault fault → IsValueOf (items_at slice uid) (Err fault)
     → IsFaultOf (resolved_tree (map tree_of objects) uid) error
 error-read objects slice uid fault error e is h =
-    rw is (fault-told _ (items_at objects uid) fault (gives-at objects uid) (rw e at h))
+    rw is (fault-answered _ (items_at objects uid) fault (gives-at objects uid) (rw e at h))

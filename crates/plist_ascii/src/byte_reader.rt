@@ -10,7 +10,7 @@ use std::io::Read;
 ///
 /// Every `Read` is one, which counts no failures and has nothing buffered. What counts its failures
 /// may be one, too.
-pub trait Bytes {
+pub trait ByteReader {
     /// The bytes that are still to come, where they are known.
     ghost remaining: { Self → Option (List ℕ) };
     /// How many reads failed, where they are counted.
@@ -39,7 +39,7 @@ pub trait Bytes {
 }
 
 /// No failures are counted, and nothing is buffered.
-impl<R: Read> Bytes for R {
+impl<R: Read> ByteReader for R {
     ghost remaining = { R.remaining };
 
     ghost failures = { λ _. None };

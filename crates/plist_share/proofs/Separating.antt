@@ -16,7 +16,7 @@ tells_both one other test make a x b y is back (inl p) (inl q) =
     inl (is ∙ (λ i. p.0 i && q.0 i), λ i. make (p.1 i) (q.1 i))
 tells_both one other test make a x b y is back (inl p) (inr q) =
     inr (is ∙ (λ i. p.0 i && q.0 i), λ e. q.1 (back e).1)
-tells_both one other test make a x b y is back (inr p) told =
+tells_both one other test make a x b y is back (inr p) given =
     inr (cc, λ e. p.1 (back e).0)
 
 abbrev rest_eq : Tree × Members → Tree × Members → Bool
