@@ -148,6 +148,7 @@ impl<R: Read + Seek + Drop> Source for Seeking<R> {
     }
 
     /// What its windows hold, without a read.
+    #[inline(always)]
     fn buffered(&self, place: u64) -> &[u8] {
         self.windows.held(place)
     }

@@ -123,6 +123,7 @@ impl Windows {
     }
 
     /// The bytes that are held from a place on, perhaps none.
+    #[inline(always)]
     pub(crate) fn held(&self, place: u64) -> &[u8]
         ensures bytes { (i : ℕ) × LendsFrom self.now i place result.now }
     {

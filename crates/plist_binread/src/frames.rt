@@ -148,7 +148,7 @@ impl Frames {
     }
 
     /// Opens a collection of `count` children.
-    #[inline]
+    #[inline(always)]
     pub fn push(&mut self, object: u64, count: u64) -> Result<(), AllocError>
         ensures value { OnOk result (self.new ≡ self.old ++ frame_of object 0 count ∷ []) }
         ensures unchanged { OnErr result (self.new ≡ self.old) }
