@@ -1,6 +1,6 @@
 //! The line of each event.
 
-ghost use Rattle.std.specs.Prelude.{◌≡◌, ◌++◌, ◌-◌, ◌<◌, ◌≤◌, codes, length, take, true, OnOk};
+ghost use Rattle.std.specs.Prelude.{◌≡◌, ◌++◌, ◌-◌, ◌<◌, ◌≤◌, codes, false, length, take, true, Ok, OnOk};
 ghost use Rattle.std.specs.Fmt.{decimal, signed_decimal};
 ghost use Rattle.plist_base.specs.Events.{ScalarEvent, event_of};
 ghost use Rattle.plist_base.specs.Trees.{Data, String};
@@ -18,6 +18,9 @@ pub enum Notation {
     /// As those of data, after its word.
     Hexadecimal,
 }
+
+/// No line has more bytes than this and those of a text or data in it.
+pub const MOST_OF_SHORT: usize = 64;
 
 // No number has more digits, and after them comes the end of its line.
 const MOST_BEHIND: usize = 21;
@@ -204,11 +207,16 @@ fn digits_of(number: u64) -> usize
     }
 }
 
-// The line of a number, of which a pattern is given: its word, and room for its digits and the LF.
-// The digits are written where they stay: a copy of bytes that were just stored waits for them,
-// which took an eighth of the time of a list of integers.
+/// Appends the line of a number, of which a pattern is given: its word, and room for its digits and
+/// the LF.
+///
+/// The digits are written where they stay: a copy of bytes that were just stored waits for them,
+/// which took an eighth of the time of a list of integers.
+///
+/// # Errors
+/// Where a growth is refused.
 #[inline(always)]
-fn push_number(line: &mut Vec<u8>, pattern: &[u8], number: u64) -> Result<(), AllocError>
+pub fn push_number(line: &mut Vec<u8>, pattern: &[u8], number: u64) -> Result<(), AllocError>
     requires { 21 ≤ length pattern.now }
     ensures { OnOk result (line.new.items ≡ line.old.items
         ++ take (length pattern.now - 21) pattern.now ++ decimal number ++ codes "\n") }
@@ -242,9 +250,12 @@ fn push_integer(line: &mut Vec<u8>, integer: Integer) -> Result<(), AllocError>
     }
 }
 
-// The line of an array's start.
+/// Appends the line of an array's start.
+///
+/// # Errors
+/// Where a growth is refused.
 #[inline(always)]
-fn push_array(line: &mut Vec<u8>, length: Option<u64>) -> Result<(), AllocError>
+pub fn push_array(line: &mut Vec<u8>, length: Option<u64>) -> Result<(), AllocError>
     ensures { OnOk result (line.new.items
         ≡ line.old.items ++ text_of_start (codes "StartArray") length ++ codes "\n") }
 {
@@ -254,9 +265,12 @@ fn push_array(line: &mut Vec<u8>, length: Option<u64>) -> Result<(), AllocError>
     }
 }
 
-// The line of a dictionary's start.
+/// Appends the line of a dictionary's start.
+///
+/// # Errors
+/// Where a growth is refused.
 #[inline(always)]
-fn push_dictionary(line: &mut Vec<u8>, length: Option<u64>) -> Result<(), AllocError>
+pub fn push_dictionary(line: &mut Vec<u8>, length: Option<u64>) -> Result<(), AllocError>
     ensures { OnOk result (line.new.items
         ≡ line.old.items ++ text_of_start (codes "StartDictionary") length ++ codes "\n") }
 {
@@ -276,14 +290,11 @@ fn push_string(line: &mut Vec<u8>, text: &str) -> Result<(), AllocError>
     line.extend_from_slice(b"\"\n")
 }
 
-/// A bound on the bytes of an event's line; `usize::MAX` stands for any that is larger.
+// A bound on the bytes of an event's line; `usize::MAX` stands for any that is larger.
 #[inline(always)]
-pub fn line_bound(event: &Event<'_>) -> usize {
-    let bytes = event.text_or_data();
-    if bytes.is_empty() {
-        return 64;
-    }
-    bytes.len().saturating_mul(4).saturating_add(64)
+fn line_bound(event: &Event<'_>) -> usize {
+    let content = event.text_or_data().len().saturating_mul(4);
+    content.saturating_add(MOST_OF_SHORT)
 }
 
 /// Appends the line of an event, with its LF.
@@ -307,4 +318,26 @@ pub fn push_line(line: &mut Vec<u8>, event: &Event<'_>) -> Result<(), AllocError
         Event::String(text) => push_string(line, text.as_str()),
         Event::Uid(uid) => push_number(line, b"Uid 00000000000000000000\n", uid.get()),
     }
+}
+
+/// Appends the line of an event, with its LF, unless it may have more than `most` bytes. It says
+/// whether it did.
+///
+/// # Errors
+/// Those of [`push_line`].
+#[inline(always)]
+pub fn push_short_line(
+    line: &mut Vec<u8>,
+    event: &Event<'_>,
+    most: usize,
+) -> Result<bool, AllocError>
+    ensures pushed { result ≡ Ok true
+        → line.new.items ≡ line.old.items ++ line_of (event_of event.now) }
+    ensures unchanged { result ≡ Ok false → line.new ≡ line.old }
+{
+    if line_bound(event) > most {
+        return Ok(false);
+    }
+    push_line(line, event)?;
+    Ok(true)
 }

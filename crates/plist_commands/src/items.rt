@@ -1,15 +1,20 @@
 //! What gives the items of a property list in turn, and lends the event that came last.
 
-ghost use Rattle.std.specs.Prelude.{◌≡◌, ◌<◌, ℕ, List, Option, IfSome};
+ghost use Rattle.std.specs.Prelude.{◌≡◌, ◌<◌, ◌++◌, ℕ, List, Option, Ok, false, true, IfSome};
 ghost use Rattle.plist_base.specs.Events.{Item, PlainEvent, event_of};
 ghost use Rattle.plist_base.specs.Faults.{Fault};
 ghost use Rattle.plist_base.specs.Outcomes.{IfFault};
 ghost use Rattle.plist_base.specs.Sources.{ItemCountsIo};
+ghost use Rattle.plist_commands.specs.EscapedLines.{line_of};
 ghost use Rattle.plist_commands.specs.Items.{ComesIfKnown};
 ghost use Rattle.plist_commands.specs.ReaderRuns.{StepAnswer};
 
+use crate::escaped_lines::{
+    MOST_OF_SHORT, push_array, push_dictionary, push_number, push_short_line,
+};
 use plist_base::{Error, Event, Source};
-use plist_binread::BinaryReader;
+use plist_binread::{BinaryReader, CompactEvent};
+use std::alloc::AllocError;
 
 /// Gives the items of a property list, one after the other.
 pub(crate) trait Items {
@@ -43,6 +48,20 @@ pub(crate) trait Items {
     /// The event that came last.
     fn event(&self) -> Event<'_>
         ensures { event_of result ≡ last self.now };
+
+    /// Appends the line of that event, with its LF, unless it may have more than `most` bytes. It
+    /// says whether it did.
+    ///
+    /// # Errors
+    /// Where memory is refused. The buffer may then hold a part of the line.
+    #[inline(always)]
+    fn push_last(&self, line: &mut Vec<u8>, most: usize) -> Result<bool, AllocError>
+        ensures pushed { result ≡ Ok true
+            → line.new.items ≡ line.old.items ++ line_of (last self.now) }
+        ensures unchanged { result ≡ Ok false → line.new ≡ line.old }
+    {
+        push_short_line(line, &self.event(), most)
+    }
 
     /// How many different scalars can come, where the source has said so, else 0.
     fn scalars_expected(&self) -> usize {
@@ -79,6 +98,31 @@ impl<S: Source> Items for BinaryReader<S> {
     #[inline(always)]
     fn event(&self) -> Event<'_> {
         BinaryReader::event(self)
+    }
+
+    // The compact form has the number at hand, so that no event is made of it.
+    #[inline(always)]
+    fn push_last(&self, line: &mut Vec<u8>, most: usize) -> Result<bool, AllocError> {
+        if most < MOST_OF_SHORT {
+            return Ok(false);
+        }
+        match self.compact() {
+            CompactEvent::Array(length) => push_array(line, Some(length))?,
+            CompactEvent::Dictionary(length) => push_dictionary(line, Some(length))?,
+            CompactEvent::End => line.extend_from_slice(b"EndCollection\n")?,
+            CompactEvent::Boolean(true) => line.extend_from_slice(b"Boolean true\n")?,
+            CompactEvent::Boolean(false) => line.extend_from_slice(b"Boolean false\n")?,
+            CompactEvent::Unsigned(number) => {
+                push_number(line, b"Integer 00000000000000000000\n", number)?;
+            }
+            CompactEvent::Uid(number) => {
+                push_number(line, b"Uid 00000000000000000000\n", number)?;
+            }
+            CompactEvent::Other | CompactEvent::Text | CompactEvent::Data => {
+                return push_short_line(line, &BinaryReader::event(self), most);
+            }
+        }
+        Ok(true)
     }
 
     fn scalars_expected(&self) -> usize {

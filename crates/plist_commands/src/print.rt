@@ -11,7 +11,7 @@ ghost use Rattle.plist_commands.specs.EscapedLines.{line_of, in_notation};
 ghost use Rattle.plist_commands.specs.Printing.{CountsReads, CountsReadsOf, PrintsFileUntil, PrintsItemsUntil, IsWriterError, PrintsFile, PrintsItems, SendsPrefixOfFile, SendsPrefixOfItems};
 ghost use Rattle.plist_commands.specs.ReaderRuns.{PrintsReader, PrintsRun, PrintsSource};
 
-use crate::escaped_lines::{Notation, line_bound, push_bytes, push_line};
+use crate::escaped_lines::{Notation, push_bytes, push_line};
 use crate::items::Items;
 use plist_base::send::{flush, send};
 use plist_base::{Error, Event, Source};
@@ -157,31 +157,18 @@ fn pass_long<W: Write>(out: &mut W, lines: &mut Vec<u8>, event: &Event<'_>) -> R
     Ok(())
 }
 
-// Sends what is held back, and puts a line in its place.
+// Sends what is held back, and puts the line of the event that came last in its place.
 #[cold]
 #[inline(never)]
-fn pass_anew<W: Write>(out: &mut W, lines: &mut Vec<u8>, event: &Event<'_>) -> Result<(), Error>
-    ensures passed { PassesLine W.contents result out.old lines.old event.now out.new lines.new }
+fn pass_anew<I: Items, W: Write>(out: &mut W, lines: &mut Vec<u8>, items: &I) -> Result<(), Error>
+    ensures passed { PassesBytes W.contents result out.old lines.old
+        (line_of (I.last items.now)) out.new lines.new }
     ensures fault { IfErr result IsWriterError }
-    ensures prefix { OnErr result (SendsLineInPart W.contents out.old lines.old event.now out.new) }
+    ensures prefix { OnErr result (SendsBytesInPart W.contents out.old lines.old
+        (line_of (I.last items.now)) out.new) }
 {
     send_waiting(out, lines)?;
-    pass_long(out, lines, event)
-}
-
-// Puts the line of an event after the lines that are held back, which are sent before that where
-// it may not fit. So they never need more memory.
-#[inline(always)]
-fn pass_line<W: Write>(out: &mut W, lines: &mut Vec<u8>, event: &Event<'_>) -> Result<(), Error>
-    ensures passed { PassesLine W.contents result out.old lines.old event.now out.new lines.new }
-    ensures fault { IfErr result IsWriterError }
-    ensures prefix { OnErr result (SendsLineInPart W.contents out.old lines.old event.now out.new) }
-{
-    if line_bound(event) > FULL.saturating_sub(lines.len()) {
-        return pass_anew(out, lines, event);
-    }
-    push_line(lines, event)?;
-    Ok(())
+    pass_long(out, lines, &items.event())
 }
 
 // The fault that comes after lines, once they are sent; or the one for which they can't be.
@@ -195,7 +182,9 @@ fn fault_behind<W: Write>(writer: &mut W, lines: &[u8], fault: Error) -> Error
     }
 }
 
-// Sends the lines of the items that are still to come, by way of an empty buffer.
+// Sends the lines of the items that are still to come, by way of an empty buffer. What is held back
+// is sent before a line that may not fit after it, so that the buffer never grows. Most lines fit:
+// that answer is small, since what a function may answer is cleared at each call.
 fn pass_lines<I: Items, W: Write>(
     lines: &mut Vec<u8>,
     items: &mut I,
@@ -221,7 +210,10 @@ fn pass_lines<I: Items, W: Write>(
             Ok(()) => {}
             Err(error) => return Err(fault_behind(writer, lines.as_slice(), error)),
         }
-        pass_line(writer, lines, &items.event())?;
+        let room = FULL.saturating_sub(lines.len());
+        if !items.push_last(lines, room)? {
+            pass_anew(writer, lines, items)?;
+        }
     }
     send(writer, lines.as_slice())
 }

@@ -1,10 +1,10 @@
-use Rattle.std.proofs.Common.{◌≡◌, Ok, Err, Some, None, IfSome, inl, refl, rules, ◌∙◌, subst}
+use Rattle.std.proofs.Common.{◌≡◌, Ok, Err, Some, None, IfSome, inl, false, true, refl, rules, ◌∙◌, subst}
 use Rattle.std.proofs.lemmas.Result.{IfErr-weaker, err_from_is_err_and, on_ok_weaker}
 use Rattle.plist_base.specs.Faults.{Io, fault_nowhere, fault_of}
 use Rattle.plist_base.specs.Outcomes.{IfFault}
 use Rattle.plist_base.specs.Sources.{ItemCountsIo}
 use Rattle.plist_commands.specs.Printing.{PrintsItemsUntil}
-use Rattle.plist_commands.proofs.HeldBack.{Came, came, all_passed, device_own, fault_counts, fault_passed, front_passed, line_in_part, line_passed, own_ends, passed_none, sent_counts, whose_fault}
+use Rattle.plist_commands.proofs.HeldBack.{Came, came, all_held, all_passed, device_own, fault_counts, fault_passed, front_passed, line_in_part, line_passed, own_ends, passed_none, sent_counts, whose_fault}
 use Rattle.plist_commands.proofs.Runs.{run_ended, run_faulted, run_more, run_none, run_stopped}
 use Rattle.plist_commands.proofs.print.pass_lines.Goals as goal
 use Rattle.plist_commands.proofs.print.pass_lines.Goals.{After-next_item}
@@ -27,66 +27,30 @@ loop-item-init g c = record {
 pub loop-item-preserved : goal.loop-item-preserved
 loop-item-preserved g c =
     let is : c.next_item.result ≡ Some (Ok (tt {0})) = search rules in
+    let pushed : c.push_last.result ≡ Ok true = search rules in
     record {
       unchanged = search rules;
       failures = search rules;
       so_far = line_passed (now g (goal.at.loop-item-preserved g c).After-next_item) _ _ is
-          (rw c.event.ensures at c.in_ok-pass_line.ensures.passed);
+          (all_held _ _ _ (c.push_last.ensures.pushed pushed));
       ran = run_more g.I.Items.goes g.I.Items.last _ _ _ _ _ _ _ _ c.loop-item.invariant.ran
           (rw is at c.next_item.ensures.answers)
-          (rw c.event.ensures at c.in_ok-pass_line.ensures.passed);
+          (all_held _ _ _ (c.push_last.ensures.pushed pushed));
     }
 
-pub loop-item-preserved-in_ok-pass_line : goal.loop-item-preserved-in_ok-pass_line
-loop-item-preserved-in_ok-pass_line g c =
+pub loop-item-preserved-in_ok-pass_anew : goal.loop-item-preserved-in_ok-pass_anew
+loop-item-preserved-in_ok-pass_anew g c =
     let is : c.next_item.result ≡ Some (Ok (tt {0})) = search rules in
+    let full : c.push_last.result ≡ Ok false = search rules in
     record {
       unchanged = search rules;
       failures = search rules;
-      so_far = line_passed (now g (goal.at.loop-item-preserved-in_ok-pass_line g c).After-next_item) _ _ is
-          (rw c.event.ensures at c.in_ok-pass_line.ensures.passed);
+      so_far = line_passed
+          (now g (goal.at.loop-item-preserved-in_ok-pass_anew g c).After-next_item) _ _ is
+          (rw (c.push_last.ensures.unchanged full) at c.in_ok-pass_anew.ensures.passed);
       ran = run_more g.I.Items.goes g.I.Items.last _ _ _ _ _ _ _ _ c.loop-item.invariant.ran
           (rw is at c.next_item.ensures.answers)
-          (rw c.event.ensures at c.in_ok-pass_line.ensures.passed);
-    }
-
-pub loop-item-preserved-in_ok-pass_line-2 : goal.loop-item-preserved-in_ok-pass_line-2
-loop-item-preserved-in_ok-pass_line-2 g c =
-    let is : c.next_item.result ≡ Some (Ok (tt {0})) = search rules in
-    record {
-      unchanged = search rules;
-      failures = search rules;
-      so_far = line_passed (now g (goal.at.loop-item-preserved-in_ok-pass_line-2 g c).After-next_item) _ _ is
-          (rw c.event.ensures at c.in_ok-pass_line.ensures.passed);
-      ran = run_more g.I.Items.goes g.I.Items.last _ _ _ _ _ _ _ _ c.loop-item.invariant.ran
-          (rw is at c.next_item.ensures.answers)
-          (rw c.event.ensures at c.in_ok-pass_line.ensures.passed);
-    }
-
-pub loop-item-preserved-in_ok-pass_line-3 : goal.loop-item-preserved-in_ok-pass_line-3
-loop-item-preserved-in_ok-pass_line-3 g c =
-    let is : c.next_item.result ≡ Some (Ok (tt {0})) = search rules in
-    record {
-      unchanged = search rules;
-      failures = search rules;
-      so_far = line_passed (now g (goal.at.loop-item-preserved-in_ok-pass_line-3 g c).After-next_item) _ _ is
-          (rw c.event.ensures at c.in_ok-pass_line.ensures.passed);
-      ran = run_more g.I.Items.goes g.I.Items.last _ _ _ _ _ _ _ _ c.loop-item.invariant.ran
-          (rw is at c.next_item.ensures.answers)
-          (rw c.event.ensures at c.in_ok-pass_line.ensures.passed);
-    }
-
-pub loop-item-preserved-in_ok-pass_line-4 : goal.loop-item-preserved-in_ok-pass_line-4
-loop-item-preserved-in_ok-pass_line-4 g c =
-    let is : c.next_item.result ≡ Some (Ok (tt {0})) = search rules in
-    record {
-      unchanged = search rules;
-      failures = search rules;
-      so_far = line_passed (now g (goal.at.loop-item-preserved-in_ok-pass_line-4 g c).After-next_item) _ _ is
-          (rw c.event.ensures at c.in_ok-pass_line.ensures.passed);
-      ran = run_more g.I.Items.goes g.I.Items.last _ _ _ _ _ _ _ _ c.loop-item.invariant.ran
-          (rw is at c.next_item.ensures.answers)
-          (rw c.event.ensures at c.in_ok-pass_line.ensures.passed);
+          (rw (c.push_last.ensures.unchanged full) at c.in_ok-pass_anew.ensures.passed);
     }
 
 pub returns-in-Err-clause-refused : goal.returns-in-Err-clause-refused
@@ -124,21 +88,24 @@ returns-in-Err-clause-answers g c =
     (rw c.as_slice.ensures.value at c.fault_behind.ensures.sent)
     (rw c.as_slice.ensures.value at c.fault_behind.ensures.prefix)
 
-pub returns-in_err-pass_line-clause-answers : goal.returns-in_err-pass_line-clause-answers
-returns-in_err-pass_line-clause-answers g c =
-    let f = err_from_is_err_and c.from_residual.result c.from_residual.ensures.1 in
+pub returns-in_err-pass_anew-clause-answers : goal.returns-in_err-pass_anew-clause-answers
+returns-in_err-pass_anew-clause-answers g c =
+    let residual = c.from_residual-in_err-pass_anew in
+    let f = err_from_is_err_and residual.result residual.ensures.1 in
     let is : c.next_item.result ≡ Some (Ok (tt {0})) = search rules in
+    let full : c.push_last.result ≡ Ok false = search rules in
     rw (f.1, f.2)
-    (run_stopped g.I.Items.goes g.I.Items.last _ _ _ _ _ _ _ c.in_err-pass_line.field-0.0
+    (run_stopped g.I.Items.goes g.I.Items.last _ _ _ _ _ _ _ c.in_err-pass_anew.field-0.0
     c.loop-item.invariant.ran
-    (rw is at c.next_item.ensures.answers) c.in_err-pass_line.ensures.fault
-    (rw c.event.ensures at c.in_err-pass_line.ensures.prefix))
+    (rw is at c.next_item.ensures.answers) c.in_err-pass_anew.ensures.fault
+    (rw (c.push_last.ensures.unchanged full) at c.in_err-pass_anew.ensures.prefix))
 
-pub returns-in_err-pass_line-clause-prefix : goal.returns-in_err-pass_line-clause-prefix
-returns-in_err-pass_line-clause-prefix g c =
+pub returns-in_err-pass_anew-clause-prefix : goal.returns-in_err-pass_anew-clause-prefix
+returns-in_err-pass_anew-clause-prefix g c =
     let is : c.next_item.result ≡ Some (Ok (tt {0})) = search rules in
-    line_in_part (now g (goal.at.returns-in_err-pass_line-clause-prefix g c).After-next_item) _ is
-    (rw c.event.ensures at c.in_err-pass_line.ensures.prefix)
+    let full : c.push_last.result ≡ Ok false = search rules in
+    line_in_part (now g (goal.at.returns-in_err-pass_anew-clause-prefix g c).After-next_item) _ is
+    (rw (c.push_last.ensures.unchanged full) at c.in_err-pass_anew.ensures.prefix)
 
 pub returns-clause-printed : goal.returns-clause-printed
 returns-clause-printed g c =
