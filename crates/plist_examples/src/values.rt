@@ -7,7 +7,7 @@ use plist::{Builder, Dialect, Value};
 use plist_base::{Error, ErrorKind, Event};
 use plist_support::{
     Device, Wrong, add_words, event_of, expect_answers, expect_bytes, expect_io, expect_same,
-    expect_that, told,
+    expect_that, fail,
 };
 use std::alloc::{AllocError, Global};
 use std::io;
