@@ -11,7 +11,7 @@ pub(crate) fn value_of(alloc: Global, words: &str) -> Result<Value, Wrong> {
     write_all(alloc, &mut builder, words)?;
     match builder.finish() {
         Ok(value) => Ok(value),
-        Err(error) => Err(Wrong::Told(error.to_string(alloc)?)),
+        Err(error) => Err(Wrong::Words(error.to_string(alloc)?)),
     }
 }
 
