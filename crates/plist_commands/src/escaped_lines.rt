@@ -68,6 +68,17 @@ fn push_byte(line: &mut Vec<u8>, byte: u8) -> Result<(), AllocError>
     line.extend_from_slice(&[b'\\', b'x', high, low])
 }
 
+// A text byte by byte. It stands apart, so that the loop keeps its registers.
+#[inline(never)]
+fn push_escaped(line: &mut Vec<u8>, text: &[u8]) -> Result<(), AllocError>
+    ensures { OnOk result (line.new.items ≡ line.old.items ++ escaped_text text.now) }
+{
+    for &byte in text {
+        push_byte(line, byte)?;
+    }
+    Ok(())
+}
+
 // A text; one without an escape goes in one piece.
 #[inline(always)]
 fn push_text(line: &mut Vec<u8>, text: &[u8]) -> Result<(), AllocError>
@@ -76,10 +87,7 @@ fn push_text(line: &mut Vec<u8>, text: &[u8]) -> Result<(), AllocError>
     if are_plain(text) {
         return line.extend_from_slice(text);
     }
-    for &byte in text {
-        push_byte(line, byte)?;
-    }
-    Ok(())
+    push_escaped(line, text)
 }
 
 // Two hexadecimal digits a byte, of few bytes.

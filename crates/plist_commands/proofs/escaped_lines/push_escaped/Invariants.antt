@@ -1,6 +1,6 @@
 use Rattle.std.proofs.Common.{◌≡◌, ◌++◌, take}
 use Rattle.plist_commands.specs.EscapedLines.{escaped_text}
-use Rattle.plist_commands.proofs.escaped_lines.push_text.Given as goal
+use Rattle.plist_commands.proofs.escaped_lines.push_escaped.Given as goal
 
 abbrev pub invariant-loop-byte : goal.invariant-loop-byte
 invariant-loop-byte l =
