@@ -212,7 +212,8 @@ pub fn front_array(
     requires extent { length rest.now ≤ extent }
     requires shown { ShowsFixedContent extent rest.now }
     requires width { 0 < width }
-    ensures outcome { DecodesWhole extent (object_counted width ArrayKind low) rest.now slot.new result }
+    ensures outcome { DecodesWhole extent (object_counted width ArrayKind low) rest.now slot.new
+        result }
     ensures whole { IsAllSeen result }
 {
     match front_count(low, rest, extent, width as u64) {
@@ -235,7 +236,8 @@ pub fn front_dictionary(
     requires extent { length rest.now ≤ extent }
     requires shown { ShowsFixedContent extent rest.now }
     requires width { (0 < width) × (width ≤ 8) }
-    ensures outcome { DecodesWhole extent (object_counted width DictionaryKind low) rest.now slot.new result }
+    ensures outcome { DecodesWhole extent (object_counted width DictionaryKind low) rest.now
+        slot.new result }
     ensures whole { IsAllSeen result }
 {
     match front_count(low, rest, extent, 2 * width as u64) {
