@@ -1,48 +1,85 @@
--- What the code's stack says of the held events, and how one more event changes it.
-use Rattle.std.proofs.Common.{◌≡◌, ◌⊎◌, inl, inr, ℕ, suc, Bool, List, [], ◌∷◌, ◌++◌, ◌==◌, length, reverse, option_and_then, None, Some, true, false, refl, sym, ap, ◌∙◌, subst, arith}
-use Rattle.std.proofs.lemmas.Bool.{ne_eqb}
-use Rattle.std.proofs.lemmas.List.{length-reverse}
+-- What may come after the held events, and how one more event changes that.
+use Rattle.std.proofs.Common.{◌≡◌, ◌⊎◌, inl, inr, List, [], ◌∷◌, ◌++◌, Option, IfSome, map, option_and_then, None, Some, false, refl, sym, ap, ◌∙◌, subst}
+use Rattle.std.specs.Option.{is_none}
 use Rattle.plist_base.specs.Bracketing.{without_length, CanContinue}
-use Rattle.plist_base.specs.Events.{PlainEvent, EndCollection}
-use Rattle.plist_base.specs.Expects.{changed, step, expected_after}
+use Rattle.plist_base.specs.Events.{PlainEvent, StartArray, StartDictionary, EndCollection, ScalarEvent}
+use Rattle.plist_base.specs.Trees.{String}
+use Rattle.plist_base.specs.Expects.{change_of, changed, step, expected_after}
 use Rattle.plist_base.specs.declared.expects.Expect.{Expect}
-use Rattle.plist_base.specs.declared.expects.Expect.TheVariants.{OneValue}
+use Rattle.plist_base.specs.declared.expects.Expect.TheVariants.{OneValue, Items, Pairs}
 use Rattle.plist_base.specs.declared.expects.Change.{Change}
 use Rattle.plist_base.specs.declared.expects.Change.TheVariants.{Refused}
 use Rattle.plist_base.specs.declared.expects.Change.TheVariants as change
 use Rattle.plist_base.proofs.Grammar.{none_is, wanted_alike, can_continue, continues, bracketed, all_taken, complete_of_whole, alike_last, steps_snoc}
 use Rattle.plist_binwrite.specs.declared.event_buffer.EventBuffer.{EventBuffer}
-use Rattle.plist_binwrite.specs.EventBuffers.{buffered_events, TestsWhole}
-use Rattle.plist_binwrite.specs.inner.Stacks.{is_nothing, with_root, change_on_top, ChangesTo, expected_now}
+use Rattle.plist_binwrite.specs.EventBuffers.{buffered_events, is_whole, TestsWhole}
+use Rattle.plist_binwrite.specs.inner.Expected.{OpenKind, OpenArray, OpenDictionary, open_after_event, open_after, expects_in, expected_inside, innermost, all_expected, ExpectsNext, change_on, next_expected}
 
--- ---- the stack
+-- ---- open collections
 
--- an event that isn't refused changes it so
-put_top : (c : Change) (top : Expect) (rest new : List Expect) → (c ≡ Refused → ⊥)
-    → ChangesTo (top ∷ rest) c new → changed c top rest ≡ Some new
-put_top Refused top rest new n p = absurd (n refl)
-put_top c top rest new n p = ap Some (sym p)
+-- what is to come, without the value behind a key
+abbrev inside_of : List Expect → List Expect
+inside_of (OneValue ∷ rest) = rest
+inside_of expects = expects
 
-step_taken : (s new : List Expect) (e : PlainEvent) → (change_on_top s e ≡ Refused → ⊥)
-    → ChangesTo s (change_on_top s e) new → step (with_root s) e ≡ Some new
-step_taken [] new EndCollection n p = absurd (n refl)
-step_taken [] new e n p = ap Some (sym p)
-step_taken (top ∷ rest) new e n p = put_top _ top _ new n p
+inside_alone : (kinds : List OpenKind) → inside_of (map expects_in kinds) ≡ map expects_in kinds
+inside_alone [] = refl
+inside_alone (OpenArray ∷ outer) = refl
+inside_alone (OpenDictionary ∷ outer) = refl
 
-step_refused : (s : List Expect) (e : PlainEvent) → change_on_top s e ≡ Refused
-    → step (with_root s) e ≡ None
-step_refused [] e p = ap (λ c. changed c OneValue []) p
-step_refused (top ∷ rest) e p = ap (λ c. changed c top rest) p
+inside_same : (kinds : List OpenKind) (expects : List Expect) → map expects_in kinds ≡ expects
+    → map expects_in kinds ≡ inside_of expects
+inside_same kinds expects is =
+    subst (λ l. map expects_in kinds ≡ inside_of l) is (sym (inside_alone kinds))
 
-changed_some : (c : Change) (top : Expect) (rest : List Expect) → (c ≡ Refused → ⊥)
-    → (new : List Expect) × (changed c top rest ≡ Some new)
-changed_some Refused top rest n = absurd (n refl)
-changed_some c top rest n = (_, refl)
+open_snoc : (es : List PlainEvent) (e : PlainEvent) (kinds : List OpenKind)
+    → open_after (es ++ e ∷ []) kinds ≡ open_after_event e (open_after es kinds)
+open_snoc [] e kinds = refl
+open_snoc (x ∷ es) e kinds = open_snoc es e _
 
-step_some : (s : List Expect) (e : PlainEvent) → (change_on_top s e ≡ Refused → ⊥)
-    → (new : List Expect) × (step (with_root s) e ≡ Some new)
-step_some [] e n = changed_some _ _ [] n
-step_some (top ∷ rest) e n = changed_some _ top _ n
+open_alike : (e : PlainEvent) (kinds : List OpenKind)
+    → open_after_event (without_length e) kinds ≡ open_after_event e kinds
+open_alike (StartArray hint) kinds = refl
+open_alike (StartDictionary hint) kinds = refl
+open_alike EndCollection kinds = refl
+open_alike (ScalarEvent x) kinds = refl
+
+-- ---- one more event
+
+-- what is to come then
+abbrev Goes : Option Expect → (kinds : List OpenKind) → (after : List Expect) → Type 0
+Goes next kinds after = (map expects_in kinds ≡ inside_of after) × (next ≡ innermost after)
+
+ended : (top : Expect) (rest : List Expect) (kinds : List OpenKind)
+    → map expects_in kinds ≡ top ∷ rest
+    → Goes (innermost (map expects_in (open_after_event EndCollection kinds)))
+    (open_after_event EndCollection kinds) rest
+ended top rest [] is = cc
+ended top rest (kind ∷ outer) is =
+    let tail : map expects_in outer ≡ rest = cc in
+    (inside_same outer rest tail, ap innermost tail)
+
+goes : (top : Expect) (rest : List Expect) (e : PlainEvent) (kinds : List OpenKind)
+    → map expects_in kinds ≡ inside_of (top ∷ rest)
+    → IfSome (changed (change_of top e) top rest) (Goes (next_expected (change_of top e) (Some top)
+    (innermost (map expects_in (open_after_event e kinds)))) (open_after_event e kinds))
+goes OneValue rest (StartArray hint) kinds is = (ap (λ l. Items ∷ l) is, refl)
+goes OneValue rest (StartDictionary hint) kinds is = (ap (λ l. Pairs ∷ l) is, refl)
+goes OneValue rest EndCollection kinds is = tt
+goes OneValue rest (ScalarEvent x) kinds is = (inside_same kinds rest is, ap innermost is)
+goes Items rest (StartArray hint) kinds is = (ap (λ l. Items ∷ l) is, refl)
+goes Items rest (StartDictionary hint) kinds is = (ap (λ l. Pairs ∷ l) is, refl)
+goes Items rest EndCollection kinds is = ended Items rest kinds is
+goes Items rest (ScalarEvent x) kinds is = (is, refl)
+goes Pairs rest EndCollection kinds is = ended Pairs rest kinds is
+goes Pairs rest (ScalarEvent (String text)) kinds is = (is, refl)
+goes Pairs rest e kinds is = tt
+
+all_again : (expects : List Expect) → all_expected (innermost expects) (inside_of expects) ≡ expects
+all_again [] = refl
+all_again (OneValue ∷ rest) = refl
+all_again (Items ∷ rest) = refl
+all_again (Pairs ∷ rest) = refl
 
 -- the changes that are no refusal
 abbrev IsAccepted : Change → Type 0
@@ -55,62 +92,117 @@ not_refused c (inr (inl is)) r = cc
 not_refused c (inr (inr (inl is))) r = cc (is.1)
 not_refused c (inr (inr (inr is))) r = cc (is.1)
 
--- it is empty just where the code's test says so
-root_shown : (s : List Expect) (n : ℕ) (b : Bool) → n ≡ length s → b ≡ (n == 0)
-    → (s ≡ expected_now b s) × (b ≡ is_nothing s)
-root_shown [] n b h e =
-    let t = e ∙ ap (λ k. k == 0) h in (ap (λ v. expected_now v []) (sym t), t)
-root_shown (w ∷ s) n b h e =
-    let t = e ∙ ap (λ k. k == 0) h ∙ ne_eqb (suc (length s)) 0 (λ p. absurd (omega arith)) in
-    (ap (λ v. expected_now v (w ∷ s)) (sym t), t)
-
-pub stack_shown : (ws : List Expect) (n : ℕ) (b : Bool) → n ≡ length ws → b ≡ (n == 0)
-    → (reverse ws ≡ expected_now b (reverse ws)) × (b ≡ is_nothing (reverse ws))
-stack_shown ws n b h e = root_shown (reverse ws) n b (omega (arith, h, length-reverse ws)) e
+changed_some : (c : Change) (top : Expect) (rest : List Expect) → (c ≡ Refused → ⊥)
+    → (new : List Expect) × (changed c top rest ≡ Some new)
+changed_some Refused top rest n = absurd (n refl)
+changed_some c top rest n = (_, refl)
 
 -- nothing more is expected exactly after a tree's events
-pub tests_whole : (es : List PlainEvent) (s : List Expect) (b : Bool) → expected_after es ≡ Some s
-    → b ≡ is_nothing s → TestsWhole b es
-tests_whole es [] true w n = complete_of_whole es (bracketed es w)
-tests_whole es (x ∷ s) false w n = λ whole.
+tests_whole : (es : List PlainEvent) (expects : List Expect) → expected_after es ≡ Some expects
+    → TestsWhole (is_none (innermost expects)) es
+tests_whole es [] w = complete_of_whole es (bracketed es w)
+tests_whole es (x ∷ rest) w = λ whole.
     let q
     = sym (all_taken es _ whole.1) ∙ w in cc
-tests_whole es s b w n = cc
-
--- ---- one more event
 
 -- the length of a start decides nothing
-pub same_wants : (es : List PlainEvent) (e : PlainEvent)
+same_wants : (es : List PlainEvent) (e : PlainEvent)
     → expected_after (es ++ without_length e ∷ []) ≡ expected_after (es ++ e ∷ [])
 same_wants es e = wanted_alike _ _ (alike_last es e)
 
--- a change, given of the stack that the code has, is refused just where the event can't follow
-module _ (s : EventBuffer) (e : PlainEvent) (c : Change) (still : s.whole ≡ false)
-    {expects : List Expect} (same : expects ≡ s.expects.items)
-    (is : c ≡ change_on_top (reverse expects) e) where
-  abbrev stack : List Expect
-  stack = reverse s.expects.items
+-- a change is refused just where the event can't follow
+module _ (s : EventBuffer) (e : PlainEvent) (still : is_whole s ≡ false) where
+  abbrev held : List PlainEvent
+  held = buffered_events s
 
-  pub seen : c ≡ change_on_top stack e
-  seen = cc
+  abbrev kinds : List OpenKind
+  kinds = open_after held []
 
-  after : expected_after (buffered_events s ++ e ∷ []) ≡ step (with_root stack) e
-  after = steps_snoc (buffered_events s) (OneValue ∷ []) e ∙ ap (option_and_then (λ t. step t e))
-      (subst (λ b. expected_after (buffered_events s) ≡ Some (expected_now b stack)) still s.wanted)
+  top_of : (next : Option Expect) (expects : List Expect) → next ≡ innermost expects
+      → is_none next ≡ false
+      → (top : Expect) × (rest : List Expect) × (expects ≡ top ∷ rest) × (next ≡ Some top)
+  top_of next [] is some = cc
+  top_of next (top ∷ rest) is some = (top, rest, refl, is)
 
-  pub cannot_take : c ≡ Refused → CanContinue (buffered_events s) e → ⊥
+  abbrev split : (top : Expect) × (rest : List Expect)
+      × (all_expected s.expects (map expects_in kinds) ≡ top ∷ rest) × (s.expects ≡ Some top)
+  split = top_of s.expects _ s.wanted.first still
+
+  abbrev top : Expect
+  top = split.0
+
+  abbrev rest : List Expect
+  rest = split.1
+
+  is_top : s.expects ≡ Some top
+  is_top = split.3
+
+  changes : change_on s.expects e ≡ change_of top e
+  changes = ap (λ next. change_on next e) is_top
+
+  after : expected_after (held ++ e ∷ []) ≡ changed (change_on s.expects e) top rest
+  after = steps_snoc held (OneValue ∷ []) e ∙ ap (option_and_then (λ t. step t e)) s.wanted.all
+      ∙ ap (λ l. step l e) split.2 ∙ ap (λ c. changed c top rest) (sym changes)
+
+  pub cannot_take : change_on s.expects e ≡ Refused → CanContinue held e → ⊥
   cannot_take r can =
       let g = continues _ e can in
-      none_is _ g.0 (after ∙ step_refused _ e (cc)) g.1
+      none_is _ g.0 (after ∙ ap (λ c. changed c top rest) r) g.1
 
-  pub can_take : IsAccepted c → CanContinue (buffered_events s) e
+  pub can_take : IsAccepted (change_on s.expects e) → CanContinue held e
   can_take accepted =
-      let f = step_some _ e (λ r. not_refused c accepted (seen ∙ r)) in can_continue _ e f.0 (after ∙ f.1)
+      let f = changed_some _ top rest (not_refused _ accepted) in can_continue _ e f.0 (after ∙ f.1)
 
-  -- what is wanted then
-  pub took : (room new : List Expect) → CanContinue (buffered_events s) e
-      → room ≡ s.expects.items → ChangesTo (reverse room) c (reverse new)
-      → expected_after (buffered_events s ++ e ∷ []) ≡ Some (reverse new)
-  took room new can has puts =
-      after ∙ step_taken _ _ e (λ r. cannot_take (seen ∙ r) can)
-      (rw (← seen) (subst (λ l. ChangesTo (reverse l) c (reverse new)) has puts))
+  -- what may come then
+  module _ (can : CanContinue held e) where
+    abbrev new : List Expect
+    new = (continues _ e can).0
+
+    is_new : expected_after (held ++ e ∷ []) ≡ Some new
+    is_new = (continues _ e can).1
+
+    abbrev more : List PlainEvent
+    more = held ++ without_length e ∷ []
+
+    inside : map expects_in kinds ≡ inside_of (top ∷ rest)
+    inside = by s.expects top rest (map expects_in kinds) is_top split.2
+      where
+        by : (next : Option Expect) (top : Expect) (rest l : List Expect) → next ≡ Some top
+            → all_expected next l ≡ top ∷ rest → l ≡ inside_of (top ∷ rest)
+        by None top rest l is all = cc
+        by (Some OneValue) OneValue rest l is all = cc
+        by (Some Items) Items rest l is all = all
+        by (Some Pairs) Pairs rest l is all = all
+        by (Some x) top rest l is all = cc
+
+    abbrev GoesOn : (after : List Expect) → Type 0
+    GoesOn = Goes (next_expected (change_of top e) (Some top)
+        (innermost (map expects_in (open_after_event e kinds)))) (open_after_event e kinds)
+
+    goes_on : GoesOn new
+    goes_on = subst (λ o. IfSome o GoesOn)
+        (ap (λ c. changed c top rest) (sym changes) ∙ sym after ∙ is_new) (goes top rest e kinds inside)
+
+    -- where these events are held, and this was found
+    module _ {events : List PlainEvent} {c : Change} {next : Option Expect} (m : events ≡ more)
+        (is : c ≡ change_on s.expects e)
+        (found : next ≡ next_expected c s.expects (innermost (expected_inside events))) where
+      now_open : open_after events [] ≡ open_after_event e kinds
+      now_open = ap (λ l. open_after l []) m ∙ open_snoc held (without_length e) [] ∙ open_alike e kinds
+
+      is_next : next ≡ innermost new
+      is_next = found
+          ∙ (λ i. next_expected ((is ∙ changes) i) (is_top i) (innermost (map expects_in (now_open i))))
+          ∙ goes_on.1
+
+      all_new : all_expected next (expected_inside events) ≡ new
+      all_new = (λ i. all_expected (is_next i) ((ap (map expects_in) now_open ∙ goes_on.0) i)) ∙ all_again new
+
+      pub expects_next : ExpectsNext events next
+      expects_next = record {
+        all = ap expected_after m ∙ same_wants held e ∙ is_new ∙ ap Some (sym all_new);
+        first = is_next ∙ ap innermost (sym all_new);
+      }
+
+      pub tests_next : TestsWhole (is_none next) (held ++ e ∷ [])
+      tests_next = rw is_next (tests_whole _ new is_new)

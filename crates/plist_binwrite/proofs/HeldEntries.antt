@@ -48,7 +48,7 @@ named_more i es e h =
     cc (list_any-append (names i) es (e ∷ []))
 
 -- an index where a test finds an event that passes is one of the list
-below : (f : PlainEvent → Bool) (es : List PlainEvent) (i : ℕ) → f EndCollection ≡ false
+pub below : (f : PlainEvent → Bool) (es : List PlainEvent) (i : ℕ) → f EndCollection ≡ false
     → f (event_at es i) ≡ true → i < length es
 below f es i none h = elim (leb_tells (length es) i) [
   | inl a ↦ cc (ap f (get_or_past es i EndCollection a.1))

@@ -1,5 +1,6 @@
 -- What contracts see of the events of the open property list.
 use Rattle.std.specs.Prelude.{◌≡◌, Bool, List, [], ◌∷◌, ◌++◌, Option, None, IfSome, MatchBool}
+use Rattle.std.specs.Option.{is_none}
 use Rattle.plist_base.specs.declared.error.Error.{Error}
 use Rattle.plist_base.specs.declared.error.EventKind.{EventKind}
 use Rattle.plist_base.specs.declared.error.EventKind.TheVariants as event_kind
@@ -15,7 +16,7 @@ buffered_events pending = plain_events pending.held
 
 -- are they those of a whole property list?
 abbrev pub is_whole : EventBuffer → Bool
-is_whole pending = pending.whole
+is_whole pending = is_none pending.expects
 
 -- what has to stand in the place of a refused event: a value where nothing is held
 abbrev pub expected_instead : List PlainEvent → EventKind

@@ -2,6 +2,7 @@
 pub mod Columns
 pub mod PlannedFiles
 pub mod Entries
+pub mod Expected
 pub mod Laws
 pub mod Laying
 pub mod Narrow
@@ -12,4 +13,3 @@ pub mod PlansBy
 pub mod Putting
 pub mod Scalars
 pub mod Sizing
-pub mod Stacks

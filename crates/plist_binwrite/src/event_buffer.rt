@@ -1,11 +1,12 @@
 //! The buffer of the open property list's events, with what is expected next.
 
 ghost use Rattle.std.proofs.Props.{props};
+ghost use Rattle.std.specs.Prelude.{◌≡◌};
+ghost use Rattle.plist_base.specs.Events.{event_of};
 ghost use Rattle.plist_binwrite.specs.EventTable.{plain_events};
-ghost use Rattle.plist_binwrite.specs.inner.Stacks.{AreExpected};
+ghost use Rattle.plist_binwrite.specs.inner.Expected.{ExpectsNext, change_on, expected_inside, innermost, next_expected};
 
 use crate::event_table::EventTable;
-use crate::expects::{change_on, put};
 use plist_base::{Change, Error, ErrorKind, Event, EventKind, Expect};
 use std::alloc::Global;
 
@@ -14,10 +15,36 @@ use std::alloc::Global;
 #[derive(Drop)]
 pub struct EventBuffer {
     held: EventTable<'static>,
-    expects: Vec<Expect>,
-    whole: bool,
+    // Nothing, where the events are those of a whole property list.
+    expects: Option<Expect>,
     expected: usize,
-    ghost wanted: { AreExpected (plain_events held) whole expects.items } by { Prim.hlevel props },
+    ghost wanted: { ExpectsNext (plain_events held) expects } by { Prim.hlevel props },
+}
+
+// What an event does to what may come next.
+fn change_on(expects: Option<Expect>, event: &Event<'_>) -> Change
+    ensures { result ≡ change_on expects (event_of event.now) }
+{
+    match expects {
+        Some(expect) => expect.change_by(event),
+        None => Change::Refused,
+    }
+}
+
+// What may come after an event that made this change and is held.
+fn next_expected(
+    change: Change,
+    expects: Option<Expect>,
+    held: &EventTable<'static>,
+) -> Option<Expect>
+    ensures { result ≡ next_expected change expects
+        (innermost (expected_inside (plain_events held.now))) }
+{
+    match change {
+        Change::Refused | Change::Kept => expects,
+        Change::Popped => held.innermost_expect(),
+        Change::Pushed(expect) | Change::Replaced(expect) => Some(expect),
+    }
 }
 
 impl EventBuffer {
@@ -26,7 +53,7 @@ impl EventBuffer {
     ghost use Rattle.plist_base.specs.Faults.{fault_of};
     ghost use Rattle.plist_base.specs.Outcomes.{OnlyMemory};
     ghost use Rattle.plist_binwrite.specs.EventBuffers.{buffered_events, is_whole, BuffersNext, misplaced_fault, Accepts, CanTake, RefusesMisplaced};
-    ghost use Rattle.plist_binwrite.specs.inner.Stacks.{change_on_top};
+    ghost use Rattle.plist_binwrite.specs.inner.Expected.{change_on};
 
     /// No events. It takes no memory.
     pub fn new(alloc: Global) -> EventBuffer
@@ -35,8 +62,7 @@ impl EventBuffer {
     {
         EventBuffer {
             held: EventTable::new(alloc),
-            expects: Vec::new(alloc),
-            whole: false,
+            expects: Some(Expect::OneValue),
             expected: 0,
         }
     }
@@ -64,20 +90,18 @@ impl EventBuffer {
         ErrorKind::UnexpectedEventType { expected, found }.without_position()
     }
 
-    // Holds an event that can follow those held, where this is what it does to the stack.
+    // Holds an event that can follow those held, where this is what it does to what may come next.
     #[inline(always)]
     fn hold(&mut self, alloc: Global, event: Event<'_>, change: Change) -> Result<(), Error>
         requires still { is_whole self.old ≡ false }
         requires accepted { CanTake self.old (event_of event) }
-        requires change { change ≡ change_on_top (reverse self.old.expects.items) (event_of event) }
+        requires change { change ≡ change_on self.old.expects (event_of event) }
         ensures taken { OnOk result (BuffersNext self.old (event_of event.entry) self.new) }
         ensures memory { OnlyMemory result }
     {
-        self.expects.reserve(1)?;
         self.held.expect_scalars(self.expected);
         self.held.push_copy(alloc, event)?;
-        put(&mut self.expects, change);
-        self.whole = self.expects.is_empty();
+        self.expects = next_expected(change, self.expects, &self.held);
         Ok(())
     }
 
@@ -94,7 +118,7 @@ impl EventBuffer {
         ensures accepted { IfErr result (λ _. CanTake self.old (event_of event.entry)) }
         ensures memory { OnlyMemory result }
     {
-        let change = change_on(self.expects.as_slice(), &event);
+        let change = change_on(self.expects, &event);
         match change {
             Change::Refused => Ok(Some(self.fault_of_event(&event))),
             Change::Popped | Change::Kept | Change::Pushed(_) | Change::Replaced(_) => {
@@ -108,7 +132,7 @@ impl EventBuffer {
     pub fn is_whole(&self) -> bool
         ensures { result ≡ is_whole self.now }
     {
-        self.whole
+        self.expects.is_none()
     }
 
     /// The events.
@@ -124,7 +148,6 @@ impl EventBuffer {
         ensures whole { is_whole self.new ≡ false }
     {
         self.held.clear();
-        self.expects.clear();
-        self.whole = false;
+        self.expects = Some(Expect::OneValue);
     }
 }

@@ -9,7 +9,7 @@ ghost use Rattle.plist_binwrite.specs.inner.Entries.{is_leaf, AreValidEntries};
 use crate::entries::{Entries, EventEntry};
 use crate::kinds::EntryKind;
 use indexmap::IndexSet;
-use plist_base::{Error, Event};
+use plist_base::{Error, Event, Expect};
 use std::alloc::{AllocError, Global};
 
 /// The events of a property list, each different scalar once. Lengths of starts are left out.
@@ -33,6 +33,7 @@ impl<'e> EventTable<'e> {
     ghost use Rattle.std.specs.Prelude.{◌≤◌, [], None, Some, false, slice_get, IfSome, ◌+◌};
     ghost use Rattle.plist_binwrite.specs.EventTable.{plain_event, plain_events, scalars_of, entry_kind_of, event_at, EndsTree, GrowsBy, HasItem, IsScalarAt, LacksItem, table_event, entry_event};
     ghost use Rattle.plist_binwrite.specs.inner.Entries.{is_start, IsUnclosed};
+    ghost use Rattle.plist_binwrite.specs.inner.Expected.{expected_inside, innermost};
 
     /// No events. It takes no memory.
     pub fn new(alloc: Global) -> EventTable<'e>
@@ -136,6 +137,20 @@ impl<'e> EventTable<'e> {
     {
         let scalar = self.scalar_index(index)?;
         self.scalars.get_index(scalar)
+    }
+
+    // What may come in the innermost collection that has no end yet, if there is one.
+    pub(crate) fn innermost_expect(&self) -> Option<Expect>
+        ensures { result ≡ innermost (expected_inside (plain_events self.now)) }
+    {
+        match self.unclosed.last() {
+            Some(start) => match self.kind_at(*start) {
+                EntryKind::Array => Some(Expect::Items),
+                EntryKind::Dictionary => Some(Expect::Pairs),
+                EntryKind::Scalar | EntryKind::End => None,
+            },
+            None => None,
+        }
     }
 
     // Takes a start, with the index after itself.

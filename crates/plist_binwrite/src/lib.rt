@@ -10,7 +10,6 @@ pub mod compact_numbers;
 mod entries;
 pub mod event_buffer;
 pub mod event_table;
-mod expects;
 pub mod forms;
 pub mod kinds;
 mod layout;

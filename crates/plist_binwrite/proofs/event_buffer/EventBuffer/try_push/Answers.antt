@@ -1,14 +1,13 @@
-use Rattle.std.proofs.Common.{refl}
+use Rattle.std.proofs.Common.{refl, sym, ◌∙◌}
 use Rattle.std.proofs.lemmas.Result.{err_from_is_err_and}
 use Rattle.plist_base.specs.Events.{event_of}
-use Rattle.plist_binwrite.proofs.Buffered.{seen, can_take, cannot_take}
+use Rattle.plist_binwrite.proofs.Buffered.{can_take, cannot_take}
 use Rattle.plist_binwrite.proofs.event_buffer.EventBuffer.try_push.Goals as goal
 
 pub returns-in-Refused-clause-refused : goal.returns-in-Refused-clause-refused
 returns-in-Refused-clause-refused c = (
   (
-    cannot_take c.args.self.now _ _ c.requires.still
-        c.as_slice.ensures.value c.change_on-change.ensures c.in-Refused.is,
+    cannot_take c.args.self.now _ c.requires.still (sym c.change_on-change.ensures ∙ c.in-Refused.is),
     c.fault_of_event.ensures,
   ),
   refl,
@@ -17,11 +16,9 @@ returns-in-Refused-clause-refused c = (
 pub hold-requires : goal.hold-requires
 hold-requires c = record {
   still = c.requires.still;
-  accepted = can_take c.args.self.now (event_of c.args.event) c.change_on-change.result
-      c.requires.still c.as_slice.ensures.value c.change_on-change.ensures
-      c.in-Popped.is;
-  change = seen c.args.self.now (event_of c.args.event) c.change_on-change.result
-      c.requires.still c.as_slice.ensures.value c.change_on-change.ensures;
+  accepted = can_take c.args.self.now (event_of c.args.event) c.requires.still
+      (rw (← c.change_on-change.ensures) c.in-Popped.is);
+  change = c.change_on-change.ensures;
 }
 
 pub returns-in_err-hold-in-Popped : goal.returns-in_err-hold-in-Popped
@@ -30,9 +27,8 @@ returns-in_err-hold-in-Popped c =
     rw (p.1, p.2) (record {
       refused = tt;
       taken = tt;
-      accepted = can_take c.args.self.now (event_of c.args.event) c.change_on-change.result
-          c.requires.still c.as_slice.ensures.value c.change_on-change.ensures
-          c.in-Popped.is;
+      accepted = can_take c.args.self.now (event_of c.args.event) c.requires.still
+          (rw (← c.change_on-change.ensures) c.in-Popped.is);
       memory = c.in_err-hold-in-Popped.ensures.memory;
     })
 
@@ -40,8 +36,8 @@ pub returns-in_ok-hold-in-Popped : goal.returns-in_ok-hold-in-Popped
 returns-in_ok-hold-in-Popped c = record {
   refused = tt;
   taken = λ none. (
-    can_take c.args.self.now (event_of c.args.event) c.change_on-change.result c.requires.still
-        c.as_slice.ensures.value c.change_on-change.ensures c.in-Popped.is,
+    can_take c.args.self.now (event_of c.args.event) c.requires.still
+        (rw (← c.change_on-change.ensures) c.in-Popped.is),
     c.in_ok-hold-in-Popped.ensures.taken,
   );
   accepted = tt;

@@ -1,0 +1,64 @@
+-- What may come after held events: the innermost collection that has no end yet says whether that
+-- is an item or a pair, unless a key came last.
+use Rattle.std.specs.Prelude.{◌≡◌, List, [], ◌∷◌, Option, None, Some, map}
+use Rattle.plist_base.specs.Events.{PlainEvent, StartArray, StartDictionary, EndCollection, ScalarEvent}
+use Rattle.plist_base.specs.Expects.{change_of, expected_after}
+use Rattle.plist_base.specs.declared.expects.Expect.{Expect}
+use Rattle.plist_base.specs.declared.expects.Expect.TheVariants.{OneValue, Items, Pairs}
+use Rattle.plist_base.specs.declared.expects.Change.{Change}
+use Rattle.plist_base.specs.declared.expects.Change.TheVariants.{Refused, Popped, Kept, Pushed, Replaced}
+
+-- a collection that has no end yet
+pub data OpenKind : Type 0 where
+  OpenArray : OpenKind
+  OpenDictionary : OpenKind
+
+-- the open collections after an event, innermost first
+abbrev pub open_after_event : PlainEvent → List OpenKind → List OpenKind
+open_after_event (StartArray hint) kinds = OpenArray ∷ kinds
+open_after_event (StartDictionary hint) kinds = OpenDictionary ∷ kinds
+open_after_event EndCollection [] = []
+open_after_event EndCollection (kind ∷ outer) = outer
+open_after_event (ScalarEvent x) kinds = kinds
+
+-- the same after these events
+abbrev pub open_after : List PlainEvent → List OpenKind → List OpenKind
+open_after [] kinds = kinds
+open_after (event ∷ events) kinds = open_after events (open_after_event event kinds)
+
+-- what may come in a collection
+abbrev pub expects_in : OpenKind → Expect
+expects_in OpenArray = Items
+expects_in OpenDictionary = Pairs
+
+-- what may come in each open collection after these events, innermost first
+abbrev pub expected_inside : List PlainEvent → List Expect
+expected_inside events = map expects_in (open_after events [])
+
+abbrev pub innermost : List Expect → Option Expect
+innermost [] = None
+innermost (expect ∷ outer) = Some expect
+
+-- all that is to come, where this may come next and these in the open collections
+abbrev pub all_expected : (next : Option Expect) → (inside : List Expect) → List Expect
+all_expected None inside = []
+all_expected (Some OneValue) inside = OneValue ∷ inside
+all_expected (Some expect) inside = inside
+
+-- this may come next after these events, or nothing
+pub record ExpectsNext (events : List PlainEvent) (next : Option Expect) : Type 0 where
+  pub all : expected_after events ≡ Some (all_expected next (expected_inside events))
+  pub first : next ≡ innermost (all_expected next (expected_inside events))
+
+-- what an event does to what may come next
+abbrev pub change_on : (next : Option Expect) → PlainEvent → Change
+change_on None event = Refused
+change_on (Some expect) event = change_of expect event
+
+-- what may come after a change
+abbrev pub next_expected : Change → (next inside : Option Expect) → Option Expect
+next_expected Refused next inside = next
+next_expected Kept next inside = next
+next_expected Popped next inside = inside
+next_expected (Pushed expect) next inside = Some expect
+next_expected (Replaced expect) next inside = Some expect
