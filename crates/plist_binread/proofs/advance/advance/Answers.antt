@@ -8,7 +8,7 @@ use Rattle.plist_binread.proofs.Lengths.{child_limits}
 use Rattle.plist_binread.proofs.Steps.{steps_positive}
 use Rattle.plist_binread.proofs.KnownChildren.{ChildTaken, known_child_taken, child_failed, child_first, child_kept, child_yields}
 use Rattle.plist_binread.proofs.advance.advance.Goals as goal
-use Rattle.plist_binread.proofs.advance.advance.Goals.{In-Child, After-enter, After-read_child}
+use Rattle.plist_binread.proofs.advance.advance.Goals.{In-Child, After-read_child}
 
 -- what taking the next child does
 taken : (g : _) (c : In-Child g) → IfSome (g.S.Source.known c.args.source.now) (λ bytes.
