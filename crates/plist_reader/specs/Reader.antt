@@ -107,9 +107,6 @@ HasEndedState (state.Limited reader) = HasEndedLimited reader
 HasEndedState (state.Refused source) = ⊤
 HasEndedState state.Moved = ⊤
 
-abbrev pub HasEndedReader : {R : Type 0} {g : Ghosts R} → Reader R g → Type 0
-HasEndedReader reader = HasEndedState reader.state
-
 -- are there limits?
 abbrev pub is_limited_in : {R : Type 0} {g : Ghosts R} → State R g → Bool
 is_limited_in (state.Unread source limits) = is_some limits
