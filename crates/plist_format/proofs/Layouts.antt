@@ -1,7 +1,7 @@
 -- The layouts that go by more than one marker, and lengths by the low half of a marker.
-use Rattle.std.proofs.Common.{rules, refl, ap, ◌≡◌, ℕ, ◌-◌, ◌*◌, ◌%◌, ◌≤◌, List}
-use Rattle.plist_base.specs.Trees.{Data, Uid}
-use Rattle.plist_format.specs.Container.{number_of, numbers_spelled}
+use Rattle.std.proofs.Common.{rules, refl, ap, ◌≡◌, ℕ, ◌*◌, ◌%◌, ◌≤◌, List}
+use Rattle.plist_base.specs.Trees.{Data}
+use Rattle.plist_format.specs.Container.{numbers_spelled}
 use Rattle.plist_format.specs.Object.{Scalar, Array, Layout, Refused, Fixed, Counted, text, wide_text, dictionary, layout_of, length_in, meaning_counted, object_after_marker}
 
 pub layout-data : (w m : ℕ) → 64 ≤ m → m ≤ 79
@@ -13,10 +13,6 @@ layout-text w m low high = search rules
 
 pub layout-wide_text : (w m : ℕ) → 96 ≤ m → m ≤ 111 → layout_of w m ≡ Counted 2 (λ _. wide_text)
 layout-wide_text w m low high = search rules
-
-pub layout-uid : (w m : ℕ) → 128 ≤ m → m ≤ 135
-    → layout_of w m ≡ Fixed (m - 0x7f) (λ content. Scalar (Uid (number_of content)))
-layout-uid w m low high = search rules
 
 pub layout-array : (w m : ℕ) → 160 ≤ m → m ≤ 175
     → layout_of w m ≡ Counted w (λ _ content. Array (numbers_spelled w content))
