@@ -1,7 +1,6 @@
 -- What a fault's kind says.
 use Rattle.std.proofs.Common.{◌≡◌, subst, sym}
-use Rattle.std.specs.Prelude.{⊤}
-use Rattle.plist_base.specs.Faults.{FaultKind, Io, OutOfMemory, MatchFault, IsIo, IsIoOrMemory}
+use Rattle.plist_base.specs.Faults.{FaultKind, Io, OutOfMemory, MatchFault, IsIo}
 
 pub MatchFault-weaker : (kind : FaultKind) {A B C A' B' C' : Type 0} → (A → A') → (B → B')
     → (C → C') → MatchFault kind A B C → MatchFault kind A' B' C'
@@ -23,6 +22,3 @@ MatchFault-at kind known A B C is h = subst (λ k. MatchFault k A B C) (sym is) 
 pub MatchFault-from_io : (kind : FaultKind) (A B C : Type 0) → IsIo kind → A → MatchFault kind A B C
 MatchFault-from_io kind A B C h a =
     MatchFault-weaker kind (λ _. a) (λ none. absurd none) (λ none. absurd none) h
-
-pub IsFromOutside-from_io : (kind : FaultKind) → IsIo kind → IsIoOrMemory kind
-IsFromOutside-from_io kind h = MatchFault-from_io _ ⊤ ⊤ ⊥ h tt
