@@ -16,7 +16,7 @@ pub fn device_again<R: ByteReader>(alloc: Global, device: R) -> R
 }
 
 /// The device of a reader that is asked once more: as it was, where the reader had ended.
-pub fn device_behind_end<R: ByteReader + Drop>(reader: AsciiReader<R>) -> R
+pub fn device_after_end<R: ByteReader + Drop>(reader: AsciiReader<R>) -> R
     ensures { HasEndedAscii reader → result ≡ device_of reader }
 {
     let mut reader = reader;

@@ -11,7 +11,7 @@ use std::alloc::Global;
 /// more than the file's head counts.
 pub fn count_objects(alloc: Global, bytes: &[u8]) -> (usize, usize)
     ensures before { result.0 ≡ 0 }
-    ensures behind { result.1 ≤ objects_in_head bytes.now }
+    ensures after { result.1 ≤ objects_in_head bytes.now }
 {
     let mut reader = BinaryReader::new(alloc, bytes);
     let before = reader.objects_in_file();
@@ -34,7 +34,7 @@ pub fn count_without_root(alloc: Global, bytes: &[u8]) -> Option<usize>
 }
 
 /// What a reader gives after a fault, be it a limit's or a device's: nothing.
-pub fn next_behind_a_fault<R: Source>(
+pub fn next_after_a_fault<R: Source>(
     reader: &mut BinaryReader<R>,
 ) -> Option<Result<OwnedEvent, Error>>
     ensures { result ≡ None }

@@ -7,7 +7,7 @@ use plist_reader::Reader;
 use std::alloc::Global;
 
 /// Whether something comes after the end, or after a fault that no text in ASCII has.
-pub fn comes_behind_end<R: Source>(reader: &mut Reader<R>) -> bool
+pub fn comes_after_end<R: Source>(reader: &mut Reader<R>) -> bool
     ensures { result ≡ false }
 {
     match reader.next() {
@@ -35,7 +35,7 @@ pub fn has_its_place<R: Source>(reader: &mut Reader<R>) -> bool
 }
 
 /// Whether something comes after XML, or after a collection that contains itself.
-pub fn comes_behind_refusal<R: Source>(reader: &mut Reader<R>) -> bool
+pub fn comes_after_refusal<R: Source>(reader: &mut Reader<R>) -> bool
     ensures { result ≡ false }
 {
     match reader.next() {

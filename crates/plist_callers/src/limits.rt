@@ -5,7 +5,7 @@ ghost use Rattle.std.specs.Prelude.{◌≡◌, false};
 use plist_base::{Error, Limited, OwnedEvent};
 
 /// Whether something comes under limits after the `None` of an iterator that may give more.
-pub fn comes_behind_none<I: Iterator<Item = Result<OwnedEvent, Error>>>(
+pub fn comes_after_none<I: Iterator<Item = Result<OwnedEvent, Error>>>(
     limited: &mut Limited<I>,
 ) -> bool
     requires { (items : I) → I.can_next items }

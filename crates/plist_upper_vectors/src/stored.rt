@@ -103,7 +103,7 @@ fn expect_unstored(rt: &(impl Abort + AllocGlobal + Env + Files), from: Origin<'
 }
 
 #[test]
-fn stores_nothing_behind_a_failure(rt: HostRuntime) {
+fn stores_nothing_after_a_failure(rt: HostRuntime) {
     expect_unstored(&rt, Origin::Memory);
     put(&rt, "unstored", TRUTH);
     expect_unstored(&rt, Origin::File("unstored"));
@@ -111,7 +111,7 @@ fn stores_nothing_behind_a_failure(rt: HostRuntime) {
 
 // A key that stands twice needs a value, so the file is read twice, and made once.
 #[test]
-fn stores_no_value_behind_a_failure(rt: HostRuntime) {
+fn stores_no_value_after_a_failure(rt: HostRuntime) {
     put(&rt, "unstored_value", b"{ a = 1; a = 2; }");
     expect_unstored(&rt, Origin::File("unstored_value"));
 }
