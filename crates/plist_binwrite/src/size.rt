@@ -55,10 +55,10 @@ fn size_of_object(file: &Planned<'_, '_>, index: usize) -> Option<u64>
 }
 
 // A place, or 0 where there is none.
-fn place_or_none(told: Option<u64>) -> usize
-    ensures { IfSome told (λ place. result ≡ place) }
+fn place_or_none(place: Option<u64>) -> usize
+    ensures { IfSome place (λ number. result ≡ number) }
 {
-    told.unwrap_or(0) as usize
+    place.unwrap_or(0) as usize
 }
 
 /// Gives each object its place, in this order from the end of the magic on. The answer is the place
