@@ -68,6 +68,25 @@ pub fn put_number<W: Write>(
     put(out, buffer, &digits[8 - width..])
 }
 
+/// The same of a number in a loop: mostly it waits, and the answer of a call isn't cleared for it.
+#[inline(always)]
+#[tactic(auto, using(crate::proofs::Outgoing::puts_waiting, crate::proofs::Outgoing::puts_from))]
+pub fn put_next_number<W: Write>(
+    out: &mut W,
+    buffer: &mut Vec<u8>,
+    width: usize,
+    number: u64,
+) -> Result<(), Error>
+    requires width { width ≤ 8 }
+    ensures { Puts W.contents out.old buffer.old (big_endian width number) result out.new
+        buffer.new }
+{
+    if hold_number(buffer, width, number) {
+        return Ok(());
+    }
+    put_number(out, buffer, width, number)
+}
+
 // Puts a marker and the lowest `width` bytes of a number.
 fn put_marked_number<W: Write>(
     out: &mut W,
@@ -201,10 +220,7 @@ pub fn put_numbers<W: Write>(
         buffer.new }
 {
     for index in 0..list.len() {
-        let number = list.get(index) as u64;
-        if !hold_number(buffer, width, number) {
-            put_number(out, buffer, width, number)?;
-        }
+        put_next_number(out, buffer, width, list.get(index) as u64)?;
     }
     Ok(())
 }

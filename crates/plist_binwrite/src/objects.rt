@@ -6,9 +6,8 @@ ghost use Rattle.plist_binwrite.specs.inner.Planning.{CanPut, count_of, events_i
 ghost use Rattle.plist_binwrite.specs.inner.Putting.{PutsArray, PutsDictionary, PutsKeysOrValues, PutsItems, PutsObject, PutsOrder};
 
 use crate::compact_numbers::Numbers;
-use crate::forms::{CountedKind, put_length, put_number, put_scalar};
+use crate::forms::{CountedKind, put_length, put_next_number, put_scalar};
 use crate::kinds::{EntryKind, key_or_value};
-use crate::output_buffer::hold_number;
 use crate::plan::Planned;
 use crate::size::count_items;
 use plist_base::Error;
@@ -27,9 +26,7 @@ fn put_items<W: Write>(
     let mut index = from;
     'walk: while file.events.has_item(index) {
         let number = file.plan.number(index) as u64;
-        if !hold_number(buffer, file.width, number) {
-            put_number(out, buffer, file.width, number)?;
-        }
+        put_next_number(out, buffer, file.width, number)?;
         index = file.events.index_after(index);
     }
     Ok(())
@@ -54,9 +51,7 @@ fn put_keys_or_values<W: Write>(
             return Ok(());
         }
         let number = file.plan.number(key_or_value(key, value, values)) as u64;
-        if !hold_number(buffer, file.width, number) {
-            put_number(out, buffer, file.width, number)?;
-        }
+        put_next_number(out, buffer, file.width, number)?;
         key = file.events.index_after(value);
     }
     Ok(())
