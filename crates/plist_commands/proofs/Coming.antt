@@ -68,12 +68,6 @@ reader_fault (Some all) after error last (left, is, gives) = (
 
 -- its source is held
 module _ {S : Type 0} (failures : S → ℕ) where
-  pub still_held : (old new : Option S) (item : Option (Result Event Error)) → is_some old ≡ true
-      → HoldsSource failures old item new → is_some new ≡ true
-  still_held None new item some h = absurd (cc)
-  still_held (Some source) None item some h = absurd h
-  still_held (Some source) (Some kept) item some h = refl
-
   pub source_counts : (old new : Option S) (item : Option (Result Event Error))
       → is_some old ≡ true → HoldsSource failures old item new
       → ItemCountsIo item (failures_if_held failures old) (failures_if_held failures new)
