@@ -83,12 +83,10 @@ impl Date {
         // The law.
         ensures only { IfSome result (IsOnlyAt second) }
     {
-        match bits_of_second(second) {
-            None => None,
-            Some(bits) => Some(Date {
-                bytes: bits.to_be_bytes(),
-            }),
-        }
+        let bits = bits_of_second(second)?;
+        Some(Date {
+            bytes: bits.to_be_bytes(),
+        })
     }
 
     /// The date of a Unix second, without a fraction, or `None` if it lies outside the range of
@@ -104,10 +102,7 @@ impl Date {
         // The law.
         ensures only { IfSome result (IsOnlyAt (second -ℤ plist_epoch)) }
     {
-        match second.checked_sub(PLIST_EPOCH) {
-            None => None,
-            Some(plist_second) => Date::from_plist_secs(plist_second),
-        }
+        Date::from_plist_secs(second.checked_sub(PLIST_EPOCH)?)
     }
 
     /// The greatest second, from 2001-01-01T00:00:00Z on, that isn't after this date.
@@ -255,10 +250,8 @@ fn in_range(second: i64) -> Option<i64>
 fn second_of_bits(bits: u64) -> Option<i64>
     ensures { result ≡ second_of_bits bits }
 {
-    match Small::from_bits(bits) {
-        None => None,
-        Some(small) => in_range(round_down(bits >= 1 << 63, small.whole(), small.is_left())),
-    }
+    let small = Small::from_bits(bits)?;
+    in_range(round_down(bits >= 1 << 63, small.whole(), small.is_left()))
 }
 
 #[tactic(auto, using(crate::proofs::DateEncoding::encoded, crate::proofs::DateEncoding::sum_is))]
@@ -280,11 +273,7 @@ fn bits_of_second(second: i64) -> Option<u64>
     ensures back { IfSome result (IsWholeAt second) }
     ensures exact { IfSome result (λ bits. real_parts bits ≡ (second *ℤ pos parts_in_second)) }
 {
-    match in_range(second) {
-        None => None,
-        Some(_) => {
-            let bits = bits_of_whole(second.unsigned_abs());
-            Some(if second < 0 { (1 << 63) + bits } else { bits })
-        }
-    }
+    in_range(second)?;
+    let bits = bits_of_whole(second.unsigned_abs());
+    Some(if second < 0 { (1 << 63) + bits } else { bits })
 }

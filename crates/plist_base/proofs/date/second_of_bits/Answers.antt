@@ -4,12 +4,12 @@ use Rattle.plist_base.specs.Date.{if_second_of_date, parts_left}
 use Rattle.plist_base.proofs.DateShifts.{second_is}
 use Rattle.plist_base.proofs.date.second_of_bits.Goals as goal
 
-pub returns-in-Some : goal.returns-in-Some
-returns-in-Some c =
+pub returns : goal.returns
+returns c =
     let f : FitsSigned w64 c.round_down.result = search rules in
     let ranged = simp to_z-of_z at c.in_range.ensures in
-    let floor = c.round_down.ensures (parts_left c.in-Some.small.mantissa c.in-Some.small.scale)
+    let floor = c.round_down.ensures (parts_left c.in_ok-small.small.mantissa c.in_ok-small.small.scale)
     c.is_left.ensures in
     ranged ∙ ap if_second_of_date floor
-    ∙ second_is c.args.bits _ _ _ c.in-Some.ensures.mantissa c.in-Some.ensures.scale
-    c.whole.ensures.is c.in-Some.ensures.range
+    ∙ second_is c.args.bits _ _ _ c.in_ok-small.ensures.mantissa c.in_ok-small.ensures.scale
+    c.whole.ensures.is c.in_ok-small.ensures.range
