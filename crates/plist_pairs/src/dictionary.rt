@@ -101,10 +101,7 @@ impl<V> Pairs<V> {
         ensures value { option_copied result ≡ lookup (bytes_eq key.now) self.now }
         ensures member { IfSome result (λ value. IsAmong (values_of self.now) value.now) }
     {
-        match &self.store {
-            None => None,
-            Some(store) => store.get(key),
-        }
+        self.store.as_ref()?.get(key)
     }
 
     /// Whether the key is there.
@@ -161,10 +158,7 @@ impl<V> Pairs<V> {
         ensures value { result ≡ lookup (bytes_eq key.now) self.old }
         ensures pairs { IsTakenAt self.old key.now self.new }
     {
-        match &mut self.store {
-            None => None,
-            Some(store) => store.remove(key),
-        }
+        self.store.as_mut()?.remove(key)
     }
 
     /// The number of pairs.

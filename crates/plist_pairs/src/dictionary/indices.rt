@@ -18,10 +18,7 @@ impl<V> Pairs<V> {
     pub(crate) fn index_of(&self, key: &str) -> Option<usize>
         ensures { MatchOption result (HasNone key.now self.now) (IsIndexOf key.now self.now) }
     {
-        match &self.store {
-            None => None,
-            Some(store) => store.index_of(key),
-        }
+        self.store.as_ref()?.index_of(key)
     }
 
     // The key at an index.

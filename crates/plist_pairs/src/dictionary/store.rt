@@ -74,10 +74,8 @@ impl<V> Store<V> {
     pub(crate) fn get(&self, key: &str) -> Option<&V>
         ensures value { option_copied result ≡ lookup (bytes_eq key.now) self.now }
     {
-        match self.keys.get_index_of(key) {
-            None => None,
-            Some(index) => Some(&self.items[index]),
-        }
+        let index = self.keys.get_index_of(key)?;
+        Some(&self.items[index])
     }
 
     pub(crate) fn contains_key(&self, key: &str) -> bool

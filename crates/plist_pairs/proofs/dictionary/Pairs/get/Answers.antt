@@ -4,8 +4,8 @@ use Rattle.std.specs.Option.{option_copied}
 use Rattle.plist_pairs.proofs.Among.{among}
 use Rattle.plist_pairs.proofs.dictionary.Pairs.get.Goals as goal
 
-pub returns-in-Some-clause-member : goal.returns-in-Some-clause-member
-returns-in-Some-clause-member g c =
+pub returns-clause-member : goal.returns-clause-member
+returns-clause-member g c =
     let found : option_copied c.get.result ≡ lookup (bytes_eq c.args.key.now) c.args.self.now =
     search rules in
     among c.get.result (bytes_eq c.args.key.now) c.args.self.now found
