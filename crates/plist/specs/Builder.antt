@@ -35,16 +35,16 @@ abbrev pub RefusesWith : {A : Type 0} → (before : Builder) → Item → Result
 RefusesWith before item answer = IfErr answer (λ error. RefusesItem before item (fault_of error))
 
 -- the events so far are all of this value's
-abbrev pub IsWholeOf : Built → Value → Type 0
-IsWholeOf built value = AreAlike (events_so_far built.unfinished) (bracketing (tree_of value))
+abbrev pub HasAllEventsOf : Built → Value → Type 0
+HasAllEventsOf built value = AreAlike (events_so_far built.unfinished) (bracketing (tree_of value))
 
 -- its tree is what was built
 abbrev pub IsBuilt : Built → Value → Type 0
 IsBuilt built value = complete_tree built.unfinished ≡ Some (tree_of value)
 
 -- the same of a builder that hasn't failed
-abbrev pub RefusesWorking : {A : Type 0} → (before : Builder) → Item → Result A Error → Type 0
-RefusesWorking before item answer =
+abbrev pub RefusesUnlessFailed : {A : Type 0} → (before : Builder) → Item → Result A Error → Type 0
+RefusesUnlessFailed before item answer =
     (built_of before).failed ≡ false → RefusesWith before item answer
 
 -- the event is added to what a builder holds

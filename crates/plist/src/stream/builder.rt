@@ -29,7 +29,7 @@ pub struct Builder {
 }
 
 impl Builder {
-    ghost use Rattle.plist.specs.Builder.{BuilderAddsEvent, IsBuilt, IsBuildingStep, IsWholeOf, RefusesWith, RefusesWorking, TakesItem, built_of};
+    ghost use Rattle.plist.specs.Builder.{BuilderAddsEvent, HasAllEventsOf, IsBuilt, IsBuildingStep, RefusesUnlessFailed, RefusesWith, TakesItem, built_of};
     ghost use Rattle.plist.specs.Collecting.{item_by};
 
     /// A builder that holds no events.
@@ -47,7 +47,7 @@ impl Builder {
     pub(crate) fn take(&mut self, event: Event<'_>) -> Result<(), Error>
         ensures step { IsBuildingStep self.old (event_of event.entry) (answer_of result) self.new }
         ensures added { OnOk result (BuilderAddsEvent self.old (event_of event.entry) self.new) }
-        ensures refused { RefusesWorking self.old (Ok (event_of event.entry)) result }
+        ensures refused { RefusesUnlessFailed self.old (Ok (event_of event.entry)) result }
     {
         if self.failed {
             return Err(ErrorKind::WriterFailed.without_position());
@@ -86,7 +86,7 @@ impl Builder {
     /// - `UnexpectedEndOfEventStream` if the events aren't those of a value yet.
     pub fn finish(&mut self) -> Result<Value, Error>
         // The answer.
-        ensures value { IfOk result (IsWholeOf (built_of self.old)) }
+        ensures value { IfOk result (HasAllEventsOf (built_of self.old)) }
         ensures complete { IfOk result (IsBuilt (built_of self.old)) }
         ensures working { OnOk result ((built_of self.old).failed ≡ false) }
         // A refusal.
