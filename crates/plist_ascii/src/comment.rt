@@ -52,9 +52,12 @@ impl<R: ByteReader> Input<R> {
     /// Takes a comment up to and with its `*/`, whose opening has been taken. No byte after it is
     /// looked at.
     pub fn block_comment(&mut self) -> Result<Option<OwnedEvent>, Error>
+        // The answer.
         ensures answers { GivesToken R.remaining block_comment self.old result self.new }
-        ensures memory { IfErr result (λ error. kind_of (error_kind_of error) ≢ OutOfMemory) }
         ensures nothing { IfOk result (λ event. event ≡ None) }
+        // A refusal.
+        ensures memory { IfErr result (λ error. kind_of (error_kind_of error) ≢ OutOfMemory) }
+        // The state after it.
         ensures peeked { IfOk result (λ _. self.new.peeked ≡ None) }
         ensures failures { CountsFailed R.failures self.old result self.new }
     {

@@ -34,8 +34,11 @@ fn push_escaped(text: &mut Vec<u8>, piece: Escaped) -> Result<(), Error>
 impl<R: ByteReader> Input<R> {
     // Takes what stands after a run of plain bytes: the closing quote, or an escape.
     fn run_end(&mut self, quote: u8) -> Result<Option<Escaped>, Error>
+        // The answer.
         ensures value { IfOk result (TakesEnd R.remaining quote self.old self.new) }
+        // A refusal.
         ensures fault { IfErr result (FailsAfter R.remaining (EndFails quote) self.old self.new) }
+        // The state after it.
         ensures rises { OnOk result (TakesSomeMore self.old self.new) }
         ensures peeked { IfOk result (λ piece. piece ≡ None → self.new.peeked ≡ None) }
         ensures failures { CountsFailed R.failures self.old result self.new }
@@ -49,8 +52,11 @@ impl<R: ByteReader> Input<R> {
 
     // Takes a run of plain bytes and what stands after it. Says whether the text is closed.
     fn part(&mut self, quote: u8, text: &mut Vec<u8>) -> Result<bool, Error>
+        // The answer.
         ensures value { IfOk result (Quotes R.remaining quote self.old text.old self.new text.new) }
+        // A refusal.
         ensures fault { IfErr result (FailsAfter R.remaining (PartFails quote) self.old self.new) }
+        // The state after it.
         ensures rises { OnOk result (TakesSomeMore self.old self.new) }
         ensures peeked { IfOk result (λ closed. closed ≡ true → self.new.peeked ≡ None) }
         ensures failures { CountsFailed R.failures self.old result self.new }
