@@ -58,6 +58,7 @@ def passed_on(sources):
                 below = sources.get(f"{crate}/{it}", "")
                 whole_files |= {f"{crate}/{it}"} if below else set()
                 names |= {it, *re.findall(r"(?m)^pub (?:struct|enum|trait|type) (\w+)", below)}
+                names |= set(NAME.findall(" ".join(re.findall(r"(?m)^pub use [^;]+;", below))))
     return names, whole_files
 
 
