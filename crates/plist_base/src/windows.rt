@@ -1,9 +1,8 @@
 //! Windows of a file: parts of one size that are held.
 
-ghost use Rattle.std.specs.Prelude.{◌≡◌, ℕ, ◌+◌, ◌-◌, ◌%◌, ◌^◌, ◌≤◌, ◌<◌, drop, take, slice_index, IfOk, IfSome, OnErr};
-ghost use Rattle.plist_base.specs.inner.Windows.{IsBeginning, KeepsWindows, LendsFrom, bytes_of_window};
+ghost use Rattle.std.specs.Prelude.{◌≡◌, ℕ, All, ◌+◌, ◌-◌, ◌%◌, ◌^◌, ◌≤◌, ◌<◌, drop, take, slice_index, IfOk, IfSome, OnErr};
+ghost use Rattle.std.proofs.Props.{props};
 
-use crate::source::rest_from;
 use std::io;
 use std::io::{Read, Seek, SeekFrom};
 
@@ -36,14 +35,6 @@ fn part(bytes: &[u8], first: usize, size: usize) -> &[u8]
     &rest[..size.min(rest.len())]
 }
 
-// Adds memory for windows, if there is some, and answers whether there was.
-fn add_windows(more: &mut Vec<u8>, count: usize) -> bool
-    requires { count < 1024 }
-    ensures { IsBeginning more.old.items more.new.items }
-{
-    more.resize(more.len() + count * ROOM, 0).is_ok()
-}
-
 /// Windows of a file, eight at first.
 ///
 /// A window's number modulo the number of slots is its slot. A slot holds two windows, so that two
@@ -66,9 +57,12 @@ pub(crate) struct Windows {
     noted: [u64; NOTED as usize / 64],
     // What the windows weigh that were filled again.
     weight: u64,
+    ghost within: { All (λ size. size ≤ 8256) filled } by { Prim.hlevel props },
 }
 
 impl Windows {
+    ghost use Rattle.plist_base.specs.inner.Windows.{IsBeginning, KeepsWindows, LendsFrom, bytes_of_window};
+
     /// Eight windows, and memory for others, if there are to be others.
     pub(crate) fn new(more: Option<Vec<u8>>) -> Self {
         Windows {
@@ -84,6 +78,7 @@ impl Windows {
     }
 
     // The first of the two windows of a place's slot.
+    #[inline(always)]
     fn first_window(&self, place: u64) -> usize
         ensures { result + 1 < 1024 }
     {
@@ -92,6 +87,7 @@ impl Windows {
     }
 
     // The window that a place lies in, if it is held.
+    #[inline(always)]
     fn window_at(&self, place: u64) -> Option<usize>
         ensures within { IfSome result (λ i. i < 1024) }
         ensures start { IfSome result (λ i. slice_index self.now.starts i ≡ place - place % 8192) }
@@ -107,17 +103,21 @@ impl Windows {
         }
     }
 
-    // What one read gave from a window's start on.
-    fn bytes_of_window(&self, i: usize) -> &[u8]
+    // What one read gave from so far after a window's start on.
+    #[inline(always)]
+    fn rest_of_window(&self, i: usize, from: usize) -> &[u8]
         requires { i < 1024 }
-        ensures { result.now ≡ bytes_of_window self.now i }
+        ensures { result.now ≡ drop from (bytes_of_window self.now i) }
     {
-        let size = usize::from(self.filled[i]);
+        let filled = usize::from(self.filled[i]);
+        if from >= filled {
+            return &[];
+        }
         if i < OWN {
-            return part(&self.own, i * ROOM, size);
+            return &self.own[i * ROOM + from..i * ROOM + filled];
         }
         match &self.more {
-            Some(more) => part(more.as_slice(), (i - OWN) * ROOM, size),
+            Some(more) => part(more.as_slice(), (i - OWN) * ROOM + from, filled - from),
             None => &[],
         }
     }
@@ -128,7 +128,7 @@ impl Windows {
         ensures bytes { (i : ℕ) × LendsFrom self.now i place result.now }
     {
         match self.window_at(place) {
-            Some(i) => rest_from(self.bytes_of_window(i), place % WINDOW as u64),
+            Some(i) => self.rest_of_window(i, (place % WINDOW as u64) as usize),
             None => &[],
         }
     }
@@ -167,13 +167,24 @@ impl Windows {
         }
     }
 
+    // Adds memory for windows, if there is some, and answers whether there was.
+    fn add_windows(more: &mut Vec<u8>, count: usize) -> bool
+        requires { count < 1024 }
+        ensures { IsBeginning more.old.items more.new.items }
+    {
+        more.resize(more.len() + count * ROOM, 0).is_ok()
+    }
+
     // Makes twice as many windows, where there is memory for them.
     fn grow(&mut self)
         ensures { KeepsWindows self.old self.new }
     {
         let count = self.count();
+        if count >= MOST {
+            return;
+        }
         if let Some(more) = &mut self.more {
-            if count < MOST && add_windows(more, count) {
+            if Windows::add_windows(more, count) {
                 self.last_slot = count as u64 - 1;
             }
         }
