@@ -21,7 +21,8 @@ IsOutcomeOf object current outcome.Unseen = Unit {0}
 IsOutcomeOf object current outcome.Overrun = object ≡ Faulty ObjectOffsetTooLarge
 IsOutcomeOf object current outcome.Null = object ≡ Faulty NullObjectUnimplemented
 IsOutcomeOf object current outcome.Fill = object ≡ Faulty FillObjectUnimplemented
-IsOutcomeOf object current (outcome.Unknown marker) = object ≡ Faulty (UnknownObjectType marker)
+IsOutcomeOf object current (outcome.Unknown marker) =
+    (object ≡ Faulty (UnknownObjectType marker)) × (marker < 256)
 IsOutcomeOf object current outcome.OutOfRange = object ≡ Faulty IntegerOutOfRange
 IsOutcomeOf object current outcome.NoDate = object ≡ Faulty OverflowOrNanDate
 IsOutcomeOf object current outcome.NotUtf8 = object ≡ Faulty InvalidUtf8String

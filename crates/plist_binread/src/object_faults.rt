@@ -28,7 +28,8 @@ use plist_format::{CountedKind, Marker};
 
 /// What was decoded of the bytes at an object's front, or what is wrong with it.
 ///
-/// It is a tag and a number, and no more, since one is made for each item.
+/// It is a tag and a number of 64 bits, and no more, so that a function answers it in two registers:
+/// one is made for each item.
 #[derive(Clone, Copy)]
 pub enum Outcome {
     /// A text or data whose content isn't all seen there, and is held.
@@ -39,8 +40,8 @@ pub enum Outcome {
     Null,
     /// It is a fill byte.
     Fill,
-    /// No object has this marker.
-    Unknown(u8),
+    /// No object has this marker, which is a byte.
+    Unknown(u64),
     /// The number isn't one of 64 bits without sign.
     OutOfRange,
     /// It is no date.
@@ -104,7 +105,7 @@ pub fn front_after_marker(
             CountedKind::Dictionary => front_dictionary(low, rest, extent, width, slot),
         },
         Marker::Uid(size) => front_uid(rest, extent, size, slot),
-        Marker::Unknown(byte) => Outcome::Unknown(byte),
+        Marker::Unknown(byte) => Outcome::Unknown(u64::from(byte)),
     }
 }
 
@@ -120,7 +121,7 @@ fn fault_kind(outcome: Outcome) -> ErrorKind
         Outcome::Overrun => ErrorKind::ObjectOffsetTooLarge,
         Outcome::Null => ErrorKind::NullObjectUnimplemented,
         Outcome::Fill => ErrorKind::FillObjectUnimplemented,
-        Outcome::Unknown(marker) => ErrorKind::UnknownObjectType(marker),
+        Outcome::Unknown(marker) => ErrorKind::UnknownObjectType((marker % 256) as u8),
         Outcome::OutOfRange => ErrorKind::IntegerOutOfRange,
         Outcome::NoDate => ErrorKind::OverflowOrNanDate,
         Outcome::NotUtf8 => ErrorKind::InvalidUtf8String,
