@@ -111,21 +111,24 @@ fn read_references<S: Source>(
     }
 }
 
-// Finds the references of the collection at a place.
+// Finds the references of the collection at a place. They are set in place, so that no answer of
+// their size is made.
 #[inline(never)]
 fn find_references<S: Source>(
     source: &mut S,
     bounds: &Bounds,
+    references: &mut References,
     place: u64,
     slot: &mut EventSlot,
-) -> Result<References, Refused>
+) -> Result<(), Refused>
+    requires references { AreReferencesOf (S.known source.old) bounds.now references.old }
     // The answer.
-    ensures value { IfOk result (λ references. references.place ≡ place) }
-    ensures references { FindsReferences (answer_in result slot.new) (S.known source.old) bounds.now
-        place }
+    ensures place { OnOk result (references.new.place ≡ place) }
     // A refusal.
+    ensures refused { IfErr result (RefusesEach (S.known source.old) bounds.now place slot.new) }
     ensures fault { ErrWithin place bounds.now.trailer (answer_in result slot.new) }
     // The state after it.
+    ensures references { AreReferencesOf (S.known source.old) bounds.now references.new }
     ensures unchanged { S.known source.new ≡ S.known source.old }
     ensures failures { AnswersInSlot S.failures result slot.new source.old source.new }
 {
@@ -137,11 +140,15 @@ fn find_references<S: Source>(
     if buffered.len() as u64 >= extent.min(LENGTH_END as u64) {
         let seen = &buffered[..extent.min(buffered.len() as u64) as usize];
         return match references_in(seen, extent, bounds.reference_width, place) {
-            Some(references) => Ok(references),
+            Some(found) => {
+                *references = found;
+                Ok(())
+            }
             None => Err(slot.refuse_overrun(place)),
         };
     }
-    read_references(source, bounds, place, extent, slot)
+    *references = read_references(source, bounds, place, extent, slot)?;
+    Ok(())
 }
 
 // The number of a child's reference among those of its collection.
@@ -194,8 +201,7 @@ fn refer_to<S: Source>(
     if references.place == place {
         return Ok(());
     }
-    *references = find_references(source, bounds, place, slot)?;
-    Ok(())
+    find_references(source, bounds, references, place, slot)
 }
 
 // Reads a reference that isn't buffered.

@@ -3,8 +3,8 @@ use Rattle.plist_binread.proofs.Children.{known_references, known_beyond, known_
 use Rattle.plist_binread.proofs.Seen.{known_front, known_prefix}
 use Rattle.plist_binread.proofs.references.find_references.Goals as goal
 
-pub returns-then-place-bounds-clause-references : goal.returns-then-place-bounds-clause-references
-returns-then-place-bounds-clause-references g c = λ index.
+pub returns-then-place-bounds-clause-refused : goal.returns-then-place-bounds-clause-refused
+returns-then-place-bounds-clause-refused g c = λ index.
     known_beyond _ c.args.bounds.now _ _
     (Err c.refuse_overrun.new.self.fault) c.if-place-bounds.true
 
@@ -15,8 +15,8 @@ returns-in-Some-clause-references g c =
     c.buffered-buffered.ensures.bytes)
     c.in-Some.ensures.references
 
-pub returns-in-None-clause-references : goal.returns-in-None-clause-references
-returns-in-None-clause-references g c = λ index.
+pub returns-in-None-clause-refused : goal.returns-in-None-clause-refused
+returns-in-None-clause-refused g c = λ index.
     known_childless _ c.args.bounds.now c.args.place index _
     (Err c.refuse_overrun-in-None.new.self.fault) (search rules)
     (known_prefix _ _ _ _ (omega arith) c.buffered-buffered.ensures.bytes) c.in-None.ensures.none
