@@ -61,6 +61,9 @@ fn look_up(walk: &Walk, slot: &mut EventSlot, at: u64, number: u64) -> Result<Op
     }
     let tag = walk.tags[number as usize];
     let content = walk.contents[number as usize];
+    if tag == 0 {
+        return Ok(Some(content));
+    }
     if is_open(tag) {
         return Err(refuse_open(slot, content));
     }
