@@ -75,8 +75,8 @@ fn decode_front<S: Source, C: DecodeCounter>(
 {
     let extent = bounds.trailer - place;
     let buffered = source.buffered(place);
-    if buffered.len() as u64 >= extent.min(FRONT as u64) {
-        let seen = &buffered[..extent.min(buffered.len() as u64) as usize];
+    let seen = &buffered[..extent.min(buffered.len() as u64) as usize];
+    if seen.len() >= FRONT || seen.len() as u64 == extent {
         return Ok(decode_seen(seen, extent, bounds.reference_width, left, counter, slot));
     }
     read_front(source, counter, bounds, place, extent, left, slot)

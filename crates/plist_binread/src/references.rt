@@ -137,8 +137,8 @@ fn find_references<S: Source>(
     }
     let extent = bounds.trailer - place;
     let buffered = source.buffered(place);
-    if buffered.len() as u64 >= extent.min(LENGTH_END as u64) {
-        let seen = &buffered[..extent.min(buffered.len() as u64) as usize];
+    let seen = &buffered[..extent.min(buffered.len() as u64) as usize];
+    if seen.len() >= LENGTH_END || seen.len() as u64 == extent {
         return match references_in(seen, extent, bounds.reference_width, place) {
             Some(found) => {
                 *references = found;
