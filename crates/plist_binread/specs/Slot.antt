@@ -40,6 +40,11 @@ abbrev pub answer_in : {A : Type 0} → Result A Refused → EventSlot → Resul
 answer_in (Ok value) slot = Ok value
 answer_in (Err refused) slot = Err slot.fault
 
+-- the answer where the error is held of what wasn't found
+abbrev pub found_in : {A : Type 0} → Option A → EventSlot → Result A Error
+found_in (Some value) slot = Ok value
+found_in None slot = Err slot.fault
+
 -- and the same item
 abbrev pub item_in : {A : Type 0} → Option (Result A Refused) → EventSlot → Option (Result A Error)
 item_in None slot = None

@@ -5,7 +5,8 @@ ghost use Rattle.plist_binread.specs.DecodeOutcome.{reference_place, reference_i
 ghost use Rattle.plist_binread.specs.FaultOffsets.{ErrWithin};
 ghost use Rattle.plist_binread.specs.Reading.{HasNoChild, FindsReferences, HasNoChildren, HasPairs, AreReferencesOfSeen, AreReferencesOf, RefusesNumber, ReadsChildAt, ReadsNumber, ShowsLength};
 ghost use Rattle.plist_binread.specs.Step.{RefusesEach};
-ghost use Rattle.plist_binread.specs.Slot.{AnswersInSlot, answer_in};
+ghost use Rattle.plist_base.specs.Sources.{AnswersIo};
+ghost use Rattle.plist_binread.specs.Slot.{AnswersInSlot, answer_in, found_in};
 
 use crate::counted_content::front_length;
 use crate::event_slot::{EventSlot, Refused};
@@ -204,7 +205,7 @@ fn refer_to<S: Source>(
     find_references(source, bounds, references, place, slot)
 }
 
-// Reads a reference that isn't buffered.
+// Reads a reference that isn't buffered. Where that fails, the error is held.
 #[cold]
 #[inline(never)]
 fn read_reference<S: Source>(
@@ -212,19 +213,26 @@ fn read_reference<S: Source>(
     place: u64,
     width: usize,
     slot: &mut EventSlot,
-) -> Result<u64, Refused>
+) -> Option<u64>
     requires width { width ≤ 8 }
     requires fits { place + width < 2 ^ 64 }
     // The answer.
-    ensures value { ReadsNumber (answer_in result slot.new) (S.known source.old) place width }
+    ensures value { ReadsNumber (found_in result slot.new) (S.known source.old) place width }
     // A refusal.
-    ensures refused { RefusesNumber (answer_in result slot.new) (S.known source.old) place width }
-    ensures fault { ErrWithin place (place + width) (answer_in result slot.new) }
+    ensures refused { RefusesNumber (found_in result slot.new) (S.known source.old) place width }
+    ensures fault { ErrWithin place (place + width) (found_in result slot.new) }
     // The state after it.
     ensures unchanged { S.known source.new ≡ S.known source.old }
-    ensures failures { AnswersInSlot S.failures result slot.new source.old source.new }
+    ensures failures { AnswersIo (found_in result slot.new) (S.failures source.old)
+        (S.failures source.new) }
 {
-    slot.keep_error(read_far_number(source, place, width))
+    match read_far_number(source, place, width) {
+        Ok(number) => Some(number),
+        Err(error) => {
+            slot.refuse(error);
+            None
+        }
+    }
 }
 
 /// Finds the number of a child of the collection at a place.
@@ -254,7 +262,10 @@ pub fn read_child<S: Source>(
         Some(at) if at < bounds.trailer && width as u64 <= bounds.trailer - at => {
             match buffered_number(source, at, width) {
                 Some(number) => Ok(number),
-                None => read_reference(source, at, width, slot),
+                None => match read_reference(source, at, width, slot) {
+                    Some(number) => Ok(number),
+                    None => Err(Refused::Fault),
+                },
             }
         }
         _ => Err(slot.refuse_overrun(place)),
