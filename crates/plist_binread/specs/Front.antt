@@ -147,17 +147,24 @@ ReadsContent known place content answer = IfSome known (λ bytes.
     → Decodes (content_means content.kind (take (content.count * unit_size content.kind)
     (drop (place + content.start) bytes))) place answer)
 
--- the same of the current event
-abbrev pub DecodesContentAt : (known : Option (List ℕ)) → (place : ℕ) → Content → EventSlot
-    → Result Outcome Refused → Type 0
+-- a scalar was decoded, if nothing was refused
+abbrev pub scalar_if : {A : Type 0} → Result A Refused → Result Outcome Refused
+scalar_if (Ok done) = Ok outcome.Scalar
+scalar_if (Err refused) = Err refused
+
+-- the same of the current event, which is a scalar
+abbrev pub DecodesContentAt : {A : Type 0} → (known : Option (List ℕ)) → (place : ℕ) → Content
+    → EventSlot
+    → Result A Refused → Type 0
 DecodesContentAt known place content slot answer = IfSome known (λ bytes.
     place + content.start + content.count * unit_size content.kind ≤ length bytes
     → DecodesCurrent (content_means content.kind (take (content.count * unit_size content.kind)
-    (drop (place + content.start) bytes))) place (event_in slot) (answer_in answer slot))
+    (drop (place + content.start) bytes))) place (event_in slot)
+    (answer_in (scalar_if answer) slot))
 
 -- the current event is a scalar that isn't small
-abbrev pub IsLargeScalar : EventSlot → Outcome → Type 0
-IsLargeScalar slot outcome = small_decoded outcome slot ≡ 0
+abbrev pub IsLargeScalar : EventSlot → Type 0
+IsLargeScalar slot = small_decoded outcome.Scalar slot ≡ 0
 
 -- a read that fails there fails within the object
 abbrev pub FailsInContent : {A : Type 0} → (place : ℕ) → Content → Result A Error → Type 0

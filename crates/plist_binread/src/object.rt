@@ -127,11 +127,11 @@ fn decode_long<S: Source>(
     place: u64,
     left: u64,
     slot: &mut EventSlot,
-) -> Result<Outcome, Refused>
+) -> Result<(), Refused>
     requires fits { EndsIn64Bits place slot.old.content }
     // The answer.
     ensures current { DecodesContentAt (S.known source.old) place slot.old.content slot.new result }
-    ensures large { IfOk result (IsLargeScalar slot.new) }
+    ensures large { OnOk result (IsLargeScalar slot.new) }
     // A refusal.
     ensures limit { LimitsContent result left slot.new (S.known source.old) place slot.old.content }
     ensures fault { FailsInContent place slot.old.content (answer_in result slot.new) }
@@ -146,7 +146,7 @@ fn decode_long<S: Source>(
     match read_long(alloc, source, place, content) {
         Ok(event) => {
             slot.hold(event);
-            Ok(Outcome::Scalar)
+            Ok(())
         }
         Err(error) => Err(slot.refuse(error)),
     }
@@ -180,7 +180,10 @@ pub fn decode<S: Source, C: DecodeCounter>(
     match decode_front(source, counter, bounds, place, left, slot) {
         Ok(outcome) => match outcome {
             Outcome::Scalar | Outcome::Collection(_) => Ok(outcome),
-            Outcome::Unseen => decode_long(alloc, source, place, left, slot),
+            Outcome::Unseen => match decode_long(alloc, source, place, left, slot) {
+                Ok(()) => Ok(Outcome::Scalar),
+                Err(refused) => Err(refused),
+            },
             Outcome::Overrun
             | Outcome::Null
             | Outcome::Fill

@@ -1,5 +1,7 @@
-use Rattle.std.proofs.Common.{◌∙◌, ◌+◌, ap}
-use Rattle.plist_binread.specs.Slot.{answer_in, event_in}
+use Rattle.std.proofs.Common.{◌∙◌, ◌+◌, Err, Ok, ap}
+use Rattle.plist_binread.specs.declared.object_faults.Outcome.{Outcome}
+use Rattle.plist_binread.specs.declared.object_faults.Outcome.TheVariants.{Scalar as ScalarOutcome}
+use Rattle.plist_binread.specs.Slot.{event_in}
 use Rattle.plist_binread.proofs.Lengths.{long_limits}
 use Rattle.plist_binread.proofs.Seen.{long_decodes, seen_refused}
 use Rattle.plist_binread.proofs.Markers.{known_beyond}
@@ -10,18 +12,26 @@ returns-then-place-bounds-clause-decoded g c =
     known_beyond _ c.args.bounds.now.reference_width c.args.bounds.now.trailer c.args.place
     c.refuse_overrun.new.self.fault c.if-place-bounds.true c.refuse_overrun.ensures.fault
 
-pub returns-in-Unseen-clause-decoded : goal.returns-in-Unseen-clause-decoded
-returns-in-Unseen-clause-decoded g c =
+pub returns-in-Ok-decode_long-clause-decoded : goal.returns-in-Ok-decode_long-clause-decoded
+returns-in-Ok-decode_long-clause-decoded g c =
     long_decodes _ _ c.args.bounds.now c.args.place c.decode_front.new.slot.content
-    (event_in c.decode_long.new.slot) (answer_in c.decode_long.result c.decode_long.new.slot)
+    (event_in c.decode_long.new.slot) (Ok ScalarOutcome)
     c.in-Ok.ensures.unchanged (rw c.in-Unseen.is at c.in-Ok.ensures.unseen)
-    c.decode_long.ensures.current
+    c.in-Ok-decode_long.ensures.current
 
-pub returns-in-Unseen-clause-limit : goal.returns-in-Unseen-clause-limit
-returns-in-Unseen-clause-limit g c =
-    long_limits c.decode_long.result c.args.left c.decode_long.new.slot _ _ c.args.bounds.now c.args.place c.decode_front.new.slot.content
+pub returns-in-Err-decode_long-clause-decoded : goal.returns-in-Err-decode_long-clause-decoded
+returns-in-Err-decode_long-clause-decoded g c =
+    long_decodes _ _ c.args.bounds.now c.args.place c.decode_front.new.slot.content
+    (event_in c.decode_long.new.slot) (Err c.decode_long.new.slot.fault)
     c.in-Ok.ensures.unchanged (rw c.in-Unseen.is at c.in-Ok.ensures.unseen)
-    c.decode_long.ensures.limit
+    c.in-Err-decode_long.ensures.current
+
+pub returns-in-Err-decode_long-clause-limit : goal.returns-in-Err-decode_long-clause-limit
+returns-in-Err-decode_long-clause-limit g c =
+    long_limits {A = Outcome} (Err c.in-Err-decode_long.refused) c.args.left c.decode_long.new.slot
+    _ _ c.args.bounds.now c.args.place c.decode_front.new.slot.content
+    c.in-Ok.ensures.unchanged (rw c.in-Unseen.is at c.in-Ok.ensures.unseen)
+    c.in-Err-decode_long.ensures.limit
 
 pub returns-in-Overrun : goal.returns-in-Overrun
 returns-in-Overrun g c = record {
