@@ -240,6 +240,7 @@ impl EventSlot {
     }
 
     /// Sets the text in these bytes, if they are one and there is memory for it.
+    #[inline(always)]
     pub fn set_text(&mut self, bytes: &[u8]) -> Outcome
         ensures { DecodesText bytes.now self.new result }
     {
@@ -310,6 +311,7 @@ impl EventSlot {
     }
 
     /// Unpacks the scalar of a kind and a content, if they hold one and there is memory for it.
+    #[inline(always)]
     pub fn unpack(&mut self, kind: PackedKind, content: u64) -> bool
         ensures current { result ≡ true → scalar_event (unpacked kind content) ≡ Some
             (event_in self.new) }
