@@ -180,10 +180,10 @@ pub fn decode<S: Source, C: DecodeCounter>(
     match decode_front(source, counter, bounds, place, left, slot) {
         Ok(outcome) => match outcome {
             Outcome::Scalar | Outcome::Collection(_) => Ok(outcome),
-            Outcome::Unseen => match decode_long(alloc, source, place, left, slot) {
-                Ok(()) => Ok(Outcome::Scalar),
-                Err(refused) => Err(refused),
-            },
+            Outcome::Unseen => {
+                decode_long(alloc, source, place, left, slot)?;
+                Ok(Outcome::Scalar)
+            }
             Outcome::Overrun
             | Outcome::Null
             | Outcome::Fill

@@ -1,8 +1,6 @@
-use Rattle.std.proofs.Common.{◌∙◌, ◌+◌, Err, Ok, ap}
-use Rattle.plist_binread.specs.declared.object_faults.Outcome.{Outcome}
-use Rattle.plist_binread.specs.declared.object_faults.Outcome.TheVariants.{Scalar as ScalarOutcome}
+use Rattle.std.proofs.Common.{◌∙◌, ◌+◌, Err, ap}
+use Rattle.std.proofs.lemmas.Result.{err_from_is_err_and}
 use Rattle.plist_binread.specs.Slot.{event_in}
-use Rattle.plist_binread.proofs.Lengths.{long_limits}
 use Rattle.plist_binread.proofs.Seen.{long_decodes, seen_refused}
 use Rattle.plist_binread.proofs.Markers.{known_beyond}
 use Rattle.plist_binread.proofs.object.decode.Goals as goal
@@ -12,26 +10,14 @@ returns-then-place-bounds-clause-decoded g c =
     known_beyond _ c.args.bounds.now.reference_width c.args.bounds.now.trailer c.args.place
     c.refuse_overrun.new.self.fault c.if-place-bounds.true c.refuse_overrun.ensures.fault
 
-pub returns-in-Ok-decode_long-clause-decoded : goal.returns-in-Ok-decode_long-clause-decoded
-returns-in-Ok-decode_long-clause-decoded g c =
-    long_decodes _ _ c.args.bounds.now c.args.place c.decode_front.new.slot.content
-    (event_in c.decode_long.new.slot) (Ok ScalarOutcome)
-    c.in-Ok.ensures.unchanged (rw c.in-Unseen.is at c.in-Ok.ensures.unseen)
-    c.in-Ok-decode_long.ensures.current
-
-pub returns-in-Err-decode_long-clause-decoded : goal.returns-in-Err-decode_long-clause-decoded
-returns-in-Err-decode_long-clause-decoded g c =
-    long_decodes _ _ c.args.bounds.now c.args.place c.decode_front.new.slot.content
+pub returns-in_err-decode_long-in-Unseen-clause-decoded :
+    goal.returns-in_err-decode_long-in-Unseen-clause-decoded
+returns-in_err-decode_long-in-Unseen-clause-decoded g c =
+    let p = err_from_is_err_and c.from_residual.result c.from_residual.ensures.1 in
+    rw p.1 (long_decodes _ _ c.args.bounds.now c.args.place c.decode_front.new.slot.content
     (event_in c.decode_long.new.slot) (Err c.decode_long.new.slot.fault)
     c.in-Ok.ensures.unchanged (rw c.in-Unseen.is at c.in-Ok.ensures.unseen)
-    c.in-Err-decode_long.ensures.current
-
-pub returns-in-Err-decode_long-clause-limit : goal.returns-in-Err-decode_long-clause-limit
-returns-in-Err-decode_long-clause-limit g c =
-    long_limits {A = Outcome} (Err c.in-Err-decode_long.refused) c.args.left c.decode_long.new.slot
-    _ _ c.args.bounds.now c.args.place c.decode_front.new.slot.content
-    c.in-Ok.ensures.unchanged (rw c.in-Unseen.is at c.in-Ok.ensures.unseen)
-    c.in-Err-decode_long.ensures.limit
+    c.in_err-decode_long-in-Unseen.ensures.current)
 
 pub returns-in-Overrun : goal.returns-in-Overrun
 returns-in-Overrun g c = record {
