@@ -115,6 +115,30 @@ fn digits_of_block(bytes: &[u8; 64]) -> [u8; 128]
     digits
 }
 
+// The same of a block of eight bytes.
+#[inline(always)]
+fn digits_of_eight(bytes: &[u8; 8]) -> [u8; 16]
+    ensures { result ≡ hexadecimal bytes.now }
+{
+    let mut digits = [0; 16];
+    for index in 0..8 {
+        digits[2 * index] = hexadecimal_digit_of(bytes[index] / 16);
+        digits[2 * index + 1] = hexadecimal_digit_of(bytes[index] % 16);
+    }
+    digits
+}
+
+// Two hexadecimal digits a byte, eight bytes at a time.
+fn push_by_eights(line: &mut Vec<u8>, bytes: &[u8]) -> Result<(), AllocError>
+    ensures { OnOk result (line.new.items ≡ line.old.items ++ hexadecimal bytes.now) }
+{
+    let (blocks, rest) = bytes.as_chunks::<8>();
+    for block in blocks {
+        line.extend_from_slice(&digits_of_eight(block))?;
+    }
+    push_digits(line, rest)
+}
+
 // Two hexadecimal digits a byte.
 fn push_hexadecimal(line: &mut Vec<u8>, bytes: &[u8]) -> Result<(), AllocError>
     ensures { OnOk result (line.new.items ≡ line.old.items ++ hexadecimal bytes.now) }
@@ -123,7 +147,7 @@ fn push_hexadecimal(line: &mut Vec<u8>, bytes: &[u8]) -> Result<(), AllocError>
     for block in blocks {
         line.extend_from_slice(&digits_of_block(block))?;
     }
-    push_digits(line, rest)
+    push_by_eights(line, rest)
 }
 
 /// Appends bytes as they are printed: of a text at most four for each byte, and of data two.

@@ -13,8 +13,8 @@ loop-block-preserved c =
 
 pub returns : goal.returns
 returns c =
-    on_ok_weaker c.push_digits.result (blocks_end notation.Hexadecimal 64
+    on_ok_weaker c.push_by_eights.result (blocks_end notation.Hexadecimal 64
     (length c.args.bytes.now / 64) c.args.bytes.now c.args.line.now.items c.loop-block.line.items
-    c.push_digits.new.line.items c.as_chunks.result.1.now c.loop-block.block-index
+    c.push_by_eights.new.line.items c.as_chunks.result.1.now c.loop-block.block-index
     (omega (arith, c.loop-block-test.false, c.loop-block.auto.block-index-end, c.as_chunks.ensures.front_len))
-    c.loop-block.invariant c.as_chunks.ensures.back) c.push_digits.ensures
+    c.loop-block.invariant c.as_chunks.ensures.back) c.push_by_eights.ensures
