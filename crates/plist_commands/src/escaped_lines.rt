@@ -44,15 +44,37 @@ fn is_plain(byte: u8) -> bool
     byte >= 0x20 && byte <= 0x7e && byte != b'\\' && byte != b'"'
 }
 
-// Do all bytes of a text stand for themselves? It looks at each, which is done for many at once.
-fn are_plain(text: &[u8]) -> bool
-    ensures { result ≡ true → escaped_text text.now ≡ text.now }
+// Do all these bytes stand for themselves? It looks at each, which is done for many at once.
+#[inline(always)]
+fn are_many_plain(bytes: &[u8]) -> bool
+    ensures { result ≡ true → escaped_text bytes.now ≡ bytes.now }
 {
     let mut plain = true;
-    for &byte in text {
+    for &byte in bytes {
         plain &= is_plain(byte);
     }
     plain
+}
+
+// The same of few bytes, up to the first that doesn't.
+#[inline(always)]
+fn are_few_plain(bytes: &[u8]) -> bool
+    ensures { result ≡ true → escaped_text bytes.now ≡ bytes.now }
+{
+    for &byte in bytes {
+        if !is_plain(byte) {
+            return false;
+        }
+    }
+    true
+}
+
+// The same of a text, the last bytes of which are too few for one step of the first way.
+fn are_plain(text: &[u8]) -> bool
+    ensures { result ≡ true → escaped_text text.now ≡ text.now }
+{
+    let (front, rest) = text.split_at(text.len() - text.len() % 8);
+    are_many_plain(front) && are_few_plain(rest)
 }
 
 // A byte of a text, escaped unless it stands for itself.
