@@ -3,7 +3,7 @@
 ghost use Rattle.std.specs.Prelude.{◌≡◌, ◌++◌, ◌-◌, ◌<◌, ◌≤◌, codes, false, length, take, true, Ok, OnOk};
 ghost use Rattle.std.specs.Fmt.{decimal, signed_decimal};
 ghost use Rattle.plist_base.specs.Events.{ScalarEvent, event_of};
-ghost use Rattle.plist_base.specs.Trees.{Data, String};
+ghost use Rattle.plist_base.specs.Trees.{Boolean, Data, String};
 ghost use Rattle.plist_commands.specs.EscapedLines.{hexadecimal, hexadecimal_digit, in_notation, stands_for_itself, escaped_byte, escaped_text, text_of_date, text_of_real, text_of_start, line_of};
 
 use itoa::{Buffer, write_digits};
@@ -232,19 +232,14 @@ fn push_real(line: &mut Vec<u8>, real: RealBits) -> Result<(), AllocError>
     line.extend_from_slice(b"\n")
 }
 
-// How many digits a number has.
+// How many digits a number of more than six has.
 #[tactic(auto, using(crate::proofs::Printed::digits))]
-fn digits_of(number: u64) -> usize
+fn digits_of_large(number: u64) -> usize
+    requires { 1000000 ≤ number }
     ensures { result ≡ length (decimal number) }
 {
     match number {
-        0..=9 => 1,
-        10..=99 => 2,
-        100..=999 => 3,
-        1_000..=9_999 => 4,
-        10_000..=99_999 => 5,
-        100_000..=999_999 => 6,
-        1_000_000..=9_999_999 => 7,
+        0..=9_999_999 => 7,
         10_000_000..=99_999_999 => 8,
         100_000_000..=999_999_999 => 9,
         1_000_000_000..=9_999_999_999 => 10,
@@ -259,6 +254,24 @@ fn digits_of(number: u64) -> usize
         1_000_000_000_000_000_000..=9_999_999_999_999_999_999 => 19,
         _ => 20,
     }
+}
+
+// How many digits a number has. Small numbers come most often.
+#[inline(always)]
+#[tactic(auto, using(crate::proofs::Printed::digits))]
+fn digits_of(number: u64) -> usize
+    ensures { result ≡ length (decimal number) }
+{
+    if number < 100 {
+        return if number < 10 { 1 } else { 2 };
+    }
+    if number < 10_000 {
+        return if number < 1_000 { 3 } else { 4 };
+    }
+    if number < 1_000_000 {
+        return if number < 100_000 { 5 } else { 6 };
+    }
+    digits_of_large(number)
 }
 
 /// Appends the line of a number, of which a pattern is given: its word, and room for its digits and
@@ -284,6 +297,64 @@ pub fn push_number(line: &mut Vec<u8>, pattern: &[u8], number: u64) -> Result<()
     Ok(())
 }
 
+// Where room is known, a copy of a local array of bytes makes no test. One of a text behind a
+// reference first asks whether it overlaps the buffer.
+
+/// Appends the line of a whole number.
+///
+/// # Errors
+/// Where a growth is refused.
+#[inline(always)]
+pub fn push_unsigned(line: &mut Vec<u8>, number: u64) -> Result<(), AllocError>
+    ensures { OnOk result (line.new.items
+        ≡ line.old.items ++ codes "Integer " ++ decimal number ++ codes "\n") }
+{
+    let pattern = *b"Integer 00000000000000000000\n";
+    push_number(line, &pattern, number)
+}
+
+/// Appends the line of a Uid of this number.
+///
+/// # Errors
+/// Where a growth is refused.
+#[inline(always)]
+pub fn push_uid(line: &mut Vec<u8>, number: u64) -> Result<(), AllocError>
+    ensures { OnOk result (line.new.items
+        ≡ line.old.items ++ codes "Uid " ++ decimal number ++ codes "\n") }
+{
+    let pattern = *b"Uid 00000000000000000000\n";
+    push_number(line, &pattern, number)
+}
+
+/// Appends the line of an end.
+///
+/// # Errors
+/// Where a growth is refused.
+#[inline(always)]
+pub fn push_end(line: &mut Vec<u8>) -> Result<(), AllocError>
+    ensures { OnOk result (line.new.items ≡ line.old.items ++ codes "EndCollection\n") }
+{
+    let text = *b"EndCollection\n";
+    line.extend_from_slice(&text)
+}
+
+/// Appends the line of a truth value.
+///
+/// # Errors
+/// Where a growth is refused.
+#[inline(always)]
+pub fn push_boolean(line: &mut Vec<u8>, value: bool) -> Result<(), AllocError>
+    ensures { OnOk result (line.new.items
+        ≡ line.old.items ++ line_of (ScalarEvent (Boolean value))) }
+{
+    if value {
+        let text = *b"Boolean true\n";
+        return line.extend_from_slice(&text);
+    }
+    let text = *b"Boolean false\n";
+    line.extend_from_slice(&text)
+}
+
 // The line of an integer.
 #[inline(always)]
 fn push_integer(line: &mut Vec<u8>, integer: Integer) -> Result<(), AllocError>
@@ -291,7 +362,7 @@ fn push_integer(line: &mut Vec<u8>, integer: Integer) -> Result<(), AllocError>
         ≡ line.old.items ++ codes "Integer " ++ signed_decimal integer ++ codes "\n") }
 {
     match integer.as_unsigned() {
-        Some(number) => push_number(line, b"Integer 00000000000000000000\n", number),
+        Some(number) => push_unsigned(line, number),
         None => {
             line.extend_from_slice(b"Integer ")?;
             line.extend_from_slice(
@@ -315,7 +386,10 @@ pub fn push_array(line: &mut Vec<u8>, length: Option<u64>) -> Result<(), AllocEr
 {
     match length {
         None => line.extend_from_slice(b"StartArray\n"),
-        Some(length) => push_number(line, b"StartArray 00000000000000000000\n", length),
+        Some(length) => {
+            let pattern = *b"StartArray 00000000000000000000\n";
+            push_number(line, &pattern, length)
+        }
     }
 }
 
@@ -330,7 +404,10 @@ pub fn push_dictionary(line: &mut Vec<u8>, length: Option<u64>) -> Result<(), Al
 {
     match length {
         None => line.extend_from_slice(b"StartDictionary\n"),
-        Some(length) => push_number(line, b"StartDictionary 00000000000000000000\n", length),
+        Some(length) => {
+            let pattern = *b"StartDictionary 00000000000000000000\n";
+            push_number(line, &pattern, length)
+        }
     }
 }
 
@@ -344,11 +421,10 @@ fn push_string(line: &mut Vec<u8>, text: &str) -> Result<(), AllocError>
     line.extend_from_slice(b"\"\n")
 }
 
-// A bound on the bytes of an event's line; `usize::MAX` stands for any that is larger.
+// May a line with so many bytes of a text or data have no more than `most`?
 #[inline(always)]
-fn line_bound(event: &Event<'_>) -> usize {
-    let content = event.text_or_data().len().saturating_mul(4);
-    content.saturating_add(MOST_OF_SHORT)
+fn may_fit(content: usize, most: usize) -> bool {
+    most >= MOST_OF_SHORT && content <= (most - MOST_OF_SHORT) / 4
 }
 
 /// Appends the line of an event, with its LF.
@@ -362,15 +438,14 @@ pub fn push_line(line: &mut Vec<u8>, event: &Event<'_>) -> Result<(), AllocError
     match event {
         Event::StartArray(length) => push_array(line, *length),
         Event::StartDictionary(length) => push_dictionary(line, *length),
-        Event::EndCollection => line.extend_from_slice(b"EndCollection\n"),
-        Event::Boolean(true) => line.extend_from_slice(b"Boolean true\n"),
-        Event::Boolean(false) => line.extend_from_slice(b"Boolean false\n"),
+        Event::EndCollection => push_end(line),
+        Event::Boolean(value) => push_boolean(line, *value),
         Event::Data(bytes) => push_data(line, bytes.as_slice()),
         Event::Date(date) => push_dated(line, *date),
         Event::Integer(integer) => push_integer(line, *integer),
         Event::Real(real) => push_real(line, *real),
         Event::String(text) => push_string(line, text.as_str()),
-        Event::Uid(uid) => push_number(line, b"Uid 00000000000000000000\n", uid.get()),
+        Event::Uid(uid) => push_uid(line, uid.get()),
     }
 }
 
@@ -389,9 +464,26 @@ pub fn push_short_line(
         → line.new.items ≡ line.old.items ++ line_of (event_of event.now) }
     ensures unchanged { result ≡ Ok false → line.new ≡ line.old }
 {
-    if line_bound(event) > most {
+    if !may_fit(event.text_or_data().len(), most) {
         return Ok(false);
     }
     push_line(line, event)?;
+    Ok(true)
+}
+
+/// The same of a text.
+///
+/// # Errors
+/// Those of [`push_line`].
+#[inline(always)]
+pub fn push_short_text(line: &mut Vec<u8>, text: &str, most: usize) -> Result<bool, AllocError>
+    ensures pushed { result ≡ Ok true
+        → line.new.items ≡ line.old.items ++ line_of (ScalarEvent (String text.now)) }
+    ensures unchanged { result ≡ Ok false → line.new ≡ line.old }
+{
+    if !may_fit(text.len(), most) {
+        return Ok(false);
+    }
+    push_string(line, text)?;
     Ok(true)
 }

@@ -5,12 +5,14 @@ ghost use Rattle.plist_base.specs.Events.{Item, PlainEvent, event_of};
 ghost use Rattle.plist_base.specs.Faults.{Fault};
 ghost use Rattle.plist_base.specs.Outcomes.{IfFault};
 ghost use Rattle.plist_base.specs.Sources.{ItemCountsIo};
+ghost use Rattle.plist_binread.specs.Advancing.{current_event};
 ghost use Rattle.plist_commands.specs.EscapedLines.{line_of};
 ghost use Rattle.plist_commands.specs.Items.{ComesIfKnown};
 ghost use Rattle.plist_commands.specs.ReaderRuns.{StepAnswer};
 
 use crate::escaped_lines::{
-    MOST_OF_SHORT, push_array, push_dictionary, push_number, push_short_line,
+    MOST_OF_SHORT, push_array, push_boolean, push_dictionary, push_end, push_short_line,
+    push_short_text, push_uid, push_unsigned,
 };
 use plist_base::{Error, Event, Source};
 use plist_binread::{BinaryReader, CompactEvent};
@@ -69,10 +71,23 @@ pub(crate) trait Items {
     }
 }
 
+// The line of an event that isn't compact. It stands apart, since memory for the event is cleared.
+#[inline(always)]
+fn push_held<S: Source>(
+    line: &mut Vec<u8>,
+    reader: &BinaryReader<S>,
+    most: usize,
+) -> Result<bool, AllocError>
+    ensures pushed { result ≡ Ok true
+        → line.new.items ≡ line.old.items ++ line_of (current_event reader.now) }
+    ensures unchanged { result ≡ Ok false → line.new ≡ line.old }
+{
+    push_short_line(line, &reader.event(), most)
+}
+
 /// A binary source's.
 impl<S: Source> Items for BinaryReader<S> {
     ghost use Rattle.plist_binread.specs.BinaryReader.{binary_source, binary_steps};
-    ghost use Rattle.plist_binread.specs.Advancing.{current_event};
     ghost use Rattle.plist_commands.specs.Converting.{items_left};
     ghost use Rattle.plist_commands.specs.ReaderRuns.{AdvancesBinary};
 
@@ -100,7 +115,7 @@ impl<S: Source> Items for BinaryReader<S> {
         BinaryReader::event(self)
     }
 
-    // The compact form has the number at hand, so that no event is made of it.
+    // The compact form has the number or text at hand, so that no event is made of it.
     #[inline(always)]
     fn push_last(&self, line: &mut Vec<u8>, most: usize) -> Result<bool, AllocError> {
         if most < MOST_OF_SHORT {
@@ -109,18 +124,12 @@ impl<S: Source> Items for BinaryReader<S> {
         match self.compact() {
             CompactEvent::Array(length) => push_array(line, Some(length))?,
             CompactEvent::Dictionary(length) => push_dictionary(line, Some(length))?,
-            CompactEvent::End => line.extend_from_slice(b"EndCollection\n")?,
-            CompactEvent::Boolean(true) => line.extend_from_slice(b"Boolean true\n")?,
-            CompactEvent::Boolean(false) => line.extend_from_slice(b"Boolean false\n")?,
-            CompactEvent::Unsigned(number) => {
-                push_number(line, b"Integer 00000000000000000000\n", number)?;
-            }
-            CompactEvent::Uid(number) => {
-                push_number(line, b"Uid 00000000000000000000\n", number)?;
-            }
-            CompactEvent::Other | CompactEvent::Text | CompactEvent::Data => {
-                return push_short_line(line, &BinaryReader::event(self), most);
-            }
+            CompactEvent::End => push_end(line)?,
+            CompactEvent::Boolean(value) => push_boolean(line, value)?,
+            CompactEvent::Unsigned(number) => push_unsigned(line, number)?,
+            CompactEvent::Uid(number) => push_uid(line, number)?,
+            CompactEvent::Text => return push_short_text(line, self.text(), most),
+            CompactEvent::Other | CompactEvent::Data => return push_held(line, self, most),
         }
         Ok(true)
     }

@@ -210,7 +210,7 @@ fn pass_lines<I: Items, W: Write>(
             Ok(()) => {}
             Err(error) => return Err(fault_behind(writer, lines.as_slice(), error)),
         }
-        let room = FULL.saturating_sub(lines.len());
+        let room = lines.capacity() - lines.len();
         if !items.push_last(lines, room)? {
             pass_anew(writer, lines, items)?;
         }
