@@ -2,6 +2,7 @@ pub mod Blocks
 pub mod Coming
 pub mod HeldBack
 pub mod Passing
+pub mod PlainBytes
 pub mod Runs
 pub mod Printed
 pub mod Streaming

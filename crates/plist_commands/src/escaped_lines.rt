@@ -44,6 +44,37 @@ fn is_plain(byte: u8) -> bool
     byte >= 0x20 && byte <= 0x7e && byte != b'\\' && byte != b'"'
 }
 
+// The bytes of a text that stand for themselves.
+const PLAIN: [bool; 256] = [
+    false, false, false, false, false, false, false, false, false, false, false, false, false,
+    false, false, false, false, false, false, false, false, false, false, false, false, false,
+    false, false, false, false, false, false, true, true, false, true, true, true, true, true,
+    true, true, true, true, true, true, true, true, true, true, true, true, true, true, true, true,
+    true, true, true, true, true, true, true, true, true, true, true, true, true, true, true, true,
+    true, true, true, true, true, true, true, true, true, true, true, true, true, true, true, true,
+    true, true, true, true, false, true, true, true, true, true, true, true, true, true, true,
+    true, true, true, true, true, true, true, true, true, true, true, true, true, true, true, true,
+    true, true, true, true, true, true, true, true, false, false, false, false, false, false,
+    false, false, false, false, false, false, false, false, false, false, false, false, false,
+    false, false, false, false, false, false, false, false, false, false, false, false, false,
+    false, false, false, false, false, false, false, false, false, false, false, false, false,
+    false, false, false, false, false, false, false, false, false, false, false, false, false,
+    false, false, false, false, false, false, false, false, false, false, false, false, false,
+    false, false, false, false, false, false, false, false, false, false, false, false, false,
+    false, false, false, false, false, false, false, false, false, false, false, false, false,
+    false, false, false, false, false, false, false, false, false, false, false, false, false,
+    false, false, false, false, false, false, false, false, false, false, false, false, false,
+    false, false, false, false, false, false,
+];
+
+// The same by a table, which is faster for one byte.
+#[tactic(auto, using(crate::proofs::PlainBytes::is_marked))]
+fn is_marked_plain(byte: u8) -> bool
+    ensures { result ≡ stands_for_itself byte }
+{
+    PLAIN[byte as usize]
+}
+
 // Do all these bytes stand for themselves? It looks at each, which is done for many at once.
 #[inline(always)]
 fn are_many_plain(bytes: &[u8]) -> bool
@@ -62,7 +93,7 @@ fn are_few_plain(bytes: &[u8]) -> bool
     ensures { result ≡ true → escaped_text bytes.now ≡ bytes.now }
 {
     for &byte in bytes {
-        if !is_plain(byte) {
+        if !is_marked_plain(byte) {
             return false;
         }
     }
@@ -81,7 +112,7 @@ fn are_plain(text: &[u8]) -> bool
 fn push_byte(line: &mut Vec<u8>, byte: u8) -> Result<(), AllocError>
     ensures { OnOk result (line.new.items ≡ line.old.items ++ escaped_byte byte) }
 {
-    if is_plain(byte) {
+    if is_marked_plain(byte) {
         line.push(byte)?;
         return Ok(());
     }
