@@ -94,6 +94,17 @@ start_with_length line word new length n is grown =
     rw is
     (grown ∙ ap (λ l. l ++ codes "\n") (append_assoc line (word ++ codes " ") (decimal n)))
 
+-- the same where its length is below ten
+pub start_with_digit : (line word new text : List ℕ) (length : Option ℕ) (n : ℕ)
+    → length ≡ Some n → n < 10 → text ≡ word ++ codes " " ++ ((48 + n) ∷ []) ++ codes "\n"
+    → new ≡ line ++ text → new ≡ line ++ text_of_start word length ++ codes "\n"
+start_with_digit line word new text length n is below spelled grown =
+    rw is
+    (grown
+    ∙ ap (λ l. line ++ l) (spelled
+    ∙ ap (λ d. word ++ codes " " ++ d ++ codes "\n") (sym (decimal_digit n below)))
+    ∙ sym (append_assoc line (word ++ codes " " ++ decimal n) (codes "\n")))
+
 -- ---- texts whose bytes stand for themselves
 
 plain_byte : (byte : ℕ) → stands_for_itself byte ≡ true → escaped_text (byte ∷ []) ≡ byte ∷ []

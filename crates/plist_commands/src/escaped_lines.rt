@@ -1,6 +1,6 @@
 //! The line of each event.
 
-ghost use Rattle.std.specs.Prelude.{◌≡◌, ◌++◌, ◌-◌, ◌<◌, ◌≤◌, codes, false, length, take, true, Ok, OnOk};
+ghost use Rattle.std.specs.Prelude.{◌≡◌, ◌++◌, ◌+◌, ◌-◌, ◌<◌, ◌≤◌, codes, false, length, set, take, true, Ok, OnOk};
 ghost use Rattle.std.specs.Fmt.{decimal, signed_decimal};
 ghost use Rattle.plist_base.specs.Events.{ScalarEvent, event_of};
 ghost use Rattle.plist_base.specs.Trees.{Boolean, Data, String};
@@ -305,16 +305,12 @@ fn digits_of(number: u64) -> usize
     digits_of_large(number)
 }
 
-/// Appends the line of a number, of which a pattern is given: its word, and room for its digits and
-/// the LF.
-///
-/// The digits are written where they stay: a copy of bytes that were just stored waits for them,
-/// which took an eighth of the time of a list of integers.
-///
-/// # Errors
-/// Where a growth is refused.
+// The line of a number, of which a pattern is given: its word, and room for its digits and the LF.
+//
+// The digits are written where they stay: a copy of bytes that were just stored waits for them,
+// which took an eighth of the time of a list of integers.
 #[inline(always)]
-pub fn push_number(line: &mut Vec<u8>, pattern: &[u8], number: u64) -> Result<(), AllocError>
+fn push_number(line: &mut Vec<u8>, pattern: &[u8], number: u64) -> Result<(), AllocError>
     requires { 21 ≤ length pattern.now }
     ensures { OnOk result (line.new.items ≡ line.old.items
         ++ take (length pattern.now - 21) pattern.now ++ decimal number ++ codes "\n") }
@@ -326,6 +322,21 @@ pub fn push_number(line: &mut Vec<u8>, pattern: &[u8], number: u64) -> Result<()
     bytes[end] = b'\n';
     line.truncate(end + 1);
     Ok(())
+}
+
+// The line of a number below ten, of which a pattern is given: its word, its digit and the LF.
+#[inline(always)]
+fn push_digit<const N: usize>(
+    line: &mut Vec<u8>,
+    pattern: &[u8; N],
+    digit: u64,
+) -> Result<(), AllocError>
+    requires { (2 ≤ N) × (digit < 10) }
+    ensures { OnOk result (line.new.items ≡ line.old.items ++ set pattern.now (N - 2) (48 + digit)) }
+{
+    let mut text = *pattern;
+    text[N - 2] = b'0' + digit as u8;
+    line.extend_from_slice(&text)
 }
 
 // Where room is known, a copy of a local array of bytes makes no test. One of a text behind a
@@ -417,6 +428,7 @@ pub fn push_array(line: &mut Vec<u8>, length: Option<u64>) -> Result<(), AllocEr
 {
     match length {
         None => line.extend_from_slice(b"StartArray\n"),
+        Some(length) if length < 10 => push_digit(line, b"StartArray 0\n", length),
         Some(length) => {
             let pattern = *b"StartArray 00000000000000000000\n";
             push_number(line, &pattern, length)
@@ -435,6 +447,7 @@ pub fn push_dictionary(line: &mut Vec<u8>, length: Option<u64>) -> Result<(), Al
 {
     match length {
         None => line.extend_from_slice(b"StartDictionary\n"),
+        Some(length) if length < 10 => push_digit(line, b"StartDictionary 0\n", length),
         Some(length) => {
             let pattern = *b"StartDictionary 00000000000000000000\n";
             push_number(line, &pattern, length)
