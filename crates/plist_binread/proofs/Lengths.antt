@@ -1,5 +1,5 @@
 -- What is refused since a text or data has more bytes than may come.
-use Rattle.std.proofs.Common.{◌≡◌, ℕ, ◌+◌, ◌*◌, ◌<◌, ◌≤◌, false, List, ◌∷◌, length, get_or, Option, None, Some, Result, Ok, Err, IfSome, MatchOption, refl, arith}
+use Rattle.std.proofs.Common.{◌≡◌, ℕ, ◌+◌, ◌*◌, ◌<◌, ◌≤◌, false, List, ◌∷◌, length, get_or, Option, None, Some, Result, Ok, Err, IfSome, MatchOption, refl}
 use Rattle.std.proofs.lemmas.Option.{IfSome_then}
 use Rattle.plist_base.specs.declared.error.Error.{Error}
 use Rattle.plist_base.specs.Events.{PlainEvent, Item}
@@ -17,12 +17,10 @@ use Rattle.plist_binread.specs.Beginning.{IsKnownWalk}
 use Rattle.plist_binread.specs.Walking.{open_in, remaining_entering, remaining_in, walk_objects}
 use Rattle.plist_binread.specs.Decoding.{IsRefusedAs, scalar_event_in}
 use Rattle.plist_binread.specs.CountedContent.{unit_size}
-use Rattle.plist_binread.specs.TooLong.{BeginsTooLong, IsLongerThan, LimitsContent, LimitsEntry, LimitsObject, RefusesLong, object_of_content}
+use Rattle.plist_binread.specs.TooLong.{BeginsTooLong, IsLongerThan, LimitsEntry, LimitsObject, RefusesLong, object_of_content}
 use Rattle.plist_binread.specs.Measuring.{Measures, MeasuresContent}
 use Rattle.plist_binread.specs.Packed.{is_marked}
-use Rattle.plist_binread.specs.Reading.{object_at}
 use Rattle.plist_binread.proofs.Known.{IsPlaceIn, entry_of, found_scalar, place_is}
-use Rattle.plist_binread.proofs.Seen.{IsContentThere}
 use Rattle.plist_binread.proofs.OverKnown.{IfSome-both}
 
 -- what follows of a refusal for a length, where the source is read no more
@@ -33,19 +31,6 @@ pub weaker_long : {A : Type 0} (answer : Result A Refused) (left : ℕ) (slot : 
 weaker_long (Ok value) left slot known now P Q same f r = tt
 weaker_long (Err Fault) left slot known now P Q same f r = tt
 weaker_long (Err TooLong) left slot known now P Q same f r = (r.0, r.1, f (rw same at r.2))
-
--- the object of a content that isn't all seen with its front
-pub long_limits : {A : Type 0} (answer : Result A Refused) (left : ℕ) (slot : EventSlot)
-    (known now : Option (List ℕ)) (bounds : Bounds) (place : ℕ) (content : Content) → now ≡ known
-    → IsContentThere known bounds place content → LimitsContent answer left slot now place content
-    → LimitsObject answer left slot known bounds place
-long_limits answer left slot known now bounds place content same long =
-    weaker_long answer left slot known now
-    (λ bytes. place + content.start + content.count * unit_size content.kind ≤ length bytes
-    → IsLongerThan left (object_of_content bytes place content))
-    (λ bytes. bounds.trailer ≤ length bytes → IsLongerThan left (object_at bounds place bytes)) same
-    (λ limited. IfSome-both known long.1 limited (λ bytes is limited fits.
-    rw (is fits) (limited (omega (arith, long.0, fits)))))
 
 -- the event of a text or data that is too long
 too-long-event : (left : ℕ) (object : Object) → IsLongerThan left object
