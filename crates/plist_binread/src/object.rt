@@ -1,6 +1,6 @@
 //! One object, decoded by its bytes.
 
-ghost use Rattle.std.specs.Prelude.{◌≡◌, ◌-◌, ◌<◌, IfOk, OnOk};
+ghost use Rattle.std.specs.Prelude.{◌≡◌, ◌-◌, ◌<◌, OnOk};
 ghost use Rattle.plist_binread.specs.FaultOffsets.{ErrWithin};
 ghost use Rattle.plist_binread.specs.Front.{CountsFound, EndsIn64Bits, FailsInContent, IsLargeScalar, DecodesAt, UnseenAt, DecodesContentAt, DecodesObject};
 ghost use Rattle.plist_binread.specs.TooLong.{LimitsContent, LimitsObject, RefusesContent};

@@ -28,8 +28,8 @@ use plist_format::{CountedKind, Marker};
 
 /// What was decoded of the bytes at an object's front, or what is wrong with it.
 ///
-/// It is a tag and a number of 64 bits, and no more, so that a function answers it in two registers:
-/// one is made for each item.
+/// It is a tag and a number of 64 bits, and no more, so that a function answers it in two
+/// registers: one is made for each item.
 #[derive(Clone, Copy)]
 pub enum Outcome {
     /// A text or data whose content isn't all seen there, and is held.

@@ -48,7 +48,7 @@ fn next_expected(
 }
 
 impl EventBuffer {
-    ghost use Rattle.std.specs.Prelude.{◌≡◌, [], false, reverse, OnOk, IfOk, IfErr};
+    ghost use Rattle.std.specs.Prelude.{◌≡◌, [], false, OnOk, IfOk, IfErr};
     ghost use Rattle.plist_base.specs.Events.{event_of};
     ghost use Rattle.plist_base.specs.Faults.{fault_of};
     ghost use Rattle.plist_base.specs.Outcomes.{OnlyMemory};
