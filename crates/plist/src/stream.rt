@@ -13,6 +13,6 @@ pub use plist_base::{
 pub use plist_binread::{BinaryReader, CompactEvent, CountedDecodings, DecodeCounter, Uncounted};
 pub use plist_binwrite::{
     BinaryWriter, EqualScalars, EventTable, FileWriter, Sharing, classes, compact_numbers,
-    complete, complete_by_class, forms, output_buffer, widths,
+    complete, complete_by_class, forms, widths,
 };
 pub use plist_reader::{Format, Reader, format_of};

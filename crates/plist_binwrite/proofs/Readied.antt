@@ -40,7 +40,11 @@ use Rattle.plist_base.proofs.Grammar.{complete_of_whole}
 use Rattle.plist_binwrite.specs.declared.send_file.Draft.{Draft}
 use Rattle.plist_binwrite.specs.declared.send_file.Ready.{Ready}
 use Rattle.plist_binwrite.specs.inner.PlannedFiles.{numbers_in, file_of, IsDraftOf, IsFitting, IsReady, NeedsNoMemory, SendsReady}
-use Rattle.plist_binwrite.specs.OutputBuffer.{IsSplit, SendsRest, SendsRestInPart}
+use Rattle.std.specs.Io.KnownBytes.{Appends}
+use Rattle.plist_base.specs.declared.sink.Sink.{Sink}
+use Rattle.plist_base.specs.Prefixes.{AppendsPrefix}
+use Rattle.plist_base.specs.Sinks.{PutsBytes, pending, written}
+use Rattle.plist_base.proofs.SinkSteps.{sent_part, sent_whole}
 use Rattle.plist_binwrite.specs.inner.Sizing.{ExceedsWith, FitsWith}
 use Rattle.plist_binwrite.specs.Sizes.{IsSizeOrNone, size_with}
 use Rattle.plist_binwrite.specs.SendingAs.{IsFileAs}
@@ -261,19 +265,19 @@ pub file_is : (objects : ℕ → Object) (order places : List ℕ) (table width 
 file_is objects order places table width wide e =
     cc
 
--- what waits goes out at the end
+-- what is pending is written at the end
 pub sends_end : {W : Type 0} (contents : W → Option (List ℕ)) (es : List PlainEvent) (ready : Ready)
-    (old middle new : W) (waiting : List ℕ) (answer : Result (Unit {0}) Error)
-    → OnOk answer (SendsRest contents middle waiting new)
-    → SendsRestInPart contents middle waiting new
+    (old middle new : Sink W) → pending old ≡ [] → (answer : Result (Unit {0}) Error)
+    → OnOk answer (Appends (written contents middle) (written contents new) (pending middle))
+    → AppendsPrefix (written contents middle) (written contents new) (pending middle)
     → OnlyDevice answer
     → ((objects : ℕ → Object) → Describes es (numbers_in ready) objects
-    → IsSplit (contents old) (contents middle) waiting (file_of ready objects))
-    → SendsReady contents es ready (answer_of answer) old new
-sends_end contents es ready old middle new waiting (Ok done) sent front failed out =
-    λ objects d. sent _ _ (out objects d)
-sends_end contents es ready old middle new waiting (Err error) sent front failed out =
-    (failed, λ objects d. front _ _ (out objects d))
+    → PutsBytes contents old (file_of ready objects) (Ok tt) middle)
+    → SendsReady contents es ready (answer_of answer) old.writer.now new.writer.now
+sends_end contents es ready old middle new empty (Ok done) sent prefix failed put =
+    λ objects d. sent_whole _ empty (put objects d) sent
+sends_end contents es ready old middle new empty (Err error) sent prefix failed put =
+    (failed, λ objects d. sent_part _ empty (put objects d) prefix)
 
 -- ---- what goes out
 

@@ -1,21 +1,19 @@
 //! The bytes of each form of a file: scalars, lengths, references, the offset table and the
 //! trailer, each in the least form that holds it.
 //!
-//! Each function puts its bytes through a buffer to a writer, as [`put`](crate::output_buffer::put)
-//! does. The one refusal is `Io` without an offset; a beginning of all that was put went out then.
+//! Each function puts its bytes into a [`Sink`], and returns an error as [`Sink::put`] does.
 
-ghost use Rattle.std.specs.Prelude.{◌≡◌, ◌+◌, ◌∷◌, [], ◌≤◌, ◌<◌};
+ghost use Rattle.std.specs.Prelude.{◌≡◌, ◌+◌, ◌∷◌, [], ◌≤◌, ◌<◌, Ok, true, false};
 ghost use Rattle.plist_binwrite.specs.Forms.{big_endian, doublings, unsigned_form, integer_form, uid_form, length_form, boolean_form, data_form, date_form, real_form, table_form, marker_and_number};
 ghost use Rattle.plist_format.specs.Marker.{byte_of, high_half};
-ghost use Rattle.plist_binwrite.specs.OutputBuffer.{Puts};
+ghost use Rattle.plist_base.specs.Sinks.{Puts, PutsBytes, PutsNothing};
 ghost use Rattle.plist_binwrite.specs.Written.{table_and_trailer, trailer_of};
 
 use crate::compact_numbers::Numbers;
-use crate::output_buffer::{hold_number, put, put_both};
 pub use crate::scalar::put_scalar;
 pub use crate::text::put_text;
 use crate::widths::{least_width, offset_width, reference_width};
-use plist_base::{Date, Error, Integer, RealBits, Uid};
+use plist_base::{Date, Error, Integer, RealBits, Sink, Uid};
 pub use plist_format::CountedKind;
 use plist_format::{LowHalf, Marker, UidWidth};
 use std::io::Write;
@@ -34,175 +32,161 @@ fn number_marker(width: usize) -> Marker
 }
 
 /// Puts a byte.
-pub fn put_byte<W: Write>(out: &mut W, buffer: &mut Vec<u8>, byte: u8) -> Result<(), Error>
-    ensures { Puts W.contents out.old buffer.old (byte ∷ []) result out.new buffer.new }
+pub fn put_byte<W: Write>(sink: &mut Sink<'_, W>, byte: u8) -> Result<(), Error>
+    ensures { Puts W.contents sink.old (byte ∷ []) result sink.new }
 {
-    put(out, buffer, &[byte])
+    sink.put(&[byte])
 }
 
 // Puts a marker and the bytes after it.
-fn put_marked<W: Write>(
-    out: &mut W,
-    buffer: &mut Vec<u8>,
-    marker: Marker,
-    bytes: &[u8],
-) -> Result<(), Error>
-    ensures { Puts W.contents out.old buffer.old (byte_of marker ∷ bytes.now) result out.new
-        buffer.new }
+fn put_marked<W: Write>(sink: &mut Sink<'_, W>, marker: Marker, bytes: &[u8]) -> Result<(), Error>
+    ensures { Puts W.contents sink.old (byte_of marker ∷ bytes.now) result sink.new }
 {
-    put_both(out, buffer, &[marker.encode()], bytes)
+    sink.put_both(&[marker.encode()], bytes)
 }
 
 /// Puts the lowest `width` bytes of a number, the highest of them first.
-pub fn put_number<W: Write>(
-    out: &mut W,
-    buffer: &mut Vec<u8>,
-    width: usize,
-    number: u64,
-) -> Result<(), Error>
+pub fn put_number<W: Write>(sink: &mut Sink<'_, W>, width: usize, number: u64) -> Result<(), Error>
     requires width { width ≤ 8 }
-    ensures { Puts W.contents out.old buffer.old (big_endian width number) result out.new
-        buffer.new }
+    ensures { Puts W.contents sink.old (big_endian width number) result sink.new }
 {
     let digits = number.to_be_bytes();
-    put(out, buffer, &digits[8 - width..])
+    sink.put(&digits[8 - width..])
 }
 
-/// The same of a number in a loop: mostly it waits, and the answer of a call isn't cleared for it.
+/// Puts the lowest `width` bytes of a number, the highest of them first, if they fit into the
+/// buffer of the sink, and returns whether they do.
 #[inline(always)]
-#[tactic(auto, using(crate::proofs::Outgoing::puts_waiting, crate::proofs::Outgoing::puts_from))]
+pub fn try_put_number<W: Write>(sink: &mut Sink<'_, W>, width: usize, number: u64) -> bool
+    requires width { width ≤ 8 }
+    ensures put { result ≡ true → PutsBytes W.contents sink.old (big_endian width number) (Ok tt)
+        sink.new }
+    ensures unchanged { result ≡ false → PutsNothing sink.old sink.new }
+{
+    let digits = number.to_be_bytes();
+    sink.try_put(&digits[8 - width..])
+}
+
+/// Puts the lowest `width` bytes of a number, the highest of them first. A loop calls this in place
+/// of [`put_number`]: mostly the bytes fit into the buffer, and no result is zeroed for a call.
+#[inline(always)]
 pub fn put_next_number<W: Write>(
-    out: &mut W,
-    buffer: &mut Vec<u8>,
+    sink: &mut Sink<'_, W>,
     width: usize,
     number: u64,
 ) -> Result<(), Error>
     requires width { width ≤ 8 }
-    ensures { Puts W.contents out.old buffer.old (big_endian width number) result out.new
-        buffer.new }
+    ensures { Puts W.contents sink.old (big_endian width number) result sink.new }
 {
-    if hold_number(buffer, width, number) {
+    if try_put_number(sink, width, number) {
         return Ok(());
     }
-    put_number(out, buffer, width, number)
+    put_number(sink, width, number)
 }
 
 // Puts a marker and the lowest `width` bytes of a number.
 fn put_marked_number<W: Write>(
-    out: &mut W,
-    buffer: &mut Vec<u8>,
+    sink: &mut Sink<'_, W>,
     marker: Marker,
     width: usize,
     number: u64,
 ) -> Result<(), Error>
     requires width { width ≤ 8 }
-    ensures { Puts W.contents out.old buffer.old (marker_and_number (byte_of marker) width number)
+    ensures { Puts W.contents sink.old (marker_and_number (byte_of marker) width number)
         result
-        out.new
-        buffer.new }
+        sink.new }
 {
     let digits = number.to_be_bytes();
-    put_both(out, buffer, &[marker.encode()], &digits[8 - width..])
+    sink.put_both(&[marker.encode()], &digits[8 - width..])
 }
 
 /// Puts a number without sign, in the least of 1, 2, 4 and 8 bytes.
-pub fn put_unsigned<W: Write>(out: &mut W, buffer: &mut Vec<u8>, number: u64) -> Result<(), Error>
-    ensures { Puts W.contents out.old buffer.old (unsigned_form number) result out.new buffer.new }
+pub fn put_unsigned<W: Write>(sink: &mut Sink<'_, W>, number: u64) -> Result<(), Error>
+    ensures { Puts W.contents sink.old (unsigned_form number) result sink.new }
 {
     let width = least_width(number);
-    put_marked_number(out, buffer, number_marker(width), width, number)
+    put_marked_number(sink, number_marker(width), width, number)
 }
 
 /// Puts a marker of this kind with a length: in its low half below 15, else after it.
 pub fn put_length<W: Write>(
-    out: &mut W,
-    buffer: &mut Vec<u8>,
+    sink: &mut Sink<'_, W>,
     kind: CountedKind,
     count: u64,
 ) -> Result<(), Error>
-    ensures { Puts W.contents out.old buffer.old (length_form (high_half kind) count) result out.new
-        buffer.new }
+    ensures { Puts W.contents sink.old (length_form (high_half kind) count) result sink.new }
 {
     if let Some(low) = LowHalf::of_length(count) {
-        return put_byte(out, buffer, Marker::Counted(kind, low).encode());
+        return put_byte(sink, Marker::Counted(kind, low).encode());
     }
     let marker = Marker::Counted(kind, LowHalf::follows());
     let width = least_width(count);
     let digits = count.to_be_bytes();
-    put_both(
-        out,
-        buffer,
+    sink.put_both(
         &[marker.encode(), number_marker(width).encode()],
         &digits[8 - width..],
     )
 }
 
 /// Puts a truth value.
-pub fn put_boolean<W: Write>(out: &mut W, buffer: &mut Vec<u8>, value: bool) -> Result<(), Error>
-    ensures { Puts W.contents out.old buffer.old (boolean_form value) result out.new buffer.new }
+pub fn put_boolean<W: Write>(sink: &mut Sink<'_, W>, value: bool) -> Result<(), Error>
+    ensures { Puts W.contents sink.old (boolean_form value) result sink.new }
 {
-    put_byte(out, buffer, Marker::Boolean(value).encode())
+    put_byte(sink, Marker::Boolean(value).encode())
 }
 
 /// Puts data.
-pub fn put_data<W: Write>(out: &mut W, buffer: &mut Vec<u8>, content: &[u8]) -> Result<(), Error>
-    ensures { Puts W.contents out.old buffer.old (data_form content.now) result out.new buffer.new }
+pub fn put_data<W: Write>(sink: &mut Sink<'_, W>, content: &[u8]) -> Result<(), Error>
+    ensures { Puts W.contents sink.old (data_form content.now) result sink.new }
 {
     let count = content.len();
-    put_length(out, buffer, CountedKind::Data, count as u64)?;
-    put(out, buffer, content)
+    put_length(sink, CountedKind::Data, count as u64)?;
+    sink.put(content)
 }
 
 /// Puts a date by its eight bytes.
-pub fn put_date<W: Write>(out: &mut W, buffer: &mut Vec<u8>, date: Date) -> Result<(), Error>
-    ensures { Puts W.contents out.old buffer.old (date_form date) result out.new buffer.new }
+pub fn put_date<W: Write>(sink: &mut Sink<'_, W>, date: Date) -> Result<(), Error>
+    ensures { Puts W.contents sink.old (date_form date) result sink.new }
 {
-    put_marked(out, buffer, Marker::Date, &date.to_plist_real())
+    put_marked(sink, Marker::Date, &date.to_plist_real())
 }
 
 /// Puts a real in the width that it has.
-pub fn put_real<W: Write>(out: &mut W, buffer: &mut Vec<u8>, bits: RealBits) -> Result<(), Error>
-    ensures { Puts W.contents out.old buffer.old (real_form bits) result out.new buffer.new }
+pub fn put_real<W: Write>(sink: &mut Sink<'_, W>, bits: RealBits) -> Result<(), Error>
+    ensures { Puts W.contents sink.old (real_form bits) result sink.new }
 {
     match bits {
-        RealBits::Four(digits) => put_marked(out, buffer, Marker::Real4, &digits),
-        RealBits::Eight(digits) => put_marked(out, buffer, Marker::Real8, &digits),
+        RealBits::Four(digits) => put_marked(sink, Marker::Real4, &digits),
+        RealBits::Eight(digits) => put_marked(sink, Marker::Real8, &digits),
     }
 }
 
 /// Puts a Uid.
-pub fn put_uid<W: Write>(out: &mut W, buffer: &mut Vec<u8>, uid: Uid) -> Result<(), Error>
-    ensures { Puts W.contents out.old buffer.old (uid_form uid) result out.new buffer.new }
+pub fn put_uid<W: Write>(sink: &mut Sink<'_, W>, uid: Uid) -> Result<(), Error>
+    ensures { Puts W.contents sink.old (uid_form uid) result sink.new }
 {
     let width = least_width(uid.get());
-    put_marked_number(
-        out,
-        buffer,
-        Marker::Uid(UidWidth::new(width)),
-        width,
-        uid.get(),
-    )
+    put_marked_number(sink, Marker::Uid(UidWidth::new(width)), width, uid.get())
 }
 
 // Puts an integer above `i64::MAX`, in sixteen bytes.
-fn put_wide_integer<W: Write>(out: &mut W, buffer: &mut Vec<u8>, number: u64) -> Result<(), Error>
-    ensures { Puts W.contents out.old buffer.old (marker_and_number 0x14 16 number) result out.new
-        buffer.new }
+fn put_wide_integer<W: Write>(sink: &mut Sink<'_, W>, number: u64) -> Result<(), Error>
+    ensures { Puts W.contents sink.old (marker_and_number 0x14 16 number) result sink.new }
 {
-    put_marked_number(out, buffer, Marker::Integer16, 8, 0)?;
-    put_number(out, buffer, 8, number)
+    put_marked_number(sink, Marker::Integer16, 8, 0)?;
+    put_number(sink, 8, number)
 }
 
 /// Puts an integer: one from 0 to `i64::MAX` in the least of 1, 2, 4 and 8 bytes, a negative one
 /// in eight, and one above `i64::MAX` in sixteen.
-pub fn put_integer<W: Write>(out: &mut W, buffer: &mut Vec<u8>, value: Integer) -> Result<(), Error>
-    ensures { Puts W.contents out.old buffer.old (integer_form value) result out.new buffer.new }
+pub fn put_integer<W: Write>(sink: &mut Sink<'_, W>, value: Integer) -> Result<(), Error>
+    ensures { Puts W.contents sink.old (integer_form value) result sink.new }
 {
     match (value.as_unsigned(), value.as_signed()) {
-        (Some(number), Some(_)) => put_unsigned(out, buffer, number),
-        (Some(number), None) => put_wide_integer(out, buffer, number),
+        (Some(number), Some(_)) => put_unsigned(sink, number),
+        (Some(number), None) => put_wide_integer(sink, number),
         (None, Some(number)) => {
-            put_marked_number(out, buffer, Marker::Integer8, 8, number.cast_unsigned())
+            put_marked_number(sink, Marker::Integer8, 8, number.cast_unsigned())
         }
         (None, None) => Ok(()),
     }
@@ -210,17 +194,15 @@ pub fn put_integer<W: Write>(out: &mut W, buffer: &mut Vec<u8>, value: Integer) 
 
 /// Puts some numbers of this width, as an offset table has them.
 pub fn put_numbers<W: Write>(
-    out: &mut W,
-    buffer: &mut Vec<u8>,
+    sink: &mut Sink<'_, W>,
     width: usize,
     list: &Numbers,
 ) -> Result<(), Error>
     requires width { width ≤ 8 }
-    ensures { Puts W.contents out.old buffer.old (table_form width list.now) result out.new
-        buffer.new }
+    ensures { Puts W.contents sink.old (table_form width list.now) result sink.new }
 {
     for index in 0..list.len() {
-        put_next_number(out, buffer, width, list.get(index) as u64)?;
+        put_next_number(sink, width, list.get(index) as u64)?;
     }
     Ok(())
 }
@@ -228,33 +210,29 @@ pub fn put_numbers<W: Write>(
 /// Puts the trailer of a file of this many objects, whose offset table lies at `table`; the root is
 /// object 0.
 pub fn put_trailer<W: Write>(
-    out: &mut W,
-    buffer: &mut Vec<u8>,
+    sink: &mut Sink<'_, W>,
     count: usize,
     table: usize,
 ) -> Result<(), Error>
-    ensures { Puts W.contents out.old buffer.old (trailer_of count table) result out.new
-        buffer.new }
+    ensures { Puts W.contents sink.old (trailer_of count table) result sink.new }
 {
     let wide = offset_width(table as u64) as u8;
     let narrow = reference_width(count as u64) as u8;
-    put(out, buffer, &[0, 0, 0, 0, 0, 0, wide, narrow])?;
-    put_number(out, buffer, 8, count as u64)?;
-    put_number(out, buffer, 8, 0)?;
-    put_number(out, buffer, 8, table as u64)
+    sink.put(&[0, 0, 0, 0, 0, 0, wide, narrow])?;
+    put_number(sink, 8, count as u64)?;
+    put_number(sink, 8, 0)?;
+    put_number(sink, 8, table as u64)
 }
 
 /// Puts the offset table, which lies at `table`, and the trailer.
 pub fn put_table_and_trailer<W: Write>(
-    out: &mut W,
-    buffer: &mut Vec<u8>,
+    sink: &mut Sink<'_, W>,
     places: &Numbers,
     table: usize,
 ) -> Result<(), Error>
-    ensures { Puts W.contents out.old buffer.old (table_and_trailer places.now table) result out.new
-        buffer.new }
+    ensures { Puts W.contents sink.old (table_and_trailer places.now table) result sink.new }
 {
     let width = offset_width(table as u64);
-    put_numbers(out, buffer, width, places)?;
-    put_trailer(out, buffer, places.len(), table)
+    put_numbers(sink, width, places)?;
+    put_trailer(sink, places.len(), table)
 }

@@ -16,7 +16,6 @@ mod layout;
 mod lengths;
 mod numbering;
 mod objects;
-pub mod output_buffer;
 mod plan;
 pub mod repeated_keys;
 mod scalar;

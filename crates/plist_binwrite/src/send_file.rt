@@ -1,13 +1,13 @@
 //! The end of a property list: its file is planned and sent.
 
-ghost use Rattle.std.specs.Prelude.{◌≡◌, [], length, IfOk, IfSome, None, vec_capacity};
+ghost use Rattle.std.specs.Prelude.{◌≡◌, [], length, IfOk, IfSome, None};
 ghost use Rattle.plist_base.specs.Outcomes.{IfFault, OnlyMemory};
 ghost use Rattle.plist_base.specs.Bracketing.{AreTreeEvents};
 ghost use Rattle.plist_base.specs.Writing.{answer_of};
 ghost use Rattle.plist_binwrite.specs.Classes.{AreClasses};
 ghost use Rattle.plist_binwrite.specs.inner.PlannedFiles.{IsDraftBy, IsDraftOf, IsFitting, IsReady, IsDraftTooLarge, NeedsNoMemory};
 ghost use Rattle.plist_binwrite.specs.EventTable.{plain_events, nth_number, AllBelow, IsBracketed};
-ghost use Rattle.plist_binwrite.specs.OutputBuffer.{buffer_size};
+ghost use Rattle.plist_base.specs.Sinks.{IsSameSink, pending};
 ghost use Rattle.plist_binwrite.specs.Sending.{Sends};
 ghost use Rattle.plist_binwrite.specs.Completing.{SendsByClass};
 ghost use Rattle.plist_binwrite.specs.inner.Putting.{PutsFile, SendsDraft, SendsPlanned};
@@ -18,11 +18,11 @@ use crate::event_table::EventTable;
 use crate::forms::put_table_and_trailer;
 use crate::layout::order_objects;
 use crate::objects::put_objects;
-use crate::output_buffer::{BUFFER, finish, put};
 use crate::plan::{Plan, Planned, plan_by_class};
 use crate::size::{check_size, place_objects};
 use crate::widths::reference_width;
-use plist_base::{Error, ErrorKind};
+use plist_base::sink::new_buffer;
+use plist_base::{Error, ErrorKind, Sink};
 use std::alloc::Global;
 use std::io::Write;
 
@@ -97,67 +97,58 @@ fn fitting(draft: Draft) -> Option<Ready>
 
 // Puts a planned file.
 fn put_file<W: Write>(
-    out: &mut W,
-    buffer: &mut Vec<u8>,
+    sink: &mut Sink<'_, W>,
     events: &EventTable<'_>,
     ready: &Ready,
 ) -> Result<(), Error>
     requires ready { IsReady (plain_events events.now) ready.now }
-    ensures { PutsFile W.contents out.old buffer.old events.now ready.now result out.new
-        buffer.new }
+    ensures { PutsFile W.contents sink.old events.now ready.now result sink.new }
 {
     let width = reference_width(ready.places.len() as u64);
-    put(out, buffer, b"bplist00")?;
+    sink.put(b"bplist00")?;
     let file = Planned {
         events,
         plan: &ready.plan,
         width,
     };
-    put_objects(out, buffer, &file, &ready.order)?;
-    put_table_and_trailer(out, buffer, &ready.places, ready.table)
+    put_objects(sink, &file, &ready.order)?;
+    put_table_and_trailer(sink, &ready.places, ready.table)
 }
 
-// Sends a planned file through an empty buffer, and flushes. It takes no memory.
+// Puts a planned file into a sink without pending bytes, and finishes it. It allocates no memory.
 fn send_file<W: Write>(
-    out: &mut W,
-    buffer: &mut Vec<u8>,
+    sink: &mut Sink<'_, W>,
     events: &EventTable<'_>,
     ready: &Ready,
 ) -> Result<(), Error>
     requires ready { IsReady (plain_events events.now) ready.now }
-    requires empty { buffer.old.items ≡ [] }
-    ensures { SendsPlanned W.contents events.now ready.now result out.old out.new }
+    requires empty { pending sink.old ≡ [] }
+    ensures sent { SendsPlanned W.contents events.now ready.now result sink.old.writer.now
+        sink.new.writer.now }
+    ensures same { IsSameSink sink.old sink.new }
 {
-    put_file(out, buffer, events, ready)?;
-    finish(out, buffer.as_slice())
+    put_file(sink, events, ready)?;
+    sink.finish()
 }
 
 // Sends a planned file, or refuses it for its size alone.
 fn send_draft<W: Write>(
-    out: &mut W,
-    buffer: &mut Vec<u8>,
+    sink: &mut Sink<'_, W>,
     events: &EventTable<'_>,
     draft: Draft,
 ) -> Result<(), Error>
     requires whole { AreTreeEvents (plain_events events.now) }
     requires draft { IsDraftOf (plain_events events.now) draft }
-    requires empty { buffer.old.items ≡ [] }
-    ensures sent { SendsDraft W.contents events.now draft result out.old out.new }
+    requires empty { pending sink.old ≡ [] }
+    ensures sent { SendsDraft W.contents events.now draft result sink.old.writer.now
+        sink.new.writer.now }
     ensures memory { IfFault result NeedsNoMemory }
+    ensures same { IsSameSink sink.old sink.new }
 {
     match fitting(draft) {
-        Some(ready) => send_file(out, buffer, events, &ready),
+        Some(ready) => send_file(sink, events, &ready),
         None => Err(ErrorKind::PlistTooLarge.without_position()),
     }
-}
-
-fn new_buffer(alloc: Global) -> Result<Vec<u8>, Error>
-    ensures empty { IfOk result (λ buffer. buffer.items ≡ []) }
-    ensures size { IfOk result (λ buffer. vec_capacity buffer ≡ buffer_size) }
-    ensures memory { OnlyMemory result }
-{
-    let buffer = Vec::with_capacity(alloc, BUFFER)?;
-    Ok(buffer)
 }
 
 /// Plans the file of the events of a whole property list with one object for each class, sends it
@@ -183,7 +174,8 @@ pub fn complete_by_class<W: Write>(
 {
     let mut buffer = new_buffer(alloc)?;
     let draft = draft_file(alloc, events, classes)?;
-    send_draft(writer, &mut buffer, events, draft)
+    let mut sink = Sink::new(&mut buffer, writer);
+    send_draft(&mut sink, events, draft)
 }
 
 /// Plans the file of the events of a whole property list, sends it and flushes: one object for each

@@ -1,48 +1,46 @@
 //! The bytes of texts: ASCII, or UTF-16.
 
-ghost use Rattle.std.specs.Prelude.{◌≡◌, ◌≤◌, ◌++◌, true, false, length};
+ghost use Rattle.std.specs.Prelude.{◌≡◌, Ok, true, false, length};
 ghost use Rattle.std.specs.Char.Escape.{encode_utf16};
 ghost use Rattle.plist_binwrite.specs.Forms.{units_of, is_ascii_text, text_form, ascii_form, char_units, text_units, wide_form};
-ghost use Rattle.plist_binwrite.specs.OutputBuffer.{Puts, buffer_size};
+ghost use Rattle.plist_base.specs.Sinks.{Puts, PutsBytes, PutsNothing};
 
-use crate::forms::{CountedKind, put_length, put_number};
-use crate::output_buffer::{hold_number, put};
-use plist_base::Error;
+use crate::forms::{CountedKind, put_length, put_number, try_put_number};
+use plist_base::{Error, Sink};
 use std::io::Write;
 
 // Puts the one or two units of a character.
-fn put_char<W: Write>(out: &mut W, buffer: &mut Vec<u8>, c: char) -> Result<(), Error>
-    ensures { Puts W.contents out.old buffer.old (char_units c) result out.new buffer.new }
+fn put_char<W: Write>(sink: &mut Sink<'_, W>, c: char) -> Result<(), Error>
+    ensures { Puts W.contents sink.old (char_units c) result sink.new }
 {
     let code = u64::from(c as u32);
     if code < 0x1_0000 {
-        return put_number(out, buffer, 2, code);
+        return put_number(sink, 2, code);
     }
     let above = code - 0x1_0000;
-    put_number(out, buffer, 2, 0xd800 + above / 0x400)?;
-    put_number(out, buffer, 2, 0xdc00 + above % 0x400)
+    put_number(sink, 2, 0xd800 + above / 0x400)?;
+    put_number(sink, 2, 0xdc00 + above % 0x400)
 }
 
-// Has the unit of a character wait, where it has one alone and that fits into the buffer.
+// Puts a character of one unit if it fits into the buffer of the sink, and returns whether it did.
 #[inline(always)]
-fn hold_char(buffer: &mut Vec<u8>, c: char) -> bool
-    ensures yes { result ≡ true → buffer.new.items ≡ buffer.old.items ++ char_units c }
-    ensures waits { result ≡ true → length buffer.new.items ≤ buffer_size }
-    ensures no { result ≡ false → buffer.new.items ≡ buffer.old.items }
+fn try_put_char<W: Write>(sink: &mut Sink<'_, W>, c: char) -> bool
+    ensures put { result ≡ true → PutsBytes W.contents sink.old (char_units c) (Ok tt) sink.new }
+    ensures unchanged { result ≡ false → PutsNothing sink.old sink.new }
 {
     let code = u64::from(c as u32);
     if code < 0x1_0000 {
-        return hold_number(buffer, 2, code);
+        return try_put_number(sink, 2, code);
     }
     false
 }
 
-fn put_units<W: Write>(out: &mut W, buffer: &mut Vec<u8>, text: &str) -> Result<(), Error>
-    ensures { Puts W.contents out.old buffer.old (text_units text.now) result out.new buffer.new }
+fn put_units<W: Write>(sink: &mut Sink<'_, W>, text: &str) -> Result<(), Error>
+    ensures { Puts W.contents sink.old (text_units text.now) result sink.new }
 {
     for c in text.chars() {
-        if !hold_char(buffer, c) {
-            put_char(out, buffer, c)?;
+        if !try_put_char(sink, c) {
+            put_char(sink, c)?;
         }
     }
     Ok(())
@@ -78,29 +76,29 @@ pub fn is_ascii_text(text: &str) -> bool
     greatest < 128
 }
 
-fn put_ascii<W: Write>(out: &mut W, buffer: &mut Vec<u8>, text: &str) -> Result<(), Error>
-    ensures { Puts W.contents out.old buffer.old (ascii_form text.now) result out.new buffer.new }
+fn put_ascii<W: Write>(sink: &mut Sink<'_, W>, text: &str) -> Result<(), Error>
+    ensures { Puts W.contents sink.old (ascii_form text.now) result sink.new }
 {
     let count = text.len();
-    put_length(out, buffer, CountedKind::Text, count as u64)?;
-    put(out, buffer, text.as_bytes())
+    put_length(sink, CountedKind::Text, count as u64)?;
+    sink.put(text.as_bytes())
 }
 
-fn put_wide<W: Write>(out: &mut W, buffer: &mut Vec<u8>, text: &str) -> Result<(), Error>
-    ensures { Puts W.contents out.old buffer.old (wide_form text.now) result out.new buffer.new }
+fn put_wide<W: Write>(sink: &mut Sink<'_, W>, text: &str) -> Result<(), Error>
+    ensures { Puts W.contents sink.old (wide_form text.now) result sink.new }
 {
     let count = count_units(text);
-    put_length(out, buffer, CountedKind::WideText, count as u64)?;
-    put_units(out, buffer, text)
+    put_length(sink, CountedKind::WideText, count as u64)?;
+    put_units(sink, text)
 }
 
 /// Puts a text: its bytes where all are ASCII, else its UTF-16 units.
-pub fn put_text<W: Write>(out: &mut W, buffer: &mut Vec<u8>, text: &str) -> Result<(), Error>
-    ensures { Puts W.contents out.old buffer.old (text_form text.now) result out.new buffer.new }
+pub fn put_text<W: Write>(sink: &mut Sink<'_, W>, text: &str) -> Result<(), Error>
+    ensures { Puts W.contents sink.old (text_form text.now) result sink.new }
 {
     if is_ascii_text(text) {
-        put_ascii(out, buffer, text)
+        put_ascii(sink, text)
     } else {
-        put_wide(out, buffer, text)
+        put_wide(sink, text)
     }
 }

@@ -1,15 +1,14 @@
 -- Words for what is put and sent of a planned file.
 use Rattle.std.specs.Prelude.{ℕ, ◌+◌, Bool, List, map, Option, Result}
-use Rattle.std.specs.declared.alloc.Global.{Global}
-use Rattle.std.specs.declared.vec.Vec.{Vec}
 use Rattle.plist_base.specs.Writing.{answer_of}
 use Rattle.plist_base.specs.declared.error.Error.{Error}
+use Rattle.plist_base.specs.declared.sink.Sink.{Sink}
+use Rattle.plist_base.specs.Sinks.{Puts}
 use Rattle.plist_base.specs.Trees.{Tree, Trees, Members, Array, Dictionary}
 use Rattle.plist_format.specs.Object.{Object}
 use Rattle.plist_binwrite.specs.Forms.{form, table_form}
 use Rattle.plist_binwrite.specs.EventTable.{plain_events, item_indices, key_or_value_indices, Describes}
 use Rattle.plist_binwrite.specs.Numberings.{object_of}
-use Rattle.plist_binwrite.specs.OutputBuffer.{Puts}
 use Rattle.plist_binwrite.specs.Occurrences.{OccursAt, ItemsOccurAt, PairsOccurAt}
 use Rattle.plist_binwrite.specs.Written.{object_table}
 use Rattle.plist_binwrite.specs.Classes.{SendsBy}
@@ -21,58 +20,53 @@ use Rattle.plist_binwrite.specs.inner.PlannedFiles.{SendsReady, file_of, numbers
 use Rattle.plist_binwrite.specs.inner.Planning.{IsPlanByClass}
 pub use Rattle.plist_binwrite.specs.inner.Planning.{numbers_of, events_in, numbers_by}
 
-module _ {W : Type 0} (contents : W → Option (List ℕ)) (old : W) (buffer : Vec ℕ Global) where
+module _ {W : Type 0} (contents : W → Option (List ℕ)) (old : Sink W) where
   -- references to the items of an array go out from here on
-  abbrev pub PutsItems : Planned → (from : ℕ) → Result (Unit {0}) Error → (new : W)
-      → (holds : Vec ℕ Global) → Type 0
-  PutsItems file from result new holds = (ts : Trees) → ItemsOccurAt (events_in file) ts from
-      → Puts contents old buffer
-      (table_form file.width (map (numbers_by file) (item_indices ts from))) result new holds
+  abbrev pub PutsItems : Planned → (from : ℕ) → Result (Unit {0}) Error → (new : Sink W) → Type 0
+  PutsItems file from result new = (ts : Trees) → ItemsOccurAt (events_in file) ts from
+      → Puts contents old
+      (table_form file.width (map (numbers_by file) (item_indices ts from))) result new
 
   -- those to the values of a dictionary, or to its keys
   abbrev pub PutsKeysOrValues : Planned → (of_values : Bool) → (from : ℕ) → Result (Unit {0}) Error
-      → (new : W) → (holds : Vec ℕ Global) → Type 0
-  PutsKeysOrValues file of_values from result new holds =
+      → (new : Sink W) → Type 0
+  PutsKeysOrValues file of_values from result new =
       (ms : Members) → PairsOccurAt (events_in file) ms from
-      → Puts contents old buffer
+      → Puts contents old
       (table_form file.width (map (numbers_by file) (key_or_value_indices of_values ms from)))
-      result new holds
+      result new
 
   -- the object of the array that begins here, of the dictionary, and of any tree
-  abbrev pub PutsArray : Planned → (index : ℕ) → Result (Unit {0}) Error → (new : W)
-      → (holds : Vec ℕ Global) → Type 0
-  PutsArray file index result new holds = (ts : Trees) → ItemsOccurAt (events_in file) ts
+  abbrev pub PutsArray : Planned → (index : ℕ) → Result (Unit {0}) Error → (new : Sink W) → Type 0
+  PutsArray file index result new = (ts : Trees) → ItemsOccurAt (events_in file) ts
       (index + 1)
-      → Puts contents old buffer
-      (form file.width (object_of (numbers_by file) (Array ts) index)) result new holds
+      → Puts contents old
+      (form file.width (object_of (numbers_by file) (Array ts) index)) result new
 
-  abbrev pub PutsDictionary : Planned → (index : ℕ) → Result (Unit {0}) Error → (new : W)
-      → (holds : Vec ℕ Global) → Type 0
-  PutsDictionary file index result new holds =
+  abbrev pub PutsDictionary : Planned → (index : ℕ) → Result (Unit {0}) Error → (new : Sink W) → Type 0
+  PutsDictionary file index result new =
       (ms : Members) → PairsOccurAt (events_in file) ms (index + 1)
-      → Puts contents old buffer
-      (form file.width (object_of (numbers_by file) (Dictionary ms) index)) result new holds
+      → Puts contents old
+      (form file.width (object_of (numbers_by file) (Dictionary ms) index)) result new
 
-  abbrev pub PutsObject : Planned → (index : ℕ) → Result (Unit {0}) Error → (new : W)
-      → (holds : Vec ℕ Global) → Type 0
-  PutsObject file index result new holds = (t : Tree) → OccursAt (events_in file) t index
-      → Puts contents old buffer
-      (form file.width (object_of (numbers_by file) t index)) result new holds
+  abbrev pub PutsObject : Planned → (index : ℕ) → Result (Unit {0}) Error → (new : Sink W) → Type 0
+  PutsObject file index result new = (t : Tree) → OccursAt (events_in file) t index
+      → Puts contents old
+      (form file.width (object_of (numbers_by file) t index)) result new
 
   -- the objects in this order
-  abbrev pub PutsOrder : Planned → (order : List ℕ) → Result (Unit {0}) Error → (new : W)
-      → (holds : Vec ℕ Global) → Type 0
-  PutsOrder file order result new holds = (objects : ℕ → Object)
+  abbrev pub PutsOrder : Planned → (order : List ℕ) → Result (Unit {0}) Error → (new : Sink W) → Type 0
+  PutsOrder file order result new = (objects : ℕ → Object)
       → Describes (events_in file) (numbers_of file.plan.now) objects
-      → Puts contents old buffer (object_table file.width objects order) result new holds
+      → Puts contents old (object_table file.width objects order) result new
 
 module _ {W : Type 0} (contents : W → Option (List ℕ)) where
   -- the whole file is put
-  abbrev pub PutsFile : (old : W) → (buffer : Vec ℕ Global) → EventTable → Ready
-      → Result (Unit {0}) Error → (new : W) → (holds : Vec ℕ Global) → Type 0
-  PutsFile old buffer held ready result new holds = (objects : ℕ → Object)
+  abbrev pub PutsFile : (old : Sink W) → EventTable → Ready
+      → Result (Unit {0}) Error → (new : Sink W) → Type 0
+  PutsFile old held ready result new = (objects : ℕ → Object)
       → Describes (plain_events held) (numbers_in ready) objects
-      → Puts contents old buffer (file_of ready objects) result new holds
+      → Puts contents old (file_of ready objects) result new
 
   -- or sent
   abbrev pub SendsPlanned : EventTable → Ready → Result (Unit {0}) Error → (old new : W) → Type 0

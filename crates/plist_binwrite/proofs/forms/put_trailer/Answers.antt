@@ -1,4 +1,4 @@
-use Rattle.plist_binwrite.proofs.Outgoing.{puts_then, puts_refused}
+use Rattle.plist_base.proofs.SinkSteps.{puts_then, puts_refused}
 use Rattle.plist_binwrite.proofs.forms.put_trailer.Goals as goal
 
 pub returns-in_err-put : goal.returns-in_err-put

@@ -1,6 +1,6 @@
 use Rattle.std.proofs.Common.{arith}
 use Rattle.plist_binwrite.proofs.Pushed.{wide_is}
-use Rattle.plist_binwrite.proofs.Outgoing.{puts_then, puts_refused}
+use Rattle.plist_base.proofs.SinkSteps.{puts_then, puts_refused}
 use Rattle.plist_binwrite.proofs.forms.put_wide_integer.Goals as goal
 
 pub returns-in_err-put_marked_number : goal.returns-in_err-put_marked_number

@@ -1,5 +1,5 @@
 use Rattle.plist_binwrite.proofs.TreeObjects.{dictionary_is}
-use Rattle.plist_binwrite.proofs.Outgoing.{puts_then, puts_refused, puts_as}
+use Rattle.plist_base.proofs.SinkSteps.{puts_then, puts_refused, puts_as}
 use Rattle.plist_binwrite.proofs.objects.put_dictionary.Goals as goal
 
 pub returns-in_err-put_length : goal.returns-in_err-put_length

@@ -10,10 +10,10 @@ use Rattle.plist_binwrite.proofs.objects.put_items.Given as goal
 
 abbrev pub invariant-walk : goal.invariant-walk
 invariant-walk g l = (ts : Trees) → ItemsOccurAt (events_in l.file) ts l.from
-    → Left ItemsOccurAt (events_in l.file) (λ left q. PutsRest (numbers_by l.file) l.file.width
-    (g.W.Write.contents l.initial.out) l.initial.buffer.items
+    → Left ItemsOccurAt (events_in l.file) (λ left q. PutsRest g.W.Write.contents (numbers_by l.file) l.file.width
+    l.initial.sink
     (table_form l.file.width (map (numbers_by l.file) (item_indices ts l.from)))
-    (g.W.Write.contents l.out) l.buffer.items (item_indices left q)) l.index
+    l.sink (item_indices left q)) l.index
 
 abbrev pub decreases-walk : goal.decreases-walk
 decreases-walk g l = length (events_in l.file) - l.index

@@ -10,10 +10,10 @@ use Rattle.plist_binwrite.proofs.objects.put_keys_or_values.Given as goal
 
 abbrev pub invariant-walk : goal.invariant-walk
 invariant-walk g l = (ms : Members) → PairsOccurAt (events_in l.file) ms l.from
-    → Left PairsOccurAt (events_in l.file) (λ left q. PutsRest (numbers_by l.file) l.file.width
-    (g.W.Write.contents l.initial.out) l.initial.buffer.items
+    → Left PairsOccurAt (events_in l.file) (λ left q. PutsRest g.W.Write.contents (numbers_by l.file) l.file.width
+    l.initial.sink
     (table_form l.file.width (map (numbers_by l.file) (key_or_value_indices l.values ms l.from)))
-    (g.W.Write.contents l.out) l.buffer.items (key_or_value_indices l.values left q)) l.key
+    l.sink (key_or_value_indices l.values left q)) l.key
 
 abbrev pub decreases-walk : goal.decreases-walk
 decreases-walk g l = length (events_in l.file) - l.key

@@ -3,10 +3,11 @@ use Rattle.std.proofs.lemmas.List.{take_all}
 use Rattle.plist_format.specs.Object.{Object}
 use Rattle.plist_binwrite.specs.Forms.{form}
 use Rattle.plist_binwrite.specs.EventTable.{Describes}
-use Rattle.plist_binwrite.specs.OutputBuffer.{Puts}
+use Rattle.plist_base.specs.Sinks.{Puts}
 use Rattle.plist_binwrite.specs.Written.{object_table}
 use Rattle.plist_binwrite.specs.inner.Planning.{events_in, numbers_of}
-use Rattle.plist_binwrite.proofs.Outgoing.{puts_none, puts_then, puts_refused, puts_as, one_part, all_parts}
+use Rattle.plist_base.proofs.SinkSteps.{puts_none, puts_then, puts_refused, puts_as}
+use Rattle.plist_binwrite.proofs.Outgoing.{one_part, all_parts}
 use Rattle.plist_binwrite.proofs.Placing.{described}
 use Rattle.plist_binwrite.proofs.objects.put_objects.Goals as goal
 use Rattle.plist_binwrite.proofs.objects.put_objects.Goals.{After-put_object}
@@ -24,10 +25,10 @@ first-first-requires g c =
 next : (g : _) (c : After-put_object g) (objects : ℕ → Object)
     → Describes (events_in c.args.file.now) (numbers_of c.args.file.now.plan.now) objects
     → (c.loop-index.index < length c.args.order.now)
-    × Puts g.W.Write.contents c.args.out.now c.args.buffer.now
+    × Puts g.W.Write.contents c.args.sink.now
     (object_table c.args.file.now.width objects (take c.loop-index.index c.args.order.now)
     ++ form c.args.file.now.width (objects (get_or c.args.order.now c.loop-index.index 0)))
-    c.put_object.result c.put_object.new.out c.put_object.new.buffer
+    c.put_object.result c.put_object.new.sink
 next g c objects d =
     let i = c.loop-index.index in
     let within : i < length c.args.order.now =

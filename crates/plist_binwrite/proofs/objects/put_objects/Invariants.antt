@@ -1,7 +1,7 @@
 use Rattle.std.proofs.Common.{ℕ, take, Ok}
 use Rattle.plist_format.specs.Object.{Object}
 use Rattle.plist_binwrite.specs.EventTable.{Describes}
-use Rattle.plist_binwrite.specs.OutputBuffer.{PutsBytes}
+use Rattle.plist_base.specs.Sinks.{PutsBytes}
 use Rattle.plist_binwrite.specs.inner.Planning.{numbers_of}
 use Rattle.plist_binwrite.specs.Written.{object_table}
 use Rattle.plist_binwrite.specs.inner.Putting.{events_in}
@@ -10,6 +10,6 @@ use Rattle.plist_binwrite.proofs.objects.put_objects.Given as goal
 abbrev pub invariant-loop-index : goal.invariant-loop-index
 invariant-loop-index g l = (objects : ℕ → Object)
     → Describes (events_in l.file) (numbers_of l.file.plan.now) objects
-    → PutsBytes (g.W.Write.contents l.initial.out) l.initial.buffer.items
+    → PutsBytes g.W.Write.contents l.initial.sink
     (object_table l.file.width objects (take l.index l.order)) (Ok tt)
-    (g.W.Write.contents l.out) l.buffer.items
+    l.sink

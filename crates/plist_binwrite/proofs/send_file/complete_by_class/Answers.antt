@@ -14,7 +14,9 @@ draft_file-requires g c = record {
 }
 
 pub returns : goal.returns
-returns g c = c.send_draft.ensures.sent (nth_number c.args.classes.of) c.in_ok-draft.ensures.class
+returns g c =
+    rw c.new-sink.ensures.unwritten at
+    (c.send_draft.ensures.sent (nth_number c.args.classes.of) c.in_ok-draft.ensures.class)
 
 pub returns-in_err-buffer : goal.returns-in_err-buffer
 returns-in_err-buffer g c =

@@ -1,6 +1,6 @@
 use Rattle.std.proofs.Common.{ap, ◌∙◌}
 use Rattle.plist_binwrite.specs.Widths.{reference_width}
-use Rattle.plist_binwrite.proofs.Outgoing.{puts_then, puts_refused, puts_as}
+use Rattle.plist_base.proofs.SinkSteps.{puts_then, puts_refused, puts_as}
 use Rattle.plist_binwrite.proofs.Readied.{file_is}
 use Rattle.plist_binwrite.proofs.send_file.put_file.Goals as goal
 

@@ -17,12 +17,12 @@ returns-in-Some-clause-sent g c = λ class goes.
     (fitting_ready c.requires.draft c.in-Some.ensures.ready)
     (subst (λ (r : Ready). IsPlanByClass (plain_events c.args.events.now) class r.plan)
     (sym c.in-Some.ensures.ready.same) goes)
-    (answer_of c.send_file.result) c.send_file.ensures
+    (answer_of c.send_file.result) c.send_file.ensures.sent
 
 pub returns-in-Some-clause-memory : goal.returns-in-Some-clause-memory
 returns-in-Some-clause-memory g c =
     ready_needs_none g.W.Write.contents (plain_events c.args.events.now) c.in-Some.ready
-    c.send_file.result _ _ c.send_file.ensures
+    c.send_file.result _ _ c.send_file.ensures.sent
 
 pub returns-in-None-clause-sent : goal.returns-in-None-clause-sent
 returns-in-None-clause-sent g c = λ class goes.

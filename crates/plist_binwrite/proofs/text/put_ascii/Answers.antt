@@ -1,5 +1,5 @@
 use Rattle.std.proofs.Common.{◌≡◌, rules}
-use Rattle.plist_binwrite.proofs.Outgoing.{puts_then, puts_refused}
+use Rattle.plist_base.proofs.SinkSteps.{puts_then, puts_refused}
 use Rattle.plist_binwrite.proofs.text.put_ascii.Goals as goal
 
 pub returns-in_err-put_length : goal.returns-in_err-put_length

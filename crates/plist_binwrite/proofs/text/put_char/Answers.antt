@@ -1,6 +1,6 @@
 use Rattle.std.proofs.Common.{ap, ◌∙◌, arith}
 use Rattle.plist_binwrite.specs.Forms.{char_units}
-use Rattle.plist_binwrite.proofs.Outgoing.{puts_then, puts_refused, puts_as}
+use Rattle.plist_base.proofs.SinkSteps.{puts_then, puts_refused, puts_as}
 use Rattle.plist_binwrite.proofs.Reading.{pair_units}
 use Rattle.plist_binwrite.proofs.text.put_char.Goals as goal
 

@@ -3,7 +3,7 @@ use Rattle.std.specs.Char.Escape.{encode_utf16}
 use Rattle.std.proofs.lemmas.Grind.{flat_map-append}
 use Rattle.std.proofs.lemmas.Str.{IsUtf8-past_char}
 use Rattle.plist_binwrite.specs.Forms.{big_endian}
-use Rattle.plist_binwrite.proofs.Outgoing.{puts_none, puts_then, puts_from, puts_waiting, puts_refused, puts_as}
+use Rattle.plist_base.proofs.SinkSteps.{puts_none, puts_then, puts_after, puts_refused, puts_as}
 use Rattle.plist_binwrite.proofs.Reading.{units_empty, units_step}
 use Rattle.plist_binwrite.proofs.text.put_units.Goals as goal
 
@@ -18,8 +18,7 @@ loop-c-preserved g c =
       (
         held.1.0 ++ flat_map (big_endian 2) (encode_utf16 c.in-Some.c),
         puts_then {answer = Ok tt} held.1.1
-            (puts_waiting (c.hold_char.ensures.yes c.if-not-hold_char.false)
-            (c.hold_char.ensures.waits c.if-not-hold_char.false)),
+            (c.try_put_char.ensures.put c.if-not-try_put_char.false),
         rw (
           append_assoc held.1.0 (flat_map (big_endian 2) (encode_utf16 c.in-Some.c)) _,
           ← flat_map-append (big_endian 2) (encode_utf16 c.in-Some.c) _,
@@ -36,7 +35,7 @@ loop-c-preserved-in-Continue-1 g c =
       (
         held.1.0 ++ flat_map (big_endian 2) (encode_utf16 c.in-Some.c),
         puts_then {answer = Ok tt} held.1.1
-            (puts_from (c.hold_char.ensures.no c.if-not-hold_char.true) c.in_ok-put_char.ensures),
+            (puts_after (c.try_put_char.ensures.unchanged c.if-not-try_put_char.true) c.in_ok-put_char.ensures),
         rw (
           append_assoc held.1.0 (flat_map (big_endian 2) (encode_utf16 c.in-Some.c)) _,
           ← flat_map-append (big_endian 2) (encode_utf16 c.in-Some.c) _,
@@ -53,7 +52,7 @@ returns-in_err-put_char g c =
       units_step _ _ c.in-Some.c held.0 c.in-Some.ensures.steps.0,
       flat_map-append (big_endian 2) (encode_utf16 c.in-Some.c) _,
     ) (puts_then held.1.1 (puts_refused _ _ _ c.from_residual.ensures.1
-    (puts_from (c.hold_char.ensures.no c.if-not-hold_char.true) c.in_err-put_char.ensures)))
+    (puts_after (c.try_put_char.ensures.unchanged c.if-not-try_put_char.true) c.in_err-put_char.ensures)))
 
 pub returns : goal.returns
 returns g c =

@@ -1,13 +1,13 @@
 use Rattle.std.proofs.Common.{◌≡◌, ℕ, List, ◌++◌, IsUtf8, flat_map, Ok}
 use Rattle.std.specs.Str.Iter.{chars_rest}
 use Rattle.plist_binwrite.specs.Forms.{big_endian, units_of}
-use Rattle.plist_binwrite.specs.OutputBuffer.{PutsBytes}
+use Rattle.plist_base.specs.Sinks.{PutsBytes}
 use Rattle.plist_binwrite.proofs.text.put_units.Given as goal
 
 abbrev pub invariant-loop-c : goal.invariant-loop-c
 invariant-loop-c g l =
     IsUtf8 (chars_rest l.c-iterator)
-    × ((done : List ℕ) × PutsBytes (g.W.Write.contents l.initial.out) l.initial.buffer.items done
-    (Ok tt) (g.W.Write.contents l.out) l.buffer.items
+    × ((done : List ℕ) × PutsBytes g.W.Write.contents l.initial.sink done
+    (Ok tt) l.sink
     × (done ++ flat_map (big_endian 2) (units_of (chars_rest l.c-iterator))
     ≡ flat_map (big_endian 2) (units_of l.text)))

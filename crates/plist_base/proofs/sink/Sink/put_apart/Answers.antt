@@ -1,5 +1,5 @@
-use Rattle.plist_binwrite.proofs.Outgoing.{puts_then, puts_refused}
-use Rattle.plist_binwrite.proofs.output_buffer.pass_both.Goals as goal
+use Rattle.plist_base.proofs.SinkSteps.{puts_refused, puts_then}
+use Rattle.plist_base.proofs.sink.Sink.put_apart.Goals as goal
 
 pub returns-in_err-put : goal.returns-in_err-put
 returns-in_err-put g c = puts_refused _ _ _ c.from_residual.ensures.1 c.in_err-put.ensures

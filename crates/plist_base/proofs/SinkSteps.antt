@@ -1,0 +1,190 @@
+-- Putting bytes into a sink, one part after the other.
+use Rattle.std.proofs.Common.{◌≡◌, ◌≤◌, ℕ, List, [], ◌++◌, length, Option, Result, Ok, Err, refl, sym, ap, ◌∙◌, append_assoc, append-nil, arith}
+use Rattle.std.specs.Result.{IsErrAnd, OnOk}
+use Rattle.std.specs.Io.KnownBytes.{Appends}
+use Rattle.std.proofs.KnownBytes.{Appends-trans, Appends-nil}
+use Rattle.plist_base.specs.declared.error.Error.{Error}
+use Rattle.plist_base.specs.declared.sink.Sink.{Sink}
+use Rattle.plist_base.specs.Faults.{Fault, Io, fault_nowhere, fault_of}
+use Rattle.plist_base.specs.Outcomes.{OnlyDevice}
+use Rattle.plist_base.specs.Writing.{Answer, answer_of}
+use Rattle.plist_base.specs.Prefixes.{AppendsPrefix}
+use Rattle.plist_base.specs.Sinks.{IsSameSink, PutsBytes, PutsNothing, pending, sink_capacity, written}
+
+-- ---- lists
+
+-- what is written of two parts, and what is left of them
+joined : (all xs ys one middle two rest : List ℕ) → all ++ xs ≡ one ++ middle
+    → middle ++ ys ≡ two ++ rest → all ++ (xs ++ ys) ≡ (one ++ two) ++ rest
+joined all xs ys one middle two rest e f =
+    sym (append_assoc all xs ys) ∙ ap (λ l. l ++ ys) e ∙ append_assoc one middle ys
+    ∙ ap (λ l. one ++ l) f ∙ sym (append_assoc one two rest)
+
+-- a beginning of some bytes is one of more
+pub prefix_more : (a b : Option (List ℕ)) (xs ys : List ℕ) → AppendsPrefix a b xs
+    → AppendsPrefix a b (xs ++ ys)
+prefix_more a b xs ys f = (f.0, f.1 ++ ys, f.2, cc (append_assoc f.0 f.1 ys))
+
+-- ---- sinks
+
+pub same_itself : {W : Type 0} {a : Sink W} → IsSameSink a a
+same_itself = record { writer = refl; buffer = refl }
+
+pub same_then : {W : Type 0} {a b c : Sink W} → IsSameSink a b → IsSameSink b c → IsSameSink a c
+same_then p q = record { writer = q.writer ∙ p.writer; buffer = q.buffer ∙ p.buffer }
+
+module _ {W : Type 0} {contents : W → Option (List ℕ)} where
+  -- no bytes
+  pub puts_none : {a : Sink W} → PutsBytes contents a [] (Ok tt) a
+  puts_none {a} = record {
+    same = same_itself;
+    follows = ([], Appends-nil (written contents a), append-nil (pending a));
+    few = λ w. w;
+  }
+
+  -- bytes that are pending
+  pub puts_pending : {a b : Sink W} {xs : List ℕ} → IsSameSink a b
+      → b.writer.now ≡ a.writer.now → pending b ≡ pending a ++ xs
+      → length (pending b) ≤ sink_capacity → PutsBytes contents a xs (Ok tt) b
+  puts_pending {a} same kept grown few = record {
+    same = same;
+    follows = ([], rw kept (Appends-nil (written contents a)), sym grown);
+    few = λ w. few;
+  }
+
+  -- nothing, and then bytes
+  pub puts_after : {a b c : Sink W} {xs : List ℕ} {answer : Answer} → PutsNothing a b
+      → PutsBytes contents b xs answer c → PutsBytes contents a xs answer c
+  puts_after {answer = Ok done} n p = record {
+    same = same_then n.same p.same;
+    follows = rw (n.writer, n.pending) at p.follows;
+    few = λ w. p.few (rw n.pending w);
+  }
+  puts_after {answer = Err fault} n p = record {
+    same = same_then n.same p.same;
+    follows = rw (n.writer, n.pending) at p.follows;
+    few = λ w. p.few (rw n.pending w);
+  }
+
+  -- bytes, and then more
+  pub puts_then : {a b c : Sink W} {xs ys : List ℕ} {answer : Answer}
+      → PutsBytes contents a xs (Ok tt) b → PutsBytes contents b ys answer c
+      → PutsBytes contents a (xs ++ ys) answer c
+  puts_then {a} {b} {c} {xs} {ys} {answer = Ok done} p q = record {
+    same = same_then p.same q.same;
+    follows = (
+      p.follows.0 ++ q.follows.0,
+      Appends-trans (written contents a) (written contents b) (written contents c) _ _ p.follows.1
+          q.follows.1,
+      joined (pending a) xs ys p.follows.0 (pending b) q.follows.0 (pending c) p.follows.2
+          q.follows.2,
+    );
+    few = λ w. q.few (p.few w);
+  }
+  puts_then {a} {b} {c} {xs} {ys} {answer = Err fault} p q = record {
+    same = same_then p.same q.same;
+    follows = (
+      q.follows.0,
+      (
+        p.follows.0 ++ q.follows.1.0,
+        q.follows.1.1,
+        Appends-trans (written contents a) (written contents b) (written contents c) _ _
+            p.follows.1 q.follows.1.2,
+        joined (pending a) xs ys p.follows.0 (pending b) q.follows.1.0 q.follows.1.1 p.follows.2
+            q.follows.1.3,
+      ),
+    );
+    few = λ w. q.few (p.few w);
+  }
+
+  -- what failed fails the whole
+  puts_front : {a b : Sink W} {xs : List ℕ} {fault : Fault} (ys : List ℕ)
+      → PutsBytes contents a xs (Err fault) b → PutsBytes contents a (xs ++ ys) (Err fault) b
+  puts_front {a} {b} {xs} ys p = record {
+    same = p.same;
+    follows = (
+      p.follows.0,
+      rw append_assoc at (prefix_more (written contents a) (written contents b) (pending a ++ xs) ys
+          p.follows.1),
+    );
+    few = p.few;
+  }
+
+  -- it is what the exit of a `?` passes on
+  pub puts_refused : {a b : Sink W} {xs : List ℕ} (ys : List ℕ)
+      (answer : Result (Unit {0}) Error) (error : Error) → IsErrAnd answer (λ e. e ≡ error)
+      → PutsBytes contents a xs (Err (fault_of error)) b
+      → PutsBytes contents a (xs ++ ys) (answer_of answer) b
+  puts_refused ys (Ok done) error is p = absurd is
+  puts_refused ys (Err e) error is p = rw is (puts_front ys p)
+
+  pub puts_as : {a b : Sink W} {xs ys : List ℕ} {answer : Answer} → xs ≡ ys
+      → PutsBytes contents a xs answer b → PutsBytes contents a ys answer b
+  puts_as e p = rw (← e) p
+
+  -- what was pending isn't all written
+  pub puts_broken : {a b : Sink W} {xs : List ℕ} (answer : Result (Unit {0}) Error) (error : Error)
+      → IsErrAnd answer (λ e. e ≡ error) → IsSameSink a b → pending b ≡ pending a
+      → fault_of error ≡ fault_nowhere Io
+      → AppendsPrefix (written contents a) (written contents b) (pending a)
+      → PutsBytes contents a xs (answer_of answer) b
+  puts_broken (Ok done) error is same kept io front = absurd is
+  puts_broken {a} {b} {xs} (Err e) error is same kept io front = rw is (record {
+    same = same;
+    follows = (io, prefix_more (written contents a) (written contents b) (pending a) xs front);
+    few = λ w. rw kept w;
+  })
+
+  -- what was pending is written, and then bytes are, or a beginning of them
+  pub puts_through : {a b : Sink W} {xs : List ℕ} (middle : Option (List ℕ))
+      (answer : Result (Unit {0}) Error) → IsSameSink a b → pending b ≡ []
+      → Appends (written contents a) middle (pending a)
+      → OnOk answer (Appends middle (written contents b) xs) → OnlyDevice answer
+      → AppendsPrefix middle (written contents b) xs → PutsBytes contents a xs (answer_of answer) b
+  puts_through {a} {b} {xs} middle (Ok done) same none whole sent io front = record {
+    same = same;
+    follows = (
+      pending a ++ xs,
+      Appends-trans (written contents a) middle (written contents b) _ _ whole sent,
+      rw none (sym (append-nil (pending a ++ xs))),
+    );
+    few = λ w. rw none (omega arith);
+  }
+  puts_through {a} {b} {xs} middle (Err error) same none whole sent io front = record {
+    same = same;
+    follows = (
+      io,
+      (
+        pending a ++ front.0,
+        front.1,
+        Appends-trans (written contents a) middle (written contents b) _ _ whole front.2,
+        ap (λ l. pending a ++ l) front.3 ∙ sym (append_assoc (pending a) front.0 front.1),
+      ),
+    );
+    few = λ w. rw none (omega arith);
+  }
+
+  -- ---- all that was put since nothing was pending
+
+  pub sent_whole : {a b : Sink W} {xs : List ℕ} (end : Option (List ℕ)) → pending a ≡ []
+      → PutsBytes contents a xs (Ok tt) b → Appends (written contents b) end (pending b)
+      → Appends (written contents a) end xs
+  sent_whole {a} {b} end none p rest =
+      rw (rw none at p.follows.2) (Appends-trans (written contents a) (written contents b) end _ _
+      p.follows.1 rest)
+
+  pub sent_part : {a b : Sink W} {xs : List ℕ} (end : Option (List ℕ)) → pending a ≡ []
+      → PutsBytes contents a xs (Ok tt) b → AppendsPrefix (written contents b) end (pending b)
+      → AppendsPrefix (written contents a) end xs
+  sent_part {a} {b} end none p rest = (
+    p.follows.0 ++ rest.0,
+    rest.1,
+    Appends-trans (written contents a) (written contents b) end _ _ p.follows.1 rest.2,
+    (rw none at p.follows.2) ∙ ap (λ l. p.follows.0 ++ l) rest.3
+        ∙ sym (append_assoc p.follows.0 rest.0 rest.1),
+  )
+
+  pub put_part : {a b : Sink W} {xs : List ℕ} {fault : Fault} → pending a ≡ []
+      → PutsBytes contents a xs (Err fault) b
+      → AppendsPrefix (written contents a) (written contents b) xs
+  put_part none p = rw none at p.follows.1

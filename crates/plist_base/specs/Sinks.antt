@@ -1,0 +1,56 @@
+-- Bytes on their way to a writer through a sink: some are written, and the rest is pending.
+use Rattle.std.specs.Prelude.{◌≡◌, ℕ, ◌^◌, ◌≤◌, List, ◌++◌, length, Option, Result, Ok, Err}
+use Rattle.std.specs.Io.KnownBytes.{Appends}
+use Rattle.plist_base.specs.declared.error.Error.{Error}
+use Rattle.plist_base.specs.declared.sink.Sink.{Sink}
+use Rattle.plist_base.specs.Faults.{Io, fault_nowhere}
+use Rattle.plist_base.specs.Prefixes.{AppendsPrefix}
+use Rattle.plist_base.specs.Writing.{Answer, answer_of}
+
+-- the bytes that are pending
+abbrev pub pending : {W : Type 0} → Sink W → List ℕ
+pending sink = sink.buffer.now.items
+
+-- how many bytes are pending at most
+abbrev pub sink_capacity : ℕ
+sink_capacity = 2 ^ 16
+
+-- the sink has the same writer and the same buffer
+pub record IsSameSink {W : Type 0} (old new : Sink W) : Type 0 where
+  pub writer : new.writer.ghost_name ≡ old.writer.ghost_name
+  pub buffer : new.buffer.ghost_name ≡ old.buffer.ghost_name
+
+-- nothing was put
+pub record PutsNothing {W : Type 0} (old new : Sink W) : Type 0 where
+  pub same : IsSameSink old new
+  pub writer : new.writer.now ≡ old.writer.now
+  pub pending : new.buffer.now.items ≡ old.buffer.now.items
+
+-- of the bytes `all`, known bytes grew by a beginning, and the rest is pending
+abbrev pub WritesBut : (old new : Option (List ℕ)) → (all rest : List ℕ) → Type 0
+WritesBut old new all rest = (written : List ℕ) × Appends old new written × (all ≡ written ++ rest)
+
+module _ {W : Type 0} (contents : W → Option (List ℕ)) where
+  -- the bytes of the writer, where they are known
+  abbrev pub written : Sink W → Option (List ℕ)
+  written sink = contents sink.writer.now
+
+  -- the bytes follow what was pending: a beginning of both is written, and the rest is pending; or
+  -- a write failed, and a beginning of both is written
+  abbrev pub Follows : (old : Sink W) → (bytes : List ℕ) → Answer → (new : Sink W) → Type 0
+  Follows old bytes (Ok done) new =
+      WritesBut (written old) (written new) (pending old ++ bytes) (pending new)
+  Follows old bytes (Err fault) new =
+      (fault ≡ fault_nowhere Io)
+      × AppendsPrefix (written old) (written new) (pending old ++ bytes)
+
+  -- what a call does that puts these bytes
+  pub record PutsBytes (old : Sink W) (bytes : List ℕ) (answer : Answer) (new : Sink W) : Type 0
+    where
+      pub same : IsSameSink old new
+      pub follows : Follows old bytes answer new
+      pub few : length (pending old) ≤ sink_capacity → length (pending new) ≤ sink_capacity
+
+  abbrev pub Puts : (old : Sink W) → (bytes : List ℕ) → Result (Unit {0}) Error → (new : Sink W)
+      → Type 0
+  Puts old bytes result new = PutsBytes old bytes (answer_of result) new
