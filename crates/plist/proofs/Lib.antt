@@ -7,6 +7,7 @@ pub mod Collected
 pub mod Inputs
 pub mod ReadFaults
 pub mod Lighter
+pub mod Allowing
 pub mod Limiting
 pub mod KeysOnce
 pub mod Shown

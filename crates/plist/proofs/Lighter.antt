@@ -1,12 +1,10 @@
 -- A tree's last-value form has no more events than the tree, and its texts and data no more bytes.
-use Rattle.std.proofs.Common.{◌≡◌, ℕ, ◌+◌, ◌≤◌, Bool, true, false, List, [], ◌∷◌, ◌++◌, length, Option, None, Some, refl, arith, bytes_eq, if◌then◌else◌}
-use Rattle.plist_base.specs.declared.limits.Limits.{Limits}
+use Rattle.std.proofs.Common.{◌≡◌, ℕ, ◌+◌, ◌≤◌, Bool, true, false, List, [], ◌∷◌, ◌++◌, length, Option, refl, arith, bytes_eq, if◌then◌else◌}
 use Rattle.plist_base.specs.Events.{PlainEvent, ScalarEvent, StartArray, StartDictionary, EndCollection}
-use Rattle.plist_base.specs.Limits.{HasBytesWithin, bytes_in, total_bytes}
+use Rattle.plist_base.specs.Budgets.{bytes_in, total_bytes}
 use Rattle.plist_base.specs.Trees.{Tree, Leaf, Array, Dictionary, Trees, NoTrees, TreeAnd, Members, NoMembers, MemberAnd, String, trees_of, members_of}
 use Rattle.plist_base.specs.Bracketing.{bracketing, bracketing_of_items, bracketing_of_pairs}
 use Rattle.plist.specs.LastWins.{TreePairs, last_values, last_wins, last_wins_in_items, last_wins_in_pairs}
-use Rattle.plist.specs.Limiting.{AreWithin}
 use Rattle.indexmap.specs.IndexMap.{insert_entry, insert_all}
 
 -- ---- over plain numbers
@@ -134,24 +132,17 @@ in-bytes : (es : List PlainEvent) → total_bytes es ≡ weight_of bytes_in es
 in-bytes [] = refl
 in-bytes (e ∷ es) = let rest = in-bytes es in omega arith
 
--- the last-value form of a tree is within the limits that its events are within
-pub lighter-within : (limits : Limits) (t : Tree) → AreWithin limits (bracketing t)
-    → AreWithin limits (bracketing (last_wins t))
-lighter-within limits t h = (fewer, bytes-within limits.bytes h.1)
-  where
-    fewer : length (bracketing (last_wins t)) ≤ limits.items
-    fewer =
-        let few = lighter (λ _. 1) (λ _ _. refl) (λ _ _. refl) t in
-        let one = counted (bracketing t) in
-        let other = counted (bracketing (last_wins t)) in
-        let at-most = h.0 in
-        omega arith
+-- the last-value form of a tree has no more events, and its strings and data no more bytes
+pub fewer-events : (t : Tree) → length (bracketing (last_wins t)) ≤ length (bracketing t)
+fewer-events t =
+    let few = lighter (λ _. 1) (λ _ _. refl) (λ _ _. refl) t in
+    let one = counted (bracketing t) in
+    let other = counted (bracketing (last_wins t)) in
+    omega arith
 
-    bytes-within : (most : Option ℕ) → HasBytesWithin most (bracketing t)
-        → HasBytesWithin most (bracketing (last_wins t))
-    bytes-within None h = tt
-    bytes-within (Some most) h =
-        let few = lighter bytes_in (λ _ _. refl) (λ _ _. refl) t in
-        let one = in-bytes (bracketing t) in
-        let other = in-bytes (bracketing (last_wins t)) in
-        omega arith
+pub fewer-bytes : (t : Tree) → total_bytes (bracketing (last_wins t)) ≤ total_bytes (bracketing t)
+fewer-bytes t =
+    let few = lighter bytes_in (λ _ _. refl) (λ _ _. refl) t in
+    let one = in-bytes (bracketing t) in
+    let other = in-bytes (bracketing (last_wins t)) in
+    omega arith

@@ -4,15 +4,19 @@ use Rattle.std.specs.Prelude.{⊤}
 use Rattle.std.specs.Iterator.{Yields}
 use Rattle.plist_base.specs.declared.error.Error.{Error}
 use Rattle.plist_base.specs.declared.event.Event.{Event}
+use Rattle.plist_base.specs.declared.byte_budget.ByteBudget.{ByteBudget}
 use Rattle.plist_base.specs.declared.limited.Limited.{Limited}
+use Rattle.plist_base.specs.declared.limits.Limiter.{Limiter}
 use Rattle.plist_base.specs.declared.source.Source.{Ghosts}
 use Rattle.plist_base.specs.declared.expects.Change.{Change}
 use Rattle.plist_base.specs.declared.expects.Change.TheVariants.{Refused}
 use Rattle.plist_base.specs.declared.expects.Expect.TheVariants.{OneValue}
-use Rattle.plist_base.specs.Events.{PlainEvent, event_of}
+use Rattle.plist_base.specs.Events.{Item, PlainEvent, event_of}
 use Rattle.plist_base.specs.Expects.{change_of}
 use Rattle.plist_base.specs.Faults.{FaultKind, Fault, LimitReached, fault_of}
-use Rattle.plist_base.specs.Limits.{GivesLimited, PassesNext}
+use Rattle.plist_base.specs.Allowances.{GivesAllowed, PassesNext}
+use Rattle.plist_base.specs.Budgets.{GivesWithinBudget, IsBudgetUsedUp, within_budget}
+use Rattle.plist_base.specs.Limits.{GivesLimited, IsLimitReached, limited_by}
 use Rattle.plist_base.specs.Trees.{Tree}
 use Rattle.plist_reader.specs.declared.reader.Reader.{Reader}
 use Rattle.plist_reader.specs.Reader.{Gives, IsReaderFault, reader_is_limited}
@@ -92,6 +96,34 @@ loosened : (limited : Bool) (kind : FaultKind) → IsReaderFault limited kind
 loosened limited (LimitReached limit) is = refl
 loosened limited kind is = is
 
+-- a fault that comes under an allowance is one that it reaches, or one of the iterator inside
+module _ {I A : Type 0} (lets : A → List Item → List Item) (may_reach : Fault → Type 0)
+    (inner_gives : I → Option (Result Event Error) → I → Type 0) (limited : Bool)
+    (reaches : (fault : Fault) → may_reach fault → IsReadingFault limited fault)
+    (inner : (old : I) (error : Error) (new : I) → inner_gives old (Some (Err error)) new
+    → IsReadingFault limited (fault_of error)) where
+  passed : (old : Limited I A) (error : Error) (new : Limited I A)
+      → GivesAllowed lets may_reach inner_gives old (Some (Err error)) new
+      → IsReadingFault limited (fault_of error)
+  passed old error new gives = by old.ended gives
+    where
+      behind : (asked : Option (Result Event Error)) → inner_gives old.inner asked new.inner
+          → PassesNext lets may_reach old.limiter asked (Some (Err error)) new.limiter new.ended
+          → IsReadingFault limited (fault_of error)
+      behind None gave is = absurd (cc is.0)
+      behind (Some (Ok event)) gave is = reaches (fault_of error) is.0.0
+      behind (Some (Err other)) gave is =
+          let same : other ≡ error = cc is.0 in
+          inner old.inner error new.inner
+          (subst (λ e. inner_gives old.inner (Some (Err e)) new.inner) same gave)
+
+      by : (ended : Bool) → MatchBool ended ((refused error ≡ None) × (new ≡ old))
+          ((asked : Option (Result Event Error)) × inner_gives old.inner asked new.inner
+          × PassesNext lets may_reach old.limiter asked (refused error) new.limiter new.ended)
+          → IsReadingFault limited (fault_of error)
+      by true is = absurd (cc is.0)
+      by false (asked, gave, is) = behind asked gave is
+
 module _ {R : Type 0} {g : Ghosts R} (known : R → Option (List ℕ)) (failed : R → ℕ) where
   -- one without limits
   pub reader-tells : (reader : Reader R g) (answer : Result Value Error) → reader_is_limited reader
@@ -107,39 +139,42 @@ module _ {R : Type 0} {g : Ghosts R} (known : R → Option (List ℕ)) (failed :
       ))
       reader answer none collects
 
-  passed : (old : Limited (Reader R g)) (error : Error) (new : Limited (Reader R g))
+  limit-tells : (old : Limited (Reader R g) Limiter) (error : Error)
+      (new : Limited (Reader R g) Limiter)
       → GivesLimited (Gives known failed) old (Some (Err error)) new
       → IsReadingFault true (fault_of error)
-  passed old error new gives = by old.ended gives
-    where
-      behind : (asked : Option (Result Event Error))
-          → Gives known failed old.inner asked new.inner
-          → PassesNext old.limiter asked (Some (Err error)) new.limiter new.ended
-          → IsReadingFault true (fault_of error)
-      behind None gave is = absurd (cc is.0)
-      behind (Some (Ok event)) gave is =
-          subst (IsReadingFault true) (sym is.0.1) (inl (refl, refl))
-      behind (Some (Err other)) gave is =
-          let same : other ≡ error = cc is.0 in
-          subst (λ e. IsReadingFault true (fault_of e)) same
-          (inl (
-            loosened (reader_is_limited old.inner)
-                (fault_of other).kind gave.kinds,
-            gave.offset,
-          ))
+  limit-tells =
+      passed limited_by IsLimitReached (Gives known failed) true
+      (λ fault reached. subst (IsReadingFault true) (sym reached.1) (inl (refl, refl)))
+      (λ old error new gave. inl (
+        loosened (reader_is_limited old) (fault_of error).kind gave.kinds,
+        gave.offset,
+      ))
 
-      by : (ended : Bool) → MatchBool ended ((refused error ≡ None) × (new ≡ old))
-          ((asked : Option (Result Event Error)) × Gives known failed old.inner asked new.inner
-          × PassesNext old.limiter asked (refused error) new.limiter new.ended)
-          → IsReadingFault true (fault_of error)
-      by true is = absurd (cc is.0)
-      by false (asked, gave, is) = behind asked gave is
+  budget-tells : (old : Limited (Limited (Reader R g) Limiter) ByteBudget) (error : Error)
+      (new : Limited (Limited (Reader R g) Limiter) ByteBudget)
+      → GivesWithinBudget (GivesLimited (Gives known failed)) old (Some (Err error)) new
+      → IsReadingFault true (fault_of error)
+  budget-tells =
+      passed within_budget IsBudgetUsedUp (GivesLimited (Gives known failed)) true
+      (λ fault reached. subst (IsReadingFault true) (sym reached) (inl (tt, refl))) limit-tells
 
   -- one under limits
-  pub limited-tells : (limited : Limited (Reader R g)) (answer : Result Value Error)
+  pub limited-tells : (limited : Limited (Reader R g) Limiter) (answer : Result Value Error)
       → Collects event_of (GivesLimited (Gives known failed)) limited (built_tree answer)
       → IfErr answer (λ error. IsReadingFault true (fault_of error))
   limited-tells limited answer collects =
       error-tells event_of (GivesLimited (Gives known failed)) true (λ _. ⊤)
-      (λ old item new gives all. tt) (λ old error new gives all. passed old error new gives) limited
-      answer tt collects
+      (λ old item new gives all. tt) (λ old error new gives all. limit-tells old error new gives)
+      limited answer tt collects
+
+  -- and within a budget of bytes
+  pub budgeted-tells : (budgeted : Limited (Limited (Reader R g) Limiter) ByteBudget)
+      (answer : Result Value Error)
+      → Collects event_of (GivesWithinBudget (GivesLimited (Gives known failed))) budgeted
+      (built_tree answer)
+      → IfErr answer (λ error. IsReadingFault true (fault_of error))
+  budgeted-tells budgeted answer collects =
+      error-tells event_of (GivesWithinBudget (GivesLimited (Gives known failed))) true (λ _. ⊤)
+      (λ old item new gives all. tt) (λ old error new gives all. budget-tells old error new gives)
+      budgeted answer tt collects

@@ -2,9 +2,13 @@
 use Rattle.std.specs.Prelude.{◌≡◌, ℕ, ◌⊎◌, Bool, List, Option, None, Some, Result, Err, option_map, ⊤}
 use Rattle.plist_base.specs.Events.{Item, event_of}
 use Rattle.plist_base.specs.Faults.{Fault, FaultKind, ExpectedEndOfEventStream, Io, UnexpectedEndOfEventStream, UnexpectedEventType, fault_nowhere}
-use Rattle.plist_base.specs.Limits.{GivesLimited, items_admitted, iterator_of as inner_of_limited, limited_items}
+use Rattle.plist_base.specs.Allowances.{iterator_of as inner_of_limited}
+use Rattle.plist_base.specs.Budgets.{GivesWithinBudget, items_within_budget, within_bytes}
+use Rattle.plist_base.specs.Limits.{GivesLimited, items_admitted, limited_items}
 use Rattle.plist_base.specs.Seeking.{failures_of}
+use Rattle.plist_base.specs.declared.byte_budget.ByteBudget.{ByteBudget}
 use Rattle.plist_base.specs.declared.limited.Limited.{Limited}
+use Rattle.plist_base.specs.declared.limits.Limiter.{Limiter}
 use Rattle.plist_base.specs.declared.limits.Limits.{Limits}
 use Rattle.plist_base.specs.declared.seeking.Seeking.{Seeking}
 use Rattle.plist_base.specs.Trees.{Tree}
@@ -27,16 +31,37 @@ IsReadByReader {R} known failed source answer =
     × (reader_items known reader ≡ option_map items_of_input (known source))
     × Collects event_of (Gives known failed) reader answer
 
--- the same under these limits
+-- the items of an input under these limits, whose strings and data have at most so many bytes
+abbrev pub budgeted_input : Limits → (bytes : ℕ) → List ℕ → List Item
+budgeted_input limits bytes input = within_bytes bytes (limited_input limits input)
+
+-- a reader of this very source under these limits, all of whose items are still to come
+abbrev pub LimitedReader : {R : Type 0} (known : R → Option (List ℕ)) (failed : R → ℕ) → Type 0
+LimitedReader {R} known failed =
+    Limited (Reader R (record { known = known; failures = failed })) Limiter
+
+abbrev pub BeginsUnder : {R : Type 0} → Limits → (known : R → Option (List ℕ)) (failed : R → ℕ)
+    (source : R) → LimitedReader known failed → Type 0
+BeginsUnder limits known failed source limited =
+    (items_admitted limited ≡ limited_items limits)
+    × (reader_source (inner_of_limited limited) ≡ Some source)
+    × (reader_items known (inner_of_limited limited) ≡ option_map items_of_input (known source))
+
+-- the answer comes of the run of one
 abbrev pub IsReadWithin : {R : Type 0} → Limits
     → (known : R → Option (List ℕ)) (failed : R → ℕ) (source : R) → Result Tree Fault → Type 0
-IsReadWithin {R} limits known failed source answer =
-    (limited : Limited (Reader R (record { known = known; failures = failed })))
-    × (items_admitted limited ≡ limited_items limits)
-    × (reader_source (inner_of_limited limited) ≡ Some source)
-    × (reader_items known (inner_of_limited limited)
-    ≡ option_map (limited_input limits) (known source))
+IsReadWithin limits known failed source answer =
+    (limited : LimitedReader known failed) × BeginsUnder limits known failed source limited
     × Collects event_of (GivesLimited (Gives known failed)) limited answer
+
+-- the same within a budget of bytes
+abbrev pub IsReadWithinBudget : {R : Type 0} → Limits → (bytes : ℕ)
+    → (known : R → Option (List ℕ)) (failed : R → ℕ) (source : R) → Result Tree Fault → Type 0
+IsReadWithinBudget limits bytes known failed source answer =
+    (budgeted : Limited (LimitedReader known failed) ByteBudget)
+    × (items_within_budget budgeted ≡ within_bytes bytes)
+    × BeginsUnder limits known failed source (inner_of_limited budgeted)
+    × Collects event_of (GivesWithinBudget (GivesLimited (Gives known failed))) budgeted answer
 
 -- the same of a reader of ASCII in this dialect, which has taken no byte and looked at none
 abbrev pub IsReadAsAscii : {R : Type 0} (known : R → Option (List ℕ)) (failed : R → Option ℕ)

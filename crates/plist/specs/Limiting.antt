@@ -1,8 +1,8 @@
--- What limits say of a value.
+-- What limits and a budget of bytes say of a value.
 use Rattle.std.specs.Prelude.{◌≡◌, ℕ, ◌-◌, ◌≤◌, List, length, ⊤}
 use Rattle.plist_base.specs.declared.limits.Limits.{Limits}
 use Rattle.plist_base.specs.Events.{PlainEvent}
-use Rattle.plist_base.specs.Limits.{HasBytesWithin}
+use Rattle.plist_base.specs.Budgets.{total_bytes}
 use Rattle.plist_base.specs.Trees.{Tree, Leaf, Array, Dictionary, Trees, NoTrees, TreeAnd, Members, NoMembers, MemberAnd}
 use Rattle.plist_base.specs.Bracketing.{bracketing}
 use Rattle.plist.specs.LastWins.{last_wins}
@@ -23,15 +23,26 @@ abbrev mutual
   PairsNestWithin (MemberAnd key tree members) depth =
       NestsWithin tree depth × PairsNestWithin members depth
 
--- there are at most this many events, whose texts and data have at most this many bytes
+-- this is so of a tree's events, and of those that it came of: the events of a tree whose last-value
+-- form it is
+abbrev pub IfCame : (List PlainEvent → Type 0) → Tree → Type 0
+IfCame P tree =
+    P (bracketing tree) × ((whole : Tree) × (tree ≡ last_wins whole) × P (bracketing whole))
+
+-- there are no more events than these limits allow
 abbrev pub AreWithin : Limits → List PlainEvent → Type 0
-AreWithin limits events =
-    (length events ≤ limits.items) × HasBytesWithin limits.bytes events
+AreWithin limits events = length events ≤ limits.items
+
+-- nor have their strings and data more bytes than this
+abbrev pub AreWithinBudget : Limits → (bytes : ℕ) → List PlainEvent → Type 0
+AreWithinBudget limits bytes events = AreWithin limits events × (total_bytes events ≤ bytes)
 
 -- a value's tree nests at most `depth` collections, and its events are within these limits, as are
--- those that it came of: the events of a tree whose last-value form it is
+-- those that it came of
 abbrev pub IsWithinLimits : Limits → Tree → Type 0
-IsWithinLimits limits tree =
-    NestsWithin tree limits.depth
-    × AreWithin limits (bracketing tree)
-    × ((whole : Tree) × (tree ≡ last_wins whole) × AreWithin limits (bracketing whole))
+IsWithinLimits limits tree = NestsWithin tree limits.depth × IfCame (AreWithin limits) tree
+
+-- the same within a budget of bytes
+abbrev pub IsWithinBudget : Limits → (bytes : ℕ) → Tree → Type 0
+IsWithinBudget limits bytes tree =
+    NestsWithin tree limits.depth × IfCame (AreWithinBudget limits bytes) tree

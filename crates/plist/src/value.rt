@@ -7,14 +7,14 @@ ghost use Rattle.plist.specs.Collecting.{built_tree};
 ghost use Rattle.plist.specs.Accessors.{array_in, data_in, dictionary_in, text_in};
 ghost use Rattle.plist.specs.ValueOfItems.{AnswersIterable, CollectsIterable, ReadsItems, DetermineTrees};
 ghost use Rattle.plist_pairs.specs.Bulk.{IterableEnds};
-ghost use Rattle.plist.specs.FromReader.{IsReadByReader, IsReadWithin, IsReadAsAscii, IsReadingFault, items_of_text};
+ghost use Rattle.plist.specs.FromReader.{IsReadByReader, IsReadWithin, IsReadWithinBudget, IsReadAsAscii, IsReadingFault, budgeted_input, items_of_text};
 ghost use Rattle.plist.specs.ReadingBack.{ReadsBackIn};
 ghost use Rattle.plist_ascii.specs.Texts.{ends_bare, lax_stops};
 ghost use Rattle.plist_reader.specs.Reader.{items_of_input, limited_input};
 ghost use Rattle.plist_base.specs.Outcomes.{IfFault, OnlyMemory};
 ghost use Rattle.plist_base.specs.Trees.{Leaf, String};
 ghost use Rattle.plist.specs.LastWins.{AreLastValues, TreePairs, last_values, last_wins};
-ghost use Rattle.plist.specs.Limiting.{IsWithinLimits};
+ghost use Rattle.plist.specs.Limiting.{IsWithinBudget, IsWithinLimits};
 ghost use Rattle.plist.specs.Events.{remaining_events};
 ghost use Rattle.plist.specs.Variants.{value_with};
 ghost use Rattle.plist.specs.ValueTrees.{item_trees, kind_of_tree, pair_trees, tree_of};
@@ -232,16 +232,20 @@ impl Value {
         collect(alloc, reader)
     }
 
-    /// The same, of no more than these limits let come. The value nests at most `limits.depth`
-    /// collections, has and came of at most `limits.items` events, and its texts and data have at
-    /// most `limits.bytes` bytes. The first of these that has a byte too many takes no memory where
-    /// the source is binary, unless it is short.
+    /// Like [`Value::from_reader`], but fails once a limit is exceeded. The value nests at most
+    /// `limits.depth` collections, and has and came of at most `limits.items` events.
+    ///
+    /// ```text
+    /// Value::from_reader_with_limits(alloc, bytes, Limits { depth: 64, items: 100_000 })
+    /// ```
+    ///
+    /// The limits don't bound the bytes of strings and data, which a small file may refer to again
+    /// and again: [`Value::from_reader_within`] does.
     ///
     /// # Errors
     ///
-    /// - `LimitReached` in the place of the first text or data that has a byte too many, or else of
-    ///   an event that is one too many, or else of a start that would open one collection too many,
-    ///   unless an earlier item was refused.
+    /// - `LimitReached` in the place of the first event that is one too many, or else of a start
+    ///   that would open one collection too many, unless an earlier item was rejected.
     /// - Those of [`Value::from_reader`].
     pub fn from_reader_with_limits<R: Source>(
         alloc: Global,
@@ -253,8 +257,37 @@ impl Value {
         ensures fault { IfFault result (IsReadingFault true) }
         ensures within { IfOk (built_tree result) (IsWithinLimits limits) }
     {
-        let reader = Reader::with_limits(alloc, source, limits);
+        let reader = Reader::new(alloc, source);
         collect(alloc, Limited::new(reader, limits))
+    }
+
+    /// Like [`Value::from_reader_with_limits`], but fails also once the strings, keys among them,
+    /// and the data have more than this many bytes together. A string counts by its bytes in
+    /// UTF-8, and counts again wherever the source refers to it again.
+    ///
+    /// Use it for files of strangers: the value has no more events, levels and bytes than the
+    /// caller allows, whatever the source says.
+    ///
+    /// # Errors
+    ///
+    /// - `OutOfMemory`, also where the memory that the caller allows is used up: in the place of
+    ///   the first string or data that has a byte too many, unless an earlier item was rejected.
+    /// - Those of [`Value::from_reader_with_limits`].
+    pub fn from_reader_within<R: Source>(
+        alloc: Global,
+        source: R,
+        limits: Limits,
+        bytes: u64,
+    ) -> Result<Value, Error>
+        ensures value { ReadsItems (budgeted_input limits bytes) (R.known source) result }
+        ensures read { IsReadWithinBudget limits bytes R.known R.failures source
+            (built_tree result) }
+        ensures fault { IfFault result (IsReadingFault true) }
+        ensures within { IfOk (built_tree result) (IsWithinBudget limits bytes) }
+    {
+        let reader = Reader::new(alloc, source);
+        let limited = Limited::new(reader, limits);
+        collect(alloc, Limited::within_bytes(limited, bytes))
     }
 
     /// The value of an ASCII property list, by the rules of [`Value::from_reader`]. Bytes past the

@@ -1,26 +1,57 @@
-//! Items under limits.
+//! Items of which no more come than is allowed.
 
-ghost use Rattle.std.specs.Prelude.{◌≡◌, false};
-ghost use Rattle.plist_base.specs.Limits.{Passes, items_admitted, iterator_of, limited_items};
+ghost use Rattle.std.specs.Prelude.{◌≡◌, false, OnOk};
+ghost use Rattle.plist_base.specs.Allowances.{AdmitsEvent, Passes, RefusesEvent, iterator_of};
+ghost use Rattle.plist_base.specs.Budgets.{items_within_budget, within_bytes};
+ghost use Rattle.plist_base.specs.Events.{event_of};
+ghost use Rattle.plist_base.specs.Limits.{items_admitted, limited_items};
+ghost use Rattle.plist_base.specs.Outcomes.{IfFault};
 
-use crate::{Error, Limiter, Limits, OwnedEvent};
+use crate::{ByteBudget, Error, Event, Limiter, Limits, OwnedEvent};
 
-/// The items of another iterator up to their first fault, under [`Limits`].
+/// What may still come of a property list: it admits events one after another, up to the first for
+/// which nothing is left.
 ///
-/// The first text or data that has a byte too many, or else an event that is one too many, or else
-/// a start that would open one collection too many, is replaced by `LimitReached`, without an
-/// offset. A fault stays that fault. After either, and after the other iterator's `None`, nothing
-/// more comes, and it isn't asked again.
+/// A [`Limiter`] counts events and levels, a [`ByteBudget`] the bytes of strings and data.
+pub trait Allowance: Drop {
+    ghost use Rattle.std.specs.Prelude.{List};
+    ghost use Rattle.plist_base.specs.Events.{Item};
+    ghost use Rattle.plist_base.specs.Faults.{Fault};
+
+    // what comes of the items of an iterator
+    ghost lets: { Self → List Item → List Item };
+
+    // the faults that may take an event's place
+    ghost may_reach: { Fault → Type 0 };
+
+    /// Admits an event.
+    ///
+    /// # Errors
+    ///
+    /// The error that takes the event's place, if the event isn't allowed.
+    fn admit(&mut self, event: &Event<'_>) -> Result<(), Error>
+        ensures admitted { OnOk result (AdmitsEvent lets self.old (event_of event.now) self.new) }
+        ensures refused { IfFault result (RefusesEvent lets may_reach self.old
+            (event_of event.now)) };
+}
+
+/// The items of another iterator up to their first fault, as far as they are allowed: by [`Limits`]
+/// ([`Limited::new`]), or by a budget of bytes ([`Limited::within_bytes`]).
+///
+/// The first event that isn't allowed is replaced by an error without an offset. A fault stays that
+/// fault. After either, and after the other iterator's `None`, the iterator has ended, and the
+/// other isn't asked again.
 #[derive(Drop)]
-pub struct Limited<I> {
+pub struct Limited<I, A = Limiter> {
     inner: I,
-    limiter: Limiter,
-    // A fault has come, or `None`.
+    limiter: A,
+    // An error was yielded, or the other iterator's `None`.
     ended: bool,
 }
 
-impl<I> Limited<I> {
-    /// Nothing has come.
+impl<I> Limited<I, Limiter> {
+    /// Items under limits: the first event that is one too many, or else opens one collection too
+    /// many, is replaced by `LimitReached`.
     pub fn new(inner: I, limits: Limits) -> Self
         ensures items { items_admitted result ≡ limited_items limits }
         ensures inner { iterator_of result ≡ inner }
@@ -31,11 +62,30 @@ impl<I> Limited<I> {
             ended: false,
         }
     }
+}
 
+impl<I> Limited<I, ByteBudget> {
+    /// Items whose strings, keys among them, and data have at most this many bytes together: the
+    /// first that has a byte too many is replaced by `OutOfMemory`, since the memory that the
+    /// caller allows is used up. A string counts by its bytes in UTF-8.
+    pub fn within_bytes(inner: I, bytes: u64) -> Self
+        ensures items { items_within_budget result ≡ within_bytes bytes }
+        ensures inner { iterator_of result ≡ inner }
+    {
+        Limited {
+            inner,
+            limiter: ByteBudget::new(bytes),
+            ended: false,
+        }
+    }
+}
+
+impl<I, A: Allowance> Limited<I, A> {
     // What comes of an item of the iterator inside.
     fn pass(&mut self, item: Result<OwnedEvent, Error>) -> Result<OwnedEvent, Error>
         requires going { self.old.ended ≡ false }
-        ensures passes { Passes self.old.limiter item.entry result self.new.limiter self.new.ended }
+        ensures passes { Passes A.lets A.may_reach self.old.limiter item.entry result
+            self.new.limiter self.new.ended }
         ensures inner { self.new.inner ≡ self.old.inner }
     {
         match item {
@@ -54,14 +104,14 @@ impl<I> Limited<I> {
     }
 }
 
-impl<I: Iterator<Item = Result<OwnedEvent, Error>>> Iterator for Limited<I> {
+impl<I: Iterator<Item = Result<OwnedEvent, Error>>, A: Allowance> Iterator for Limited<I, A> {
     type Item = Result<OwnedEvent, Error>;
 
-    ghost use Rattle.plist_base.specs.Limits.{GivesLimited};
+    ghost use Rattle.plist_base.specs.Allowances.{GivesAllowed};
 
     ghost can_next = { λ s. I.can_next s.inner };
 
-    ghost next_gives = { GivesLimited I.next_gives };
+    ghost next_gives = { GivesAllowed A.lets A.may_reach I.next_gives };
 
     ghost remaining = { λ s. I.remaining s.inner };
 

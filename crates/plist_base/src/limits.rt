@@ -3,39 +3,22 @@
 ghost use Rattle.std.specs.Prelude.{◌≡◌, IfOk, IfErr, OnOk};
 ghost use Rattle.plist_base.specs.Events.{event_of};
 ghost use Rattle.plist_base.specs.Outcomes.{IfFault};
-ghost use Rattle.plist_base.specs.Faults.{LimitReached, limit_name};
-ghost use Rattle.plist_base.specs.Limits.{Admits, Refuses, level_after, limited_items, limited_by, IsLeftAfter, IsLevelAfter, IsTooDeep, IsTooLong, RefusesBy, bytes_left};
+ghost use Rattle.plist_base.specs.Faults.{limit_name};
+ghost use Rattle.plist_base.specs.Limits.{Admits, Refuses, RefusesBy, level_after, limited_items, limited_by, IsLevelAfter, IsTooDeep};
 
-use crate::{Error, ErrorKind, Event, EventShape};
+use crate::{Allowance, Error, ErrorKind, Event, EventShape};
 
 /// The most that is read of a property list.
+///
+/// ```text
+/// Limits { depth: 64, items: 100_000 }
+/// ```
 #[derive(Clone, Copy, Debug, PartialEq, Eq)]
 pub struct Limits {
     /// How many collections may be open at once.
     pub depth: u64,
-    /// How many events may come.
+    /// How many events there may be.
     pub items: u64,
-    /// How many bytes all texts, keys among them, and all data may have together, or none where
-    /// any number may come. A text's bytes are those of its UTF-8, and one that comes again counts
-    /// again.
-    pub bytes: Option<u64>,
-}
-
-impl Limits {
-    ghost use Rattle.std.specs.Prelude.{None};
-
-    /// This many collections and events, and any number of bytes.
-    pub fn new(depth: u64, items: u64) -> Limits
-        ensures depth { result.depth ≡ depth }
-        ensures items { result.items ≡ items }
-        ensures bytes { result.bytes ≡ None }
-    {
-        Limits {
-            depth,
-            items,
-            bytes: None,
-        }
-    }
 }
 
 /// Which of the [`Limits`] was reached.
@@ -43,10 +26,8 @@ impl Limits {
 pub enum Limit {
     /// The depth: a start would open one collection too many.
     Depth,
-    /// The items: one event too many would come.
+    /// The items: there would be one event too many.
     Items,
-    /// The bytes: a text or data would have one byte too many.
-    Bytes,
 }
 
 impl Limit {
@@ -57,7 +38,6 @@ impl Limit {
         match self {
             Limit::Depth => "Depth",
             Limit::Items => "Items",
-            Limit::Bytes => "Bytes",
         }
     }
 }
@@ -79,34 +59,18 @@ fn level_after(depth: u64, level: u64, shape: EventShape) -> Result<u64, Limit>
     }
 }
 
-// How many bytes may come after an event, where `left` may come with it.
-fn left_after_event(left: Option<u64>, event: &Event<'_>) -> Result<Option<u64>, Limit>
-    ensures value { IfOk result (IsLeftAfter left (event_of event.now)) }
-    ensures refused { IfErr result (IsTooLong left (event_of event.now)) }
-{
-    match left {
-        None => Ok(None),
-        Some(left) => match left.checked_sub(event.text_or_data().len() as u64) {
-            Some(left) => Ok(Some(left)),
-            None => Err(Limit::Bytes),
-        },
-    }
-}
-
-/// The limits of a reader, with what has come so far.
+/// Limits, and what has been admitted under them.
 #[derive(Clone, Copy)]
 pub struct Limiter {
     limits: Limits,
-    // How many events have come.
+    // How many events were admitted.
     came: u64,
     // How many collections are open.
     level: u64,
-    // How many bytes of texts and data may still come, where that has a limit.
-    left: Option<u64>,
 }
 
 impl Limiter {
-    /// Nothing has come.
+    /// Limits under which nothing has been admitted yet.
     pub fn new(limits: Limits) -> Limiter
         ensures items { limited_by result ≡ limited_items limits }
     {
@@ -114,39 +78,37 @@ impl Limiter {
             limits,
             came: 0,
             level: 0,
-            left: limits.bytes,
         }
     }
 
-    /// How many bytes of texts and data may still come: all that 64 bits can count where that has
-    /// no limit. A text or data with more is refused.
-    pub fn bytes_left(&self) -> u64
-        ensures { result ≡ bytes_left self.now }
-    {
-        self.left.unwrap_or(u64::MAX)
-    }
-
-    // The limit that the event reaches, if it reaches one: that of the bytes before that of the
-    // items, and this before the depth.
+    // The limit that the event reaches, if it reaches one: that of the items before the depth.
     fn count(&mut self, event: &Event<'_>) -> Result<(), Limit>
         ensures admitted { OnOk result (Admits self.old (event_of event.now) self.new) }
         ensures refused { IfErr result (RefusesBy self.old (event_of event.now)) }
     {
-        let left = left_after_event(self.left, event)?;
         if self.came >= self.limits.items {
             return Err(Limit::Items);
         }
         self.level = level_after(self.limits.depth, self.level, event.shape())?;
-        self.left = left;
         self.came += 1;
         Ok(())
     }
+}
 
-    /// Counts an event, or gives the fault that takes its place.
+impl Allowance for Limiter {
+    ghost use Rattle.plist_base.specs.Limits.{limited_by, IsLimitReached};
+
+    ghost lets = { limited_by };
+
+    ghost may_reach = { IsLimitReached };
+
+    /// Counts an event.
     ///
     /// # Errors
-    /// `LimitReached`, without an offset.
-    pub fn admit(&mut self, event: &Event<'_>) -> Result<(), Error>
+    ///
+    /// `LimitReached`, without an offset, if the event is one too many or opens one collection too
+    /// many. The counts stay as they were.
+    fn admit(&mut self, event: &Event<'_>) -> Result<(), Error>
         ensures admitted { OnOk result (Admits self.old (event_of event.now) self.new) }
         ensures refused { IfFault result (Refuses self.old (event_of event.now)) }
     {

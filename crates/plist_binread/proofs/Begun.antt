@@ -16,10 +16,8 @@ use Rattle.plist_format.specs.Unfolding.{table_of, items_of, unfolding_of, until
 use Rattle.plist_binread.specs.declared.head.Bounds.{Bounds}
 use Rattle.plist_binread.specs.Remaining.{path_of, remaining_items, entries_of, places_with, places_of, CountsObjects, IsHeld, MatchesFile, SomeRemain, AllocatesFirst}
 use Rattle.plist_binread.specs.Beginning.{CountsRoot, RefusesFirst}
-use Rattle.plist_binread.specs.TooLong.{BeginsTooLong, RefusesLong}
 use Rattle.plist_binread.specs.declared.event_slot.EventSlot.{EventSlot}
 use Rattle.plist_binread.specs.declared.event_slot.Refused.{Refused}
-use Rattle.plist_binread.specs.declared.event_slot.Refused.TheVariants as refusal
 use Rattle.plist_binread.specs.DecodeOutcome.{YieldsAnswer}
 use Rattle.plist_binread.specs.Walking.{walk_objects}
 use Rattle.plist_binread.specs.declared.walk.Walk.{Walk}
@@ -29,7 +27,6 @@ use Rattle.plist_format.proofs.Tables.{slice_get-within, slice_get-beyond}
 use Rattle.plist_binread.proofs.Opened.{get_or-zeros}
 use Rattle.plist_binread.proofs.Known.{found}
 use Rattle.std.proofs.lemmas.Option.{IfSome_then}
-use Rattle.plist_binread.proofs.Lengths.{weaker_long}
 use Rattle.plist_binread.proofs.OverKnown.{IfSome-all, IfSome-both}
 use Rattle.std.proofs.lemmas.List.{nil_from_length}
 
@@ -160,45 +157,17 @@ known_begun known now head bounds tags fs gs answer current same len count trail
     (unfolding_of (entries_of bytes bounds) (length head.places.items) [] head.trailer
     head.root)))) yields)
 
--- the first item of all is refused for its length
-pub first_limits : (answer : Result (Unit {0}) Refused) (left : ℕ) (slot : EventSlot)
-    (known now : Option (List ℕ)) (head : code.Head) (bounds : Bounds) (tags : List ℕ)
-    (fs : List Frame) → now ≡ known → length fs ≡ 0 → length tags ≡ length head.places.items
-    → bounds.trailer ≡ head.trailer → bounds.reference_width ≡ head.reference_width
-    → IfSome known (λ bytes. head_of bytes ≡ Ok (head_seen head))
-    → RefusesLong answer left slot now (λ bytes. (at : ℕ) → BeginsTooLong left (until_fault
-    (unfolding_of (entries_of bytes bounds) (length tags - length (reverse fs))
-    (path_of (reverse fs)) at
-    head.root ++ remaining_items (entries_of bytes bounds) (reverse fs))))
-    → RefusesLong answer left slot known (λ bytes. BeginsTooLong left (items_of_file bytes))
-first_limits answer left slot known now head bounds tags fs same len count trailer width value =
-    let whole : length tags - 0 ≡ length head.places.items = omega arith in
-    weaker_long answer left slot known now
-    (λ bytes. (at : ℕ) → BeginsTooLong left (until_fault
-    (unfolding_of (entries_of bytes bounds) (length tags - length (reverse fs))
-    (path_of (reverse fs)) at head.root ++ remaining_items (entries_of bytes bounds) (reverse fs))))
-    (λ bytes. BeginsTooLong left (items_of_file bytes)) same
-    (λ limited. IfSome-both known value (rw (nil_from_length fs len, whole) at limited)
-    (λ bytes value limited. rw (file_walked bytes head bounds value trailer width
-    ∙ ap until_fault (sym (append-nil (unfolding_of (entries_of bytes bounds)
-    (length head.places.items) [] head.trailer head.root)))) (limited head.trailer)))
-
 -- ---- how many objects there are
-
-pub counted_root : (bytes : List ℕ) (answer : Result (Unit {0}) Refused) (slot : EventSlot)
-    (walk : Walk) → walk_objects walk ≡ length (places_of bytes) → CountsRoot answer slot walk bytes
-counted_root bytes (Ok value) slot walk same = same
-counted_root bytes (Err refusal.TooLong) slot walk same = same
-counted_root bytes (Err refusal.Fault) slot walk same =
-    MatchFault-all (kind_of (error_kind_of slot.fault)) tt tt same
 
 pub known_counted : (known : Option (List ℕ)) (head : code.Head)
     (answer : Result (Unit {0}) Refused) (slot : EventSlot) (walk : Walk)
     → walk_objects walk ≡ length head.places.items
     → IfSome known (λ bytes. head_of bytes ≡ Ok (head_seen head))
     → IfSome known (CountsRoot answer slot walk)
-known_counted known head answer slot walk count value = IfSome_then known value (λ bytes is.
-    counted_root bytes answer slot walk
+known_counted known head (Ok value) slot walk count read = IfSome_then known read (λ bytes is.
+    count ∙ sym (ap (λ head. length (places_with head)) is))
+known_counted known head (Err refused) slot walk count read = IfSome_then known read (λ bytes is.
+    MatchFault-all (kind_of (error_kind_of slot.fault)) tt tt
     (count ∙ sym (ap (λ head. length (places_with head)) is)))
 
 -- a head that isn't read counts none

@@ -69,7 +69,7 @@ module _ (known : Option (List ℕ)) (bounds : Bounds) (old mid : Walk) (object 
       (reads : ReadsChildAt (Ok number) known bounds (get_or mid.contents.items object 0) index)
     where
       -- the items of the child come first
-      pub child_first : IfSome known (λ bytes. remaining_in bytes bounds old
+      child_first : IfSome known (λ bytes. remaining_in bytes bounds old
           ≡ remaining_entering bytes bounds mid (get_or mid.contents.items object 0) number)
       child_first = IfSome_then known (child_read (Ok number) reads) (λ bytes child.
           let k = child.0.1 in

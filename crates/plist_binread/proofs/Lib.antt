@@ -11,7 +11,6 @@ pub mod Known
 pub mod KnownChildren
 pub mod Seen
 pub mod Markers
-pub mod Measured
 pub mod Marks
 pub mod Opened
 pub mod OverKnown
@@ -21,5 +20,4 @@ pub mod Steps
 pub mod Taken
 pub mod ChildTaken
 pub mod Limiting
-pub mod Lengths
 pub mod Entering

@@ -1,21 +1,15 @@
 -- What limits make of one call.
-use Rattle.std.proofs.lemmas.Bool.Decides.{nat_tests}
-use Rattle.std.proofs.Common.{◌≡◌, ℕ, ◌-◌, ◌^◌, ◌<◌, Bool, true, false, List, [], ◌∷◌, length, Option, None, Some, Result, Ok, Err, IfSome, MatchBool, refl, sym, ap, ◌∙◌, arith}
-use Rattle.std.specs.Prelude.{nat_lt}
+use Rattle.std.proofs.Common.{◌≡◌, ℕ, Bool, true, false, List, [], ◌∷◌, length, Option, None, Some, Result, Ok, Err, IfSome, MatchBool, refl, ap, ◌∙◌, arith}
 use Rattle.std.specs.Option.{is_some}
 use Rattle.plist_base.specs.declared.error.Error.{Error}
 use Rattle.plist_base.specs.declared.limits.Limit.{Limit}
-use Rattle.plist_base.specs.declared.limits.Limit.TheVariants as limit
 use Rattle.plist_base.specs.declared.limits.Limiter.{Limiter}
-use Rattle.plist_base.specs.declared.limits.Limits.{Limits}
 use Rattle.plist_base.specs.Events.{PlainEvent, Item, StartArray, StartDictionary, ScalarEvent}
 use Rattle.plist_base.specs.Trees.{Data, String}
-use Rattle.plist_base.specs.Faults.{FaultKind, Fault, LimitReached, MatchFault, OutOfMemory, fault_of, fault_nowhere, kind_of, error_kind_of}
-use Rattle.plist_base.specs.Limits.{AdmitsAny, RefusesAny, bytes_in, event_or_limit, left_or_all, limit_at, limited_by_any}
-use Rattle.plist_base.specs.Sources.{CountsIo, IsOffsetWithin}
-use Rattle.plist_binread.specs.TooLong.{BeginsTooLong, left_under}
+use Rattle.plist_base.specs.Faults.{FaultKind, Fault, LimitReached, MatchFault, fault_of, fault_nowhere, kind_of, error_kind_of}
+use Rattle.plist_base.specs.Limits.{AdmitsAny, RefusesAny, event_or_limit, limited_by_any}
+use Rattle.plist_base.specs.Sources.{IsOffsetWithin}
 use Rattle.plist_binread.specs.Advancing.{GivesCurrent}
-use Rattle.plist_binread.proofs.OverKnown.{IfSome-both}
 use Rattle.plist_binread.specs.Remaining.{SomeRemain, AllocatesFirst}
 use Rattle.plist_binread.specs.FaultOffsets.{HasOffset, IsGivenWithin, MatchGiven}
 use Rattle.plist_base.proofs.Refusals.{MatchFault-weaker}
@@ -29,7 +23,7 @@ by-limit : (limiter : Option Limiter) (event : PlainEvent) (fault : Fault)
     × (fault ≡ fault_nowhere (LimitReached limit))
     × ((items : List Item) → limited_by_any limiter (Ok event ∷ items) ≡ Err fault ∷ [])
 by-limit None event fault r = absurd r
-by-limit (Some limiter) event fault r = (refl, r.0, r.1, r.2)
+by-limit (Some limiter) event fault r = (refl, r.0.0, r.0.1, r.1)
 
 -- the fault of a limit is neither a device's nor lack of memory
 limit-fault : (fault : Fault) (limit : Limit) (X Y Z : Type 0)
@@ -116,31 +110,6 @@ either-under true limiter items h = remaining-under limiter items h
 either-under false limiter items h =
     under-of AllocatesFirst event-allocates (λ fault items h. h) (λ limit. tt) limiter items h
 
--- ---- a text or data that is refused for its length
-
--- there are limits where less may come than 64 bits can count
-pub limited-below : (limiter : Option Limiter) → left_under limiter < 2 ^ 64 - 1
-    → is_some limiter ≡ true
-limited-below None small = absurd (omega arith)
-limited-below (Some limiter) small = refl
-
-long-at : (left : Option ℕ) (limits : Limits) (came level : ℕ) (event : PlainEvent)
-    (behind : List Item) → left_or_all left < 2 ^ 64 - 1 → left_or_all left < bytes_in event
-    → event_or_limit (limit_at limits came level left event) event behind
-    ≡ Err (fault_nowhere (LimitReached limit.Bytes)) ∷ []
-long-at None limits came level event behind small long = absurd (omega arith)
-long-at (Some left) limits came level event behind small long =
-    let over : nat_lt left (bytes_in event) ≡ true = grind (arith, nat_tests) in rw over refl
-
-long-under : (limiter : Option Limiter) (items : List Item) → left_under limiter < 2 ^ 64 - 1
-    → BeginsTooLong (left_under limiter) items
-    → limited_by_any limiter items ≡ Err (fault_nowhere (LimitReached limit.Bytes)) ∷ []
-long-under None items small long = absurd (omega arith)
-long-under (Some limiter) [] small long = absurd long
-long-under (Some limiter) (Ok event ∷ items) small long =
-    long-at limiter.left limiter.limits limiter.came limiter.level event _ small long
-long-under (Some limiter) (Err fault ∷ items) small long = absurd long
-
 -- ---- what a call gives
 
 -- what a call gives of the items before, and what it gives of them behind limits
@@ -176,23 +145,3 @@ module _ (new : Bool) (current : PlainEvent) (known : Option (List ℕ)) (old no
         none-under now,
         limit-fault (fault_of error) by.1 _ _ _ by.2 (cc (by.3 (after bytes))),
       ))
-
-  -- the fault of the limit comes in the place of a text or data that is too long
-  pub long-current : (error held : Error)
-      → fault_of error ≡ fault_nowhere (LimitReached limit.Bytes)
-      → left_under old < 2 ^ 64 - 1 → Gave (Some (Err held))
-      → IfSome known (λ bytes. BeginsTooLong (left_under old) (before bytes))
-      → GivesUnder (Some (Err error)) after
-  long-current error held is small h long = IfSome-both known h long (λ bytes h long. (
-    ap (limited_by_any now) h.0 ∙ none-under now,
-    limit-fault (fault_of error) limit.Bytes _ _ _ is
-        (long-under old (before bytes) small long ∙ ap (λ f. Err f ∷ []) (sym is)),
-  ))
-
--- no device failed, since lack of memory was held
-pub limit-counts : (error held : Error) (old now : ℕ)
-    → fault_of error ≡ fault_nowhere (LimitReached limit.Bytes)
-    → fault_of held ≡ fault_nowhere OutOfMemory → CountsIo held old now → CountsIo error old now
-limit-counts error held old now is want h =
-    let kind = ap (λ (f : Fault). f.kind) want in
-    limit-fault (fault_of error) limit.Bytes _ _ _ is (rw kind at h)

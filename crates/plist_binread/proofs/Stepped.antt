@@ -7,26 +7,21 @@ use Rattle.plist_base.specs.declared.source.Source.{Ghosts}
 use Rattle.plist_base.specs.Faults.{error_kind_of, kind_of}
 use Rattle.plist_format.specs.Unfolding.{until_fault}
 use Rattle.plist_binread.specs.declared.counter.DecodeCounter.{Ghosts as CounterGhosts}
-use Rattle.plist_binread.specs.declared.head.Bounds.{Bounds}
 use Rattle.plist_binread.specs.declared.reader.BinaryReader.{BinaryReader}
 use Rattle.plist_binread.specs.declared.reader.WalkState.{WalkState}
 use Rattle.plist_binread.specs.declared.reader.WalkState.TheVariants.{Fresh, Walking}
-use Rattle.plist_binread.specs.Beginning.{CountsRoot, CountsStep, GivesRoot, IsBounded, IsKnownWalk, CachesRoot}
+use Rattle.plist_binread.specs.Beginning.{CountsRoot, GivesRoot, IsBounded, IsKnownWalk, CachesRoot}
 use Rattle.plist_binread.specs.BinaryReader.{objects_in_head}
 use Rattle.plist_binread.specs.Remaining.{CountsObjects, walk_steps}
 use Rattle.plist_binread.specs.FaultOffsets.{ErrWithin, ItemWithin}
 use Rattle.plist_binread.specs.DecodeOutcome.{YieldsNext}
 use Rattle.plist_binread.specs.Step.{CachesNext, LightensNext}
 use Rattle.plist_binread.specs.Advancing.{WalksInSlot}
-use Rattle.plist_binread.specs.declared.event_slot.EventSlot.{EventSlot}
 use Rattle.plist_binread.specs.declared.event_slot.Refused.{Refused}
-use Rattle.plist_binread.specs.declared.event_slot.Refused.TheVariants as refusal
-use Rattle.plist_binread.specs.declared.walk.Walk.{Walk}
 use Rattle.plist_binread.specs.Slot.{AnswersInSlot, ItemAnswersInSlot, answer_in, event_in, item_in}
 use Rattle.plist_binread.specs.NextChild.{is_fresh, is_walking, state_after}
 use Rattle.plist_binread.specs.Walking.{cached_in, remaining_in, walk_objects, weight_in}
 use Rattle.plist_base.proofs.Refusals.{MatchFault-all}
-use Rattle.plist_binread.proofs.Begun.{counted_root}
 use Rattle.plist_binread.proofs.Failing.{from_within}
 use Rattle.plist_binread.proofs.OverKnown.{IfSome-all, IfSome-never}
 use Rattle.plist_binread.proofs.Steps.{steps_up}
@@ -50,26 +45,12 @@ walks_on_ok (Err error) after P is known walking = let no = ap is_walking is in 
 
 -- ---- how many objects there are
 
-tells_refused : (bytes : List ℕ) (refused : Refused) (slot : EventSlot) (walk : Walk)
-    → CountsRoot {A = Unit {0}} (Err refused) slot walk bytes
-    → CountsObjects {A = Unit {0}} bytes (Err slot.fault) (walk_objects walk)
-tells_refused bytes refusal.Fault slot walk counted = counted
-tells_refused bytes refusal.TooLong slot walk counted =
-    MatchFault-all (kind_of (error_kind_of slot.fault)) tt tt counted
-
--- and so it tells in the place of an event
+-- where they are told, they are told in the place of an event
 pub tells_fault : (known : Option (List ℕ)) (error : Error) (count : ℕ)
     → IfSome known (λ bytes. count ≡ objects_in_head bytes)
     → IfSome known (λ bytes. CountsObjects {A = Unit {0}} bytes (Err error) count)
 tells_fault known error count same = IfSome_then known same (λ bytes same.
     MatchFault-all (kind_of (error_kind_of error)) tt tt same)
-
-pub item_counts : (known : Option (List ℕ)) (bounds : Bounds) (noted : Option (Result (Unit {0})
-    Refused)) (slot : EventSlot) (walk : Walk) → IsKnownWalk known bounds walk
-    → CountsStep known noted slot walk
-item_counts known bounds None slot walk held = tt
-item_counts known bounds (Some answer) slot walk held = IfSome_then known held (λ bytes held.
-    counted_root bytes answer slot walk (sym held.size))
 
 -- ---- all of it
 
@@ -121,8 +102,7 @@ module _ {R C : Type 0} {g : Ghosts R} {h : CounterGhosts C} (known : R → Opti
       head = IfSome-never (known old.source) _ (λ w. absurd (cc));
       cached = IfSome-all (known old.source) (λ bytes. tt);
       leaves = left_behind known counts count old new counted bounded;
-      objects = IfSome_then (known old.source) objects
-          (λ bytes objects. tells_refused bytes r new.slot new.walk objects);
+      objects = objects;
       kept = (ap is_some limiter, λ begun. absurd (cc (ap is_fresh fresh)));
     };
     falls = simp (fresh, is) (omega arith);

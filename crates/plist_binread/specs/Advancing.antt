@@ -5,12 +5,11 @@ use Rattle.plist_base.specs.declared.source.Source.{Ghosts}
 use Rattle.plist_base.specs.Events.{PlainEvent, Item}
 use Rattle.plist_binread.specs.declared.reader.BinaryReader.{BinaryReader}
 use Rattle.plist_binread.specs.declared.counter.DecodeCounter.{Ghosts as CounterGhosts}
-use Rattle.plist_binread.specs.TooLong.{BeginsTooLong, RefusesLong, left_under}
 use Rattle.plist_binread.specs.Slot.{event_in, compact_event_of, item_in}
 use Rattle.plist_binread.specs.declared.event_slot.Refused.{Refused}
 use Rattle.plist_binread.specs.declared.event_slot.CompactEvent.{CompactEvent}
 use Rattle.std.specs.String.{string_bytes}
-use Rattle.plist_binread.specs.BinaryReader.{GivesAs, GivesBinaryBy, has_limits, binary_source, binary_steps, items_to_come, unlimited_items}
+use Rattle.plist_binread.specs.BinaryReader.{GivesAs, GivesBinaryBy, has_limits, binary_steps, items_to_come, unlimited_items}
 
 module _ {R C : Type 0} {g : Ghosts R} {h : CounterGhosts C} where
   -- the current event
@@ -32,14 +31,6 @@ module _ {R C : Type 0} {g : Ghosts R} {h : CounterGhosts C} where
 abbrev pub GivesCurrent : {A : Type 0} → (new : Bool) (before : List Item) → Option (Result A Error)
     → (current : PlainEvent) → (after : List Item) → Type 0
 GivesCurrent new before item current after = GivesAs (λ _. current) new before item after
-
--- a step that is refused for a length comes to a text or data of more bytes than may come, and ends
-abbrev pub LimitsStep : {A R C : Type 0} {g : Ghosts R} {h : CounterGhosts C}
-    → (R → Option (List ℕ)) → (old : BinaryReader R C g h) → Option (Result A Refused)
-    → (new : BinaryReader R C g h) → Type 0
-LimitsStep known old item new = IfSome item (λ answer.
-    RefusesLong answer (left_under old.limiter) new.slot (known (binary_source old)) (λ bytes.
-    BeginsTooLong (left_under old.limiter) (unlimited_items bytes old)))
 
 module _ {R C : Type 0} {g : Ghosts R} {h : CounterGhosts C} (known : R → Option (List ℕ))
     (failed : R → ℕ) (counts : Type 0) (count : C → ℕ) (old : BinaryReader R C g h) where

@@ -5,7 +5,6 @@ use Rattle.plist_base.specs.Faults.{MatchFault, kind_of, error_kind_of, fault_of
 use Rattle.plist_format.specs.Container.{head_of}
 use Rattle.plist_binread.specs.Remaining.{CountsObjects, SomeRemain, places_of}
 use Rattle.plist_binread.specs.declared.event_slot.Refused.{Refused}
-use Rattle.plist_binread.specs.declared.event_slot.Refused.TheVariants as refused
 use Rattle.plist_binread.specs.Slot.{answer_in, event_in}
 use Rattle.plist_binread.specs.NextChild.{IsCurrentCached, root_with}
 use Rattle.plist_format.specs.Unfolding.{until_fault, items_of_file}
@@ -27,17 +26,10 @@ abbrev pub CachesRoot : {A : Type 0} → Result A Refused → EventSlot → Walk
 CachesRoot answer slot walk bytes = IsCurrentCached (root_with (head_of bytes))
     (Some (answer_in answer slot)) (event_in slot) walk.tags.items
 
--- the walk has as many objects as the head counts, also where the root is too long
+-- the walk has as many objects as the head counts
 abbrev pub CountsRoot : {A : Type 0} → Result A Refused → EventSlot → Walk → List ℕ → Type 0
-CountsRoot (Ok value) slot walk bytes = walk_objects walk ≡ length (places_of bytes)
-CountsRoot (Err refused.TooLong) slot walk bytes = walk_objects walk ≡ length (places_of bytes)
-CountsRoot (Err refused.Fault) slot walk bytes =
-    CountsObjects {A = Unit {0}} bytes (Err slot.fault) (walk_objects walk)
-
--- the same of a step that gave this item
-abbrev pub CountsStep : {A : Type 0} → (known : Option (List ℕ)) → Option (Result A Refused)
-    → EventSlot → Walk → Type 0
-CountsStep known item slot walk = IfSome item (λ answer. IfSome known (CountsRoot answer slot walk))
+CountsRoot answer slot walk bytes =
+    CountsObjects bytes (answer_in answer slot) (walk_objects walk)
 
 -- the file's first item is refused
 abbrev pub RefusesFirst : List ℕ → Error → Type 0

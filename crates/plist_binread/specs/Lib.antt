@@ -8,8 +8,6 @@ pub mod Frames
 pub mod DecodeOutcome
 pub mod CountedContent
 pub mod Front
-pub mod TooLong
-pub mod Measuring
 pub mod Packed
 pub mod Step
 pub mod Advancing

@@ -6,7 +6,6 @@ ghost use Rattle.plist_binread.specs.DecodeOutcome.{IsCurrentEnd};
 ghost use Rattle.plist_binread.specs.Slot.{ItemAnswersInSlot, event_in, item_in};
 ghost use Rattle.plist_binread.specs.Walking.{IsWalkOf, cached_in, walk_objects, open_in};
 ghost use Rattle.plist_binread.specs.FaultOffsets.{ItemWithin};
-ghost use Rattle.plist_binread.specs.TooLong.{LimitsItem};
 ghost use Rattle.plist_binread.specs.Reading.{AreReferencesOf};
 ghost use Rattle.plist_binread.specs.Step.{CachesNext, LightensNext, YieldsItem};
 
@@ -19,8 +18,7 @@ use crate::walk::{NextChild, Walk};
 use plist_base::Source;
 use std::alloc::Global;
 
-/// Sets the next item of the walk. A text or data of more than `left` bytes is refused before
-/// memory is taken for it, unless it is short.
+/// Sets the next item of the walk.
 #[inline(always)]
 pub fn advance<S: Source, C: DecodeCounter>(
     alloc: Global,
@@ -30,7 +28,6 @@ pub fn advance<S: Source, C: DecodeCounter>(
     walk: &mut Walk,
     references: &mut References,
     slot: &mut EventSlot,
-    left: u64,
 ) -> Option<Result<(), Refused>>
     requires known { IfSome (S.known source.old) (λ bytes. IsWalkOf bytes bounds.now walk.old) }
     requires counted { C.counts → C.count counter.old ≡ cached_in walk.old }
@@ -39,7 +36,6 @@ pub fn advance<S: Source, C: DecodeCounter>(
     ensures yields { YieldsItem (S.known source.old) bounds.now walk.old result slot.new walk.new }
     ensures closes { closes (open_in walk.old) ≡ true → IsCurrentEnd result (event_in slot.new) }
     // A refusal.
-    ensures limit { LimitsItem (S.known source.old) bounds.now walk.old result left slot.new }
     ensures fault { ItemWithin 0 bounds.now.trailer (item_in result slot.new) }
     // The state after it.
     ensures size { walk_objects walk.new ≡ walk_objects walk.old }
@@ -60,10 +56,8 @@ pub fn advance<S: Source, C: DecodeCounter>(
         NextChild::Child(object, index) => {
             let at = walk.contents[object as usize];
             match read_child(source, bounds, references, at, index, slot) {
-                Ok(number) => Some(enter(
-                    alloc, source, counter, bounds, walk, slot, at, number, left,
-                )),
-                Err(_) => Some(Err(Refused::Fault)),
+                Ok(number) => Some(enter(alloc, source, counter, bounds, walk, slot, at, number)),
+                Err(refused) => Some(Err(refused)),
             }
         }
     }

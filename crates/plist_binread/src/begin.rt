@@ -6,7 +6,6 @@ ghost use Rattle.plist_binread.specs.Remaining.{walk_steps};
 ghost use Rattle.plist_binread.specs.FaultOffsets.{ErrWithin};
 ghost use Rattle.plist_binread.specs.Slot.{AnswersInSlot, answer_in};
 ghost use Rattle.plist_binread.specs.Walking.{IsEmptyWalk, cached_in, walk_objects, weight_in};
-ghost use Rattle.plist_binread.specs.TooLong.{LimitsFirst};
 ghost use Rattle.plist_binread.specs.Beginning.{CountsRoot, GivesRoot, IsBounded, IsKnownWalk, CachesRoot};
 
 use crate::counter::DecodeCounter;
@@ -26,8 +25,7 @@ fn no_tags(alloc: Global, count: usize) -> Result<Vec<u8>, Error>
     Ok(tags)
 }
 
-/// Sets the first item of all, unless it is a text or data of more than `left` bytes that isn't
-/// short.
+/// Sets the first item of all.
 #[cold]
 #[inline(never)]
 pub fn begin<S: Source, C: DecodeCounter>(
@@ -37,14 +35,12 @@ pub fn begin<S: Source, C: DecodeCounter>(
     bounds: &mut Bounds,
     walk: &mut Walk,
     slot: &mut EventSlot,
-    left: u64,
 ) -> Result<(), Refused>
     requires empty { IsEmptyWalk walk.old }
     requires counted { C.counts → C.count counter.old ≡ cached_in walk.old }
     // The answer.
     ensures yields { IfSome (S.known source.old) (GivesRoot result bounds.new slot.new walk.new) }
     // A refusal.
-    ensures limit { LimitsFirst (S.known source.old) result left slot.new }
     ensures fault { ErrWithin 0 (2 ^ 64) (answer_in result slot.new) }
     // The state after it.
     ensures counted { C.counts → C.count counter.new ≡ cached_in walk.new }
@@ -70,7 +66,5 @@ pub fn begin<S: Source, C: DecodeCounter>(
     };
     walk.tags = none;
     walk.contents = places;
-    enter(
-        alloc, source, counter, bounds, walk, slot, trailer, root, left,
-    )
+    enter(alloc, source, counter, bounds, walk, slot, trailer, root)
 }

@@ -131,42 +131,27 @@ fn front_content_of<'a>(
     Ok(&behind[..all as usize])
 }
 
-// A text or data of at most this many bytes is decoded whatever number may come.
-const SHORT: u64 = 96;
-
 /// Data.
-pub fn front_data(
-    low: LowHalf,
-    rest: &[u8],
-    extent: u64,
-    left: u64,
-    slot: &mut EventSlot,
-) -> Outcome
+pub fn front_data(low: LowHalf, rest: &[u8], extent: u64, slot: &mut EventSlot) -> Outcome
     requires extent { length rest.now ≤ extent }
     requires shown { ShowsFixedContent extent rest.now }
     ensures outcome { DecodesWhole extent (counted_with KindData low) rest.now slot.new result }
     ensures unseen { UnseenAfter extent (counted_with KindData low) rest.now slot.new result }
 {
-    match front_content_of(ContentKind::Data, low, rest, extent, left.max(SHORT), slot) {
+    match front_content_of(ContentKind::Data, low, rest, extent, u64::MAX, slot) {
         Ok(bytes) => slot.set_data(bytes),
         Err(outcome) => outcome,
     }
 }
 
 /// A text in UTF-8.
-pub fn front_text(
-    low: LowHalf,
-    rest: &[u8],
-    extent: u64,
-    left: u64,
-    slot: &mut EventSlot,
-) -> Outcome
+pub fn front_text(low: LowHalf, rest: &[u8], extent: u64, slot: &mut EventSlot) -> Outcome
     requires extent { length rest.now ≤ extent }
     requires shown { ShowsFixedContent extent rest.now }
     ensures outcome { DecodesWhole extent (counted_with KindText low) rest.now slot.new result }
     ensures unseen { UnseenAfter extent (counted_with KindText low) rest.now slot.new result }
 {
-    match front_content_of(ContentKind::Text, low, rest, extent, left.max(SHORT), slot) {
+    match front_content_of(ContentKind::Text, low, rest, extent, u64::MAX, slot) {
         Ok(bytes) => slot.set_text(bytes),
         Err(outcome) => outcome,
     }

@@ -6,10 +6,8 @@ ghost use Rattle.plist_binread.specs.Packed.{is_marked};
 ghost use Rattle.plist_binread.specs.Walking.{IsWalkOf, cached_in, walk_objects};
 ghost use Rattle.plist_binread.specs.FaultOffsets.{ErrWithin};
 ghost use Rattle.plist_binread.specs.Front.{small_decoded};
-ghost use Rattle.plist_binread.specs.TooLong.{LimitsEntry};
 ghost use Rattle.plist_binread.specs.Step.{IsFoundAt, IsLighterEntered, IsUnchanged, CachesEntered, CachesOutcome, EntersObject, OpensObject, RefusesEntering, RefusesWithoutIo, AllocatesFor};
 ghost use Rattle.plist_binread.specs.Slot.{AnswersInSlot, answer_in, event_in};
-ghost use Rattle.plist_binread.specs.declared.event_slot.Refused.TheVariants.{Fault};
 
 use crate::counter::DecodeCounter;
 use crate::event_slot::{EventSlot, Refused};
@@ -25,8 +23,7 @@ use std::alloc::Global;
 #[cold]
 #[inline(never)]
 fn refuse_number(slot: &mut EventSlot, at: u64) -> Refused
-    ensures fault { fault_of slot.new.fault ≡ fault_at ObjectReferenceTooLarge at }
-    ensures held { result ≡ Fault }
+    ensures { fault_of slot.new.fault ≡ fault_at ObjectReferenceTooLarge at }
 {
     slot.refuse(ErrorKind::ObjectReferenceTooLarge.with_byte_offset(at))
 }
@@ -35,8 +32,7 @@ fn refuse_number(slot: &mut EventSlot, at: u64) -> Refused
 #[cold]
 #[inline(never)]
 fn refuse_open(slot: &mut EventSlot, place: u64) -> Refused
-    ensures fault { fault_of slot.new.fault ≡ fault_at RecursiveObject place }
-    ensures held { result ≡ Fault }
+    ensures { fault_of slot.new.fault ≡ fault_at RecursiveObject place }
 {
     slot.refuse(ErrorKind::RecursiveObject.with_byte_offset(place))
 }
@@ -50,7 +46,6 @@ fn look_up(walk: &Walk, slot: &mut EventSlot, at: u64, number: u64) -> Result<Op
     // A refusal.
     ensures refused { IfErr result (RefusesEntering walk.now at number slot.new) }
     ensures kinds { IfErr result (RefusesWithoutIo slot.new) }
-    ensures held { IfErr result (λ refused. refused ≡ Fault) }
     ensures fault { ErrWithin 0 0 (answer_in result slot.new) }
     // The state after it.
     ensures below { IfOk result (λ _. number < walk_objects walk.now) }
@@ -129,8 +124,7 @@ fn cache_or_open(walk: &mut Walk, number: u64, outcome: Outcome, slot: &EventSlo
     }
 }
 
-/// Sets the first item of an object, referred to from `at`. A collection is then open. A text or
-/// data of more than `left` bytes is refused before memory is taken for it, unless it is short.
+/// Sets the first item of an object, referred to from `at`. A collection is then open.
 #[inline(always)]
 pub fn enter<S: Source, C: DecodeCounter>(
     alloc: Global,
@@ -141,7 +135,6 @@ pub fn enter<S: Source, C: DecodeCounter>(
     slot: &mut EventSlot,
     at: u64,
     number: u64,
-    left: u64,
 ) -> Result<(), Refused>
     requires known { IfSome (S.known source.old) (λ bytes. IsWalkOf bytes bounds.now walk.old) }
     requires counted { C.counts → C.count counter.old ≡ cached_in walk.old }
@@ -149,7 +142,6 @@ pub fn enter<S: Source, C: DecodeCounter>(
     ensures yields { EntersObject S.known source.old bounds.now walk.old at number result slot.new
         walk.new }
     // A refusal.
-    ensures limit { LimitsEntry S.known source.old bounds.now walk.old number result left slot.new }
     ensures fault { ErrWithin 0 bounds.now.trailer (answer_in result slot.new) }
     // The state after it.
     ensures size { walk_objects walk.new ≡ walk_objects walk.old }
@@ -163,7 +155,7 @@ pub fn enter<S: Source, C: DecodeCounter>(
     match look_up(walk, slot, at, number)? {
         None => Ok(()),
         Some(place) => {
-            let outcome = decode(alloc, source, counter, bounds, place, left, slot)?;
+            let outcome = decode(alloc, source, counter, bounds, place, slot)?;
             if cache_or_open(walk, number, outcome, slot) {
                 return Ok(());
             }

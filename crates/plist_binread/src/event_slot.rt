@@ -1,11 +1,9 @@
 //! The current event of a reader, in a slot that holds its text or data.
 
-ghost use Rattle.std.specs.Prelude.{◌≡◌, Some, true, false, IfErr, IfSome};
+ghost use Rattle.std.specs.Prelude.{◌≡◌, Some, true, false, IfSome};
 ghost use Rattle.plist_base.specs.Events.{ScalarEvent, event_of};
-ghost use Rattle.plist_base.specs.Faults.{LimitReached, ObjectOffsetTooLarge, OutOfMemory, fault_at, fault_nowhere, fault_of};
-ghost use Rattle.plist_base.specs.declared.limits.Limit.TheVariants.{Bytes};
+ghost use Rattle.plist_base.specs.Faults.{ObjectOffsetTooLarge, OutOfMemory, fault_at, fault_nowhere, fault_of};
 ghost use Rattle.plist_base.specs.Trees.{Boolean as BooleanScalar, Integer as IntegerScalar};
-ghost use Rattle.plist_binread.specs.declared.event_slot.Refused.TheVariants.{Fault};
 ghost use Rattle.plist_binread.specs.declared.object_faults.Outcome.TheVariants.{Scalar as ScalarOutcome};
 ghost use Rattle.plist_format.specs.Object.{signed};
 ghost use Rattle.plist_binread.specs.Packed.{FitsContent, MayAllocate, PacksEvent, is_small_event, scalar_event, unpacked};
@@ -15,7 +13,7 @@ ghost use Rattle.plist_binread.specs.Front.{DecodesData, DecodesText, DecodesUni
 use crate::counted_content::{Content, ContentKind};
 use crate::object_faults::Outcome;
 use crate::packed::{PackedKind, pack, pack_data, pack_text};
-use plist_base::{Error, ErrorKind, Event, Integer, Limit, OwnedEvent, RealBits, Uid};
+use plist_base::{Error, ErrorKind, Event, Integer, OwnedEvent, RealBits, Uid};
 use std::alloc::Global;
 use std::borrow::{CowSlice, CowStr};
 use std::mem;
@@ -66,17 +64,11 @@ impl CompactEvent {
     }
 }
 
-/// Why a step was refused.
+/// That a step was refused: its error is the fault of [`EventSlot`].
 ///
 /// It is small, as an error isn't: memory for what a function may answer is cleared at each call.
 #[derive(Clone, Copy)]
-pub enum Refused {
-    /// The error is the fault of [`EventSlot`].
-    Fault,
-    /// A text or data has more bytes than may come, so that no memory is taken for it. The fault is
-    /// `OutOfMemory`.
-    TooLong,
-}
+pub struct Refused;
 
 /// The current event, or the error. The memory for its text and data serves all events in turn.
 #[derive(Drop)]
@@ -119,11 +111,10 @@ impl EventSlot {
     #[cold]
     pub fn refuse(&mut self, error: Error) -> Refused
         ensures fault { self.new.fault ≡ error }
-        ensures held { result ≡ Fault }
         ensures unchanged { event_in self.new ≡ event_in self.old }
     {
         self.fault = error;
-        Refused::Fault
+        Refused
     }
 
     /// Holds `OutOfMemory`.
@@ -131,7 +122,6 @@ impl EventSlot {
     #[inline(never)]
     pub fn refuse_memory(&mut self) -> Refused
         ensures fault { fault_of self.new.fault ≡ fault_nowhere OutOfMemory }
-        ensures held { result ≡ Fault }
         ensures unchanged { event_in self.new ≡ event_in self.old }
     {
         self.refuse(ErrorKind::OutOfMemory.without_position())
@@ -142,27 +132,14 @@ impl EventSlot {
     #[inline(never)]
     pub fn refuse_overrun(&mut self, place: u64) -> Refused
         ensures fault { fault_of self.new.fault ≡ fault_at ObjectOffsetTooLarge place }
-        ensures held { result ≡ Fault }
         ensures unchanged { event_in self.new ≡ event_in self.old }
     {
         self.refuse(ErrorKind::ObjectOffsetTooLarge.with_byte_offset(place))
     }
 
-    /// Holds the fault that the next text or data has more bytes than may come.
-    #[cold]
-    #[inline(never)]
-    pub fn refuse_limit(&mut self) -> Refused
-        ensures fault { fault_of self.new.fault ≡ fault_nowhere (LimitReached Bytes) }
-        ensures held { result ≡ Fault }
-        ensures unchanged { event_in self.new ≡ event_in self.old }
-    {
-        self.refuse(ErrorKind::LimitReached(Limit::Bytes).without_position())
-    }
-
     /// The same answer, whose error is held here if it is one.
     pub fn keep_error<T>(&mut self, answer: Result<T, Error>) -> Result<T, Refused>
         ensures answer { answer_in result self.new ≡ answer }
-        ensures held { IfErr result (λ refused. refused ≡ Fault) }
         ensures unchanged { event_in self.new ≡ event_in self.old }
     {
         match answer {

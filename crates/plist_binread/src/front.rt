@@ -32,13 +32,11 @@ fn is_small_outcome(outcome: Outcome, slot: &EventSlot) -> bool
 }
 
 /// Decodes the object that begins these bytes, all up to the trailer or at least 26, and counts it
-/// where it is small. No other function makes a small object of its bytes. A text or data of more
-/// than `left` bytes isn't all read, unless it is short.
+/// where it is small. No other function makes a small object of its bytes.
 pub fn decode_seen<C: DecodeCounter>(
     seen: &[u8],
     extent: u64,
     width: usize,
-    left: u64,
     counter: &mut C,
     slot: &mut EventSlot,
 ) -> Outcome
@@ -52,7 +50,7 @@ pub fn decode_seen<C: DecodeCounter>(
 {
     match seen.split_first() {
         Some((marker, rest)) => {
-            let outcome = front_after_marker(*marker, rest, extent - 1, width, left, slot);
+            let outcome = front_after_marker(*marker, rest, extent - 1, width, slot);
             if is_small_outcome(outcome, slot) {
                 counter.raise();
             }

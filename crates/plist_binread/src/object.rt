@@ -3,7 +3,6 @@
 ghost use Rattle.std.specs.Prelude.{◌≡◌, ◌-◌, ◌<◌, OnOk};
 ghost use Rattle.plist_binread.specs.FaultOffsets.{ErrWithin};
 ghost use Rattle.plist_binread.specs.Front.{CountsFound, EndsIn64Bits, FailsInContent, IsLargeScalar, DecodesAt, UnseenAt, DecodesContentAt, DecodesObject};
-ghost use Rattle.plist_binread.specs.TooLong.{LimitsContent, LimitsObject, RefusesContent};
 ghost use Rattle.plist_binread.specs.Slot.{AnswersInSlot, answer_in};
 
 use crate::counter::DecodeCounter;
@@ -11,8 +10,7 @@ use crate::event_slot::{EventSlot, Refused};
 use crate::front::decode_seen;
 use crate::head::Bounds;
 use crate::long_content::read_long;
-use crate::measure::measure;
-use crate::object_faults::{Outcome, refuse_object, text_fault};
+use crate::object_faults::{Outcome, refuse_object};
 use plist_base::{Event, Source, read_exact_at};
 use std::alloc::Global;
 
@@ -29,7 +27,6 @@ fn read_front<S: Source, C: DecodeCounter>(
     bounds: &Bounds,
     place: u64,
     extent: u64,
-    left: u64,
     slot: &mut EventSlot,
 ) -> Result<Outcome, Refused>
     requires place { place < bounds.now.trailer }
@@ -47,7 +44,7 @@ fn read_front<S: Source, C: DecodeCounter>(
     let mut front = [0; FRONT];
     let seen = &mut front[..extent.min(FRONT as u64) as usize];
     match read_exact_at(source, place, seen) {
-        Ok(()) => Ok(decode_seen(seen, extent, bounds.reference_width, left, counter, slot)),
+        Ok(()) => Ok(decode_seen(seen, extent, bounds.reference_width, counter, slot)),
         Err(error) => Err(slot.refuse(error)),
     }
 }
@@ -59,7 +56,6 @@ fn decode_front<S: Source, C: DecodeCounter>(
     counter: &mut C,
     bounds: &Bounds,
     place: u64,
-    left: u64,
     slot: &mut EventSlot,
 ) -> Result<Outcome, Refused>
     requires place { place < bounds.now.trailer }
@@ -77,55 +73,18 @@ fn decode_front<S: Source, C: DecodeCounter>(
     let buffered = source.buffered(place);
     let seen = &buffered[..extent.min(buffered.len() as u64) as usize];
     if seen.len() >= FRONT || seen.len() as u64 == extent {
-        return Ok(decode_seen(seen, extent, bounds.reference_width, left, counter, slot));
+        return Ok(decode_seen(seen, extent, bounds.reference_width, counter, slot));
     }
-    read_front(source, counter, bounds, place, extent, left, slot)
+    read_front(source, counter, bounds, place, extent, slot)
 }
 
-// Refuses the text or data whose content is held, of the object at a place, where it has more than
-// `left` bytes. No memory is taken for it.
-fn check_size<S: Source>(
-    source: &mut S,
-    place: u64,
-    left: u64,
-    slot: &mut EventSlot,
-) -> Result<(), Refused>
-    requires fits { EndsIn64Bits place slot.old.content }
-    // A refusal.
-    ensures refused { RefusesContent (S.known source.old) place slot.old.content slot.new result }
-    ensures limit { LimitsContent result left slot.new (S.known source.old) place slot.old.content }
-    ensures fault { FailsInContent place slot.old.content (answer_in result slot.new) }
-    // The state after it.
-    ensures content { OnOk result (slot.new.content ≡ slot.old.content) }
-    ensures unchanged { S.known source.new ≡ S.known source.old }
-    ensures failures { AnswersInSlot S.failures result slot.new source.old source.new }
-{
-    // No element has more than three bytes in UTF-8.
-    if slot.content.count.saturating_mul(3) <= left {
-        return Ok(());
-    }
-    match measure(source, place, slot.content) {
-        Ok(Some(size)) => {
-            if size > left {
-                slot.refuse_memory();
-                return Err(Refused::TooLong);
-            }
-            Ok(())
-        }
-        Ok(None) => Err(slot.refuse(text_fault(slot.content.kind, place))),
-        Err(error) => Err(slot.refuse(error)),
-    }
-}
-
-// Reads the text or data whose content is held, of the object at a place, and holds it, unless it
-// has more than `left` bytes.
+// Reads the text or data whose content is held, of the object at a place, and holds it.
 #[cold]
 #[inline(never)]
 fn decode_long<S: Source>(
     alloc: Global,
     source: &mut S,
     place: u64,
-    left: u64,
     slot: &mut EventSlot,
 ) -> Result<(), Refused>
     requires fits { EndsIn64Bits place slot.old.content }
@@ -133,14 +92,12 @@ fn decode_long<S: Source>(
     ensures current { DecodesContentAt (S.known source.old) place slot.old.content slot.new result }
     ensures large { OnOk result (IsLargeScalar slot.new) }
     // A refusal.
-    ensures limit { LimitsContent result left slot.new (S.known source.old) place slot.old.content }
     ensures fault { FailsInContent place slot.old.content (answer_in result slot.new) }
     // The state after it.
     ensures unchanged { S.known source.new ≡ S.known source.old }
     ensures failures { AnswersInSlot S.failures result slot.new source.old source.new }
 {
     let content = slot.content;
-    check_size(source, place, left, slot)?;
     // The one before it goes first, so that there is memory for one alone.
     slot.hold(Event::EndCollection);
     match read_long(alloc, source, place, content) {
@@ -152,8 +109,7 @@ fn decode_long<S: Source>(
     }
 }
 
-/// Decodes the object at a place, and counts it if it is small. A text or data of more than `left`
-/// bytes is refused before memory is taken for it, unless it is short.
+/// Decodes the object at a place, and counts it if it is small.
 #[inline(always)]
 pub fn decode<S: Source, C: DecodeCounter>(
     alloc: Global,
@@ -161,13 +117,11 @@ pub fn decode<S: Source, C: DecodeCounter>(
     counter: &mut C,
     bounds: &Bounds,
     place: u64,
-    left: u64,
     slot: &mut EventSlot,
 ) -> Result<Outcome, Refused>
     // The answer.
     ensures decoded { DecodesObject S.known source.old bounds.now place slot.new result }
     // A refusal.
-    ensures limit { LimitsObject result left slot.new (S.known source.old) bounds.now place }
     ensures fault { ErrWithin place bounds.now.trailer (answer_in result slot.new) }
     // The state after it.
     ensures counted { CountsFound C.counts C.count counter.old counter.new result slot.new }
@@ -177,11 +131,11 @@ pub fn decode<S: Source, C: DecodeCounter>(
     if place >= bounds.trailer {
         return Err(slot.refuse_overrun(place));
     }
-    match decode_front(source, counter, bounds, place, left, slot) {
+    match decode_front(source, counter, bounds, place, slot) {
         Ok(outcome) => match outcome {
             Outcome::Scalar | Outcome::Collection(_) => Ok(outcome),
             Outcome::Unseen => {
-                decode_long(alloc, source, place, left, slot)?;
+                decode_long(alloc, source, place, slot)?;
                 Ok(Outcome::Scalar)
             }
             Outcome::Overrun
@@ -194,6 +148,6 @@ pub fn decode<S: Source, C: DecodeCounter>(
             | Outcome::NotUtf16
             | Outcome::NoMemory => Err(refuse_object(outcome, place, slot)),
         },
-        Err(_) => Err(Refused::Fault),
+        Err(refused) => Err(refused),
     }
 }

@@ -10,14 +10,12 @@ ghost use Rattle.plist_format.specs.Object.{Faulty, Object};
 ghost use Rattle.plist_binread.specs.Decoding.{IsRefusedAs};
 ghost use Rattle.plist_binread.specs.FaultOffsets.{FailsWithin, MatchReader};
 ghost use Rattle.plist_binread.specs.Front.{DecodesWhole, UnseenAfter, ShowsFixedContent, is_fault, is_object_fault};
-ghost use Rattle.plist_binread.specs.Measuring.{Measures};
 ghost use Rattle.plist_binread.specs.DecodeOutcome.{IsOutcomeOf, small_outcome};
 ghost use Rattle.plist_binread.specs.Reading.{object_with};
 ghost use Rattle.plist_binread.specs.declared.object_faults.Outcome.TheVariants.{Scalar as ScalarOutcome};
-ghost use Rattle.plist_binread.specs.declared.event_slot.Refused.TheVariants.{Fault};
 
 use crate::counted_content::{
-    ContentKind, front_array, front_data, front_dictionary, front_text, front_wide_text,
+    front_array, front_data, front_dictionary, front_text, front_wide_text,
 };
 use crate::event_slot::{EventSlot, Refused};
 use crate::fixed_content::{
@@ -68,15 +66,13 @@ impl Outcome {
 }
 
 /// The object after a marker, or the first of its faults: the marker's; that it doesn't end before
-/// the trailer; and then that of its content. A text or data of more than `left` bytes isn't all
-/// read, unless it is short.
+/// the trailer; and then that of its content.
 #[inline(always)]
 pub fn front_after_marker(
     marker: u8,
     rest: &[u8],
     extent: u64,
     width: usize,
-    left: u64,
     slot: &mut EventSlot,
 ) -> Outcome
     requires extent { length rest.now ≤ extent }
@@ -98,8 +94,8 @@ pub fn front_after_marker(
         Marker::Real8 => front_real(rest, extent, slot),
         Marker::Date => front_date(rest, extent, slot),
         Marker::Counted(kind, low) => match kind {
-            CountedKind::Data => front_data(low, rest, extent, left, slot),
-            CountedKind::Text => front_text(low, rest, extent, left, slot),
+            CountedKind::Data => front_data(low, rest, extent, slot),
+            CountedKind::Text => front_text(low, rest, extent, slot),
             CountedKind::WideText => front_wide_text(low, rest, extent, slot),
             CountedKind::Array => front_array(low, rest, extent, width, slot),
             CountedKind::Dictionary => front_dictionary(low, rest, extent, width, slot),
@@ -148,21 +144,6 @@ fn object_fault(outcome: Outcome, place: u64) -> Error
     fault_kind(outcome).with_byte_offset(place)
 }
 
-/// The fault of the object at a place whose content isn't a text of this kind.
-pub fn text_fault(kind: ContentKind, place: u64) -> Error
-    ensures refused { (object : Object) → Measures kind object None
-        → IsRefusedAs object place result }
-    ensures fault { (end : ℕ) → FailsWithin place end (fault_of result) }
-    ensures failures { (count : ℕ) → CountsIo result count count }
-{
-    match kind {
-        ContentKind::WideText => ErrorKind::InvalidUtf16String.with_byte_offset(place),
-        ContentKind::Text | ContentKind::Data => {
-            ErrorKind::InvalidUtf8String.with_byte_offset(place)
-        }
-    }
-}
-
 /// Holds the fault of the object at a place.
 #[cold]
 #[inline(never)]
@@ -173,7 +154,6 @@ pub fn refuse_object(outcome: Outcome, place: u64, slot: &mut EventSlot) -> Refu
     ensures fault { (end : ℕ) → FailsWithin place end (fault_of slot.new.fault) }
     ensures failures { (count : ℕ) → CountsIo slot.new.fault count count }
     ensures small { (current : PlainEvent) → small_outcome outcome current ≡ 0 }
-    ensures held { result ≡ Fault }
 {
     slot.refuse(object_fault(outcome, place))
 }

@@ -264,7 +264,7 @@ pub fn read_child<S: Source>(
                 Some(number) => Ok(number),
                 None => match read_reference(source, at, width, slot) {
                     Some(number) => Ok(number),
-                    None => Err(Refused::Fault),
+                    None => Err(Refused),
                 },
             }
         }

@@ -10,7 +10,8 @@ use Rattle.plist_base.specs.declared.limited.Limited.{Limited}
 use Rattle.plist_base.specs.declared.limits.Limit.{Limit}
 use Rattle.plist_base.specs.declared.limits.Limits.{Limits}
 use Rattle.plist_base.specs.declared.limits.Limiter.{Limiter}
-use Rattle.plist_base.specs.Limits.{GivesLimited, PassesNext, items_admitted, event_or_limit, iterator_of, limited_items, limited_by}
+use Rattle.plist_base.specs.Allowances.{iterator_of}
+use Rattle.plist_base.specs.Limits.{GivesLimited, PassesNext, items_admitted, event_or_limit, limited_items, limited_by}
 use Rattle.plist_base.specs.Faults.{FaultKind, Fault, Io, OutOfMemory, InvalidUtf16String, UnclosedString, IncompleteComment, InvalidUtf8AsciiStream, InvalidOctalString, LimitReached, MatchFault, fault_nowhere, kind_of, error_kind_of, fault_of}
 use Rattle.plist_base.specs.Sequential.{from_place}
 use Rattle.plist_reader.specs.Streams.{stream_bytes_left, stream_source, stream_place, held}
@@ -177,8 +178,8 @@ limited-item was now old new before after (Some (Ok asked)) (Some (Ok passed)) w
     rw (w, p.2) (ap (limited_by old) g ∙ p.1 after
     ∙ ap (λ v. Ok (event_of v) ∷ limited_by new after) (sym p.0))
 limited-item was now old new before after (Some (Ok asked)) (Some (Err error)) w g p =
-    rw (w, p.1) (limit-other (fault_of error).kind p.0.0 _ _ _ (ap (λ (f : Fault). f.kind) p.0.1)
-    (ap (limited_by old) g ∙ p.0.2 after))
+    rw (w, p.1) (limit-other (fault_of error).kind p.0.0.0 _ _ _ (ap (λ (f : Fault). f.kind) p.0.0.1)
+    (ap (limited_by old) g ∙ p.0.1 after))
 limited-item was now old new before after (Some (Err fault)) None w g p = absurd p
 limited-item was now old new before after (Some (Err fault)) (Some given) w g p =
     rw (p.0, w, p.1) (MatchFault-weaker (kind_of (error_kind_of fault)) (λ _. refl)
@@ -201,7 +202,7 @@ module _ (now : Bool) (old new : Limiter) where
   passes-count (Some (Ok asked)) None a b h p = absurd p
   passes-count (Some (Ok asked)) (Some (Ok passed)) a b h p = h
   passes-count (Some (Ok asked)) (Some (Err error)) a b h p =
-      limit-other (fault_of error).kind p.0.0 _ _ _ (ap (λ (f : Fault). f.kind) p.0.1) h
+      limit-other (fault_of error).kind p.0.0.0 _ _ _ (ap (λ (f : Fault). f.kind) p.0.0.1) h
   passes-count (Some (Err fault)) None a b h p = absurd p
   passes-count (Some (Err fault)) (Some given) a b h p = rw p.0 h
 
@@ -210,7 +211,7 @@ module _ (now : Bool) (old new : Limiter) where
   passes-placed None item h p = rw p.0 tt
   passes-placed (Some (Ok asked)) None h p = absurd p
   passes-placed (Some (Ok asked)) (Some (Ok passed)) h p = tt
-  passes-placed (Some (Ok asked)) (Some (Err error)) h p = subst FaultHasOffset (sym p.0.1) refl
+  passes-placed (Some (Ok asked)) (Some (Err error)) h p = subst FaultHasOffset (sym p.0.0.1) refl
   passes-placed (Some (Err fault)) None h p = absurd p
   passes-placed (Some (Err fault)) (Some given) h p = rw p.0 h
 
@@ -220,7 +221,7 @@ module _ (now : Bool) (old new : Limiter) where
   passes-kinds (Some (Ok asked)) None h p = absurd p
   passes-kinds (Some (Ok asked)) (Some (Ok passed)) h p = tt
   passes-kinds (Some (Ok asked)) (Some (Err error)) h p =
-      rw (ap (λ (f : Fault). f.kind) p.0.1) refl
+      rw (ap (λ (f : Fault). f.kind) p.0.0.1) refl
   passes-kinds (Some (Err fault)) None h p = absurd p
   passes-kinds (Some (Err fault)) (Some given) h p = rw p.0 h
 
@@ -282,7 +283,7 @@ module _ {R : Type 0} {g : Ghosts R} (known : R → Option (List ℕ)) (failed :
   }
 
   -- nothing more comes
-  over-gives : (old : Limited (AsciiReaderOf R)) → old.ended ≡ true
+  over-gives : (old : Limited (AsciiReaderOf R) Limiter) → old.ended ≡ true
       → StateGives {R = R} {g = g} known failed (state.Limited old) None (state.Limited old)
   over-gives old over = record {
     items = stays (ascii_items_to_come known (iterator_of old));
@@ -300,7 +301,7 @@ module _ {R : Type 0} {g : Ghosts R} (known : R → Option (List ℕ)) (failed :
       stays None = tt
       stays (Some all) = (items_admitted old all, refl, rw over (refl, refl))
 
-  pub limited-gives : (old new : Limited (AsciiReaderOf R)) (item : Given)
+  pub limited-gives : (old new : Limited (AsciiReaderOf R) Limiter) (item : Given)
       → GivesLimited (AsciiGives known failed) old item new
       → StateGives {R = R} {g = g} known failed (state.Limited old) item (state.Limited new)
   limited-gives old new item h = by old.ended refl h
@@ -345,7 +346,7 @@ module _ {R : Type 0} {g : Ghosts R} (known : R → Option (List ℕ)) (failed :
       (old, place, refl, h) (ascii-gives old new item h)
 
   pub begun-limited : (source : R) (limits : Limits) (sequence : SourceBytes R) (fresh : AsciiReaderOf R)
-      (old new : Limited (AsciiReaderOf R)) (item : Given) → items_admitted old ≡ limited_items limits
+      (old new : Limited (AsciiReaderOf R) Limiter) (item : Given) → items_admitted old ≡ limited_items limits
       → iterator_of old ≡ fresh → stream_source sequence ≡ source → ascii.device_of fresh ≡ sequence
       → stream_place sequence ≡ 0 → held sequence ≡ []
       → IfSome (known source) (λ bytes. format.Ascii ≡ format_of bytes)

@@ -6,7 +6,9 @@ use Rattle.plist_base.specs.declared.event.Event.{Event}
 use Rattle.plist_base.specs.declared.source.Source.{Ghosts}
 use Rattle.plist_base.specs.declared.limited.Limited.{Limited}
 use Rattle.plist_base.specs.declared.limits.Limits.{Limits}
-use Rattle.plist_base.specs.Limits.{GivesLimited, HasEndedLimited, items_admitted, iterator_of, limited_items}
+use Rattle.plist_base.specs.declared.limits.Limiter.{Limiter}
+use Rattle.plist_base.specs.Allowances.{HasEndedLimited, iterator_of}
+use Rattle.plist_base.specs.Limits.{GivesLimited, items_admitted, limited_items}
 use Rattle.plist_base.specs.Faults.{Fault, FaultKind, Io, IncompleteComment, InvalidOctalString, InvalidUtf16String, InvalidUtf8AsciiStream, LimitReached, MatchFault, OutOfMemory, UnclosedString, XmlUnsupported, kind_of, error_kind_of, fault_of, fault_at}
 use Rattle.plist_base.specs.Events.{Item, event_of}
 use Rattle.plist_base.specs.Sources.{ItemCountsIo}
@@ -210,7 +212,7 @@ module _ {R : Type 0} {g : Ghosts R} (known : R → Option (List ℕ)) (failed :
       × BinaryGives known failed fresh item new
   BeginsInside limits item (state.Ascii new) = (fresh : AsciiReaderOf R)
       × (ascii.place_of fresh ≡ 0) × (limits ≡ None) × AsciiGives known failed fresh item new
-  BeginsInside limits item (state.Limited new) = (fresh : Limited (AsciiReaderOf R))
+  BeginsInside limits item (state.Limited new) = (fresh : Limited (AsciiReaderOf R) Limiter)
       × (ascii.place_of (iterator_of fresh) ≡ 0) × (is_some limits ≡ true)
       × GivesLimited (AsciiGives known failed) fresh item new
   BeginsInside limits item (state.Refused source) = IsSourceRefusal item
@@ -224,7 +226,7 @@ module _ {R : Type 0} {g : Ghosts R} (known : R → Option (List ℕ)) (failed :
       (reader : BinaryReaderOf R g) × (new ≡ state.Binary reader) × BinaryGives known failed old item reader
   GivesInside (state.Ascii old) item new =
       (reader : AsciiReaderOf R) × (new ≡ state.Ascii reader) × AsciiGives known failed old item reader
-  GivesInside (state.Limited old) item new = (reader : Limited (AsciiReaderOf R))
+  GivesInside (state.Limited old) item new = (reader : Limited (AsciiReaderOf R) Limiter)
       × (new ≡ state.Limited reader) × GivesLimited (AsciiGives known failed) old item reader
   GivesInside old item new = (item ≡ None) × (new ≡ old)
 

@@ -138,12 +138,8 @@ impl<R: Source> Reader<R> {
     }
 
     /// A reader that gives no more than these limits let come, and ends at its first fault: the
-    /// first text or data that has a byte too many, or else an event that is one too many, or else
-    /// a start that would open one collection too many, is replaced by `LimitReached`, without an
-    /// offset.
-    ///
-    /// Of a binary source no memory is taken for a text or data that is refused, unless it is
-    /// short. A text in ASCII is read before it is counted: it takes at most its bytes there.
+    /// first event that is one too many, or else a start that would open one collection too many,
+    /// is replaced by `LimitReached`, without an offset.
     pub fn with_limits(alloc: Global, source: R, limits: Limits) -> Self
         ensures items { reader_items R.known result ≡ option_map (limited_input limits)
             (R.known source) }

@@ -4,9 +4,8 @@ use Rattle.std.proofs.lemmas.Result.{on_ok_weaker}
 use Rattle.plist_binread.specs.declared.walk.NextChild.TheVariants.{Child}
 use Rattle.plist_binread.specs.Slot.{answer_in, event_in}
 use Rattle.plist_binread.specs.Walking.{weight_in}
-use Rattle.plist_binread.proofs.Lengths.{child_limits}
 use Rattle.plist_binread.proofs.Steps.{steps_positive}
-use Rattle.plist_binread.proofs.KnownChildren.{ChildTaken, known_child_taken, child_failed, child_first, child_kept, child_yields}
+use Rattle.plist_binread.proofs.KnownChildren.{ChildTaken, known_child_taken, child_failed, child_kept, child_yields}
 use Rattle.plist_binread.proofs.advance.advance.Goals as goal
 use Rattle.plist_binread.proofs.advance.advance.Goals.{In-Child, After-read_child}
 
@@ -73,13 +72,3 @@ returns-in-Ok-clause-cached g c =
     (rw (place g t.After-read_child) at c.in-Ok.ensures.child)
     (answer_in c.enter.result c.enter.new.slot) (event_in c.enter.new.slot)
     c.enter.new.walk.tags.items c.enter.ensures.cached
-
-pub returns-in-Ok-clause-limit : goal.returns-in-Ok-clause-limit
-returns-in-Ok-clause-limit g c =
-    let t = goal.at.returns-in-Ok-clause-limit g c in
-    child_limits c.enter.result c.args.left c.enter.new.slot _ _ c.args.bounds.now c.args.walk.now
-    c.next_child.new.self _ c.in-Ok.number c.in-Ok.ensures.unchanged
-    (child_first _ c.args.bounds.now c.args.walk.now c.next_child.new.self _ _
-    c.in-Child.ensures.within.0 c.in-Child.ensures.within.1 (taken g t.In-Child) _
-    c.in-Ok.ensures.unchanged c.in-Ok.number
-    (rw (place g t.After-read_child) at c.in-Ok.ensures.child)) c.enter.ensures.limit

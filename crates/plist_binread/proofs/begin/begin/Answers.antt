@@ -4,7 +4,7 @@ use Rattle.plist_binread.proofs.Failing.{passed}
 use Rattle.plist_binread.specs.declared.head.Bounds.{Bounds}
 use Rattle.plist_binread.specs.Slot.{answer_in}
 use Rattle.plist_binread.proofs.Opened.{IsOpen-none, cached_count-none, cached_count-empty}
-use Rattle.plist_binread.proofs.Begun.{first_limits, known_unread, known_wanted, known_opens, known_begun, known_counted, known_hidden, known_uncounted}
+use Rattle.plist_binread.proofs.Begun.{known_unread, known_wanted, known_opens, known_begun, known_counted, known_hidden, known_uncounted}
 use Rattle.plist_binread.proofs.begin.begin.Goals as goal
 use Rattle.plist_binread.proofs.begin.begin.Goals.{In_ok-none}
 
@@ -23,14 +23,14 @@ returns-in_err-none-clause-yields g c =
 pub returns-in_err-head-clause-objects : goal.returns-in_err-head-clause-objects
 returns-in_err-head-clause-objects g c =
     let refused = rw (← c.in_err-head.ensures.answer) at c.read.ensures.refused in
-    rw (passed _ c.from_residual.ensures.1, c.in_err-head.ensures.held)
+    rw (passed _ c.from_residual.ensures.1)
     (known_uncounted (g.S.Source.known c.args.source.now) c.keep_error.new.self.fault
     (length c.args.walk.now.tags.items) c.requires.empty.0 refused)
 
 pub returns-in_err-none-clause-objects : goal.returns-in_err-none-clause-objects
 returns-in_err-none-clause-objects g c =
     let memory = rw (← c.in_err-none.ensures.answer) at c.no_tags.ensures.memory in
-    rw (passed _ c.from_residual-in_err-none.ensures.1, c.in_err-none.ensures.held)
+    rw (passed _ c.from_residual-in_err-none.ensures.1)
     (known_hidden (g.S.Source.known c.args.source.now) c.keep_error-2.new.self.fault
     (length c.args.walk.now.tags.items) memory)
 
@@ -94,12 +94,3 @@ returns-clause-yields g c =
     c.enter.new.walk.frames (answer_in c.enter.result c.enter.new.slot) _ c.read.ensures.unchanged
     c.requires.empty.1 (count g there) refl refl
     (rw (← c.in_ok-head.ensures.answer) at c.read.ensures.value) c.enter.ensures.yields
-
-pub returns-clause-limit : goal.returns-clause-limit
-returns-clause-limit g c =
-    let there = (goal.at.returns-clause-limit g c).In_ok-none in
-    first_limits c.enter.result c.args.left c.enter.new.slot (g.S.Source.known c.args.source.now)
-    (g.S.Source.known c.read.new.source) c.in_ok-head.head (bounds g there)
-    c.in_ok-none.none.items c.args.walk.now.frames c.read.ensures.unchanged c.requires.empty.1
-    (count g there) refl refl (rw (← c.in_ok-head.ensures.answer) at c.read.ensures.value)
-    c.enter.ensures.limit

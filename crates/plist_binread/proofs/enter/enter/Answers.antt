@@ -2,7 +2,6 @@ use Rattle.std.proofs.Common.{arith, IfSome}
 use Rattle.plist_binread.proofs.Entering.{OutcomeAt, from_any, known_decoded, known_opens, known_refused, known_small, known_unpacked}
 use Rattle.plist_binread.proofs.Failing.{passed}
 use Rattle.plist_binread.proofs.Known.{first, second, known_full}
-use Rattle.plist_binread.proofs.Lengths.{entered_limits}
 use Rattle.plist_binread.proofs.Steps.{steps_positive}
 use Rattle.plist_binread.specs.Reading.{object_at}
 use Rattle.plist_binread.specs.Slot.{event_in}
@@ -24,13 +23,6 @@ returns-in_err-outcome-in-Some-clause-yields g c =
     c.args.walk.now c.args.number c.requires.known c.in_ok-look_up.ensures.below c.args.at
     c.in-Some.place _ c.in_ok-look_up.ensures.new
     (rw c.in-Some.is at c.in_ok-look_up.ensures.found) c.in_err-outcome-in-Some.ensures.decoded)
-
-pub returns-in_err-outcome-in-Some-clause-limit : goal.returns-in_err-outcome-in-Some-clause-limit
-returns-in_err-outcome-in-Some-clause-limit g c =
-    rw (passed _ c.from_residual-in_err-outcome-in-Some.ensures.1) (entered_limits _ c.args.left
-    c.decode.new.slot _ g.S.Source.known _ c.args.walk.now c.args.number c.in-Some.place
-    c.requires.known c.in_ok-look_up.ensures.below c.in_ok-look_up.ensures.new
-    (rw c.in-Some.is at c.in_ok-look_up.ensures.found) c.in_err-outcome-in-Some.ensures.limit)
 
 -- the object is what was decoded
 there : (g : _) (c : After-cache_or_open g)

@@ -8,7 +8,7 @@ use Rattle.plist_binread.proofs.enter.look_up.Goals as goal
 pub returns-then-number-len-clause-refused : goal.returns-then-number-len-clause-refused
 returns-then-number-len-clause-refused c = λ bytes bounds k.
     unfound_beyond bytes bounds _ _ _ k c.args.walk.now.path _ _
-    c.refuse_number.new.slot.fault (omega arith) c.refuse_number.ensures.fault
+    c.refuse_number.new.slot.fault (omega arith) c.refuse_number.ensures
 
 pub returns-then-is_open-clause-refused : goal.returns-then-is_open-clause-refused
 returns-then-is_open-clause-refused c = λ bytes bounds k.
@@ -17,7 +17,7 @@ returns-then-is_open-clause-refused c = λ bytes bounds k.
     let place = get_or_read c.args.walk.now.contents.items _ _ (rw c.args.walk.now.same below) c.index-content.ensures 0 in
     unfound_open bytes bounds _ _ _ k c.args.walk.now.path _ _
     c.refuse_open.new.slot.fault below (ap is_marked (sym tag) ∙ sym c.if-is_open.ensures)
-    (rw place at c.refuse_open.ensures.fault)
+    (rw place at c.refuse_open.ensures)
 
 pub returns-else-unpack-clause-refused : goal.returns-else-unpack-clause-refused
 returns-else-unpack-clause-refused c = λ bytes bounds k.

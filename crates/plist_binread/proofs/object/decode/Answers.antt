@@ -24,7 +24,6 @@ returns-in-Overrun g c = record {
   decoded = seen_refused _ c.args.bounds.now c.args.place c.in-Ok.outcome
       (event_in c.decode_front.new.slot) c.refuse_object.new.slot.fault c.in-Ok.ensures.outcome
       c.refuse_object.ensures.refused;
-  limit = rw c.refuse_object.ensures.held tt;
   fault = c.refuse_object.ensures.fault _;
   counted = λ counts. c.in-Ok.ensures.counted counts
       ∙ ap (λ n. g.C.DecodeCounter.count c.args.counter.now + n)

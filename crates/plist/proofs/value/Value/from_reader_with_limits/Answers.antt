@@ -1,10 +1,11 @@
-use Rattle.plist_base.specs.Limits.{items_admitted, iterator_of}
+use Rattle.plist_base.specs.Allowances.{iterator_of}
+use Rattle.plist_base.specs.Limits.{items_admitted, limited_items}
 use Rattle.std.proofs.Common.{ap, ◌∙◌, option_map}
-use Rattle.plist_reader.specs.Reader.{Gives, limited_input, reader_source, reader_items}
+use Rattle.plist_reader.specs.Reader.{Gives, items_of_input, limited_input, reader_source, reader_items}
 use Rattle.plist.specs.Collecting.{built_tree}
 use Rattle.plist.proofs.ReadFaults.{limited-tells}
-use Rattle.plist.proofs.Shown.{of-items, reader-shows}
-use Rattle.plist.proofs.Limiting.{built-within, input-twice, limited-shows}
+use Rattle.plist.proofs.Shown.{joined, of-items, reader-shows}
+use Rattle.plist.proofs.Limiting.{built-within, limited-shows}
 use Rattle.plist.proofs.value.Value.from_reader_with_limits.Goals as goal
 
 pub returns-clause-value : goal.returns-clause-value
@@ -12,8 +13,8 @@ returns-clause-value g c =
     let known = g.R.Source.known in
     of-items (limited_input c.args.limits) _ _ (built_tree c.collect.result)
     ((λ j. option_map (c.new.ensures.items j)
-    ((ap (reader_items known) c.new.ensures.inner ∙ c.with_limits-reader.ensures.items) j))
-    ∙ input-twice c.args.limits _)
+    ((ap (reader_items known) c.new.ensures.inner ∙ c.new-reader.ensures.items) j))
+    ∙ joined (limited_items c.args.limits) items_of_input _)
     (c.collect.ensures.shown (λ l. option_map (items_admitted l) (reader_items known (iterator_of l)))
     (limited-shows (Gives known g.R.Source.failures) (reader_items known)
     (λ old item new gives. reader-shows _ _ item gives.items)))
@@ -26,10 +27,11 @@ returns-clause-within g c =
 pub returns-clause-read : goal.returns-clause-read
 returns-clause-read g c = (
   c.new.result,
-  c.new.ensures.items,
-  ap reader_source c.new.ensures.inner ∙ c.with_limits-reader.ensures.source,
-  ap (reader_items _) c.new.ensures.inner
-      ∙ c.with_limits-reader.ensures.items,
+  (
+    c.new.ensures.items,
+    ap reader_source c.new.ensures.inner ∙ c.new-reader.ensures.source,
+    ap (reader_items _) c.new.ensures.inner ∙ c.new-reader.ensures.items,
+  ),
   c.collect.ensures.value,
 )
 

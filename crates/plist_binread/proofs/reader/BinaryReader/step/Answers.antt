@@ -3,7 +3,7 @@ use Rattle.plist_binread.specs.Slot.{event_in}
 use Rattle.plist_binread.proofs.Taken.{left_behind, nothing_ended}
 use Rattle.plist_binread.proofs.Children.{known_no_references}
 use Rattle.plist_binread.proofs.OverKnown.{IfSome-all, IfSome-never}
-use Rattle.plist_binread.proofs.Stepped.{first_walks, item_counts, item_walks, not_fresh, walks_on_ok}
+use Rattle.plist_binread.proofs.Stepped.{first_walks, item_walks, not_fresh, walks_on_ok}
 use Rattle.plist_binread.proofs.reader.BinaryReader.step.Goals as goal
 
 pub returns-in-Ended-clause-walks : goal.returns-in-Ended-clause-walks
@@ -39,15 +39,6 @@ returns-in-Walking-clause-walks g c =
     c.state_after-self-in-Walking.ensures c.advance-item.ensures.yields c.advance-item.ensures.fault
     c.advance-item.ensures.size c.args.self.now.bounded c.advance-item.ensures.known
     c.advance-item.ensures.cached c.advance-item.ensures.falls c.advance-item.ensures.failures
-
-pub returns-in-Fresh-clause-objects : goal.returns-in-Fresh-clause-objects
-returns-in-Fresh-clause-objects g c = c.begin.ensures.objects
-
-pub returns-in-Walking-clause-objects : goal.returns-in-Walking-clause-objects
-returns-in-Walking-clause-objects g c =
-    item_counts (g.R.Source.known c.args.self.now.source) c.args.self.now.bounds
-    c.advance-item.result c.advance-item.new.slot c.advance-item.new.walk
-    c.advance-item.ensures.known
 
 pub invariant_of-self : goal.invariant_of-self
 invariant_of-self g c = record {

@@ -1,10 +1,9 @@
 use Rattle.std.proofs.Common.{◌^◌, ◌∙◌, refl, subst, arith}
-use Rattle.plist_base.specs.declared.limits.Limit.TheVariants as limit
 use Rattle.plist_base.specs.Faults.{fault_of}
 use Rattle.plist_base.specs.Limits.{AdmitsAny, RefusesAny}
 use Rattle.plist_binread.specs.BinaryReader.{has_limits, is_new, binary_source, unlimited_items}
 use Rattle.plist_binread.specs.Slot.{event_in}
-use Rattle.plist_binread.proofs.Limiting.{event-current, fault-current, limit-counts, limit-given, limit-current, limited-below, long-current, none-current, refused-given, refused-other, still-given}
+use Rattle.plist_binread.proofs.Limiting.{event-current, fault-current, limit-current, none-current, refused-given, refused-other, still-given}
 use Rattle.plist_binread.proofs.OverKnown.{IfSome-all, IfSome-never}
 use Rattle.plist_binread.proofs.Stepped.{tells_fault}
 use Rattle.plist_binread.proofs.reader.BinaryReader.step_within.Goals as goal
@@ -56,11 +55,11 @@ returns-in-Err g c =
       falls = let falls = walks.falls in omega (arith, falls);
     }
 
-pub returns-in-Some-Err-Fault : goal.returns-in-Some-Err-Fault
-returns-in-Some-Err-Fault g c =
+pub returns-in-Some-Err : goal.returns-in-Some-Err
+returns-in-Some-Err g c =
     let old = c.args.self.now in
     let new = c.step.new.self in
-    let walks = rw c.in-Some-Err-Fault.field-0-is at c.in-Some-Err-Fault.ensures.walks in
+    let walks = rw c.in-Some-Err.field-0-is at c.in-Some-Err.ensures.walks in
     let w = walks.gives in
     let items = fault-current (is_new old) (event_in new.slot)
     (g.R.Source.known (binary_source old)) old.limiter new.limiter (λ bytes. unlimited_items bytes old)
@@ -70,40 +69,6 @@ returns-in-Some-Err-Fault g c =
       items,
       still-given 0 (2 ^ 64) (has_limits old) (fault_of new.slot.fault) w.faults,
     )
-
-pub returns-in-Some-Err-TooLong : goal.returns-in-Some-Err-TooLong
-returns-in-Some-Err-TooLong g c =
-    let old = c.args.self.now in
-    let mid = c.step.new.self in
-    let error = c.refuse_limit.new.self.fault in
-    let answer = c.in-Some-Err-TooLong.field-0-is in
-    let long = c.in-Some-Err-TooLong.field-0-0-is in
-    let walks = rw answer at c.in-Some-Err-TooLong.ensures.walks in
-    let w = walks.gives in
-    let reached = rw (answer, long) at c.in-Some-Err-TooLong.ensures.limit in
-    record {
-      gives = record {
-        unchanged = w.unchanged;
-        items = long-current (is_new old) (event_in c.refuse_limit.new.self)
-            (g.R.Source.known (binary_source old)) old.limiter mid.limiter
-            (λ bytes. unlimited_items bytes old) (λ bytes. unlimited_items bytes mid) error mid.slot.fault
-            c.refuse_limit.ensures.fault reached.1 w.items reached.2;
-        failures = limit-counts error mid.slot.fault _ _ c.refuse_limit.ensures.fault reached.0
-            w.failures;
-        ended = λ e. (let no = w.ended e in absurd (cc));
-        ends = w.ends;
-        begun = w.begun;
-        faults = limit-given 0 (2 ^ 64) (has_limits old) (fault_of error) limit.Bytes
-            (limited-below old.limiter reached.1) c.refuse_limit.ensures.fault;
-        head = w.head;
-        cached = IfSome-all _ (λ bytes. tt);
-        leaves = search w.leaves;
-        objects = tells_fault _ error _
-            (rw (answer, long) at c.in-Some-Err-TooLong.ensures.objects);
-        kept = w.kept;
-      };
-      falls = walks.falls;
-    }
 
 pub returns-in-None : goal.returns-in-None
 returns-in-None g c =

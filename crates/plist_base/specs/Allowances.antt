@@ -1,0 +1,59 @@
+-- Items as far as they are allowed, by whatever judges an event.
+use Rattle.std.specs.Prelude.{◌≡◌, Bool, true, false, cond, List, [], ◌∷◌, Option, None, Some, Result, Ok, Err, MatchBool, MatchOption, MatchResult}
+use Rattle.plist_base.specs.declared.error.Error.{Error}
+use Rattle.plist_base.specs.declared.event.Event.{Event}
+use Rattle.plist_base.specs.declared.limited.Limited.{Limited}
+use Rattle.plist_base.specs.Faults.{Fault, fault_of}
+use Rattle.plist_base.specs.Events.{PlainEvent, Item, event_of}
+
+-- the iterator inside
+abbrev pub iterator_of : {I A : Type 0} → Limited I A → I
+iterator_of limited = limited.inner
+
+-- nothing more comes
+abbrev pub HasEndedLimited : {I A : Type 0} → Limited I A → Type 0
+HasEndedLimited limited = limited.ended ≡ true
+
+-- `lets` gives the items that an allowance lets come of others, and `may_reach` the faults that may
+-- take an event's place
+module _ {A : Type 0} (lets : A → List Item → List Item) (may_reach : Fault → Type 0) where
+  -- a fault comes in the place of an event, and nothing after it
+  abbrev pub RefusesEvent : A → PlainEvent → Fault → Type 0
+  RefusesEvent allowance event fault =
+      may_reach fault × ((items : List Item) → lets allowance (Ok event ∷ items) ≡ Err fault ∷ [])
+
+module _ {A : Type 0} (lets : A → List Item → List Item) where
+  -- an event comes, and then the others
+  abbrev pub AdmitsEvent : (old : A) → PlainEvent → (new : A) → Type 0
+  AdmitsEvent old event new =
+      (items : List Item) → lets old (Ok event ∷ items) ≡ Ok event ∷ lets new items
+
+  -- of the items that the iterator inside has to come, those that come
+  abbrev pub items_allowed : {I : Type 0} → Limited I A → List Item → List Item
+  items_allowed limited items = cond limited.ended [] (lets limited.limiter items)
+
+module _ {A : Type 0} (lets : A → List Item → List Item) (may_reach : Fault → Type 0) where
+  -- what comes of an item of the iterator inside: an event that is admitted is given, a fault comes
+  -- in the place of another, and a fault stays; after a fault nothing more comes
+  abbrev pub Passes : (old : A) → (asked given : Result Event Error) → (new : A) → (ended : Bool)
+      → Type 0
+  Passes old (Ok event) given new ended = MatchResult given
+      (λ passed. (passed ≡ event) × AdmitsEvent lets old (event_of event) new × (ended ≡ false))
+      (λ error. RefusesEvent lets may_reach old (event_of event) (fault_of error) × (ended ≡ true))
+  Passes old (Err error) given new ended = (given ≡ Err error) × (ended ≡ true)
+
+  -- the same, or nothing where nothing comes, and then nothing more
+  abbrev pub PassesNext : (old : A) → (asked given : Option (Result Event Error)) → (new : A)
+      → (ended : Bool) → Type 0
+  PassesNext old None given new ended = (given ≡ None) × (new ≡ old) × (ended ≡ true)
+  PassesNext old (Some asked) given new ended =
+      MatchOption given ⊥ (λ item. Passes old asked item new ended)
+
+  -- one call of `next`: what comes of the next item of the iterator inside, which is asked no more
+  -- after a fault or `None`
+  abbrev pub GivesAllowed : {I : Type 0} → (I → Option (Result Event Error) → I → Type 0)
+      → Limited I A → Option (Result Event Error) → Limited I A → Type 0
+  GivesAllowed inner_gives old item new = MatchBool old.ended
+      ((item ≡ None) × (new ≡ old))
+      ((asked : Option (Result Event Error)) × inner_gives old.inner asked new.inner
+      × PassesNext old.limiter asked item new.limiter new.ended)

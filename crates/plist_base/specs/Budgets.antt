@@ -1,0 +1,52 @@
+-- Items under a budget of bytes, which all strings and data have together.
+use Rattle.std.specs.Prelude.{◌≡◌, ℕ, ◌+◌, ◌-◌, nat_lt, cond, length, List, [], ◌∷◌, Option, Result, Ok, Err}
+use Rattle.plist_base.specs.declared.byte_budget.ByteBudget.{ByteBudget}
+use Rattle.plist_base.specs.declared.error.Error.{Error}
+use Rattle.plist_base.specs.declared.event.Event.{Event}
+use Rattle.plist_base.specs.declared.limited.Limited.{Limited}
+use Rattle.plist_base.specs.Allowances.{AdmitsEvent, GivesAllowed, RefusesEvent, items_allowed}
+use Rattle.plist_base.specs.Faults.{Fault, OutOfMemory, fault_nowhere}
+use Rattle.plist_base.specs.Events.{PlainEvent, Item, text_or_data}
+
+-- how many bytes an event's string or data has
+abbrev pub bytes_in : PlainEvent → ℕ
+bytes_in event = length (text_or_data event)
+
+-- how many bytes the strings and data of these events have
+abbrev pub total_bytes : List PlainEvent → ℕ
+total_bytes [] = 0
+total_bytes (event ∷ events) = bytes_in event + total_bytes events
+
+-- The items up to their first fault, in which the first string or data that has more bytes than are
+-- left is replaced by lack of memory, which ends them.
+abbrev pub within_bytes : (left : ℕ) → List Item → List Item
+within_bytes left [] = []
+within_bytes left (Ok event ∷ items) =
+    cond (nat_lt left (bytes_in event)) (Err (fault_nowhere OutOfMemory) ∷ [])
+    (Ok event ∷ within_bytes (left - bytes_in event) items)
+within_bytes left (Err fault ∷ items) = Err fault ∷ []
+
+-- ---- what a budget makes of the items
+
+-- the items that are still to come, of these
+abbrev pub within_budget : ByteBudget → List Item → List Item
+within_budget budget = within_bytes budget.left
+
+-- the fault that takes an event's place
+abbrev pub IsBudgetUsedUp : Fault → Type 0
+IsBudgetUsedUp fault = fault ≡ fault_nowhere OutOfMemory
+
+abbrev pub AdmitsWithin : (old : ByteBudget) → PlainEvent → (new : ByteBudget) → Type 0
+AdmitsWithin = AdmitsEvent within_budget
+
+abbrev pub RefusesWithin : ByteBudget → PlainEvent → Fault → Type 0
+RefusesWithin = RefusesEvent within_budget IsBudgetUsedUp
+
+-- of the items that the iterator inside has to come, those that come
+abbrev pub items_within_budget : {I : Type 0} → Limited I ByteBudget → List Item → List Item
+items_within_budget = items_allowed within_budget
+
+-- one call of `next`
+abbrev pub GivesWithinBudget : {I : Type 0} → (I → Option (Result Event Error) → I → Type 0)
+    → Limited I ByteBudget → Option (Result Event Error) → Limited I ByteBudget → Type 0
+GivesWithinBudget = GivesAllowed within_budget IsBudgetUsedUp

@@ -1,0 +1,52 @@
+//! How many bytes of strings and data are read.
+
+ghost use Rattle.std.specs.Prelude.{◌≡◌, OnOk};
+ghost use Rattle.plist_base.specs.Events.{event_of};
+ghost use Rattle.plist_base.specs.Outcomes.{IfFault};
+ghost use Rattle.plist_base.specs.Budgets.{AdmitsWithin, RefusesWithin, within_budget, within_bytes};
+
+use crate::{Allowance, Error, ErrorKind, Event};
+
+/// How many bytes all strings, keys among them, and all data may still have together.
+///
+/// A string counts by its bytes in UTF-8, also where the file has it in UTF-16, and counts again
+/// wherever the file refers to it again.
+#[derive(Clone, Copy)]
+pub struct ByteBudget {
+    left: u64,
+}
+
+impl ByteBudget {
+    /// A budget of this many bytes.
+    pub fn new(bytes: u64) -> ByteBudget
+        ensures items { within_budget result ≡ within_bytes bytes }
+    {
+        ByteBudget { left: bytes }
+    }
+}
+
+impl Allowance for ByteBudget {
+    ghost use Rattle.plist_base.specs.Budgets.{within_budget, IsBudgetUsedUp};
+
+    ghost lets = { within_budget };
+
+    ghost may_reach = { IsBudgetUsedUp };
+
+    /// Takes the bytes of the event's string or data from the budget.
+    ///
+    /// # Errors
+    ///
+    /// `OutOfMemory`, without an offset, if more bytes are needed than are left. These stay.
+    fn admit(&mut self, event: &Event<'_>) -> Result<(), Error>
+        ensures admitted { OnOk result (AdmitsWithin self.old (event_of event.now) self.new) }
+        ensures refused { IfFault result (RefusesWithin self.old (event_of event.now)) }
+    {
+        match self.left.checked_sub(event.text_or_data().len() as u64) {
+            Some(left) => {
+                self.left = left;
+                Ok(())
+            }
+            None => Err(ErrorKind::OutOfMemory.without_position()),
+        }
+    }
+}
