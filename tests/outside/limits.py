@@ -21,7 +21,7 @@ import speed
 
 BEYOND = 2 << 20
 CRATES = ("plist_base", "plist_format", "plist_binread", "plist_binwrite", "plist_ascii",
-          "plist_data", "plist_pairs", "plist_reader", "plist")
+          "plist_pairs", "plist_reader", "plist")
 REACHED = b"LimitReached(Bytes)\n"
 VALUE = b"a value\n"
 

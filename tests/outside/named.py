@@ -48,7 +48,7 @@ def imported(text, kit):
 def passed_on(sources):
     """The names that can be reached through `plist`, and the files that are passed on whole."""
     names, whole_files = set(), set()
-    for module in ("lib", "dictionary", "stream", "value", "stream/builder", "stream/events", "callers"):
+    for module in ("lib", "dictionary", "stream", "value", "stream/builder", "stream/events", "stream/reading", "stream/writing", "callers"):
         text = sources[f"plist/{module}"]
         names |= set(re.findall(r"(?m)^pub (?:struct|enum|trait|type) (\w+)", text))
         names |= set(re.findall(r"(?m)^pub fn (\w+)", text))

@@ -5,7 +5,7 @@ ghost use Rattle.plist.specs.Collecting.{Collects, CollectsTo, built_tree};
 ghost use Rattle.plist.specs.ValueOfItems.{AnswersAsForeseen};
 
 use crate::Value;
-use crate::stream::{AnyEvent, Builder};
+use crate::stream::builder::{AnyEvent, Builder};
 use plist_base::Error;
 use std::alloc::Global;
 

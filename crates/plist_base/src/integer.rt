@@ -71,6 +71,24 @@ impl Integer {
         }
     }
 
+    /// Reads the number that a text spells.
+    ///
+    /// A text that begins with `0x` loses every leading `0x`; the rest is hexadecimal with an
+    /// optional `+`, and at most `u64::MAX`. Any other text is decimal with an optional sign, from
+    /// `i64::MIN` to `u64::MAX`. Digits are required, and leading zeros are allowed. Nothing else
+    /// may stand in the text, nor a blank at its ends.
+    ///
+    /// # Errors
+    /// [`InvalidInteger`] exactly where the text spells no such number.
+    pub fn from_str(text: &str) -> Result<Integer, InvalidInteger>
+        ensures number { SpellsInteger text.now result }
+    {
+        match number_in(text) {
+            Some(number) => Ok(number),
+            None => Err(InvalidInteger),
+        }
+    }
+
     // The same number in 128 bits.
     pub(crate) fn widened(self) -> i128
         ensures { result ≡ self }
@@ -283,24 +301,13 @@ fn number_in(text: &str) -> Option<Integer>
     }
 }
 
-/// Reads the number that a text spells.
-///
-/// A text that begins with `0x` loses every leading `0x`; the rest is hexadecimal with an optional
-/// `+`, and at most `u64::MAX`. Any other text is decimal with an optional sign, from `i64::MIN` to
-/// `u64::MAX`. Digits are required, and leading zeros are allowed. Nothing else may stand in the
-/// text, nor a blank at its ends.
-///
-/// # Errors
-/// [`InvalidInteger`] exactly where the text spells no such number.
+/// The same call for `text.parse::<Integer>()`.
 impl FromStr for Integer {
     type Err = InvalidInteger;
 
     ghost from_str_gives = { λ text result. SpellsInteger text result };
 
     fn from_str(text: &str) -> Result<Integer, InvalidInteger> {
-        match number_in(text) {
-            Some(number) => Ok(number),
-            None => Err(InvalidInteger),
-        }
+        Integer::from_str(text)
     }
 }

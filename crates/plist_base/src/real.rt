@@ -3,7 +3,6 @@
 ghost use Rattle.std.specs.Prelude.{◌≡◌};
 ghost use Rattle.plist_base.specs.Reals.{number_of_real, real_of};
 
-use std::fmt;
 use std::num::{f32_from_bits_with_nan, f64_from_bits_with_nan, f64_to_bits_with_nan};
 
 /// The bytes of a binary real, the highest first: four of a `binary32`, or eight of a `binary64`.
@@ -42,12 +41,5 @@ impl RealBits {
         ensures value { result ≡ real_of number }
     {
         RealBits::Eight(f64_to_bits_with_nan(number).to_be_bytes())
-    }
-}
-
-/// The number as `f64` prints it, whatever the width.
-impl fmt::Display for RealBits {
-    fn fmt<W: fmt::Write>(&self, f: &mut fmt::Formatter<W>) -> fmt::Result {
-        fmt::Display::fmt(&self.to_f64(), f)
     }
 }

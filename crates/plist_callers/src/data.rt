@@ -5,12 +5,11 @@ ghost use Rattle.std.specs.Prelude.{◌≡◌, ◌<◌, ◌↔◌, Err, IfErr, I
 ghost use Rattle.base64.specs.Engines.{standard};
 ghost use Rattle.base64.specs.GeneralPurpose.{decode_of};
 ghost use Rattle.base64.specs.declared.decode.DecodeError.TheVariants as fault;
-ghost use Rattle.plist_data.specs.DataText.{data_text, without_white};
-ghost use Rattle.plist_data.specs.declared.data.InvalidXmlData.TheVariants as refusal;
+ghost use Rattle.plist_base.specs.DataText.{data_text, without_white};
+ghost use Rattle.plist_base.specs.declared.data.InvalidXmlData.TheVariants as refusal;
 
 use base64::DecodeError;
-use plist_base::Error;
-use plist_data::{Data, InvalidXmlData};
+use plist_base::{Data, Error, InvalidXmlData};
 use std::alloc::{AllocError, Global};
 
 /// Bytes, by way of data.

@@ -4,8 +4,7 @@ ghost use Rattle.std.specs.Prelude.{◌≡◌, ◌↔◌, IsTrue};
 
 use crate::rows::{Row, decoded, unreadable};
 use hex::FromHex;
-use plist_base::{Date, Integer, InvalidInteger};
-use plist_data::{Data, InvalidXmlData};
+use plist_base::{Data, Date, Integer, InvalidInteger, InvalidXmlData};
 use plist_support::{Wrong, bytes_of, expect_same};
 use std::alloc::{AllocError, Global};
 

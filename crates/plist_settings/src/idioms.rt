@@ -3,7 +3,8 @@
 //! what the crate gives.
 
 use crate::Failure;
-use plist::stream::{BinaryWriter, Event, Reader, Seeking, Writer, format_of};
+use plist::stream::reading::format_of;
+use plist::stream::{BinaryWriter, Event, Reader, Seeking, Writer};
 use plist::{Date, Dictionary, Error, Limits, RealBits, Value, Variant};
 use std::alloc::{AllocError, Global};
 use std::borrow::CowStr;
@@ -221,7 +222,7 @@ fn content_of(alloc: Global, value: &Value) -> Result<String, Failure> {
         Value::String(text) => Ok(text.clone()?),
         Value::Integer(number) => Ok(format!(in alloc; "{number}")?),
         Value::Boolean(flag) => Ok(format!(in alloc; "{flag}")?),
-        Value::Real(number) => Ok(format!(in alloc; "{number}")?),
+        Value::Real(number) => Ok(format!(in alloc; "{}", number.to_f64())?),
         Value::Data(bytes) => Ok(format!(in alloc; "{} bytes", bytes.len())?),
         Value::Dictionary(settings) => Ok(keys_of(alloc, settings)?),
         _ => Err(Failure::NoSetting),

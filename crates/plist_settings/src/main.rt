@@ -116,7 +116,7 @@ fn text_of(alloc: Global, value: &Value) -> Result<String, Failure> {
         Value::Boolean(flag) => Ok(format!(in alloc; "{flag}")?),
         Value::Data(bytes) => Ok(format!(in alloc; "{} bytes", bytes.len())?),
         Value::Date(date) => Ok(format!(in alloc; "second {}", date.unix_secs())?),
-        Value::Real(number) => Ok(format!(in alloc; "{number}")?),
+        Value::Real(number) => Ok(format!(in alloc; "{}", number.to_f64())?),
         Value::Integer(number) => Ok(format!(in alloc; "{number}")?),
         Value::String(text) => Ok(text.clone()?),
         Value::Uid(uid) => Ok(format!(in alloc; "object {}", uid.get())?),

@@ -6,7 +6,8 @@ ghost use Rattle.plist_reader.specs.Reader.{items_of_input};
 ghost use Rattle.plist_uses.specs.Counting.{AreCountedOf, CountsItem, CountsOne, IsRefusedBy, nothing};
 
 use plist::Error;
-use plist::stream::{EventShape, OwnedEvent, Reader, Source};
+use plist::stream::reading::EventShape;
+use plist::stream::{OwnedEvent, Reader, Source};
 use std::alloc::Global;
 
 /// How many arrays, dictionaries, texts and other scalars there are. A dictionary's keys are texts

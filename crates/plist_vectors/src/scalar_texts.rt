@@ -1,8 +1,7 @@
 //! Data as a value, and the refusals of texts.
 
 use crate::support::must;
-use plist_base::{Error, InvalidXmlDate};
-use plist_data::{Data, DecodeError, InvalidXmlData};
+use plist_base::{Data, DecodeError, Error, InvalidXmlData, InvalidXmlDate};
 use std::process::Abort;
 
 #[test]

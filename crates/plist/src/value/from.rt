@@ -110,11 +110,82 @@ impl From<String> for Value {
     }
 }
 
-/// Borrowed content is copied.
-impl<'a, T: Into<Value> + Copy> From<&'a T> for Value {
-    ghost from_gives = { λ lent value. T.Into.converts lent.now value };
+impl<'a> From<&'a bool> for Value {
+    ghost from_gives = { λ lent value. value ≡ made.Boolean lent.now };
 
-    fn from(value: &'a T) -> Value {
-        (*value).into()
+    fn from(value: &'a bool) -> Value {
+        Value::from(*value)
+    }
+}
+
+impl<'a> From<&'a Date> for Value {
+    ghost from_gives = { λ lent value. value ≡ made.Date lent.now };
+
+    fn from(value: &'a Date) -> Value {
+        Value::from(*value)
+    }
+}
+
+impl<'a> From<&'a i64> for Value {
+    ghost from_gives = { λ lent value. value ≡ made.Integer lent.now };
+
+    fn from(value: &'a i64) -> Value {
+        Value::from(*value)
+    }
+}
+
+impl<'a> From<&'a i32> for Value {
+    ghost from_gives = { λ lent value. value ≡ made.Integer lent.now };
+
+    fn from(value: &'a i32) -> Value {
+        Value::from(*value)
+    }
+}
+
+impl<'a> From<&'a i16> for Value {
+    ghost from_gives = { λ lent value. value ≡ made.Integer lent.now };
+
+    fn from(value: &'a i16) -> Value {
+        Value::from(*value)
+    }
+}
+
+impl<'a> From<&'a i8> for Value {
+    ghost from_gives = { λ lent value. value ≡ made.Integer lent.now };
+
+    fn from(value: &'a i8) -> Value {
+        Value::from(*value)
+    }
+}
+
+impl<'a> From<&'a u64> for Value {
+    ghost from_gives = { λ lent value. value ≡ made.Integer (pos lent.now) };
+
+    fn from(value: &'a u64) -> Value {
+        Value::from(*value)
+    }
+}
+
+impl<'a> From<&'a u32> for Value {
+    ghost from_gives = { λ lent value. value ≡ made.Integer (pos lent.now) };
+
+    fn from(value: &'a u32) -> Value {
+        Value::from(*value)
+    }
+}
+
+impl<'a> From<&'a u16> for Value {
+    ghost from_gives = { λ lent value. value ≡ made.Integer (pos lent.now) };
+
+    fn from(value: &'a u16) -> Value {
+        Value::from(*value)
+    }
+}
+
+impl<'a> From<&'a u8> for Value {
+    ghost from_gives = { λ lent value. value ≡ made.Integer (pos lent.now) };
+
+    fn from(value: &'a u8) -> Value {
+        Value::from(*value)
     }
 }

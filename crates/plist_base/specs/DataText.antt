@@ -10,9 +10,9 @@ use Rattle.base64.proofs.OnLiterals.{base64_on_literals}
 use Rattle.base64.specs.declared.decode.DecodeAllocError.{DecodeAllocError}
 use Rattle.base64.specs.declared.decode.DecodeAllocError.TheVariants as decoding
 use Rattle.std.specs.Borrow.{Array, Fml, Lends, MutBor, u8}
-use Rattle.plist_data.specs.contracts.data.Data.{the_row}
-use Rattle.plist_data.specs.declared.data.InvalidXmlData.{InvalidXmlData}
-use Rattle.plist_data.specs.declared.data.InvalidXmlData.TheVariants.{Decode, OutOfMemory}
+use Rattle.plist_base.specs.contracts.data.Data.{the_row}
+use Rattle.plist_base.specs.declared.data.InvalidXmlData.{InvalidXmlData}
+use Rattle.plist_base.specs.declared.data.InvalidXmlData.TheVariants.{Decode, OutOfMemory}
 
 -- data once new bytes are written over its own: just these, since there are as many
 abbrev pub overwritten : (bytes new : List ℕ) → List ℕ

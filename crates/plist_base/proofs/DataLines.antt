@@ -15,12 +15,12 @@ use Rattle.base64.specs.declared.decode.DecodeAllocError.{DecodeAllocError}
 use Rattle.base64.specs.declared.decode.DecodeAllocError.TheVariants as decoding
 use Rattle.std.specs.Result.{result_ok, IfErr, IsErrAnd}
 use Rattle.std.specs.Prelude.{Result, Ok, Err}
-use Rattle.plist_data.specs.declared.data.InvalidXmlData.{InvalidXmlData}
+use Rattle.plist_base.specs.declared.data.InvalidXmlData.{InvalidXmlData}
 use Rattle.std.proofs.lemmas.Bool.{and_parts}
 use Rattle.base64.specs.Rfc4648.{encode_symbols}
 use Rattle.base64.proofs.EngineFacts.{decode_of-encode_of, decode_of_iff, encode_of-append, encode_of-nil}
 use Rattle.base64.proofs.Streams.{decoded_of-ok}
-use Rattle.plist_data.specs.DataText.{bytes_of_line, first_lines, line_count, data_text, without_white, data_of_text, IsFaultOfText, IsNoData, refusal_of_decoding}
+use Rattle.plist_base.specs.DataText.{bytes_of_line, first_lines, line_count, data_text, without_white, data_of_text, IsFaultOfText, IsNoData, refusal_of_decoding}
 
 -- ---- no white space in base64
 

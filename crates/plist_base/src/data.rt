@@ -1,4 +1,4 @@
-//! Data, and its text.
+//! Data of a property list by itself, and its text: lines of base64.
 
 ghost use Rattle.std.specs.Prelude.{◌≡◌, List, ℕ, length, Some, Ok, IfOk, IfErr, OnOk, string_bytes};
 ghost use Rattle.std.specs.Borrow.{sem};
@@ -6,11 +6,11 @@ ghost use Rattle.base64.specs.Engines.{standard};
 ghost use Rattle.base64.specs.GeneralPurpose.{IsBytes, IsDecodeFailure, decode_of, encode_of};
 ghost use Rattle.plist_base.specs.Faults.{OutOfMemory};
 ghost use Rattle.plist_base.specs.Outcomes.{OnlyMemory};
-ghost use Rattle.plist_data.specs.DataText.{IsFaultOfText, IsNoData, data_of_text, data_text, without_white, IsReadWhereSpelled, IsAllNew, GrowsByBytes, LendsBytes};
+ghost use Rattle.plist_base.specs.DataText.{IsFaultOfText, IsNoData, data_of_text, data_text, without_white, IsReadWhereSpelled, IsAllNew, GrowsByBytes, LendsBytes};
 
+use crate::Error;
 use base64::engine::general_purpose::STANDARD;
 use base64::{DecodeAllocError, DecodeError};
-use plist_base::Error;
 use std::alloc::{AllocError, Global};
 use std::fmt;
 use std::marker::Model;
@@ -75,7 +75,7 @@ impl Data {
     ///
     /// # Errors
     ///
-    /// [`plist_base::ErrorKind::OutOfMemory`] if memory runs out.
+    /// [`ErrorKind::OutOfMemory`](crate::ErrorKind::OutOfMemory) if memory runs out.
     pub fn to_xml_format(&self, alloc: Global) -> Result<String, Error>
         ensures text { IfOk result (λ text. string_bytes text ≡ data_text self.now) }
         ensures back { IfOk result (λ text. data_of_text (string_bytes text) ≡ Some self.now) }
@@ -100,11 +100,18 @@ impl Data {
         self.bytes.as_mut_slice()
     }
 
+    /// Returns the bytes, without a copy of them.
+    pub fn into_bytes(self) -> Vec<u8>
+        ensures bytes { result.items ≡ self }
+    {
+        self.bytes
+    }
+
     /// The same bytes again.
     ///
     /// # Errors
     ///
-    /// [`plist_base::ErrorKind::OutOfMemory`] if memory runs out.
+    /// [`ErrorKind::OutOfMemory`](crate::ErrorKind::OutOfMemory) if memory runs out.
     pub fn clone(&self) -> Result<Data, Error>
         ensures same { IfOk result (λ copy. copy ≡ self.now) }
         ensures memory { OnlyMemory result }
@@ -115,7 +122,7 @@ impl Data {
 }
 
 // A text without its white space.
-#[tactic(auto, using(crate::proofs::Lines::spelled))]
+#[tactic(auto, using(crate::proofs::DataLines::spelled))]
 fn dark_bytes(alloc: Global, text: &str) -> Result<Vec<u8>, AllocError>
     ensures bytes { IfOk result (λ dark. dark.items ≡ without_white text.now) }
     ensures spelled { (bytes : List ℕ) → IsBytes bytes → IsReadWhereSpelled text.now bytes }
@@ -173,7 +180,7 @@ impl From<Data> for Vec<u8> {
     ghost from_gives = { λ from bytes. bytes.items ≡ from };
 
     fn from(data: Data) -> Vec<u8> {
-        data.bytes
+        data.into_bytes()
     }
 }
 
@@ -208,7 +215,7 @@ impl fmt::Debug for Data {
 }
 
 impl fmt::Display for InvalidXmlData {
-    ghost use Rattle.plist_data.specs.DataText.{refusal_text};
+    ghost use Rattle.plist_base.specs.DataText.{refusal_text};
 
     ghost output = { λ refusal. Some (refusal_text refusal) };
 
@@ -224,7 +231,7 @@ impl std::error::Error for InvalidXmlData {}
 
 impl From<AllocError> for InvalidXmlData {
     ghost use Rattle.base64.specs.declared.decode.DecodeAllocError.TheVariants.{OutOfMemory as NoMemory};
-    ghost use Rattle.plist_data.specs.DataText.{refusal_of_decoding};
+    ghost use Rattle.plist_base.specs.DataText.{refusal_of_decoding};
 
     ghost from_gives = { λ _ refusal. refusal ≡ refusal_of_decoding NoMemory };
 
@@ -234,7 +241,7 @@ impl From<AllocError> for InvalidXmlData {
 }
 
 impl From<DecodeAllocError> for InvalidXmlData {
-    ghost use Rattle.plist_data.specs.DataText.{refusal_of_decoding};
+    ghost use Rattle.plist_base.specs.DataText.{refusal_of_decoding};
 
     ghost from_gives = { λ error refusal. refusal ≡ refusal_of_decoding error };
 

@@ -1,7 +1,7 @@
 use Rattle.std.proofs.Common.{◌∙◌, Some, ap, sym}
-use Rattle.plist_data.specs.DataText.{IsFaultOfText, IsNoData}
-use Rattle.plist_data.proofs.Lines.{data_decoded, fault_of_text, no_data, refused_as}
-use Rattle.plist_data.proofs.data.Data.from_xml_format.Goals as goal
+use Rattle.plist_base.specs.DataText.{IsFaultOfText, IsNoData}
+use Rattle.plist_base.proofs.DataLines.{data_decoded, fault_of_text, no_data, refused_as}
+use Rattle.plist_base.proofs.data.Data.from_xml_format.Goals as goal
 
 pub returns-in_err-symbols-clause-fault : goal.returns-in_err-symbols-clause-fault
 returns-in_err-symbols-clause-fault c =

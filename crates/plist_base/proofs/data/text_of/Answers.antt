@@ -1,9 +1,9 @@
 use Rattle.std.proofs.Common.{◌∙◌, ◌++◌, ◌*◌, ap, arith, string_bytes}
 use Rattle.base64.specs.Engines.{standard}
 use Rattle.base64.specs.GeneralPurpose.{encode_of}
-use Rattle.plist_data.proofs.Lines.{line-slice, lines-first, lines-next, text_of_lines, written-reads}
-use Rattle.plist_data.proofs.data.text_of.Goals as goal
-use Rattle.plist_data.proofs.data.text_of.Goals.{then-line-gt0+in_ok-push, else-line-gt0}
+use Rattle.plist_base.proofs.DataLines.{line-slice, lines-first, lines-next, text_of_lines, written-reads}
+use Rattle.plist_base.proofs.data.text_of.Goals as goal
+use Rattle.plist_base.proofs.data.text_of.Goals.{then-line-gt0+in_ok-push, else-line-gt0}
 
 pub loop-line-preserved : goal.loop-line-preserved
 loop-line-preserved c =

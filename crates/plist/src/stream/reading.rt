@@ -1,0 +1,7 @@
+//! What a program needs beside the readers: the format of a source, items under limits, and the
+//! traits and types that the readers' contracts name.
+
+pub use plist_ascii::ByteReader;
+pub use plist_base::{Allowance, ByteBudget, EventShape, Limited, read_exact_at};
+pub use plist_binread::{CompactEvent, CountedDecodings, DecodeCounter, Uncounted};
+pub use plist_reader::{Format, format_of};

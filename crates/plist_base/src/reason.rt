@@ -1,0 +1,43 @@
+//! The text of an error, with the reason that the system gave.
+
+use crate::{Error, ErrorKind};
+use std::fmt;
+
+/// An error whose text has the system's reason too. [`Error::reason`] makes one.
+#[derive(Drop)]
+pub struct Reason<'a> {
+    error: &'a Error,
+}
+
+impl Error {
+    ghost use Rattle.std.specs.Prelude.{◌≡◌};
+    ghost use Rattle.plist_base.specs.Reasons.{error_of_reason};
+
+    /// Returns this error for printing with its reason: its kind and its offset, and for a failed
+    /// device what the system said, after a colon. The error's own text leaves that out.
+    ///
+    /// ```text
+    /// Io (offset 4096): Input/output error (os error 5)
+    /// UnknownObjectType(136) (offset 8)
+    /// ```
+    pub fn reason(&self) -> Reason<'_>
+        ensures value { error_of_reason result ≡ self.now }
+    {
+        Reason { error: self }
+    }
+}
+
+/// The text of the error, and after `: ` that of the system's error where there is one.
+impl<'a> fmt::Display for Reason<'a> {
+    ghost use Rattle.plist_base.specs.Reasons.{reason_text};
+
+    ghost output = { reason_text };
+
+    fn fmt<W: fmt::Write>(&self, f: &mut fmt::Formatter<W>) -> fmt::Result {
+        let error = self.error;
+        match error.kind() {
+            ErrorKind::Io(failure) => write!(f, "{error}: {failure}"),
+            _ => write!(f, "{error}"),
+        }
+    }
+}
