@@ -102,10 +102,8 @@ def readers(calls):
     sweep(binary, BINARY, words_of(VALUE), in_binary)
     # three texts have 39 bytes, and the data has more than one
     some = words_of(VALUE)
-    some = some[:some.index("<" + VALUE["list"][3].hex() + ">")] + ["LimitReached(Bytes)"]
-    # short data is decoded before it is counted
-    sweep(["bounded BinaryReader"], BINARY, some,
-          lambda i, item: in_binary(i, item) or item[0] == "L")
+    some = some[:some.index("<" + VALUE["list"][3].hex() + ">")] + [WANT]
+    sweep(["budgeted BinaryReader"], BINARY, some, in_binary)
     # windows that find no memory aren't missed
     calls.sweep("windows", "", "good", set())
     surrogate = ["[2", "'a'", "InvalidUtf16String (offset 13)"]
@@ -170,7 +168,7 @@ def values(calls):
     simple = joined(SIMPLE)
     inputs = [(BINARY, joined(VALUE)), (ASCII, joined(ASCII_VALUE)), (TRUE_FILE, "true"),
               (b"", "UnexpectedEndOfEventStream")]
-    for name in ("from_reader", "from_reader_with_limits", "from_file"):
+    for name in ("from_reader", "from_reader_with_limits", "from_reader_within", "from_file"):
         for content, words in inputs:
             calls.sweep(name, content, words, {WANT})
     calls.sweep("value_of_binary", BINARY, joined(VALUE), {WANT})
@@ -314,11 +312,6 @@ def still_readers(calls):
     fault("337ff0000000000000", 19, "OverflowOrNanDate")
     fault("14" + "ff" * 16, 27, "IntegerOutOfRange")
     fault("13", 11, "ObjectOffsetTooLarge")
-    # a text, data and a wide text of 200 elements, none of which is read into memory
-    for long in ("5f10c8" + "61" * 200, "4f10c8" + "00" * 200, "6f10c8" + "0061" * 200):
-        content = file_of(f"a20102 09 {long} 080b0c", 3, 12 + len(long) // 2)
-        for name in ("later items within ten bytes", "later items of a device within ten bytes"):
-            still(name, content, "true true LimitReached(Bytes)")
 
 
 def refusal(expected, found):

@@ -1,10 +1,11 @@
 #!/usr/bin/env python3
-"""Peak memory of `Value::from_file_with_limits` on files that would make values of far more.
+"""Peak memory of `Value::from_reader_within` on files that would make values of far more.
 
-An array refers to one text again and again: 99,998 times to one of 1 MiB, 100 times to one of 100,000
-bytes, and to a wide text and data. Under limits of 64 collections, 100,000 items and so many bytes each
-has to end in `LimitReached(Bytes)`, and to hold at most 2 MiB beyond these bytes and what an empty array
-takes. At the bound it has a value.
+An array refers to one string again and again: 99,998 times to one of 1 MiB, 100 times to one of 100,000
+bytes, and to a wide string and data. Under limits of 64 collections and 100,000 items and within so many
+bytes each has to end in `OutOfMemory`, and to take at most 2 MiB beyond these bytes, the longest string
+or data of the file, and what an empty array takes. Within the budget it has a value. A wide string is
+read as its units, and then has its bytes in UTF-8 beside them.
 
 Usage: limits.py [PROGRAM]
 
@@ -22,7 +23,7 @@ import speed
 BEYOND = 2 << 20
 CRATES = ("plist_base", "plist_format", "plist_binread", "plist_binwrite", "plist_ascii",
           "plist_pairs", "plist_reader", "plist")
-REACHED = b"LimitReached(Bytes)\n"
+REACHED = b"OutOfMemory\n"
 VALUE = b"a value\n"
 
 
@@ -40,18 +41,22 @@ def shared(content, times):
 
 
 def runs():
-    """A name, a file, how many bytes are allowed, and what the program has to print."""
+    """A name, a file, its longest string or data, how many bytes are allowed, and what has to be printed."""
     text, wide = peak_memory.text, peak_memory.wide_text
-    most = 16 << 20
-    yield "99,998 references to a text of 1 MiB", shared(text(1 << 20), 99_998), most, REACHED
-    yield "99,998 references to data of 1 MiB", shared(data(1 << 20), 99_998), most, REACHED
-    yield "99,998 references to a wide text of 1 MiB", shared(wide(1 << 19), 99_998), most, REACHED
-    yield "99,998 references to a text of 1,015 bytes, 101,073 in all", shared(text(1_015), 99_998), most, REACHED
-    yield "2,000 references to a text of 100,000 bytes", shared(text(100_000), 2_000), 10_000_000, REACHED
-    yield "100 references to a text of 100,000 bytes", shared(text(100_000), 100), 10_000_000, VALUE
-    yield "a text of 64 MiB", shared(text(64 << 20), 1), 1 << 20, REACHED
-    yield "data of 64 MiB", shared(data(64 << 20), 1), 1 << 20, REACHED
-    yield "a wide text of 64 MiB", shared(wide(32 << 20), 1), 1 << 20, REACHED
+    most, mebibyte = 16 << 20, 1 << 20
+    yield "99,998 references to a string of 1 MiB", shared(text(mebibyte), 99_998), mebibyte, most, REACHED
+    yield "99,998 references to data of 1 MiB", shared(data(mebibyte), 99_998), mebibyte, most, REACHED
+    yield ("99,998 references to a wide string of 1 MiB", shared(wide(mebibyte // 2), 99_998),
+           2 * mebibyte, most, REACHED)
+    yield ("99,998 references to a string of 1,015 bytes, 101,073 in all", shared(text(1_015), 99_998), 1_015,
+           most, REACHED)
+    yield ("2,000 references to a string of 100,000 bytes", shared(text(100_000), 2_000), 100_000, 10_000_000,
+           REACHED)
+    yield ("100 references to a string of 100,000 bytes", shared(text(100_000), 100), 100_000, 10_000_000,
+           VALUE)
+    yield "a string of 64 MiB", shared(text(64 << 20), 1), 64 << 20, mebibyte, REACHED
+    yield "data of 64 MiB", shared(data(64 << 20), 1), 64 << 20, mebibyte, REACHED
+    yield "a wide string of 64 MiB", shared(wide(32 << 20), 1), 128 << 20, mebibyte, REACHED
 
 
 def main():
@@ -69,15 +74,16 @@ def main():
             return ended, out.read_bytes()
 
         start = run(peak_memory.container([b"\xa0"]), 0)[0].peak
-        print("| file | bytes allowed | printed | peak beyond an empty array | beyond what is allowed | seconds |")
-        print("|---|---|---|---|---|---|")
-        for shape, file, most, wanted in runs():
+        print("| file | bytes allowed | longest | printed | peak beyond an empty array | beyond both | seconds |")
+        print("|---|---|---|---|---|---|---|")
+        for shape, file, longest, most, wanted in runs():
             ended, printed = run(file, most)
             peak = ended.peak - start
-            fine = printed == wanted and ended.status == 0 and peak <= most + BEYOND
+            beyond = peak - most - longest
+            fine = printed == wanted and ended.status == 0 and beyond <= BEYOND
             bad += not fine
-            print(f"| {shape} | {most:,} | {printed.decode().strip()} | {peak:,} | {max(peak - most, 0):,} | "
-                  f"{ended.seconds:.2f} |{'' if fine else ' OTHERWISE'}")
+            print(f"| {shape} | {most:,} | {longest:,} | {printed.decode().strip()} | {peak:,} | "
+                  f"{max(beyond, 0):,} | {ended.seconds:.2f} |{'' if fine else ' OTHERWISE'}")
         starter.close()
     return 1 if bad else 0
 

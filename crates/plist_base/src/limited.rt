@@ -1,4 +1,4 @@
-//! Items of which no more come than is allowed.
+//! Items as far as they are allowed.
 
 ghost use Rattle.std.specs.Prelude.{◌≡◌, false, OnOk};
 ghost use Rattle.plist_base.specs.Allowances.{AdmitsEvent, Passes, RefusesEvent, iterator_of};
@@ -9,8 +9,8 @@ ghost use Rattle.plist_base.specs.Outcomes.{IfFault};
 
 use crate::{ByteBudget, Error, Event, Limiter, Limits, OwnedEvent};
 
-/// What may still come of a property list: it admits events one after another, up to the first for
-/// which nothing is left.
+/// What is still allowed of a property list: it admits events one after another, up to the first
+/// that isn't allowed.
 ///
 /// A [`Limiter`] counts events and levels, a [`ByteBudget`] the bytes of strings and data.
 pub trait Allowance: Drop {
@@ -18,7 +18,7 @@ pub trait Allowance: Drop {
     ghost use Rattle.plist_base.specs.Events.{Item};
     ghost use Rattle.plist_base.specs.Faults.{Fault};
 
-    // what comes of the items of an iterator
+    // the items that are allowed, of those of an iterator
     ghost lets: { Self → List Item → List Item };
 
     // the faults that may take an event's place
@@ -81,7 +81,7 @@ impl<I> Limited<I, ByteBudget> {
 }
 
 impl<I, A: Allowance> Limited<I, A> {
-    // What comes of an item of the iterator inside.
+    // What is yielded for an item of the iterator inside.
     fn pass(&mut self, item: Result<OwnedEvent, Error>) -> Result<OwnedEvent, Error>
         requires going { self.old.ended ≡ false }
         ensures passes { Passes A.lets A.may_reach self.old.limiter item.entry result

@@ -1,12 +1,13 @@
-//! Proved callers of items under limits.
+//! Proved callers of items as far as they are allowed.
 
 ghost use Rattle.std.specs.Prelude.{◌≡◌, false};
 
-use plist_base::{Error, Limited, OwnedEvent};
+use plist_base::{Allowance, Error, Limited, OwnedEvent};
 
-/// Whether something comes under limits after the `None` of an iterator that may give more.
-pub fn comes_after_none<I: Iterator<Item = Result<OwnedEvent, Error>>>(
-    limited: &mut Limited<I>,
+/// Whether something comes, under limits or within a budget, after the `None` of an iterator that
+/// may give more.
+pub fn comes_after_none<I: Iterator<Item = Result<OwnedEvent, Error>>, A: Allowance>(
+    limited: &mut Limited<I, A>,
 ) -> bool
     requires { (items : I) → I.can_next items }
     ensures { result ≡ false }

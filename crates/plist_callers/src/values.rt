@@ -35,7 +35,11 @@ pub fn value_of_tight(alloc: Global, text: &[u8]) -> Result<Value, Error>
 pub fn shallow_file<R: Files>(rt: &R, alloc: Global, path: &str) -> Result<Value, Error>
     ensures shallow { IfOk result (λ value. NestsWithin (tree_of value) 64) }
 {
-    Value::from_file_with_limits(rt, alloc, path, Limits::new(64, 100_000))
+    let limits = Limits {
+        depth: 64,
+        items: 100_000,
+    };
+    Value::from_file_with_limits(rt, alloc, path, limits)
 }
 
 /// Whether a builder has no value any more once it gave one.

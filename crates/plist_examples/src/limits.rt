@@ -1,14 +1,13 @@
 //! What is read under limits.
 
-use crate::rows::{Row, bytes_given, limits_given, unreadable};
+use crate::rows::{Row, bytes_given, first_number, limits_given, unreadable};
 use plist_base::Limits;
 use plist_binread::BinaryReader;
 use plist_support::{By, Wrong, expect_on_devices, expect_same, words_over};
 use std::alloc::Global;
 
 // The items of these bytes, and of devices over them.
-fn expect(alloc: Global, limits: Limits, bytes: &[u8], items: &str) -> Result<(), Wrong> {
-    let by = By::Limited(limits);
+fn expect(alloc: Global, by: By, bytes: &[u8], items: &str) -> Result<(), Wrong> {
     let found = words_over(alloc, by, bytes, usize::MAX)?;
     expect_same(alloc, found.as_str(), items)?;
     expect_on_devices(alloc, by, bytes, items)
@@ -24,9 +23,16 @@ fn expect_count(alloc: Global, limits: Limits, bytes: &[u8], count: &str) -> Res
     expect_same(alloc, found.as_str(), count)
 }
 
+// The same within a budget of bytes, which is given before the file.
+fn expect_within(alloc: Global, limits: Limits, given: &str, items: &str) -> Result<(), Wrong> {
+    let (most, rest) = first_number(alloc, given)?;
+    let bytes = bytes_given(alloc, rest)?;
+    expect(alloc, By::Within(limits, most), bytes.as_slice(), items)
+}
+
 fn run_check(alloc: Global, row: Row<'_>, limits: Limits, bytes: &[u8]) -> Result<(), Wrong> {
     match row.check {
-        "limited" | "bounded" => expect(alloc, limits, bytes, row.wanted),
+        "limited" => expect(alloc, By::Limited(limits), bytes, row.wanted),
         "counted" => expect_count(alloc, limits, bytes, row.wanted),
         _ => unreadable(alloc, row.check),
     }
@@ -34,7 +40,10 @@ fn run_check(alloc: Global, row: Row<'_>, limits: Limits, bytes: &[u8]) -> Resul
 
 /// An example of what is read under limits: these and the bytes are given.
 pub(crate) fn run(alloc: Global, row: Row<'_>) -> Result<(), Wrong> {
-    let (limits, rest) = limits_given(alloc, row.check == "bounded", row.given)?;
+    let (limits, rest) = limits_given(alloc, row.given)?;
+    if row.check == "within" {
+        return expect_within(alloc, limits, rest, row.wanted);
+    }
     let bytes = bytes_given(alloc, rest)?;
     run_check(alloc, row, limits, bytes.as_slice())
 }

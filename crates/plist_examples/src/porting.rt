@@ -1,17 +1,15 @@
 //! Calls that go by a file's name under limits, values taken apart, and the texts of reals.
 
-use crate::rows::{Row, first_number, unreadable};
+use crate::rows::{Row, limits_given, unreadable};
 use crate::words::{value_of, words_of_answer};
-use plist::{Limits, RealBits, Value, Variant};
+use plist::{RealBits, Value, Variant};
 use plist_support::{Wrong, expect_same};
 use std::alloc::Global;
 use std::rt::Files;
 
-// What comes of a file under limits: the depth, how many items, and the file's name are given.
+// What comes of a file under limits: these and the file's name are given.
 fn words_in_file<R: Files>(rt: &R, alloc: Global, given: &str) -> Result<String, Wrong> {
-    let (depth, rest) = first_number(alloc, given)?;
-    let (items, path) = first_number(alloc, rest)?;
-    let limits = Limits::new(depth, items);
+    let (limits, path) = limits_given(alloc, given)?;
     let answer = Value::from_file_with_limits(rt, alloc, path, limits);
     Ok(words_of_answer(alloc, &answer)?)
 }

@@ -92,20 +92,22 @@ pub(crate) fn bytes_given(alloc: Global, given: &str) -> Result<Vec<u8>, Wrong> 
     }
 }
 
-// The limits that are given, and what is given after them: the depth, how many items, and, where
-// they are `bounded`, how many bytes of texts and data.
-pub(crate) fn limits_given<'a>(
-    alloc: Global,
-    bounded: bool,
-    given: &'a str,
-) -> Result<(Limits, &'a str), Wrong> {
-    let (depth, rest) = first_number(alloc, given)?;
-    let (items, rest) = first_number(alloc, rest)?;
-    let limits = Limits::new(depth, items);
-    if !bounded {
-        return Ok((limits, rest));
-    }
-    let (bytes, rest) = first_number(alloc, rest)?;
-    let bytes = Some(bytes);
-    Ok((Limits { bytes, ..limits }, rest))
+// The depth and the items of limits that are written as a program writes them, and what stands
+// after them.
+fn parts_of_limits(text: &str) -> Option<(&str, &str, &str)> {
+    let (depth, rest) = text
+        .strip_prefix("Limits { depth: ")?
+        .split_once(", items: ")?;
+    let (items, rest) = rest.split_once(" } ")?;
+    Some((depth, items, rest))
+}
+
+// The limits that are given, and what is given after them.
+pub(crate) fn limits_given(alloc: Global, given: &str) -> Result<(Limits, &str), Wrong> {
+    let Some((depth, items, rest)) = parts_of_limits(given) else {
+        return unreadable(alloc, given);
+    };
+    let (depth, _) = first_number(alloc, depth)?;
+    let (items, _) = first_number(alloc, items)?;
+    Ok((Limits { depth, items }, rest))
 }

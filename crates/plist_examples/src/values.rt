@@ -1,6 +1,6 @@
 //! Values: what is read as them, which are equal, and what is built of events.
 
-use crate::rows::{Row, bytes_given, limits_given, unreadable};
+use crate::rows::{Row, bytes_given, first_number, limits_given, unreadable};
 use crate::words::{value_of, words_of_answer};
 use crate::writes::expect_done;
 use plist::{Builder, Dialect, Value};
@@ -86,9 +86,18 @@ fn expect_converted(alloc: Global, bytes: &[u8], wanted: &str) -> Result<(), Wro
 
 // Under limits: these and the bytes are given.
 fn expect_limited(alloc: Global, row: Row<'_>) -> Result<(), Wrong> {
-    let (limits, rest) = limits_given(alloc, row.check == "bounded value", row.given)?;
+    let (limits, rest) = limits_given(alloc, row.given)?;
     let bytes = bytes_given(alloc, rest)?;
     let answer = Value::from_reader_with_limits(alloc, bytes.as_slice(), limits);
+    expect(alloc, &answer, row.wanted)
+}
+
+// The same within a budget of bytes, which is given before the file.
+fn expect_within(alloc: Global, row: Row<'_>) -> Result<(), Wrong> {
+    let (limits, rest) = limits_given(alloc, row.given)?;
+    let (most, rest) = first_number(alloc, rest)?;
+    let bytes = bytes_given(alloc, rest)?;
+    let answer = Value::from_reader_within(alloc, bytes.as_slice(), limits, most);
     expect(alloc, &answer, row.wanted)
 }
 
@@ -181,7 +190,8 @@ pub(crate) fn run(alloc: Global, row: Row<'_>) -> Result<(), Wrong> {
         "kind" => expect_kinds(alloc, row.given, row.wanted),
         "collected" => expect_collected(alloc, row.given, row.wanted),
         "built" => expect_built(alloc, row.given, row.wanted),
-        "value under limits" | "bounded value" => expect_limited(alloc, row),
+        "value under limits" => expect_limited(alloc, row),
+        "value within" => expect_within(alloc, row),
         _ => {
             let bytes = bytes_given(alloc, row.given)?;
             run_read(alloc, row.check, bytes.as_slice(), row.wanted)

@@ -40,11 +40,17 @@ fn opened<R: Files + AllocGlobal>(rt: &R, alloc: Global, name: &str) -> Result<V
         "from_file" => Ok(Value::from_file(rt, alloc, FILE)?),
         "a missing file" => Ok(Value::from_file(rt, alloc, "missing.plist")?),
         "a stranger's file" => {
-            let limits = Limits::new(3, 100);
+            let limits = Limits {
+                depth: 3,
+                items: 100,
+            };
             Ok(Value::from_file_with_limits(rt, alloc, FILE, limits)?)
         }
         "a deep file" => {
-            let limits = Limits::new(1, 100);
+            let limits = Limits {
+                depth: 1,
+                items: 100,
+            };
             Ok(Value::from_file_with_limits(rt, alloc, FILE, limits)?)
         }
         "from_reader of bytes" => {

@@ -5,7 +5,7 @@ use crate::device::{Device, DeviceFault, expect_cut};
 use crate::words::words_of;
 use crate::wrong::{Wrong, fail};
 use plist_ascii::{AsciiReader, Dialect};
-use plist_base::{Limits, Sequential, Source};
+use plist_base::{Limited, Limits, Sequential, Source};
 use plist_binread::BinaryReader;
 use plist_reader::Reader;
 use std::alloc::{AllocError, Global};
@@ -16,6 +16,8 @@ use std::io::{ErrorKind, Read};
 pub enum By {
     Binary,
     Limited(Limits),
+    /// Under limits, within a budget of bytes of strings and data.
+    Within(Limits, u64),
     Ascii,
     Tight,
     /// ASCII from a source that is read from its front on.
@@ -39,6 +41,10 @@ pub fn words_over<S: Source + Read>(
         By::Limited(limits) => {
             let reader = BinaryReader::with_limits(alloc, source, limits);
             words_of(alloc, reader.take(most))
+        }
+        By::Within(limits, bytes) => {
+            let reader = BinaryReader::with_limits(alloc, source, limits);
+            words_of(alloc, Limited::within_bytes(reader, bytes).take(most))
         }
         By::Ascii => words_of(alloc, AsciiReader::new(alloc, source).take(most)),
         By::Tight => {

@@ -129,7 +129,7 @@ fn opens_no_file_again(rt: HostRuntime) {
         };
         assert!(rt; Value::from_file(&watched, rt.alloc(), path).is_err());
         assert_eq!(rt; opened.get(), 1);
-        let limits = Limits::new(9, 9);
+        let limits = Limits { depth: 9, items: 9 };
         assert!(rt; Value::from_file_with_limits(&watched, rt.alloc(), path, limits).is_err());
         assert_eq!(rt; opened.get(), 2);
         assert!(rt; convert_file(&watched, rt.alloc(), path, "no_such_folder/out").is_err());

@@ -2,7 +2,7 @@
 
 ghost use Rattle.std.specs.Prelude.{◌≤◌, ◌^◌, IfOk, length};
 ghost use Rattle.plist_base.specs.Bracketing.{bracketing};
-ghost use Rattle.plist_base.specs.Limits.{total_bytes};
+ghost use Rattle.plist_base.specs.Budgets.{total_bytes};
 ghost use Rattle.plist.specs.Collecting.{built_tree};
 ghost use Rattle.plist.specs.ValueOfItems.{IsValueOf};
 ghost use Rattle.plist.specs.Limiting.{NestsWithin};
@@ -13,13 +13,13 @@ use plist::{Error, Limits, Value};
 use std::alloc::Global;
 
 /// The value of bytes that anyone may have sent: at most 64 collections within one another, at most
-/// 100,000 events, and at most 16 MiB of texts and data, whatever the bytes say. So no file costs
+/// 100,000 events, and at most 16 MiB of strings and data, whatever the bytes say. So no file costs
 /// more memory than these take, or more of the call stack than 64 levels where the value is
 /// dropped, compared or copied.
 ///
 /// # Errors
 ///
-/// Those of [`Value::from_reader_with_limits`].
+/// Those of [`Value::from_reader_within`].
 pub fn read_upload(alloc: Global, bytes: &[u8]) -> Result<Value, Error>
     ensures value { IsValueOf (items_of_upload bytes.now) (built_tree result) }
     ensures shallow { IfOk result (λ value. NestsWithin (tree_of value) 64) }
@@ -29,7 +29,6 @@ pub fn read_upload(alloc: Global, bytes: &[u8]) -> Result<Value, Error>
     let limits = Limits {
         depth: 64,
         items: 100_000,
-        bytes: Some(1 << 24),
     };
-    Value::from_reader_with_limits(alloc, bytes, limits)
+    Value::from_reader_within(alloc, bytes, limits, 1 << 24)
 }

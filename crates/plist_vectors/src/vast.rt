@@ -1,4 +1,4 @@
-//! A file that no memory holds, and what limits make of it.
+//! A file that no memory holds.
 
 ghost use Rattle.std.specs.Prelude.{None};
 
@@ -54,17 +54,13 @@ impl Source for Vast {
     }
 }
 
-// Data that is too long is refused before memory for it is asked for.
+// Data for which there is no memory ends a reader, under limits that allow it too.
 #[test]
-fn refuses_data_before_memory_is_taken(rt: HostRuntime) {
-    let bytes = Some(1 << 20);
-    let limits = Limits {
-        bytes,
-        ..Limits::new(9, 9)
-    };
+fn ends_where_no_memory_is_found(rt: HostRuntime) {
+    let limits = Limits { depth: 9, items: 9 };
     let limited = BinaryReader::with_limits(rt.alloc(), Vast, limits);
     let found = must(&rt, words_of(rt.alloc(), limited));
-    assert_eq!(rt; found.as_str(), "LimitReached(Bytes)");
+    assert_eq!(rt; found.as_str(), "OutOfMemory");
     let found = must(
         &rt,
         words_of(rt.alloc(), BinaryReader::new(rt.alloc(), Vast)),
@@ -72,15 +68,11 @@ fn refuses_data_before_memory_is_taken(rt: HostRuntime) {
     assert_eq!(rt; found.as_str(), "OutOfMemory");
 }
 
-// So it is where a value is read under limits.
+// So it is where a value is read.
 #[test]
-fn a_value_is_refused_as_early(rt: HostRuntime) {
-    let bytes = Some(1 << 20);
-    let limits = Limits {
-        bytes,
-        ..Limits::new(9, 9)
-    };
-    let found = Value::from_reader_with_limits(rt.alloc(), Vast, limits);
-    expect_value(&rt, found, "LimitReached(Bytes)");
+fn no_value_is_read(rt: HostRuntime) {
+    let limits = Limits { depth: 9, items: 9 };
+    let found = Value::from_reader_within(rt.alloc(), Vast, limits, 1 << 20);
+    expect_value(&rt, found, "OutOfMemory");
     expect_value(&rt, Value::from_reader(rt.alloc(), Vast), "OutOfMemory");
 }
