@@ -1,7 +1,7 @@
 //! The idioms of `docs/PORTING.md` on the Rust crate `plist`, each run once, on `settings.plist`
 //! where it wants a file. It prints the lines of `crates/plist_settings/stdout` that have bars, in
-//! another order, but for limits, formats and ASCII, which this version hasn't, and for a missing
-//! file, of which it tells more. `crates/plist_settings/src/idioms.rt` is its port.
+//! another order, but for limits, dialects, formats and ASCII, which this version hasn't, and for a
+//! missing file, of which it tells more. `crates/plist_settings/src/idioms.rt` is its port.
 //!
 //! Built with version 1.3.1 and its feature
 //! `enable_unstable_features_that_may_break_with_minor_version_bumps`.

@@ -14,6 +14,8 @@ PRELUDE = set("""Self Option Some None Result Ok Err Vec String Box Iterator Int
 Drop Copy Clone PartialEq Eq PartialOrd Ord ExactSizeIterator Fn FnMut FnOnce Default AsRef AsMut
 AllocGlobal HostRuntime Debug Display Hash Send Sync Sized TryFrom TryInto Extend FromIterator
 ToString""".split())
+# What only the crates below implement; `plist_base` has it.
+SEALED = {"Sealed"}
 NAME = re.compile(r"\b[A-Z]\w*\b")
 
 
@@ -100,7 +102,7 @@ def main():
     names, whole_files = passed_on(sources)
     missing = set()
     for name, text in sources.items():
-        known = PRELUDE | names | imported(text, True)
+        known = PRELUDE | SEALED | names | imported(text, True)
         own = set(re.findall(r"(?:struct|enum|trait|type) (\w+)", text)) | imported(text, False)
         for head, signature in signatures(text, names, name in whole_files):
             wanted = set(NAME.findall(signature)) & own

@@ -13,7 +13,7 @@ use Rattle.plist_ascii.specs.Unread.{IfKnown}
 use Rattle.plist_base.specs.declared.source.Source.{Ghosts}
 use Rattle.plist_binread.specs.declared.reader.BinaryReader.{BinaryReader}
 use Rattle.plist_format.specs.Unfolding.{items_of_file}
-use Rattle.plist_reader.specs.Reader.{items_of_input}
+use Rattle.plist_reader.specs.Reader.{items_of_dialect}
 use Rattle.plist_reader.specs.Formats.{input_front, format_of}
 use Rattle.plist_reader.proofs.AsciiGiving.{ascii-goes}
 use Rattle.plist.specs.declared.stream.events.Events.{Events}
@@ -173,14 +173,14 @@ begins-binary : (file rest : List ℕ) → file ≡ magic ++ rest → format_of 
 unfolding format_of
 begins-binary file rest e = ap format_of e
 
-input-is : (tree : Tree) (file : List ℕ) → IsWrittenAs tree file
-    → items_of_input file ≡ map Ok (bracketing tree)
-input-is tree file w = cc (begins-binary file _ w.is)
+input-is : (dialect : Dialect) (tree : Tree) (file : List ℕ) → IsWrittenAs tree file
+    → items_of_dialect dialect file ≡ map Ok (bracketing tree)
+input-is dialect tree file w = cc (begins-binary file _ w.is)
 
-pub reads-back : (k : Option (List ℕ)) (answer : Result Tree Fault)
-    → IfSome k (λ bytes. IsValueOf (items_of_input bytes) answer)
+pub reads-back : (dialect : Dialect) (k : Option (List ℕ)) (answer : Result Tree Fault)
+    → IfSome k (λ bytes. IsValueOf (items_of_dialect dialect bytes) answer)
     → IfSome k (λ bytes. ReadsBack bytes answer)
-reads-back None answer h = tt
-reads-back (Some file) answer h =
-    λ value w. back (tree_of value) (items_of_input file) answer (itself value)
-    (input-is (tree_of value) file w) h
+reads-back dialect None answer h = tt
+reads-back dialect (Some file) answer h =
+    λ value w. back (tree_of value) (items_of_dialect dialect file) answer (itself value)
+    (input-is dialect (tree_of value) file w) h

@@ -17,19 +17,26 @@ use Rattle.plist_ascii.specs.AsciiReader as ascii
 use Rattle.plist_ascii.specs.AsciiReader.{untaken_bytes, dialect_of, device_of, peeked_byte, place_of, readable}
 use Rattle.plist_ascii.specs.declared.reader.AsciiReader.{AsciiReader}
 use Rattle.plist_ascii.specs.declared.dialect.Dialect.{Dialect}
+use Rattle.plist_ascii.specs.declared.dialect.Dialect.TheVariants.{Lax}
 use Rattle.plist_reader.specs.Formats.{input_front}
 use Rattle.plist_reader.specs.declared.reader.Reader.{Reader}
-use Rattle.plist_reader.specs.Reader.{Gives, FaultHasOffset, IsReaderFault, items_of_input, limited_input, reader_source, reader_items}
+use Rattle.plist_reader.specs.Reader.{Gives, FaultHasOffset, IsReaderFault, items_of_dialect, limited_input, reader_source, reader_items}
 use Rattle.plist.specs.Collecting.{Collects}
 
--- the answer comes of the run of a reader that holds this very source and has all its items to give
-abbrev pub IsReadByReader : {R : Type 0} (known : R → Option (List ℕ)) (failed : R → ℕ) (source : R)
-    → Result Tree Fault → Type 0
-IsReadByReader {R} known failed source answer =
+-- the answer comes of the run of a reader that holds this very source and has all its items to give,
+-- in ASCII those of this dialect
+abbrev pub IsReadInDialect : {R : Type 0} → Dialect → (known : R → Option (List ℕ))
+    (failed : R → ℕ) (source : R) → Result Tree Fault → Type 0
+IsReadInDialect {R} dialect known failed source answer =
     (reader : Reader R (record { known = known; failures = failed }))
     × (reader_source reader ≡ Some source)
-    × (reader_items known reader ≡ option_map items_of_input (known source))
+    × (reader_items known reader ≡ option_map (items_of_dialect dialect) (known source))
     × Collects event_of (Gives known failed) reader answer
+
+-- the same in the lax dialect
+abbrev pub IsReadByReader : {R : Type 0} (known : R → Option (List ℕ)) (failed : R → ℕ) (source : R)
+    → Result Tree Fault → Type 0
+IsReadByReader known failed source answer = IsReadInDialect Lax known failed source answer
 
 -- the items of an input under these limits, whose strings and data have at most so many bytes
 abbrev pub budgeted_input : Limits → (bytes : ℕ) → List ℕ → List Item
@@ -96,10 +103,10 @@ IfOpened F answer P =
     (answer ≡ Err (fault_nowhere Io))
     ⊎ ((source : Seeking F) × (failures_of source ≡ 0) × P source)
 
--- the answer comes of a file
-abbrev pub IsReadFromFile : (F : Type 0) → Result Tree Fault → Type 0
-IsReadFromFile F answer =
-    IfOpened F answer (λ source. IsReadByReader (λ _. None) failures_of source answer)
+-- the answer comes of a file, which in ASCII is of this dialect
+abbrev pub IsReadFromFile : (F : Type 0) → Dialect → Result Tree Fault → Type 0
+IsReadFromFile F dialect answer =
+    IfOpened F answer (λ source. IsReadInDialect dialect (λ _. None) failures_of source answer)
 
 -- the same under these limits
 abbrev pub IsReadFromFileWithin : (F : Type 0) → Limits → Result Tree Fault → Type 0

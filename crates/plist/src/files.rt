@@ -13,6 +13,7 @@ ghost use Rattle.plist.specs.Stored.{IsUnstored};
 ghost use Rattle.plist.specs.ValueTrees.{tree_of};
 
 use crate::Value;
+use plist_ascii::Dialect;
 use plist_base::{Error, ErrorKind, Limits, Seeking};
 use std::alloc::Global;
 use std::fs::OpenFile;
@@ -114,11 +115,33 @@ impl Value {
     ///   which the fault's text leaves out.
     /// - Those of [`Value::from_reader`].
     pub fn from_file<R: Files>(rt: &R, alloc: Global, path: &str) -> Result<Value, Error>
-        ensures read { IsReadFromFile R.File (built_tree result) }
+        ensures read { IsReadFromFile R.File Dialect.Lax (built_tree result) }
+        ensures fault { IfFault result (IsFileFault false) }
+    {
+        Value::from_file_with_dialect(rt, alloc, path, Dialect::Lax)
+    }
+
+    /// Like [`Value::from_file`], but reads a file in ASCII in this dialect. Files that other
+    /// programs write with a value a line, without quotes or `;` between, are read by
+    /// [`Dialect::Tight`].
+    ///
+    /// # Errors
+    ///
+    /// Those of [`Value::from_file`].
+    pub fn from_file_with_dialect<R: Files>(
+        rt: &R,
+        alloc: Global,
+        path: &str,
+        dialect: Dialect,
+    ) -> Result<Value, Error>
+        ensures read { IsReadFromFile R.File dialect (built_tree result) }
         ensures fault { IfFault result (IsFileFault false) }
     {
         match fs::open(rt, path) {
-            Ok(file) => Value::from_reader(alloc, Seeking::with_windows(alloc, file)),
+            Ok(file) => {
+                let source = Seeking::with_windows(alloc, file);
+                Value::from_reader_with_dialect(alloc, source, dialect)
+            }
             Err(failure) => Err(ErrorKind::Io(failure).without_position()),
         }
     }

@@ -7,10 +7,10 @@ ghost use Rattle.plist.specs.Collecting.{built_tree};
 ghost use Rattle.plist.specs.Accessors.{array_in, data_in, dictionary_in, text_in};
 ghost use Rattle.plist.specs.ValueOfItems.{AnswersIterable, CollectsIterable, ReadsItems, DetermineTrees};
 ghost use Rattle.plist_pairs.specs.Bulk.{IterableEnds};
-ghost use Rattle.plist.specs.FromReader.{IsReadByReader, IsReadWithin, IsReadWithinBudget, IsReadAsAscii, IsReadingFault, budgeted_input, items_of_text};
+ghost use Rattle.plist.specs.FromReader.{IsReadByReader, IsReadInDialect, IsReadWithin, IsReadWithinBudget, IsReadAsAscii, IsReadingFault, budgeted_input, items_of_text};
 ghost use Rattle.plist.specs.ReadingBack.{ReadsBackIn};
 ghost use Rattle.plist_ascii.specs.Texts.{ends_bare, lax_stops};
-ghost use Rattle.plist_reader.specs.Reader.{items_of_input, limited_input};
+ghost use Rattle.plist_reader.specs.Reader.{items_of_dialect, items_of_input, limited_input};
 ghost use Rattle.plist_base.specs.Outcomes.{IfFault, OnlyMemory};
 ghost use Rattle.plist_base.specs.Trees.{Leaf, String};
 ghost use Rattle.plist.specs.LastWins.{AreLastValues, TreePairs, last_values, last_wins};
@@ -216,6 +216,10 @@ impl Value {
     /// Value::from_reader(alloc, Seeking::new(file))
     /// ```
     ///
+    /// ASCII is read in the lax dialect, in which a bare text doesn't end at a line end: a file
+    /// with one value a line and no `;` or quotes between gives other texts than it seems to.
+    /// [`Value::from_reader_with_dialect`] reads such files.
+    ///
     /// # Errors
     ///
     /// - The first fault of the source's items: those of [`Reader`].
@@ -229,7 +233,25 @@ impl Value {
         ensures fault { IfFault result (IsReadingFault false) }
         ensures reads_back { ReadsBackIn (R.known source) result }
     {
-        let reader = Reader::new(alloc, source);
+        Value::from_reader_with_dialect(alloc, source, Dialect::Lax)
+    }
+
+    /// Like [`Value::from_reader`], but reads a source in ASCII in this dialect.
+    ///
+    /// # Errors
+    ///
+    /// Those of [`Value::from_reader`].
+    pub fn from_reader_with_dialect<R: Source>(
+        alloc: Global,
+        source: R,
+        dialect: Dialect,
+    ) -> Result<Value, Error>
+        ensures value { ReadsItems (items_of_dialect dialect) (R.known source) result }
+        ensures read { IsReadInDialect dialect R.known R.failures source (built_tree result) }
+        ensures fault { IfFault result (IsReadingFault false) }
+        ensures reads_back { ReadsBackIn (R.known source) result }
+    {
+        let reader = Reader::with_dialect(alloc, source, dialect);
         collect(alloc, reader)
     }
 

@@ -1,10 +1,11 @@
 //! Proved callers of faults: what a fault says of itself.
 
-ghost use Rattle.std.specs.Prelude.{◌≡◌, MatchResult, None, Ok, Some, false, true};
+ghost use Rattle.std.specs.Prelude.{◌≡◌, IfOk, MatchResult, None, Ok, Some, false, string_bytes, true};
 ghost use Rattle.std.specs.IoError.{error_kind};
-ghost use Rattle.plist_base.specs.Faults.{InvalidMagic, fault_at, fault_of};
+ghost use Rattle.plist_base.specs.Faults.{InvalidMagic, fault_at, fault_of, fault_text};
 
 use plist_base::{Error, ErrorKind};
+use std::alloc::{AllocError, Global};
 use std::io;
 
 /// Whether the input ended too early, whether a device failed, and where: of an early end.
@@ -39,6 +40,25 @@ pub fn failure_again(failure: io::Error, place: u64) -> Result<io::Error, Error>
     ensures { result ≡ Ok failure }
 {
     ErrorKind::Io(failure).with_byte_offset(place).into_io()
+}
+
+/// A device's failure, by way of the error that `?` makes of it.
+pub fn failure_passed_on(failure: io::Error) -> Result<io::Error, Error>
+    ensures { result ≡ Ok failure }
+{
+    Error::from(failure).into_io()
+}
+
+/// The text of an error with its reason, where no device failed.
+///
+/// # Errors
+///
+/// Lack of memory.
+pub fn text_with_reason(alloc: Global, place: u64) -> Result<String, AllocError>
+    ensures { IfOk result (λ text. string_bytes text ≡ fault_text (fault_at InvalidMagic place)) }
+{
+    let error = ErrorKind::InvalidMagic.with_byte_offset(place);
+    error.reason().to_string(alloc)
 }
 
 /// A fault that isn't a device's, which stays itself.

@@ -4,7 +4,7 @@
 ghost use Rattle.std.specs.Prelude.{◌≡◌, Err, IfOk, IfSome, false, true};
 ghost use Rattle.plist_ascii.specs.Texts.{tight_stops};
 ghost use Rattle.plist_base.specs.Faults.{WriterFailed, fault_nowhere};
-ghost use Rattle.plist_reader.specs.Reader.{items_of_input};
+ghost use Rattle.plist_reader.specs.Reader.{items_of_dialect, items_of_input};
 ghost use Rattle.plist.specs.Collecting.{built_tree};
 ghost use Rattle.plist.specs.ValueOfItems.{IsValueOf};
 ghost use Rattle.plist.specs.Limiting.{NestsWithin};
@@ -22,6 +22,13 @@ pub fn value_of_bytes(alloc: Global, bytes: &[u8]) -> Result<Value, Error>
     ensures value { IsValueOf (items_of_input bytes.now) (built_tree result) }
 {
     Value::from_reader(alloc, bytes)
+}
+
+/// The same, in ASCII of the tight dialect.
+pub fn value_of_tight_bytes(alloc: Global, bytes: &[u8]) -> Result<Value, Error>
+    ensures value { IsValueOf (items_of_dialect Dialect.Tight bytes.now) (built_tree result) }
+{
+    Value::from_reader_with_dialect(alloc, bytes, Dialect::Tight)
 }
 
 /// The value of an ASCII property list in the tight dialect.

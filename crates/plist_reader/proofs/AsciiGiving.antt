@@ -23,11 +23,11 @@ use Rattle.plist_ascii.specs.Ascii.{items_of_ascii, items_in, BeginsWithText}
 use Rattle.plist_ascii.specs.AsciiReader as ascii
 use Rattle.plist_ascii.specs.Kinds.{IsAsciiFault, IsAsciiItem, IsFaultOfBytes}
 use Rattle.plist_ascii.specs.Incoming as incoming
-use Rattle.plist_ascii.specs.declared.dialect.Dialect.TheVariants.{Lax}
-use Rattle.plist_ascii.specs.Texts.{lax_stops, ends_bare}
+use Rattle.plist_ascii.specs.declared.dialect.Dialect.{Dialect}
+use Rattle.plist_ascii.specs.Texts.{ends_bare}
 use Rattle.plist_reader.specs.declared.reader.State.{State}
 use Rattle.plist_reader.specs.declared.reader.State.TheVariants as state
-use Rattle.plist_reader.specs.Reader.{MatchText, AsciiReaderOf, AsciiGives, state_items, input_within, items_by, items_of_input, ascii_items_to_come, GivesItem, GivesIfKnown, EndsAfter, IsReaderFault, IsReaderItem, StateGives, ItemHasOffset, FaultHasOffset, MatchOffset}
+use Rattle.plist_reader.specs.Reader.{MatchText, AsciiReaderOf, AsciiGives, state_items, input_within, items_in_format, items_of_dialect, ascii_items_to_come, GivesItem, GivesIfKnown, EndsAfter, IsReaderFault, IsReaderItem, StateGives, ItemHasOffset, FaultHasOffset, MatchOffset}
 use Rattle.plist_reader.specs.declared.format.Format.TheVariants as format
 use Rattle.plist_reader.specs.Formats.{format_of, input_front}
 use Rattle.plist_reader.proofs.Giving.{Given, chosen-gives, one-remain, text-or-all}
@@ -139,13 +139,14 @@ counted-failures a b (Some (Err error)) h =
 take-twice : (bytes : List ℕ) → input_front (input_front bytes) ≡ input_front bytes
 take-twice bytes = take-take (2 ^ 64 - 1) (2 ^ 64 - 1) bytes (omega arith)
 
-ascii-items : (k l : Option (List ℕ)) → l ≡ k → IfSome k (λ bytes. format.Ascii ≡ format_of bytes)
-    → option_map (λ bytes. items_of_ascii lax_stops bytes 0)
+ascii-items : (dialect : Dialect) (k l : Option (List ℕ)) → l ≡ k
+    → IfSome k (λ bytes. format.Ascii ≡ format_of bytes)
+    → option_map (λ bytes. items_of_ascii (ends_bare dialect) bytes 0)
     (option_map input_front (option_map (λ bytes. [] ++ from_place 0 bytes) l))
-    ≡ option_map items_of_input k
-ascii-items None l e is = rw e refl
-ascii-items (Some bytes) l e is =
-    rw (e, take-twice bytes) (ap (λ f. Some (items_by f bytes)) is)
+    ≡ option_map (items_of_dialect dialect) k
+ascii-items dialect None l e is = rw e refl
+ascii-items dialect (Some bytes) l e is =
+    rw (e, take-twice bytes) (ap (λ f. Some (items_in_format dialect f bytes)) is)
 
 -- ---- under limits
 
@@ -235,29 +236,30 @@ module _ (now : Bool) (old new : Limiter) where
   passes-ends (Some (Err fault)) (Some given) p = rw p.0 (text-or-all _ (now ≡ true) p.1)
 
 -- a reader of ASCII that has given nothing has all items of its source to give
-fresh-text : {R : Type 0} (known : R → Option (List ℕ)) (source : R) (sequence : SourceBytes R) (reader : AsciiReaderOf R)
+fresh-text : {R : Type 0} (known : R → Option (List ℕ)) (dialect : Dialect) (source : R) (sequence : SourceBytes R) (reader : AsciiReaderOf R)
     → stream_source sequence ≡ source → stream_place sequence ≡ 0 → held sequence ≡ []
     → IfSome (known source) (λ bytes. format.Ascii ≡ format_of bytes)
     → ascii.untaken_bytes (stream_bytes_left known) reader
     ≡ option_map input_front (stream_bytes_left known sequence)
-    → ascii.place_of reader ≡ 0 → ascii.dialect_of reader ≡ Lax
-    → ascii_items_to_come known reader ≡ option_map items_of_input (known source)
-fresh-text known source sequence reader from at none is bytes place dialect =
+    → ascii.place_of reader ≡ 0 → ascii.dialect_of reader ≡ dialect
+    → ascii_items_to_come known reader ≡ option_map (items_of_dialect dialect) (known source)
+fresh-text known dialect source sequence reader from at none is bytes place chosen =
     ap (λ d. option_map (λ b. items_of_ascii (ends_bare d) b (ascii.place_of reader))
-    (ascii.untaken_bytes (stream_bytes_left known) reader)) dialect
-    ∙ (λ i. option_map (λ b. items_of_ascii lax_stops b (place i)) (bytes i))
-    ∙ ap (λ p. option_map (λ b. items_of_ascii lax_stops b 0)
+    (ascii.untaken_bytes (stream_bytes_left known) reader)) chosen
+    ∙ (λ i. option_map (λ b. items_of_ascii (ends_bare dialect) b (place i)) (bytes i))
+    ∙ ap (λ p. option_map (λ b. items_of_ascii (ends_bare dialect) b 0)
     (option_map input_front (option_map (λ bytes. held sequence ++ from_place p bytes)
     (known (stream_source sequence))))) at
-    ∙ ap (λ w. option_map (λ b. items_of_ascii lax_stops b 0)
+    ∙ ap (λ w. option_map (λ b. items_of_ascii (ends_bare dialect) b 0)
     (option_map input_front (option_map (λ bytes. w ++ from_place 0 bytes)
     (known (stream_source sequence))))) none
-    ∙ ascii-items _ (known (stream_source sequence)) (ap known from) is
+    ∙ ascii-items dialect _ (known (stream_source sequence)) (ap known from) is
 
-joined : (limits : Limits) (k : Option (List ℕ)) → option_map (limited_items limits)
-    (option_map items_of_input k) ≡ option_map (input_within (Some limits)) k
-joined limits None = refl
-joined limits (Some bytes) = refl
+joined : (limits : Limits) (dialect : Dialect) (k : Option (List ℕ))
+    → option_map (limited_items limits) (option_map (items_of_dialect dialect) k)
+    ≡ option_map (input_within dialect (Some limits)) k
+joined limits dialect None = refl
+joined limits dialect (Some bytes) = refl
 
 module _ {R : Type 0} {g : Ghosts R} (known : R → Option (List ℕ)) (failed : R → ℕ) where
   pub ascii-gives : (old new : AsciiReaderOf R) (item : Given)
@@ -329,42 +331,43 @@ module _ {R : Type 0} {g : Ghosts R} (known : R → Option (List ℕ)) (failed :
             inside = (new, refl, h);
           }
 
-  pub begun-ascii : (source : R) (sequence : SourceBytes R) (old new : AsciiReaderOf R) (item : Given)
+  pub begun-ascii : (source : R) (dialect : Dialect) (sequence : SourceBytes R) (old new : AsciiReaderOf R) (item : Given)
       → stream_source sequence ≡ source → ascii.device_of old ≡ sequence → stream_place sequence ≡ 0
       → held sequence ≡ [] → IfSome (known source) (λ bytes. format.Ascii ≡ format_of bytes)
       → ascii.untaken_bytes (stream_bytes_left known) old ≡ option_map input_front
       (stream_bytes_left known sequence)
-      → ascii.place_of old ≡ 0 → ascii.dialect_of old ≡ Lax
+      → ascii.place_of old ≡ 0 → ascii.dialect_of old ≡ dialect
       → AsciiGives known failed old item new
-      → StateGives {R = R} {g = g} known failed (state.Unread source None) item (state.Ascii new)
-  begun-ascii source sequence old new item from inside at none is bytes place dialect h =
-      chosen-gives {g = g} known failed source None (state.Ascii old) (state.Ascii new) item
-      (fresh-text known source sequence old from at none is bytes place dialect) refl
+      → StateGives {R = R} {g = g} known failed (state.Unread source None dialect) item
+      (state.Ascii new)
+  begun-ascii source dialect sequence old new item from inside at none is bytes place chosen h =
+      chosen-gives {g = g} known failed source None dialect (state.Ascii old) (state.Ascii new) item
+      (fresh-text known dialect source sequence old from at none is bytes place chosen) refl
       (subst (λ n. ItemCountsIo item n (failed (stream_source (ascii.device_of new))))
       (ap (λ s. failed (stream_source s)) inside ∙ ap failed from)
       (counted-failures _ _ item h.failures))
-      (old, place, refl, h) (ascii-gives old new item h)
+      (old, place, chosen, refl, h) (ascii-gives old new item h)
 
-  pub begun-limited : (source : R) (limits : Limits) (sequence : SourceBytes R) (fresh : AsciiReaderOf R)
+  pub begun-limited : (source : R) (limits : Limits) (dialect : Dialect) (sequence : SourceBytes R) (fresh : AsciiReaderOf R)
       (old new : Limited (AsciiReaderOf R) Limiter) (item : Given) → items_admitted old ≡ limited_items limits
       → iterator_of old ≡ fresh → stream_source sequence ≡ source → ascii.device_of fresh ≡ sequence
       → stream_place sequence ≡ 0 → held sequence ≡ []
       → IfSome (known source) (λ bytes. format.Ascii ≡ format_of bytes)
       → ascii.untaken_bytes (stream_bytes_left known) fresh
       ≡ option_map input_front (stream_bytes_left known sequence)
-      → ascii.place_of fresh ≡ 0 → ascii.dialect_of fresh ≡ Lax
+      → ascii.place_of fresh ≡ 0 → ascii.dialect_of fresh ≡ dialect
       → GivesLimited (AsciiGives known failed) old item new
-      → StateGives {R = R} {g = g} known failed (state.Unread source (Some limits)) item
+      → StateGives {R = R} {g = g} known failed (state.Unread source (Some limits) dialect) item
       (state.Limited new)
-  begun-limited source limits sequence fresh old new item come is-fresh from inside at none is bytes
-      place dialect h =
+  begun-limited source limits dialect sequence fresh old new item come is-fresh from inside at none
+      is bytes place chosen h =
       let gives = limited-gives old new item h in
-      chosen-gives {g = g} known failed source (Some limits) (state.Limited old) (state.Limited new) item
+      chosen-gives {g = g} known failed source (Some limits) dialect (state.Limited old) (state.Limited new) item
       ((λ i. option_map (come i) (ascii_items_to_come known (is-fresh i)))
       ∙ ap (option_map (limited_items limits))
-      (fresh-text known source sequence fresh from at none is bytes place dialect)
-      ∙ joined limits (known source)) refl
+      (fresh-text known dialect source sequence fresh from at none is bytes place chosen)
+      ∙ joined limits dialect (known source)) refl
       (subst (λ n. ItemCountsIo item n (failed (stream_source (ascii.device_of (iterator_of new)))))
       (ap (λ r. failed (stream_source (ascii.device_of r))) is-fresh
       ∙ ap (λ s. failed (stream_source s)) inside ∙ ap failed from) gives.failures)
-      (old, ap ascii.place_of is-fresh ∙ place, refl, h) gives
+      (old, ap ascii.place_of is-fresh ∙ place, ap ascii.dialect_of is-fresh ∙ chosen, refl, h) gives

@@ -11,8 +11,9 @@ use Rattle.plist_base.proofs.Refusals.{MatchFault-weaker}
 use Rattle.plist_binread.specs.BinaryReader as binary
 use Rattle.plist_binread.specs.FaultOffsets.{HasOffset, MatchGiven, ItemGivenWithin}
 use Rattle.plist_binread.specs.Remaining.{SomeRemain, AllocatesFirst}
+use Rattle.plist_ascii.specs.declared.dialect.Dialect.{Dialect}
 use Rattle.plist_reader.specs.declared.reader.State.TheVariants as state
-use Rattle.plist_reader.specs.Reader.{BinaryGives, BinaryReaderOf, file_within, input_within, items_by, GivesItem, GivesIfKnown, EndsAfter, IsReaderFault, IsReaderItem, StateGives, ItemHasOffset, MatchOffset}
+use Rattle.plist_reader.specs.Reader.{BinaryGives, BinaryReaderOf, file_within, input_within, items_in_format, GivesItem, GivesIfKnown, EndsAfter, IsReaderFault, IsReaderItem, StateGives, ItemHasOffset, MatchOffset}
 use Rattle.plist_reader.specs.declared.format.Format.TheVariants as format
 use Rattle.plist_reader.specs.Formats.{format_of}
 use Rattle.plist_reader.proofs.Fronts.{within-placed}
@@ -116,10 +117,11 @@ binary-placed limited (Some (Err error)) h = placed _ _ h.placed
 
 -- ---- the items to come before the first one is asked for
 
-file-input : (limits : Option Limits) (bytes : List ℕ) → format.Binary ≡ format_of bytes
-    → file_within limits bytes ≡ input_within limits bytes
-file-input None bytes is = ap (λ f. items_by f bytes) is
-file-input (Some limits) bytes is = ap (λ f. limited_items limits (items_by f bytes)) is
+file-input : (limits : Option Limits) (dialect : Dialect) (bytes : List ℕ)
+    → format.Binary ≡ format_of bytes → file_within limits bytes ≡ input_within dialect limits bytes
+file-input None dialect bytes is = ap (λ f. items_in_format dialect f bytes) is
+file-input (Some limits) dialect bytes is =
+    ap (λ f. limited_items limits (items_in_format dialect f bytes)) is
 
 module _ {R : Type 0} {g : Ghosts R} (known : R → Option (List ℕ)) (failed : R → ℕ) where
   pub binary-gives : (old new : BinaryReaderOf R g) (item : Given) → BinaryGives {g = g} known failed old item new
@@ -138,25 +140,25 @@ module _ {R : Type 0} {g : Ghosts R} (known : R → Option (List ℕ)) (failed :
     inside = (new, refl, h);
   }
 
-  binary-items : (limits : Option Limits) (k : Option (List ℕ)) (reader : BinaryReaderOf R g)
+  binary-items : (limits : Option Limits) (dialect : Dialect) (k : Option (List ℕ)) (reader : BinaryReaderOf R g)
       → IfSome k (λ bytes. format.Binary ≡ format_of bytes)
       → IfSome k (λ bytes. binary.items_to_come bytes reader ≡ file_within limits bytes)
-      → IfSome k (λ bytes. binary.items_to_come bytes reader ≡ input_within limits bytes)
-  binary-items limits None reader is h = tt
-  binary-items limits (Some bytes) reader is h = h ∙ file-input limits bytes is
+      → IfSome k (λ bytes. binary.items_to_come bytes reader ≡ input_within dialect limits bytes)
+  binary-items limits dialect None reader is h = tt
+  binary-items limits dialect (Some bytes) reader is h = h ∙ file-input limits dialect bytes is
 
-  pub begun-binary : (source : R) (limits : Option Limits) (old new : BinaryReaderOf R g) (item : Given)
+  pub begun-binary : (source : R) (limits : Option Limits) (dialect : Dialect) (old new : BinaryReaderOf R g) (item : Given)
       → binary.binary_source old ≡ source → binary.is_new old ≡ true
       → binary.has_limits old ≡ is_some limits
       → IfSome (known source) (λ bytes. format.Binary ≡ format_of bytes)
       → IfSome (known source) (λ bytes. binary.items_to_come bytes old ≡ file_within limits bytes)
       → BinaryGives {g = g} known failed old item new
-      → StateGives known failed (state.Unread source limits) item (state.Binary new)
-  begun-binary source limits old new item at fresh limited is begins h =
-      chosen-gives {g = g} known failed source limits (state.Binary old) (state.Binary new) item
+      → StateGives known failed (state.Unread source limits dialect) item (state.Binary new)
+  begun-binary source limits dialect old new item at fresh limited is begins h =
+      chosen-gives {g = g} known failed source limits dialect (state.Binary old) (state.Binary new) item
       (same-items (known source) (known (binary.binary_source old))
       (λ bytes. binary.items_to_come bytes old)
-      (input_within limits) (ap known at) (binary-items limits (known source) old is begins))
+      (input_within dialect limits) (ap known at) (binary-items limits dialect (known source) old is begins))
       limited
       (subst (λ n. ItemCountsIo item n (failed (binary.binary_source new)))
       (ap failed at) h.failures)

@@ -12,9 +12,10 @@ use Rattle.plist_base.specs.Faults.{FaultKind, Fault, Io, InvalidUtf16String, Un
 use Rattle.plist_base.specs.Sources.{ItemCountsIo}
 use Rattle.plist_base.proofs.Refusals.{MatchFault-weaker}
 use Rattle.plist_binread.specs.FaultOffsets.{HasOffset}
+use Rattle.plist_ascii.specs.declared.dialect.Dialect.{Dialect}
 use Rattle.plist_reader.specs.declared.reader.State.{State}
 use Rattle.plist_reader.specs.declared.reader.State.TheVariants as state
-use Rattle.plist_reader.specs.Reader.{BeginsInside, MatchText, state_items, input_within, is_limited_in, items_by, GivesItem, GivesIfKnown, IsReaderFault, IsReaderItem, IsRefusedKind, StateGives, HoldsSource, ItemHasOffset, FaultHasOffset, MatchOffset, source_in}
+use Rattle.plist_reader.specs.Reader.{BeginsInside, MatchText, state_items, input_within, is_limited_in, items_in_format, GivesItem, GivesIfKnown, IsReaderFault, IsReaderItem, IsRefusedKind, StateGives, HoldsSource, ItemHasOffset, FaultHasOffset, MatchOffset, source_in}
 use Rattle.plist_reader.specs.declared.format.Format.TheVariants as format
 use Rattle.plist_reader.specs.Formats.{format_of}
 
@@ -48,19 +49,19 @@ xml-other : (kind : FaultKind) (X Y Z : Type 0) → kind ≡ XmlUnsupported → 
 xml-other kind X Y Z is z = rw is z
 
 -- XML is the one item
-pub xml-items : (k : Option (List ℕ)) (limits : Option Limits) (place : ℕ) (error : Error)
+pub xml-items : (k : Option (List ℕ)) (limits : Option Limits) (dialect : Dialect) (place : ℕ) (error : Error)
     → fault_of error ≡ fault_at XmlUnsupported place
     → IfSome k (λ bytes. format.Xml place ≡ format_of bytes)
-    → IfSome k (λ bytes. GivesItem (input_within limits bytes) (Some (Err error)) [])
-xml-items None limits place error is h = tt
-xml-items (Some bytes) limits place error is h =
+    → IfSome k (λ bytes. GivesItem (input_within dialect limits bytes) (Some (Err error)) [])
+xml-items None limits dialect place error is h = tt
+xml-items (Some bytes) limits dialect place error is h =
     xml-other _ _ _ _ (ap (λ (f : Fault). f.kind) is)
     (within limits ∙ ap (λ f. Err f ∷ []) (sym is))
   where
     within : (limits : Option Limits)
-        → input_within limits bytes ≡ Err (fault_at XmlUnsupported place) ∷ []
-    within None = ap (λ f. items_by f bytes) (sym h)
-    within (Some limits) = ap (λ f. limited_items limits (items_by f bytes)) (sym h)
+        → input_within dialect limits bytes ≡ Err (fault_at XmlUnsupported place) ∷ []
+    within None = ap (λ f. items_in_format dialect f bytes) (sym h)
+    within (Some limits) = ap (λ f. limited_items limits (items_in_format dialect f bytes)) (sym h)
 
 pub xml-kind : (place : ℕ) (error : Error) → fault_of error ≡ fault_at XmlUnsupported place
     → IsRefusedKind (kind_of (error_kind_of error))
@@ -76,11 +77,11 @@ pub xml-place : (place : ℕ) (error : Error) → fault_of error ≡ fault_at Xm
 xml-place place error is = subst FaultHasOffset (sym is) tt
 
 -- a read failed
-pub io-items : (k : Option (List ℕ)) (limits : Option Limits) (error : Error)
+pub io-items : (k : Option (List ℕ)) (limits : Option Limits) (dialect : Dialect) (error : Error)
     → IsIo (kind_of (error_kind_of error))
-    → IfSome k (λ bytes. GivesItem (input_within limits bytes) (Some (Err error)) [])
-io-items None limits error io = tt
-io-items (Some bytes) limits error io =
+    → IfSome k (λ bytes. GivesItem (input_within dialect limits bytes) (Some (Err error)) [])
+io-items None limits dialect error io = tt
+io-items (Some bytes) limits dialect error io =
     MatchFault-weaker (kind_of (error_kind_of error)) (λ _. refl) (λ none. absurd none)
     (λ none. absurd none) io
 
@@ -103,13 +104,13 @@ io-place error io place = placed _ _ io place
 
 module _ {R : Type 0} {g : Ghosts R} (known : R → Option (List ℕ)) (failed : R → ℕ) where
   -- a state that stands as the source before the choice goes on as that
-  pub chosen-gives : (source : R) (limits : Option Limits) (old new : State R g) (item : Given)
-      → state_items known old ≡ option_map (input_within limits) (known source)
+  pub chosen-gives : (source : R) (limits : Option Limits) (dialect : Dialect) (old new : State R g) (item : Given)
+      → state_items known old ≡ option_map (input_within dialect limits) (known source)
       → is_limited_in old ≡ is_some limits
       → HoldsSource failed (Some source) item (source_in new)
-      → BeginsInside known failed limits item new → StateGives known failed old item new
-      → StateGives known failed (state.Unread source limits) item new
-  chosen-gives source limits old new item same limited count inside h = record {
+      → BeginsInside known failed limits dialect item new → StateGives known failed old item new
+      → StateGives known failed (state.Unread source limits dialect) item new
+  chosen-gives source limits dialect old new item same limited count inside h = record {
     items = subst (λ o. GivesIfKnown o item (state_items known new)) same h.items;
     failures = count;
     offset = h.offset;
@@ -121,13 +122,13 @@ module _ {R : Type 0} {g : Ghosts R} (known : R → Option (List ℕ)) (failed :
   }
 
   -- another state of the source
-  pub other-source : (source other : R) (limits : Option Limits) (new : State R g) (item : Given)
+  pub other-source : (source other : R) (limits : Option Limits) (dialect : Dialect) (new : State R g) (item : Given)
       → known other ≡ known source → failed other ≡ failed source
-      → StateGives known failed (state.Unread other limits) item new
-      → StateGives known failed (state.Unread source limits) item new
-  other-source source other limits new item e f h =
-      chosen-gives source limits (state.Unread other limits) new item
-      (ap (option_map (input_within limits)) e) refl (held (source_in new) h.failures) h.inside h
+      → StateGives known failed (state.Unread other limits dialect) item new
+      → StateGives known failed (state.Unread source limits dialect) item new
+  other-source source other limits dialect new item e f h =
+      chosen-gives source limits dialect (state.Unread other limits dialect) new item
+      (ap (option_map (input_within dialect limits)) e) refl (held (source_in new) h.failures) h.inside h
     where
       held : (kept : Option R) → HoldsSource failed (Some other) item kept
           → HoldsSource failed (Some source) item kept
@@ -135,14 +136,14 @@ module _ {R : Type 0} {g : Ghosts R} (known : R → Option (List ℕ)) (failed :
       held (Some kept) h = subst (λ n. ItemCountsIo item n (failed kept)) f h
 
   -- the source is refused
-  pub refused-gives : (source other : R) (limits : Option Limits) (error : Error)
-      → IfSome (known source) (λ bytes. GivesItem (input_within limits bytes) (Some (Err error)) [])
+  pub refused-gives : (source other : R) (limits : Option Limits) (dialect : Dialect) (error : Error)
+      → IfSome (known source) (λ bytes. GivesItem (input_within dialect limits bytes) (Some (Err error)) [])
       → IsRefusedKind (kind_of (error_kind_of error))
       → ItemCountsIo {A = Event} (Some (Err error)) (failed source) (failed other)
       → ItemHasOffset (Some (Err error))
-      → StateGives {R = R} {g = g} known failed (state.Unread source limits) (Some (Err error))
+      → StateGives {R = R} {g = g} known failed (state.Unread source limits dialect) (Some (Err error))
       (state.Refused other)
-  refused-gives source other limits error items kind count place = record {
+  refused-gives source other limits dialect error items kind count place = record {
     items = empty (known source) items;
     failures = count;
     offset = place;
@@ -154,7 +155,7 @@ module _ {R : Type 0} {g : Ghosts R} (known : R → Option (List ℕ)) (failed :
   }
     where
       empty : (k : Option (List ℕ))
-          → IfSome k (λ bytes. GivesItem (input_within limits bytes) (Some (Err error)) [])
-          → GivesIfKnown (option_map (input_within limits) k) (Some (Err error)) (Some [])
+          → IfSome k (λ bytes. GivesItem (input_within dialect limits bytes) (Some (Err error)) [])
+          → GivesIfKnown (option_map (input_within dialect limits) k) (Some (Err error)) (Some [])
       empty None h = tt
       empty (Some bytes) h = ([], refl, h)

@@ -23,7 +23,9 @@ use Rattle.plist_ascii.specs.Ascii.{items_of_ascii}
 use Rattle.plist_ascii.specs.AsciiReader as ascii
 use Rattle.plist_ascii.specs.declared.reader.AsciiReader.{AsciiReader}
 use Rattle.plist_reader.specs.declared.bytes.SourceBytes.{SourceBytes}
-use Rattle.plist_ascii.specs.Texts.{lax_stops}
+use Rattle.plist_ascii.specs.Texts.{ends_bare}
+use Rattle.plist_ascii.specs.declared.dialect.Dialect.{Dialect}
+use Rattle.plist_ascii.specs.declared.dialect.Dialect.TheVariants.{Lax}
 use Rattle.plist_reader.specs.declared.format.Format.{Format}
 use Rattle.plist_reader.specs.declared.format.Format.TheVariants as format
 use Rattle.plist_reader.specs.declared.reader.Reader.{Reader}
@@ -33,13 +35,21 @@ use Rattle.plist_reader.specs.Formats.{input_front, format_of}
 use Rattle.plist_reader.specs.Streams as stream
 use Rattle.plist_reader.specs.Streams.{stream_bytes_left}
 
--- the items of some bytes of this format
-abbrev pub items_by : Format → List ℕ → List Item
-items_by format.Binary bytes = items_of_file bytes
-items_by (format.Xml place) bytes = Err (fault_at XmlUnsupported place) ∷ []
-items_by format.Ascii bytes = items_of_ascii lax_stops (input_front bytes) 0
+-- the items of some bytes of this format, which in ASCII is of this dialect
+abbrev pub items_in_format : Dialect → Format → List ℕ → List Item
+items_in_format dialect format.Binary bytes = items_of_file bytes
+items_in_format dialect (format.Xml place) bytes = Err (fault_at XmlUnsupported place) ∷ []
+items_in_format dialect format.Ascii bytes =
+    items_of_ascii (ends_bare dialect) (input_front bytes) 0
 
 -- the items of some bytes, by the format that their first bytes show
+abbrev pub items_of_dialect : Dialect → List ℕ → List Item
+items_of_dialect dialect bytes = items_in_format dialect (format_of bytes) bytes
+
+-- both in the lax dialect
+abbrev pub items_by : Format → List ℕ → List Item
+items_by shown bytes = items_in_format Lax shown bytes
+
 abbrev pub items_of_input : List ℕ → List Item
 items_of_input bytes = items_by (format_of bytes) bytes
 
@@ -48,9 +58,9 @@ abbrev pub limited_input : Limits → List ℕ → List Item
 limited_input limits bytes = limited_items limits (items_of_input bytes)
 
 -- the same where there may be no limits, of an input and of a binary file
-abbrev pub input_within : Option Limits → List ℕ → List Item
-input_within None bytes = items_of_input bytes
-input_within (Some limits) bytes = limited_input limits bytes
+abbrev pub input_within : Dialect → Option Limits → List ℕ → List Item
+input_within dialect None bytes = items_of_dialect dialect bytes
+input_within dialect (Some limits) bytes = limited_items limits (items_of_dialect dialect bytes)
 
 abbrev pub file_within : Option Limits → List ℕ → List Item
 file_within None bytes = items_of_file bytes
@@ -74,7 +84,8 @@ module _ {R : Type 0} {g : Ghosts R} (known : R → Option (List ℕ)) where
   -- the items still to come, where the source's bytes are known: before the choice those of the
   -- source, then those of the reader that was chosen
   abbrev pub state_items : State R g → Option (List Item)
-  state_items (state.Unread source limits) = option_map (input_within limits) (known source)
+  state_items (state.Unread source limits dialect) =
+      option_map (input_within dialect limits) (known source)
   state_items (state.Binary reader) =
       option_map (λ bytes. binary.items_to_come bytes reader) (known (binary.binary_source reader))
   state_items (state.Ascii reader) = ascii_items_to_come known reader
@@ -88,7 +99,7 @@ module _ {R : Type 0} {g : Ghosts R} (known : R → Option (List ℕ)) where
 
 -- the source
 abbrev pub source_in : {R : Type 0} {g : Ghosts R} → State R g → Option R
-source_in (state.Unread source limits) = Some source
+source_in (state.Unread source limits dialect) = Some source
 source_in (state.Binary reader) = Some (binary.binary_source reader)
 source_in (state.Ascii reader) = Some (stream.stream_source (ascii.device_of reader))
 source_in (state.Limited reader) = Some (stream.stream_source (ascii.device_of
@@ -102,7 +113,7 @@ reader_source reader = source_in reader.state
 
 -- the reader gives nothing more
 abbrev pub HasEndedState : {R : Type 0} {g : Ghosts R} → State R g → Type 0
-HasEndedState (state.Unread source limits) = ⊥
+HasEndedState (state.Unread source limits dialect) = ⊥
 HasEndedState (state.Binary reader) = binary.HasEndedBinary reader
 HasEndedState (state.Ascii reader) = ascii.HasEndedAscii reader
 HasEndedState (state.Limited reader) = HasEndedLimited reader
@@ -111,7 +122,7 @@ HasEndedState state.Moved = ⊤
 
 -- are there limits?
 abbrev pub is_limited_in : {R : Type 0} {g : Ghosts R} → State R g → Bool
-is_limited_in (state.Unread source limits) = is_some limits
+is_limited_in (state.Unread source limits dialect) = is_some limits
 is_limited_in (state.Binary reader) = binary.has_limits reader
 is_limited_in (state.Ascii reader) = false
 is_limited_in (state.Limited reader) = true
@@ -206,22 +217,25 @@ AsciiGives known failed =
 
 module _ {R : Type 0} {g : Ghosts R} (known : R → Option (List ℕ)) (failed : R → ℕ) where
   -- the first item is that of a reader that has given none, or the source is refused
-  abbrev pub BeginsInside : Option Limits → Option (Result Event Error) → State R g → Type 0
-  BeginsInside limits item (state.Binary new) = (fresh : BinaryReaderOf R g)
+  abbrev pub BeginsInside : Option Limits → Dialect → Option (Result Event Error) → State R g → Type 0
+  BeginsInside limits dialect item (state.Binary new) = (fresh : BinaryReaderOf R g)
       × (binary.is_new fresh ≡ true) × (binary.has_limits fresh ≡ is_some limits)
       × BinaryGives known failed fresh item new
-  BeginsInside limits item (state.Ascii new) = (fresh : AsciiReaderOf R)
-      × (ascii.place_of fresh ≡ 0) × (limits ≡ None) × AsciiGives known failed fresh item new
-  BeginsInside limits item (state.Limited new) = (fresh : Limited (AsciiReaderOf R) Limiter)
-      × (ascii.place_of (iterator_of fresh) ≡ 0) × (is_some limits ≡ true)
+  BeginsInside limits dialect item (state.Ascii new) = (fresh : AsciiReaderOf R)
+      × (ascii.place_of fresh ≡ 0) × (ascii.dialect_of fresh ≡ dialect) × (limits ≡ None)
+      × AsciiGives known failed fresh item new
+  BeginsInside limits dialect item (state.Limited new) = (fresh : Limited (AsciiReaderOf R) Limiter)
+      × (ascii.place_of (iterator_of fresh) ≡ 0)
+      × (ascii.dialect_of (iterator_of fresh) ≡ dialect) × (is_some limits ≡ true)
       × GivesLimited (AsciiGives known failed) fresh item new
-  BeginsInside limits item (state.Refused source) = IsSourceRefusal item
-  BeginsInside limits item new = ⊥
+  BeginsInside limits dialect item (state.Refused source) = IsSourceRefusal item
+  BeginsInside limits dialect item new = ⊥
 
   -- the reader that was chosen gives the item, and stays chosen
   abbrev pub GivesInside : (old : State R g) → Option (Result Event Error) → (new : State R g)
       → Type 0
-  GivesInside (state.Unread source limits) item new = BeginsInside limits item new
+  GivesInside (state.Unread source limits dialect) item new =
+      BeginsInside limits dialect item new
   GivesInside (state.Binary old) item new =
       (reader : BinaryReaderOf R g) × (new ≡ state.Binary reader) × BinaryGives known failed old item reader
   GivesInside (state.Ascii old) item new =
@@ -252,7 +266,7 @@ all_steps = walk_steps (2 ^ 64) + 1 + 2 ^ 64
 
 -- more than the items that are still to come
 abbrev pub steps_in_state : {R : Type 0} {g : Ghosts R} → State R g → ℕ
-steps_in_state (state.Unread source limits) = all_steps
+steps_in_state (state.Unread source limits dialect) = all_steps
 steps_in_state (state.Binary reader) = binary.binary_steps reader
 steps_in_state (state.Ascii reader) = ascii.ascii_steps reader
 steps_in_state (state.Limited reader) = ascii.ascii_steps (iterator_of reader)
@@ -262,11 +276,11 @@ steps_in_state state.Moved = 0
 -- where nothing was asked for yet, this is the first item, and the state after it
 abbrev pub GivesFirst : {R : Type 0} {g : Ghosts R} (known : R → Option (List ℕ)) (failed : R → ℕ)
     → State R g → Option (Result Event Error) → State R g → Type 0
-GivesFirst {R} known failed old item new = (source : R) (limits : Option Limits)
-    → old ≡ state.Unread source limits
-    → StateGives known failed (state.Unread source limits) item new
+GivesFirst {R} known failed old item new = (source : R) (limits : Option Limits) (dialect : Dialect)
+    → old ≡ state.Unread source limits dialect
+    → StateGives known failed (state.Unread source limits dialect) item new
 
 -- where nothing was asked for yet and an item comes, fewer steps are left
 abbrev pub FirstAdvances : {R A : Type 0} {g : Ghosts R} → State R g → Option A → State R g → Type 0
-FirstAdvances {R} old item new = (source : R) (limits : Option Limits)
-    → old ≡ state.Unread source limits → IfSome item (λ _. steps_in_state new < all_steps)
+FirstAdvances {R} old item new = (source : R) (limits : Option Limits) (dialect : Dialect)
+    → old ≡ state.Unread source limits dialect → IfSome item (λ _. steps_in_state new < all_steps)

@@ -8,7 +8,7 @@ ghost use Rattle.plist_reader.specs.Reader.{StateGives, all_steps, file_within, 
 
 use crate::bytes::SourceBytes;
 use crate::format::{Format, format_of};
-use plist_ascii::AsciiReader;
+use plist_ascii::{AsciiReader, Dialect};
 use plist_base::{Error, ErrorKind, Limited, Limits, OwnedEvent, Source};
 use plist_binread::BinaryReader;
 use std::alloc::Global;
@@ -18,7 +18,7 @@ use std::mem;
 #[derive(Drop)]
 pub(crate) enum State<R: Source> {
     // No item has been asked for.
-    Unread(R, Option<Limits>),
+    Unread(R, Option<Limits>, Dialect),
     Binary(BinaryReader<R>),
     Ascii(AsciiReader<SourceBytes<R>>),
     // The same under limits.
@@ -49,7 +49,8 @@ fn begin_binary<R: Source>(
     limits: Option<Limits>,
 ) -> (State<R>, Option<Result<OwnedEvent, Error>>)
     requires { IfSome (R.known source) (λ bytes. Format.Binary ≡ format_of bytes) }
-    ensures gives { StateGives R.known R.failures (State.Unread source limits) result.1 result.0 }
+    ensures gives { (dialect : Dialect) → StateGives R.known R.failures
+        (State.Unread source limits dialect) result.1 result.0 }
     ensures falls { IfSome result.1 (λ _. steps_in_state result.0 < all_steps) }
 {
     let mut reader = binary_reader(alloc, source, limits);
@@ -62,12 +63,14 @@ fn begin_ascii<R: Source>(
     alloc: Global,
     source: R,
     limits: Option<Limits>,
+    dialect: Dialect,
 ) -> (State<R>, Option<Result<OwnedEvent, Error>>)
     requires { IfSome (R.known source) (λ bytes. Format.Ascii ≡ format_of bytes) }
-    ensures gives { StateGives R.known R.failures (State.Unread source limits) result.1 result.0 }
+    ensures gives { StateGives R.known R.failures (State.Unread source limits dialect) result.1
+        result.0 }
     ensures falls { IfSome result.1 (λ _. steps_in_state result.0 < all_steps) }
 {
-    let mut reader = AsciiReader::new(alloc, SourceBytes::new(source));
+    let mut reader = AsciiReader::with_dialect(alloc, SourceBytes::new(source), dialect);
     match limits {
         None => {
             let item = reader.next();
@@ -86,8 +89,10 @@ fn begin<R: Source>(
     alloc: Global,
     mut source: R,
     limits: Option<Limits>,
+    dialect: Dialect,
 ) -> (State<R>, Option<Result<OwnedEvent, Error>>)
-    ensures gives { StateGives R.known R.failures (State.Unread source limits) result.1 result.0 }
+    ensures gives { StateGives R.known R.failures (State.Unread source limits dialect) result.1
+        result.0 }
     ensures falls { IfSome result.1 (λ _. steps_in_state result.0 < all_steps) }
 {
     match format_of(&mut source) {
@@ -96,7 +101,7 @@ fn begin<R: Source>(
             State::Refused(source),
             Some(Err(ErrorKind::XmlUnsupported.with_byte_offset(place))),
         ),
-        Ok(Format::Ascii) => begin_ascii(alloc, source, limits),
+        Ok(Format::Ascii) => begin_ascii(alloc, source, limits, dialect),
         Err(error) => (State::Refused(source), Some(Err(error))),
     }
 }
@@ -123,17 +128,29 @@ pub struct Reader<R: Source> {
 impl<R: Source> Reader<R> {
     ghost use Rattle.std.specs.Prelude.{◌≡◌, true, false};
     ghost use Rattle.std.specs.Option.{option_map};
-    ghost use Rattle.plist_reader.specs.Reader.{FirstAdvances, GivesFirst, reader_is_limited, items_of_input, limited_input, reader_items, reader_source};
+    ghost use Rattle.plist_reader.specs.Reader.{FirstAdvances, GivesFirst, reader_is_limited, items_of_dialect, items_of_input, limited_input, reader_items, reader_source};
 
-    /// A reader over a source. It reads nothing before its first item is asked for.
+    /// A reader over a source. It reads nothing before its first item is asked for. A source in
+    /// ASCII is read in the lax dialect, in which a bare text doesn't end at a line end.
     pub fn new(alloc: Global, source: R) -> Self
         ensures items { reader_items R.known result ≡ option_map items_of_input (R.known source) }
         ensures source { reader_source result ≡ Some source }
         ensures limited { reader_is_limited result ≡ false }
     {
+        Reader::with_dialect(alloc, source, Dialect::Lax)
+    }
+
+    /// A reader that reads a source in ASCII in this dialect, and a binary one as [`Reader::new`]
+    /// does.
+    pub fn with_dialect(alloc: Global, source: R, dialect: Dialect) -> Self
+        ensures items { reader_items R.known result
+            ≡ option_map (items_of_dialect dialect) (R.known source) }
+        ensures source { reader_source result ≡ Some source }
+        ensures limited { reader_is_limited result ≡ false }
+    {
         Reader {
             alloc,
-            state: State::Unread(source, None),
+            state: State::Unread(source, None, dialect),
         }
     }
 
@@ -148,7 +165,7 @@ impl<R: Source> Reader<R> {
     {
         Reader {
             alloc,
-            state: State::Unread(source, Some(limits)),
+            state: State::Unread(source, Some(limits), Dialect::Lax),
         }
     }
 
@@ -158,8 +175,8 @@ impl<R: Source> Reader<R> {
         ensures falls { FirstAdvances self.old.state result self.new.state }
     {
         match mem::replace(&mut self.state, State::Moved) {
-            State::Unread(source, limits) => {
-                let (state, item) = begin(self.alloc, source, limits);
+            State::Unread(source, limits, dialect) => {
+                let (state, item) = begin(self.alloc, source, limits, dialect);
                 self.state = state;
                 item
             }
@@ -187,7 +204,7 @@ impl<R: Source> Iterator for Reader<R> {
             State::Ascii(reader) => reader.next(),
             State::Limited(reader) => reader.next(),
             State::Refused(_) | State::Moved => None,
-            State::Unread(_, _) => self.first(),
+            State::Unread(_, _, _) => self.first(),
         }
     }
 }

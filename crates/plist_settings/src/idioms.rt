@@ -5,7 +5,7 @@
 use crate::Failure;
 use plist::stream::reading::format_of;
 use plist::stream::{BinaryWriter, Event, Reader, Seeking, Writer};
-use plist::{Date, Dictionary, Error, Limits, RealBits, Value, Variant};
+use plist::{Date, Dialect, Dictionary, Error, Limits, RealBits, Value, Variant};
 use std::alloc::{AllocError, Global};
 use std::borrow::CowStr;
 use std::fs;
@@ -38,6 +38,10 @@ fn count_of<R: Files + AllocGlobal>(rt: &R, alloc: Global) -> Result<u64, Failur
 fn opened<R: Files + AllocGlobal>(rt: &R, alloc: Global, name: &str) -> Result<Value, Failure> {
     match name {
         "from_file" => Ok(Value::from_file(rt, alloc, FILE)?),
+        "a value a line" => {
+            let dialect = Dialect::Tight;
+            Ok(Value::from_file_with_dialect(rt, alloc, "lines.plist", dialect)?)
+        }
         "a missing file" => Ok(Value::from_file(rt, alloc, "missing.plist")?),
         "a stranger's file" => {
             let limits = Limits {

@@ -5,7 +5,7 @@
 
 mod idioms;
 
-use plist::{Dictionary, Error, ErrorKind, Value, Variant};
+use plist::{Dictionary, Error, Value, Variant};
 use std::alloc::{AllocError, Global};
 use std::env::Env;
 use std::io::Write;
@@ -34,7 +34,7 @@ impl From<Error> for Failure {
 
 impl From<io::Error> for Failure {
     fn from(error: io::Error) -> Failure {
-        Failure::Plist(ErrorKind::Io(error).without_position())
+        Failure::Plist(Error::from(error))
     }
 }
 
@@ -44,14 +44,11 @@ impl From<AllocError> for Failure {
     }
 }
 
-/// Where a device failed, its reason.
+/// Of a failed device the reason, too.
 impl fmt::Display for Failure {
     fn fmt<W: fmt::Write>(&self, f: &mut fmt::Formatter<W>) -> fmt::Result {
         match self {
-            Failure::Plist(error) => match error.as_io() {
-                Some(reason) => write!(f, "{reason}"),
-                None => write!(f, "{error}"),
-            },
+            Failure::Plist(error) => write!(f, "{}", error.reason()),
             Failure::NoDictionary => f.write_str("the file holds no dictionary"),
             Failure::NoSetting => f.write_str("no such setting"),
             Failure::Usage => {

@@ -4,13 +4,13 @@ use Rattle.plist_reader.proofs.reader.begin.Goals as goal
 pub returns-in-Ok-Binary-clause-gives : goal.returns-in-Ok-Binary-clause-gives
 returns-in-Ok-Binary-clause-gives g c =
     other-source g.R.Source.known g.R.Source.failures c.args.source c.format_of.new.source
-    c.args.limits _ _ c.format_of.ensures.unchanged c.in-Ok-Binary.ensures.failures
-    c.begin_binary.ensures.gives
+    c.args.limits c.args.dialect _ _ c.format_of.ensures.unchanged c.in-Ok-Binary.ensures.failures
+    (c.begin_binary.ensures.gives c.args.dialect)
 
 pub returns-in-Ok-Ascii-clause-gives : goal.returns-in-Ok-Ascii-clause-gives
 returns-in-Ok-Ascii-clause-gives g c =
     other-source g.R.Source.known g.R.Source.failures c.args.source c.format_of.new.source
-    c.args.limits _ _ c.format_of.ensures.unchanged c.in-Ok-Ascii.ensures.failures
+    c.args.limits c.args.dialect _ _ c.format_of.ensures.unchanged c.in-Ok-Ascii.ensures.failures
     c.begin_ascii.ensures.gives
 
 pub returns-in-Ok-Xml-clause-gives : goal.returns-in-Ok-Xml-clause-gives
@@ -19,8 +19,8 @@ returns-in-Ok-Xml-clause-gives g c =
     let error = c.with_byte_offset.result in
     let known = g.R.Source.known c.args.source in
     refused-gives g.R.Source.known g.R.Source.failures c.args.source c.format_of.new.source
-    c.args.limits error
-    (xml-items known c.args.limits place error c.with_byte_offset.ensures.fault
+    c.args.limits c.args.dialect error
+    (xml-items known c.args.limits c.args.dialect place error c.with_byte_offset.ensures.fault
     (rw c.in-Ok-Xml.field-0-is at c.in-Ok-Xml.ensures.format))
     (xml-kind place error c.with_byte_offset.ensures.fault)
     (xml-counts place _ _ error c.with_byte_offset.ensures.fault c.in-Ok-Xml.ensures.failures)
@@ -30,7 +30,7 @@ pub returns-in-Err-clause-gives : goal.returns-in-Err-clause-gives
 returns-in-Err-clause-gives g c =
     let error = c.in-Err.error in
     refused-gives g.R.Source.known g.R.Source.failures c.args.source c.format_of.new.source
-    c.args.limits error
-    (io-items (g.R.Source.known c.args.source) c.args.limits error c.in-Err.ensures.refused)
+    c.args.limits c.args.dialect error
+    (io-items (g.R.Source.known c.args.source) c.args.limits c.args.dialect error c.in-Err.ensures.refused)
     (io-kind error c.in-Err.ensures.refused) c.in-Err.ensures.failures
     (io-place error c.in-Err.ensures.refused c.in-Err.ensures.offset)

@@ -30,4 +30,4 @@ pub returns-in-Unread-clause-steps : goal.returns-in-Unread-clause-steps
 returns-in-Unread-clause-steps g c =
     subst (λ s. StateGives g.R.Source.known g.R.Source.failures s c.first.result
     c.first.new.self.state) (sym c.in-Unread.is)
-    (c.first.ensures.gives c.in-Unread.field-0 c.in-Unread.field-1 c.in-Unread.is)
+    (c.first.ensures.gives c.in-Unread.field-0 c.in-Unread.field-1 c.in-Unread.field-2 c.in-Unread.is)

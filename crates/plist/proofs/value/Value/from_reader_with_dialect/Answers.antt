@@ -1,28 +1,28 @@
-use Rattle.plist_reader.specs.Reader.{items_of_input, reader_items}
+use Rattle.plist_reader.specs.Reader.{items_of_dialect, reader_items}
 use Rattle.plist.specs.Collecting.{built_tree}
 use Rattle.plist.proofs.ReadFaults.{reader-tells}
 use Rattle.plist.proofs.Shown.{of-items, reader-shows, reads-back}
-use Rattle.plist.proofs.value.Value.from_reader.Goals as goal
+use Rattle.plist.proofs.value.Value.from_reader_with_dialect.Goals as goal
 
 pub returns-clause-value : goal.returns-clause-value
 returns-clause-value g c =
-    of-items items_of_input _ _ (built_tree c.collect.result) c.new-reader.ensures.items
+    of-items (items_of_dialect c.args.dialect) _ _ (built_tree c.collect.result) c.with_dialect-reader.ensures.items
     (c.collect.ensures.shown (reader_items g.R.Source.known)
     (λ old item new gives. reader-shows _ _ item gives.items))
 
 pub returns-clause-reads_back : goal.returns-clause-reads_back
 returns-clause-reads_back g c =
-    reads-back _ (built_tree c.collect.result) (returns-clause-value g c)
+    reads-back c.args.dialect _ (built_tree c.collect.result) (returns-clause-value g c)
 
 pub returns-clause-read : goal.returns-clause-read
 returns-clause-read g c = (
-  c.new-reader.result,
-  c.new-reader.ensures.source,
-  c.new-reader.ensures.items,
+  c.with_dialect-reader.result,
+  c.with_dialect-reader.ensures.source,
+  c.with_dialect-reader.ensures.items,
   c.collect.ensures.value,
 )
 
 pub returns-clause-fault : goal.returns-clause-fault
 returns-clause-fault g c =
-    reader-tells g.R.Source.known g.R.Source.failures c.new-reader.result c.collect.result
-    c.new-reader.ensures.limited c.collect.ensures.value
+    reader-tells g.R.Source.known g.R.Source.failures c.with_dialect-reader.result c.collect.result
+    c.with_dialect-reader.ensures.limited c.collect.ensures.value
