@@ -9,15 +9,13 @@ import collections, pathlib, re, sys
 TOP = pathlib.Path(sys.argv[1] if len(sys.argv) > 1 else __file__).resolve()
 TOP = TOP if TOP.is_dir() else TOP.parent.parent
 ASSOCIATED = "the associated type that a trait of std asks for"
-NAMED = "`plist::dictionary` names that of `plist_pairs`"
+NAMED = "`plist::dictionary` names that of `plist_pairs`, with its values"
 SEEN = "what contracts see of the type"
 # each with the crates that define it, and what forces them
 ALLOWED = {
     "Item": (None, ASSOCIATED), "Err": (None, ASSOCIATED), "Output": (None, ASSOCIATED),
-    "IntoIter": ({"plist", "plist_pairs"}, ASSOCIATED), "Entry": ({"plist", "plist_pairs"}, NAMED),
-    "Iter": ({"plist", "plist_pairs"}, NAMED), "Keys": ({"plist", "plist_pairs"}, NAMED),
-    "Values": ({"plist", "plist_pairs"}, NAMED), "OccupiedEntry": ({"plist", "plist_pairs"}, NAMED),
-    "VacantEntry": ({"plist", "plist_pairs"}, NAMED),
+    "IntoIter": ({"plist", "plist_pairs"}, ASSOCIATED), "Iter": ({"plist", "plist_pairs"}, NAMED),
+    "Values": ({"plist", "plist_pairs"}, NAMED),
     "Head": ({"plist_format", "plist_binread"}, SEEN), "Trailer": ({"plist_format", "plist_binread"}, SEEN),
 }
 WORD = re.compile(r"\s*((?:(?:abbrev|unfoldable|opaque|pub|data|record)\s+)*)([^\W\d][\w'-]*)\s*(?=[:({])(.*)")

@@ -21,7 +21,7 @@ use Rattle.plist.specs.inner.PutOff.{Compares, ComparesItems, ComparesPairs, Com
 use Rattle.plist.specs.Equal.{same, same_items}
 use Rattle.plist_pairs.specs.Equal.{same_pairs}
 use Rattle.plist.specs.ValueTrees.{item_trees, pair_trees}
-use Rattle.plist.specs.inner.Weights.{weight, weight_step, weights}
+use Rattle.plist.specs.inner.Weights.{pairs_step, weight, weight_step, weights}
 use Rattle.plist.proofs.Dropping.{weights-more}
 use Rattle.plist.proofs.SameTrees.{same_dictionaries}
 
@@ -102,14 +102,14 @@ at-once later equal answer most e = (
   omega arith,
 )
 
-step-some : (layer : Value-F ℕ) → 1 ≤ weight_step layer
+step-some : (layer : Value-F ℕ ℕ) → 1 ≤ weight_step layer
 step-some (Value-F.Array items) = omega arith
 step-some (Value-F.Dictionary pairs) = omega arith
 step-some scalar = omega arith
 
 pub weight-some : (value : Value) → 1 ≤ weight value
 weight-some value =
-    rw (fold_out-Value ℕ weight_step value) (step-some _)
+    rw (fold_out-Value ℕ ℕ weight_step pairs_step value) (step-some _)
 
 -- ---- arrays
 

@@ -3,16 +3,18 @@ use Rattle.std.proofs.Common.{◌≡◌, ℕ, List, [], ◌∷◌, Option, Some,
 use mathlib.Core.List.{map-map}
 use Rattle.std.proofs.lemmas.Option.{same_Some}
 use Rattle.plist_base.specs.Events.{PlainEvent}
-use Rattle.plist_base.specs.Trees.{Tree, Array, Dictionary, trees_of, members_of}
+use Rattle.plist_base.specs.Trees.{Tree, Array, Dictionary, Members, trees_of, members_of}
 use Rattle.plist.specs.declared.value.Value.{Value, ind-Value, fold-roll-Value, roll-Value}
-use Rattle.plist.specs.declared.value.Value.TheOpen.{Value-F}
-use Rattle.plist.specs.declared.value.Value.TheFolds.{map-Value}
+use Rattle.plist.specs.declared.value.Value.TheOpen.{Dictionary-F, Value-F}
+use Rattle.plist.specs.declared.value.Value.TheFolds.{map-Dictionary, map-Value}
+use Rattle.plist.specs.declared.dictionary.Dictionary as dictionary
+use Rattle.plist.specs.Dictionaries.{pairs_of}
 use Rattle.plist.specs.LastWins.{TreePairs, with_pair, last_values, last_wins}
 use Rattle.plist.specs.Building.{Unfinished, IsNested, IsExtendedBy, refusal_at, last_wins_in_rows, last_wins_within, last_wins_so_far, InArray, InDictionary, AfterKey, Within, Complete}
 use Rattle.plist.specs.declared.unfinished.UnclosedCollection.{UnclosedCollection}
 use Rattle.plist.specs.declared.unfinished.UnclosedCollection.TheVariants as run
 use Rattle.plist.specs.UnfinishedValues.{open_of, held_in}
-use Rattle.plist.specs.ValueTrees.{tree_of, tree_step, tree_pairs}
+use Rattle.plist.specs.ValueTrees.{members_step, tree_of, tree_step, tree_pairs}
 use Rattle.plist_pairs.proofs.Keeping.{last-values-once, once-last, values-inserts}
 use Rattle.plist.specs.inner.Steps.{and_event}
 use Rattle.plist.specs.inner.Following.{taken_before}
@@ -21,12 +23,35 @@ use Rattle.plist.proofs.Carrying.{items-last, pairs-last, extended-last}
 abbrev IsItself : Value → Type 0
 IsItself value = last_wins (tree_of value) ≡ tree_of value
 
--- the same, of one layer
-abbrev Layer : Value-F Value → Type 0
-Layer x = let t = tree_step (map-Value Value Tree tree_of x) in last_wins t ≡ t
+-- the members of a dictionary
+abbrev members_in : dictionary.Dictionary → Members
+members_in = dictionary.fold-Dictionary Tree Members tree_step members_step
 
-from-layer : (x : Value-F Value) → Layer x → IsItself (roll-Value x)
-from-layer x p = let e = fold-roll-Value _ _ x in ap last_wins e ∙ p ∙ sym e
+abbrev AreThemselves : Members → Type 0
+AreThemselves members = last_wins (Dictionary members) ≡ Dictionary members
+
+abbrev HasItself : dictionary.Dictionary → Type 0
+HasItself d = AreThemselves (members_in d)
+
+-- the same, of one layer
+abbrev Layer : Value-F Value dictionary.Dictionary → Type 0
+Layer x =
+    let t = tree_step (map-Value Value dictionary.Dictionary Tree Members tree_of members_in x) in
+    last_wins t ≡ t
+
+from-layer : (x : Value-F Value dictionary.Dictionary) → Layer x → IsItself (roll-Value x)
+from-layer x p = let e = fold-roll-Value _ _ _ _ x in ap last_wins e ∙ p ∙ sym e
+
+abbrev PairsLayer : Dictionary-F Value dictionary.Dictionary → Type 0
+PairsLayer x =
+    AreThemselves (members_step
+    (map-Dictionary Value dictionary.Dictionary Tree Members tree_of members_in x))
+
+from-pairs : (x : Dictionary-F Value dictionary.Dictionary) → PairsLayer x
+    → HasItself (dictionary.roll-Dictionary x)
+from-pairs x p =
+    let e = dictionary.fold-roll-Dictionary _ _ _ _ x in
+    ap (λ m. last_wins (Dictionary m)) e ∙ p ∙ sym (ap Dictionary e)
 
 -- what a function leaves as it is, item by item, the list too
 fixed : {A B : Type 0} (f : A → A) (g : B → A) → ((b : B) → f (g b) ≡ g b) → (bs : List B)
@@ -40,25 +65,37 @@ rows-itself rows s =
     ap last_values (values-inserts last_wins [] rows ∙ ap last_values s)
     ∙ last-values-once (last_values rows) (once-last rows)
 
-layer-of : (y : Value-F ((v : Value) × IsItself v))
-    → Layer (map-Value ((v : Value) × IsItself v) Value (λ e. e.0) y)
-layer-of (Value-F.Array items) =
+-- of what is known of the values and the dictionaries in it
+layer-of : {V D : Type 0} (y : Value-F V D) (value : V → Value) (pairs : D → dictionary.Dictionary)
+    → ((v : V) → IsItself (value v)) → ((d : D) → HasItself (pairs d))
+    → Layer (map-Value V D Value dictionary.Dictionary value pairs y)
+layer-of (Value-F.Array items) value pairs one all =
     ap (λ l. Array (trees_of l)) (items-last _
-    ∙ subst (λ l. map last_wins l ≡ l) (sym (map-map tree_of (λ e. e.0) items.items))
-    (fixed last_wins (λ e. tree_of e.0) (λ e. e.1) items.items))
-layer-of (Value-F.Dictionary pairs) =
-    let rows = tree_pairs (map (λ p. (p.0, p.1.0)) pairs) in
+    ∙ subst (λ l. map last_wins l ≡ l) (sym (map-map tree_of value items.items))
+    (fixed last_wins (λ e. tree_of (value e)) one items.items))
+layer-of (Value-F.Dictionary d) value pairs one all = all d
+layer-of scalar value pairs one all = refl
+
+pairs-layer-of : {V D : Type 0} (y : Dictionary-F V D) (value : V → Value)
+    (pairs : D → dictionary.Dictionary) → ((v : V) → IsItself (value v))
+    → PairsLayer (map-Dictionary V D Value dictionary.Dictionary value pairs y)
+pairs-layer-of y value pairs one =
+    let rows = tree_pairs (map (λ p. (p.0, value p.1)) y.pairs) in
     ap (λ l. Dictionary (members_of (last_values l))) (pairs-last (last_values rows))
     ∙ ap (λ l. Dictionary (members_of l)) (rows-itself rows
     (subst (λ l. map (λ p. (p.0, last_wins p.1)) l ≡ l)
-    (sym (map-map (λ p. (p.0, tree_of p.1)) (λ p. (p.0, p.1.0)) pairs))
-    (fixed (λ p. (p.0, last_wins p.1)) (λ p. (p.0, tree_of p.1.0))
-    (λ p. ap (λ t. (p.0, t)) p.1.1) pairs)))
-layer-of scalar = refl
+    (sym (map-map (λ p. (p.0, tree_of p.1)) (λ p. (p.0, value p.1)) y.pairs))
+    (fixed (λ p. (p.0, last_wins p.1)) (λ p. (p.0, tree_of (value p.1)))
+    (λ p. ap (λ t. (p.0, t)) (one p.1)) y.pairs)))
 
 -- a value's keys stand once at every level, so the last value of each is the value
 pub itself : (v : Value) → last_wins (tree_of v) ≡ tree_of v
-itself = ind-Value IsItself (λ x y is. from-layer x (subst Layer is (layer-of y)))
+itself =
+    ind-Value IsItself HasItself
+    (λ x y is. from-layer x (subst Layer is
+    (layer-of y (λ e. e.0) (λ e. e.0) (λ e. e.1) (λ e. e.1))))
+    (λ x y is. from-pairs x (subst PairsLayer is
+    (pairs-layer-of y (λ e. e.0) (λ e. e.0) (λ e. e.1))))
 
 pairs-itself : (ps : List (List ℕ × Value))
     → last_wins_in_rows (last_values (tree_pairs ps)) ≡ last_values (tree_pairs ps)
@@ -68,8 +105,9 @@ pairs-itself ps =
 
 open-itself : (c : UnclosedCollection) → last_wins_within (open_of c) ≡ open_of c
 open-itself (run.Array items) = ap InArray (fixed last_wins tree_of itself items.items)
-open-itself (run.Dictionary pairs) = ap InDictionary (pairs-itself pairs)
-open-itself (run.AfterKey pairs key) = ap (λ d. AfterKey d (string_bytes key)) (pairs-itself pairs)
+open-itself (run.Dictionary pairs) = ap InDictionary (pairs-itself (pairs_of pairs))
+open-itself (run.AfterKey pairs key) =
+    ap (λ d. AfterKey d (string_bytes key)) (pairs-itself (pairs_of pairs))
 
 -- what is held is its own last-value form
 pub held-itself : (root : Option Value) (cs : List UnclosedCollection)

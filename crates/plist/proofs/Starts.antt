@@ -2,7 +2,9 @@
 use Rattle.std.proofs.Common.{◌≡◌, ℕ, List, sym, ap, ◌∙◌, Vec, Global, [], ◌∷◌, ◌++◌, Some, map, length, refl, append_assoc, arith, bytes_eq}
 use Rattle.plist.specs.declared.value.Value.{Value, fold-roll-Value}
 use Rattle.plist.specs.declared.value.Value.TheVariants.{rolls-Array, rolls-Dictionary}
-use Rattle.plist.specs.ValueTrees.{tree_of, item_trees, pair_trees, tree_pairs}
+use Rattle.plist.specs.declared.dictionary.Dictionary as dictionary
+use Rattle.plist.specs.Dictionaries.{pairs_of}
+use Rattle.plist.specs.ValueTrees.{item_trees, members_step, pair_trees, tree_of, tree_pairs, tree_step}
 use Rattle.std.specs.List.{IsDistinct}
 use Rattle.std.specs.Map.{keys_of}
 use Rattle.plist_base.specs.Events.{PlainEvent, StartArray, StartDictionary, EndCollection}
@@ -16,13 +18,13 @@ use Rattle.plist.specs.declared.value.Value.TheVariants as value
 pub tree_of-Array : (items : Vec Value Global)
     → tree_of (value.Array items) ≡ tree.Array (item_trees items.items)
 tree_of-Array items =
-    ap tree_of (sym (rolls-Array _)) ∙ fold-roll-Value _ _ _
+    ap tree_of (sym (rolls-Array _)) ∙ fold-roll-Value _ _ _ _ _
 
-pub tree_of-Dictionary : (pairs : List (List ℕ × Value))
-    → tree_of (value.Dictionary pairs) ≡ tree.Dictionary (pair_trees pairs)
+pub tree_of-Dictionary : (pairs : dictionary.Dictionary)
+    → tree_of (value.Dictionary pairs) ≡ tree.Dictionary (pair_trees (pairs_of pairs))
 tree_of-Dictionary pairs =
-    ap tree_of (sym (rolls-Dictionary _))
-    ∙ fold-roll-Value _ _ _
+    ap tree_of (sym (rolls-Dictionary _)) ∙ fold-roll-Value _ _ _ _ _
+    ∙ ap tree.Dictionary (dictionary.fold_out-Dictionary _ _ tree_step members_step pairs)
 
 trees-length : (vs : List Value) → number_of_trees (trees_of (map tree_of vs)) ≡ length vs
 trees-length [] = refl
@@ -52,15 +54,15 @@ array_begins v items slice n rest after p s l q =
     ∙ λ j. StartArray (Some ((trees-length items.items ∙ sym l) j))
     ∷ (bracketing_of_items (trees_of (map tree_of (sym s j))) ++ EndCollection ∷ [])) q
 
-pub dictionary_begins : (v : Value) (pairs slice : List (List ℕ × Value)) (n : ℕ)
-    (rest after : List PlainEvent)
-    → v ≡ value.Dictionary pairs → slice ≡ pairs → IsDistinct bytes_eq (keys_of pairs)
-    → n ≡ length pairs → after ≡ bracketing_of_pairs (members_of (tree_pairs slice))
+pub dictionary_begins : (v : Value) (pairs : dictionary.Dictionary) (slice : List (List ℕ × Value))
+    (n : ℕ) (rest after : List PlainEvent)
+    → v ≡ value.Dictionary pairs → slice ≡ pairs_of pairs
+    → IsDistinct bytes_eq (keys_of (pairs_of pairs)) → n ≡ length (pairs_of pairs) → after ≡ bracketing_of_pairs (members_of (tree_pairs slice))
     ++ EndCollection ∷ rest
     → bracketing (tree_of v) ++ rest ≡ StartDictionary (Some n) ∷ after
 dictionary_begins v pairs slice n rest after p s d l q =
     begins (tree_of v) (StartDictionary (Some n)) _ rest after
     (ap bracketing (ap tree_of p ∙ tree_of-Dictionary pairs
-    ∙ ap (λ (r : TreePairs). Dictionary (members_of r)) (trees-once pairs d))
-    ∙ λ j. StartDictionary (Some ((members-length pairs ∙ sym l) j))
+    ∙ ap (λ (r : TreePairs). Dictionary (members_of r)) (trees-once (pairs_of pairs) d))
+    ∙ λ j. StartDictionary (Some ((members-length (pairs_of pairs) ∙ sym l) j))
     ∷ (bracketing_of_pairs (members_of (tree_pairs (sym s j))) ++ EndCollection ∷ [])) q

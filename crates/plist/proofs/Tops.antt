@@ -6,7 +6,9 @@ use Rattle.std.proofs.lemmas.Map.Made.{keys_of-map_values}
 use Rattle.indexmap.specs.IndexMap.{insert_entry}
 use Rattle.plist.specs.declared.unfinished.UnclosedCollection.{UnclosedCollection}
 use Rattle.plist.specs.declared.unfinished.UnclosedCollection.TheVariants as run
+use Rattle.plist.specs.declared.dictionary.Dictionary.{Dictionary}
 use Rattle.plist.specs.declared.value.Value.{Value}
+use Rattle.plist.specs.Dictionaries.{pairs_of}
 use Rattle.plist.specs.Building.{InDictionary, Within}
 use Rattle.plist.specs.LastWins.{with_pair, last_values}
 use Rattle.plist.specs.UnfinishedValues.{open_of, held_in}
@@ -43,16 +45,16 @@ last_insert k v ps after s once =
 
 -- a value after a key makes a pair
 pub pair_made : (collections outer new : List UnclosedCollection) (popped : Option UnclosedCollection)
-    (pairs after : List (List ℕ × Value)) (key : String Global) (value : Value)
+    (pairs after : Dictionary) (key : String Global) (value : Value)
     → collections ≡ outer ++ option_to_list popped → popped ≡ Some (run.AfterKey pairs key)
     → new ≡ outer ++ run.Dictionary after ∷ []
-    → after ≡ insert_entry bytes_eq pairs (string_bytes key) value
-    → EachOnce after → held_in None (reverse new)
+    → pairs_of after ≡ insert_entry bytes_eq (pairs_of pairs) (string_bytes key) value
+    → EachOnce (pairs_of after) → held_in None (reverse new)
     ≡ and_tree with_pair (tree_of value) (map open_of (reverse collections))
 pair_made collections outer new popped pairs after key value p q r s once =
     ap (λ l. held_in None (reverse l)) r
     ∙ ap (held_in None) (innermost outer (run.Dictionary after))
     ∙ ap (λ d. Within (InDictionary d) (map open_of (reverse outer)))
-    (last_insert (string_bytes key) value pairs after s once)
+    (last_insert (string_bytes key) value (pairs_of pairs) (pairs_of after) s once)
     ∙ sym (ap (λ l. and_tree with_pair (tree_of value) (map open_of l))
     (innermost_of collections outer popped (run.AfterKey pairs key) p q))

@@ -20,7 +20,7 @@ use Rattle.plist_ascii.specs.declared.dialect.Dialect.{Dialect}
 use Rattle.plist_ascii.specs.declared.dialect.Dialect.TheVariants.{Lax}
 use Rattle.plist_reader.specs.Formats.{input_front}
 use Rattle.plist_reader.specs.declared.reader.Reader.{Reader}
-use Rattle.plist_reader.specs.Reader.{Gives, FaultHasOffset, IsReaderFault, items_of_dialect, limited_input, reader_source, reader_items}
+use Rattle.plist_reader.specs.Reader.{Gives, FaultHasOffset, IsReaderFault, items_of_dialect, items_of_input, limited_input, reader_source, reader_items}
 use Rattle.plist.specs.Collecting.{Collects}
 
 -- the answer comes of the run of a reader that holds this very source and has all its items to give,

@@ -1,6 +1,8 @@
 pub mod LastWins
 pub mod ValueTrees
-pub mod Variants
+pub mod Dictionaries
+pub mod DictionaryLends
+pub mod Entries
 pub mod Building
 pub mod UnfinishedValues
 pub mod Builder

@@ -9,7 +9,9 @@ use Rattle.std.specs.declared.vec.Vec.{Vec}
 use Rattle.std.specs.contracts.alloc.Global as global
 use Rattle.std.specs.contracts.vec.Vec as vec
 use Rattle.std.specs.contracts.impls.GlobalAllocator.TheImpl.{ghosts}
-use Rattle.plist_pairs.specs.contracts.dictionary.Pairs as pairs
+use Rattle.plist.specs.contracts.dictionary.Dictionary as dictionary
+use Rattle.plist.specs.declared.dictionary.Dictionary.{Dictionary}
+use Rattle.plist.specs.Dictionaries.{pairs_of}
 use Rattle.plist.specs.contracts.value.Value.{the_row}
 use Rattle.plist.specs.declared.value.Value.{Value}
 use Rattle.plist.specs.declared.value.Value.TheVariants as made
@@ -18,19 +20,19 @@ abbrev pub array_row : RattleType
 array_row = vec.the_row the_row global.the_row ghosts
 
 abbrev pub dictionary_row : RattleType
-dictionary_row = pairs.the_row the_row
+dictionary_row = dictionary.the_row
 
 -- the value ends as an array, or a dictionary, of what the reference lends, and as it was where
 -- there is none
 abbrev pub LendsArray : MutBor Value → Option (MutBor (Vec Value Global)) → Value → Fml
 LendsArray value lent old = LendsIf the_row array_row value lent made.Array old
 
-abbrev pub LendsDictionary : MutBor Value → Option (MutBor (List (List ℕ × Value))) → Value → Fml
+abbrev pub LendsDictionary : MutBor Value → Option (MutBor Dictionary) → Value → Fml
 LendsDictionary value lent old = LendsIf the_row dictionary_row value lent made.Dictionary old
 
 -- the items, or the pairs, that a reference lends
 abbrev pub items_lent : Option (MutBor (Vec Value Global)) → Option Trees
 items_lent lent = option_map (λ array. item_trees array.now.items) lent
 
-abbrev pub pairs_lent : Option (MutBor (List (List ℕ × Value))) → Option Members
-pairs_lent lent = option_map (λ pairs. pair_trees pairs.now) lent
+abbrev pub pairs_lent : Option (MutBor Dictionary) → Option Members
+pairs_lent lent = option_map (λ pairs. pair_trees (pairs_of pairs.now)) lent

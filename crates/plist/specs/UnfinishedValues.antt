@@ -11,6 +11,7 @@ use Rattle.plist.specs.declared.unfinished.UnclosedCollection.TheVariants as run
 use Rattle.plist.specs.declared.unfinished.UnfinishedValue.{UnfinishedValue}
 use Rattle.plist.specs.declared.value.Value.{Value}
 use Rattle.plist.specs.Building.{OpenCollection, InArray, InDictionary, AfterKey, Unfinished, NotBegun, Within, Complete, refusal_at}
+use Rattle.plist.specs.Dictionaries.{pairs_of}
 use Rattle.plist.specs.LastWins.{last_values, with_pair}
 use Rattle.plist.specs.inner.Steps.{and_tree, and_event}
 use Rattle.plist.specs.ValueTrees.{tree_of, tree_pairs}
@@ -19,8 +20,9 @@ use Rattle.plist.specs.ValueTrees.{tree_of, tree_pairs}
 -- its pairs
 abbrev pub open_of : UnclosedCollection → OpenCollection
 open_of (run.Array items) = InArray (map tree_of items.items)
-open_of (run.Dictionary pairs) = InDictionary (last_values (tree_pairs pairs))
-open_of (run.AfterKey pairs key) = AfterKey (last_values (tree_pairs pairs)) (string_bytes key)
+open_of (run.Dictionary pairs) = InDictionary (last_values (tree_pairs (pairs_of pairs)))
+open_of (run.AfterKey pairs key) =
+    AfterKey (last_values (tree_pairs (pairs_of pairs))) (string_bytes key)
 
 -- what a root, if there is one, and the open collections, innermost first, hold
 abbrev pub held_in : Option Value → List UnclosedCollection → Unfinished

@@ -7,13 +7,12 @@ use Rattle.plist_base.specs.Trees.{Tree, Leaf, Array, Dictionary, Trees, Members
 use Rattle.plist_base.specs.Trees as tree
 use Rattle.plist.specs.LastWins.{last_values}
 use Rattle.plist.specs.declared.value.Value.{Value, fold-Value}
-use Rattle.plist.specs.declared.value.Value.TheOpen.{Value-F}
+use Rattle.plist.specs.declared.value.Value.TheOpen.{Dictionary-F, Value-F}
 
--- the tree of a value whose items and values are trees already; a dictionary's keys stand once
--- each, so its last values are its pairs
-abbrev pub tree_step : Value-F Tree → Tree
+-- the tree of a value whose items are trees already, and whose pairs are members
+abbrev pub tree_step : Value-F Tree Members → Tree
 tree_step (Value-F.Array items) = Array (trees_of items.items)
-tree_step (Value-F.Dictionary pairs) = Dictionary (members_of (last_values pairs))
+tree_step (Value-F.Dictionary members) = Dictionary members
 tree_step (Value-F.Boolean b) = Leaf (tree.Boolean b)
 tree_step (Value-F.Data bytes) = Leaf (tree.Data bytes.items)
 tree_step (Value-F.Date bytes) = Leaf (tree.Date bytes)
@@ -22,9 +21,14 @@ tree_step (Value-F.Integer n) = Leaf (tree.Integer n)
 tree_step (Value-F.String text) = Leaf (tree.String (string_bytes text))
 tree_step (Value-F.Uid n) = Leaf (tree.Uid n)
 
+-- the members of a dictionary whose values are trees already; its keys stand once each, so its last
+-- values are its pairs
+abbrev pub members_step : Dictionary-F Tree Members → Members
+members_step dictionary = members_of (last_values dictionary.pairs)
+
 -- the tree of a value
 abbrev pub tree_of : Value → Tree
-tree_of = fold-Value Tree tree_step
+tree_of = fold-Value Tree Members tree_step members_step
 
 -- the trees of an array's items
 abbrev pub item_trees : List Value → Trees
@@ -34,7 +38,7 @@ item_trees items = trees_of (map tree_of items)
 abbrev pub tree_pairs : List (List ℕ × Value) → List (List ℕ × Tree)
 tree_pairs pairs = map (λ p. (p.0, tree_of p.1)) pairs
 
--- the members of a dictionary
+-- these pairs as members
 abbrev pub pair_trees : List (List ℕ × Value) → Members
 pair_trees pairs = members_of (last_values (tree_pairs pairs))
 

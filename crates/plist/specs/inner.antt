@@ -5,3 +5,4 @@ pub mod Laws
 pub mod Sameness
 pub mod Weights
 pub mod PutOff
+pub mod SameDictionaries

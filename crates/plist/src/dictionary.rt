@@ -1,26 +1,310 @@
-//! Dictionaries: the pairs of `plist_pairs`, whose values are those of property lists.
+//! Dictionaries: pairs of a key and a value, in the order in which the keys came.
+
+ghost use Rattle.std.specs.Prelude.{◌≡◌, ◌<◌, ◌++◌, ◌∷◌, ◌↔◌, MatchOption, IsTrue, None, Some, [], length, is_some, string_bytes, IfOk, IfSome, OnOk, IfErr, OnErr, slice_get};
+ghost use Rattle.std.specs.Str.{bytes_eq};
+ghost use Rattle.std.specs.Option.{option_copied, option_copied_mut};
+ghost use Rattle.std.specs.Map.{lookup, keys_of, values_of};
+ghost use Rattle.std.specs.Map.Iter.{ShowsInOrder, ShowsValuesInOrder, deref};
+ghost use Rattle.std.specs.List.{IsAmong, IsDistinct};
+ghost use Rattle.std.specs.Borrow.{sem};
+ghost use Rattle.plist_base.specs.Outcomes.{OnlyMemory};
+ghost use Rattle.plist_pairs.specs.Keys.{HasNone, IsAbsent, IsIndexOf, IsSetAt, IsTakenAt};
+ghost use Rattle.plist_pairs.specs.EntryLends.{IsRemovedAt};
+ghost use Rattle.plist_pairs.specs.Shown.{shown_key, shown_pair};
+ghost use Rattle.plist.specs.Dictionaries.{pairs_of};
+ghost use Rattle.plist.specs.DictionaryLends.{DictionaryLendsAtKey, DictionaryLendsIndex};
+
+mod bulk;
+mod entry;
+mod index;
+mod into_iter;
 
 use crate::Value;
-use plist_pairs::dictionary;
-pub use plist_pairs::dictionary::{Keys, Pairs, TryCopy};
-
-/// A dictionary of a property list.
-pub type Dictionary = Pairs<Value>;
-
-/// The place of a key in a dictionary: its pair, or none yet.
-pub type Entry<'a, V = Value> = dictionary::Entry<'a, V>;
-
-/// The pair of a key that is there.
-pub type OccupiedEntry<'a, V = Value> = dictionary::OccupiedEntry<'a, V>;
-
-/// The place of a key that isn't there. It holds the key.
-pub type VacantEntry<'a, V = Value> = dictionary::VacantEntry<'a, V>;
-
-/// The pairs by value, in their order.
-pub type IntoIter<V = Value> = dictionary::IntoIter<V>;
+use crate::value::destroy_all;
+pub use entry::{Entry, OccupiedEntry, VacantEntry};
+pub use into_iter::IntoIter;
+use plist_base::Error;
+pub use plist_pairs::dictionary::Keys;
+pub(crate) use plist_pairs::dictionary::{Discard, TryCopy};
+use plist_pairs::{Pairs, dictionary};
+use std::alloc::Global;
+use std::fmt;
 
 /// The pairs, in their order.
-pub type Iter<'a, V = Value> = dictionary::Iter<'a, V>;
+pub type Iter<'a> = dictionary::Iter<'a, Value>;
 
 /// The values, in the order of the pairs.
-pub type Values<'a, V = Value> = dictionary::Values<'a, V>;
+pub type Values<'a> = dictionary::Values<'a, Value>;
+
+/// A dictionary of a property list: pairs of a key and a value, each key once.
+///
+/// The pairs have an order: a new key goes last, and a key that is there keeps its place. Contracts
+/// see the list of the pairs, a key as its bytes.
+///
+/// A dictionary is dropped without recursion and without memory, however deep its values are.
+#[cycle(value)]
+pub struct Dictionary {
+    pairs: Pairs<Value>,
+}
+
+impl Drop for Dictionary {
+    fn drop(self) {
+        let Dictionary { pairs } = self;
+        destroy_all(pairs.into_items());
+    }
+}
+
+impl Dictionary {
+    ghost use Rattle.plist.specs.declared.value.Value.{Value as V};
+
+    /// No pairs. It takes no memory before the first insert.
+    pub fn new(alloc: Global) -> Dictionary
+        ensures empty { pairs_of result ≡ [] }
+    {
+        Dictionary {
+            pairs: Pairs::new(alloc),
+        }
+    }
+
+    /// Removes all pairs, and keeps the memory for others. The values are dropped without
+    /// recursion.
+    pub fn clear(&mut self)
+        ensures empty { pairs_of self.new ≡ [] }
+    {
+        self.pairs.clear();
+    }
+
+    /// The value of the key, if it is there.
+    pub fn get(&self, key: &str) -> Option<&Value>
+        ensures value { option_copied result ≡ lookup (bytes_eq key.now) (pairs_of self.now) }
+        ensures member { IfSome result (λ value. IsAmong (values_of (pairs_of self.now)) value.now) }
+    {
+        self.pairs.get(key)
+    }
+
+    /// Whether the key is there.
+    pub fn contains_key(&self, key: &str) -> bool
+        ensures { result ≡ is_some (lookup (bytes_eq key.now) (pairs_of self.now)) }
+    {
+        self.pairs.contains_key(key)
+    }
+
+    /// The value of the key, to be changed, if it is there.
+    pub fn get_mut(&mut self, key: &str) -> Option<&mut Value>
+        ensures value { option_copied_mut result ≡ lookup (bytes_eq key.now) (pairs_of self.old) }
+        ensures member { IfSome result (λ lent. IsAmong (values_of (pairs_of self.old)) lent.now) }
+        ensures* writes_back { sem 𝓛 (DictionaryLendsAtKey self.entry key.now result) }
+    {
+        self.pairs.get_mut(key)
+    }
+
+    /// Sets the key's value, and returns the value that it had.
+    ///
+    /// A key that is there keeps its place, and a new one goes last.
+    ///
+    /// # Errors
+    ///
+    /// If memory runs out, which only a new key can meet, the pairs stay as they are, and the key
+    /// and the value come back.
+    pub fn insert(&mut self, key: String, value: Value) -> Result<Option<Value>, (String, Value)>
+        // The answer.
+        ensures old { IfOk result (λ old.
+            old ≡ lookup (bytes_eq (string_bytes key)) (pairs_of self.old)) }
+        ensures pairs { OnOk result (IsSetAt (pairs_of self.old) (string_bytes key) value
+            (pairs_of self.new)) }
+        // A refusal.
+        ensures absent { OnErr result (IsAbsent (string_bytes key) (pairs_of self.old)) }
+        ensures handed_back { IfErr result (λ back. back ≡ (key, value)) }
+        // The state after it.
+        ensures unchanged { OnErr result (self.new ≡ self.old) }
+    {
+        self.pairs.insert(key, value)
+    }
+
+    // Sets the key's value. The value that it had is dropped, and this one where memory runs out.
+    pub(crate) fn set(&mut self, key: String, value: Value) -> Result<(), Error>
+        ensures pairs { OnOk result (IsSetAt (pairs_of self.old) (string_bytes key) value
+            (pairs_of self.new)) }
+    {
+        self.pairs.set(key, value)
+    }
+
+    /// Removes the key, and returns its value, if it is there.
+    ///
+    /// The last pair moves to the place of the one that was removed.
+    pub fn remove(&mut self, key: &str) -> Option<Value>
+        ensures value { result ≡ lookup (bytes_eq key.now) (pairs_of self.old) }
+        ensures pairs { IsTakenAt (pairs_of self.old) key.now (pairs_of self.new) }
+    {
+        self.pairs.remove(key)
+    }
+
+    /// The number of pairs.
+    pub fn len(&self) -> usize
+        ensures { result ≡ length (pairs_of self.now) }
+    {
+        self.pairs.len()
+    }
+
+    /// Whether there are no pairs.
+    pub fn is_empty(&self) -> bool
+        ensures { IsTrue result ↔ (pairs_of self.now ≡ []) }
+    {
+        self.pairs.is_empty()
+    }
+
+    /// The pairs, in their order.
+    pub fn iter(&self) -> Iter<'_>
+        ensures rest { result ≡ pairs_of self.now }
+        ensures runs { ShowsInOrder (shown_pair {V = V}) }
+        ensures values_run { ShowsValuesInOrder (shown_pair {V = V}) }
+        ensures distinct { IsDistinct bytes_eq (keys_of (pairs_of self.now)) }
+    {
+        self.pairs.iter()
+    }
+
+    /// The keys, in the order of the pairs.
+    pub fn keys(&self) -> Keys<'_>
+        ensures rest { result ≡ keys_of (pairs_of self.now) }
+        ensures runs { ShowsInOrder shown_key }
+        ensures distinct { IsDistinct bytes_eq (keys_of (pairs_of self.now)) }
+    {
+        self.pairs.keys()
+    }
+
+    /// The values, in the order of the pairs.
+    pub fn values(&self) -> Values<'_>
+        ensures rest { result ≡ values_of (pairs_of self.now) }
+        ensures runs { ShowsInOrder (deref {X = V}) }
+    {
+        self.pairs.values()
+    }
+
+    // The pairs, which aren't dropped as a dictionary is.
+    fn into_pairs(self) -> Pairs<Value>
+        ensures { result ≡ pairs_of self }
+    {
+        let Dictionary { pairs } = self;
+        pairs
+    }
+
+    /// The values, without their keys, in the order of the pairs.
+    pub fn into_items(self) -> Vec<Value>
+        ensures { result.items ≡ values_of (pairs_of self) }
+    {
+        self.into_pairs().into_items()
+    }
+
+    /// Where the pairs are stored.
+    pub fn allocator(&self) -> Global {
+        self.pairs.allocator()
+    }
+
+    /// The number of pairs, whose keys are distinct.
+    pub fn pair_count(&self) -> usize
+        ensures count { result ≡ length (pairs_of self.now) }
+        ensures distinct { IsDistinct bytes_eq (keys_of (pairs_of self.now)) }
+    {
+        self.pairs.pair_count()
+    }
+
+    /// The pair at an index.
+    pub fn pair_at(&self, index: usize) -> (&str, &Value)
+        requires { index < length (pairs_of self.now) }
+        ensures { slice_get (pairs_of self.now) index ≡ Some (result.0.now, result.1.now) }
+    {
+        self.pairs.pair_at(index)
+    }
+}
+
+// Pairs by their indices, for entries, which look a key up once.
+impl Dictionary {
+    fn index_of(&self, key: &str) -> Option<usize>
+        ensures { MatchOption result (HasNone key.now (pairs_of self.now))
+            (IsIndexOf key.now (pairs_of self.now)) }
+    {
+        self.pairs.index_of(key)
+    }
+
+    fn key_at(&self, index: usize) -> &String
+        requires { index < length (pairs_of self.now) }
+        ensures { slice_get (keys_of (pairs_of self.now)) index ≡ Some (string_bytes result.now) }
+    {
+        self.pairs.key_at(index)
+    }
+
+    // The value at an index, to be changed.
+    fn value_at(&mut self, index: usize) -> &mut Value
+        requires { index < length (pairs_of self.old) }
+        ensures value { slice_get (values_of (pairs_of self.old)) index ≡ Some result.now }
+        ensures* writes_back { sem 𝓛 (DictionaryLendsIndex self.entry index result) }
+    {
+        self.pairs.value_at(index)
+    }
+
+    // Adds a pair whose key isn't there.
+    fn push(&mut self, key: String, value: Value) -> Result<(), (String, Value)>
+        requires { IsAbsent (string_bytes key) (pairs_of self.old) }
+        ensures pairs { OnOk result (pairs_of self.new
+            ≡ pairs_of self.old ++ (string_bytes key, value) ∷ []) }
+        ensures handed_back { IfErr result (λ back. back ≡ (key, value)) }
+        ensures unchanged { OnErr result (self.new ≡ self.old) }
+    {
+        self.pairs.push(key, value)
+    }
+
+    // Takes the pair at an index; the last one moves there.
+    fn swap_remove_at(&mut self, index: usize) -> Value
+        requires { index < length (pairs_of self.old) }
+        ensures value { slice_get (values_of (pairs_of self.old)) index ≡ Some result }
+        ensures pairs { IsRemovedAt (pairs_of self.old) index (pairs_of self.new) }
+    {
+        self.pairs.swap_remove_at(index)
+    }
+}
+
+/// The pairs, in their order.
+impl<'a> IntoIterator for &'a Dictionary {
+    ghost use Rattle.plist.specs.declared.value.Value.{Value as V};
+
+    type Item = (&'a String, &'a Value);
+
+    type IntoIter = Iter<'a>;
+
+    ghost into_iter_gives = { λ dictionary iter. (iter ≡ pairs_of dictionary.now)
+        × ShowsInOrder (shown_pair {V = V}) × ShowsValuesInOrder (shown_pair {V = V})
+        × IsDistinct bytes_eq (keys_of (pairs_of dictionary.now)) };
+
+    fn into_iter(self) -> Iter<'a> {
+        self.iter()
+    }
+}
+
+/// A map of the pairs, in their order.
+impl fmt::Debug for Dictionary {
+    #[cycle(value)]
+    fn fmt<W: fmt::Write>(&self, f: &mut fmt::Formatter<W>) -> fmt::Result {
+        self.pairs.fmt(f)
+    }
+}
+
+/// Equal values at each key of either, whatever the order.
+impl PartialEq for Dictionary {
+    ghost use Rattle.std.specs.Cmp.{partial_equiv_from_equiv};
+    ghost use Rattle.plist.specs.inner.PutOff.{same_values_at};
+    ghost use Rattle.plist.specs.inner.SameDictionaries.{same_dictionaries_equiv};
+
+    ghost eq = { λ a b. same_values_at (pairs_of a) (pairs_of b) };
+
+    ghost laws = { partial_equiv_from_equiv same_dictionaries_equiv };
+
+    fn eq(&self, other: &Dictionary) -> bool {
+        self.pairs == other.pairs
+    }
+}
+
+impl Eq for Dictionary {
+    ghost use Rattle.plist.specs.inner.SameDictionaries.{same_dictionaries_equiv};
+
+    ghost laws = { same_dictionaries_equiv };
+}

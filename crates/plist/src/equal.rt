@@ -7,6 +7,7 @@
 ghost use Rattle.std.specs.Prelude.{◌≡◌, ◌-◌};
 ghost use Rattle.plist_base.specs.Trees.{Dictionary};
 ghost use Rattle.plist.specs.inner.PutOff.{PutsOff, waiting, ComparesContent, ComparesItems, ComparesPairs, ComparesValues, TakesLast};
+ghost use Rattle.plist.specs.Dictionaries.{pairs_of};
 ghost use Rattle.plist.specs.Equal.{same};
 ghost use Rattle.plist.specs.ValueTrees.{tree_of};
 
@@ -193,7 +194,7 @@ impl<'a> Later<'a> {
     // Whether two dictionaries are equal, likewise.
     #[cycle(same)]
     fn compare_pairs(&mut self, pairs: &'a Dictionary, others: &'a Dictionary, levels: u32) -> bool
-        ensures { ComparesPairs pairs.now others.now self.old result self.new }
+        ensures { ComparesPairs (pairs_of pairs.now) (pairs_of others.now) self.old result self.new }
     {
         let count = pairs.pair_count();
         if count != others.pair_count() {

@@ -8,6 +8,7 @@ ghost use Rattle.plist.specs.Building.{NotBegun, complete_tree, kind_expected, r
 ghost use Rattle.plist.specs.UnfinishedValues.{AddsValue, AddsEvent, RootIsTaken, IsRefusalOf, Opens, TakesText, unfinished_of};
 ghost use Rattle.plist.specs.ValueTrees.{tree_of};
 
+use crate::value::destroy_all;
 use crate::{Dictionary, Value};
 use plist_base::{Change, ErrorKind, Event, EventKind, Expect};
 use std::alloc::{AllocError, Global};
@@ -23,11 +24,32 @@ pub(crate) enum UnclosedCollection {
     AfterKey(Dictionary, String),
 }
 
-/// The open collections, innermost last, and the root once it is complete.
-#[derive(Drop)]
+impl UnclosedCollection {
+    // Drops the collection without recursion.
+    fn destroy(self) {
+        match self {
+            UnclosedCollection::Array(items) => destroy_all(items),
+            UnclosedCollection::Dictionary(_pairs) => {}
+            UnclosedCollection::AfterKey(_pairs, _key) => {}
+        }
+    }
+}
+
+/// The open collections, innermost last, and the root once it is complete. What is stored may be
+/// deep, and is dropped without recursion.
 pub(crate) struct UnfinishedValue {
     collections: Vec<UnclosedCollection>,
     root: Option<Value>,
+}
+
+impl Drop for UnfinishedValue {
+    fn drop(mut self) {
+        self.clear();
+        let UnfinishedValue {
+            collections: _collections,
+            root: _root,
+        } = self;
+    }
 }
 
 // What a refusal says was expected.
@@ -68,8 +90,13 @@ impl UnfinishedValue {
     pub(crate) fn clear(&mut self)
         ensures { unfinished_of self.new ≡ NotBegun }
     {
-        self.collections.clear();
-        self.root = None;
+        while let Some(collection) = self.collections.pop() {
+            collection.destroy();
+        }
+        match self.root.take() {
+            None => {}
+            Some(root) => root.destroy(),
+        }
     }
 
     /// Why the event can't come next, if it can't.
@@ -104,17 +131,22 @@ impl UnfinishedValue {
     {
         match self.collections.pop() {
             None => self.root = Some(value),
-            Some(UnclosedCollection::Array(mut items)) => {
-                items.push(value)?;
-                self.collections
-                    .push_reserved(UnclosedCollection::Array(items));
-            }
+            Some(UnclosedCollection::Array(mut items)) => match items.push(value) {
+                Ok(()) => self
+                    .collections
+                    .push_reserved(UnclosedCollection::Array(items)),
+                Err(refused) => {
+                    refused.value.destroy();
+                    destroy_all(items);
+                    return Err(AllocError);
+                }
+            },
             Some(UnclosedCollection::Dictionary(pairs)) => self
                 .collections
                 .push_reserved(UnclosedCollection::Dictionary(pairs)),
             Some(UnclosedCollection::AfterKey(mut pairs, key)) => {
-                match pairs.insert(key, value) {
-                    Ok(_) => {}
+                match pairs.set(key, value) {
+                    Ok(()) => {}
                     Err(_) => return Err(AllocError),
                 }
                 // its contract says that no key stands twice

@@ -16,22 +16,19 @@ ghost use Rattle.plist_base.specs.Trees.{Leaf, String};
 ghost use Rattle.plist.specs.LastWins.{AreLastValues, TreePairs, last_values, last_wins};
 ghost use Rattle.plist.specs.Limiting.{IsWithinBudget, IsWithinLimits};
 ghost use Rattle.plist.specs.Events.{remaining_events};
-ghost use Rattle.plist.specs.Variants.{value_with};
+ghost use Rattle.plist.specs.Dictionaries.{pairs_of};
 ghost use Rattle.plist.specs.ValueTrees.{item_trees, kind_of_tree, pair_trees, tree_of};
-ghost use Rattle.plist.specs.inner.Weights.{SplitsInto};
 
 mod accessors;
 mod dropping;
 mod from;
-mod variant;
 
 use crate::Dictionary;
 use crate::collect::collect;
 use crate::copy::copy;
 use crate::stream::Events;
 use crate::stream::builder::AnyEvent;
-use crate::value::dropping::joined;
-pub use crate::value::variant::Variant;
+pub(crate) use crate::value::dropping::destroy_all;
 use crate::writing::collect_events;
 use plist_ascii::{AsciiReader, ByteReader, Dialect};
 use plist_base::{Date, Error, EventKind, Integer, Limited, Limits, RealBits, Source, Uid};
@@ -42,10 +39,11 @@ use std::io::Write;
 
 /// A property list: a scalar, an array, or a dictionary.
 ///
-/// A value is dropped without recursion and without memory, however deep it is. So a pattern can't
-/// take the content out of one by value: [`Value::into_variant`] does, for a pattern on what it
-/// answers, and [`Value::into_array`] and the like for one kind.
-#[derive(Debug)]
+/// A value is dropped by recursion over arrays that lie within one another, and so needs the more of
+/// the call stack the deeper they nest; [`Value::destroy`] needs none. What lies in a dictionary is
+/// dropped without recursion.
+#[cycle(value)]
+#[derive(Debug, Drop)]
 pub enum Value {
     /// Values in order.
     Array(Vec<Value>),
@@ -67,79 +65,36 @@ pub enum Value {
     Uid(Uid),
 }
 
-impl Drop for Value {
-    fn drop(self) {
-        let Some(mut left) = self.into_children() else {
-            return;
-        };
-        while let Some(value) = left.pop() {
-            match value.into_children() {
-                None => {}
-                Some(below) => left = joined(left, below),
-            }
-        }
-        left.destroy_empty();
-    }
-}
-
 impl Value {
     ghost use Rattle.plist.specs.declared.value.Value.TheVariants as made;
-
-    // What a collection holds, without its keys; a scalar is dropped.
-    fn into_children(self) -> Option<Vec<Value>>
-        ensures { SplitsInto result self }
-    {
-        match self {
-            Value::Array(items) => Some(items),
-            Value::Dictionary(pairs) => Some(pairs.into_items()),
-            Value::Boolean(_) => None,
-            Value::Data(_) => None,
-            Value::Date(_) => None,
-            Value::Real(_) => None,
-            Value::Integer(_) => None,
-            Value::String(_) => None,
-            Value::Uid(_) => None,
-        }
-    }
-
-    /// Takes the value apart, into an enum of the same variants on which a pattern moves. The
-    /// content stays as it was, and no memory is taken.
-    pub fn into_variant(self) -> Variant
-        ensures made { self ≡ value_with result }
-    {
-        match self {
-            Value::Array(items) => Variant::Array(items),
-            Value::Dictionary(pairs) => Variant::Dictionary(pairs),
-            Value::Boolean(flag) => Variant::Boolean(flag),
-            Value::Data(bytes) => Variant::Data(bytes),
-            Value::Date(date) => Variant::Date(date),
-            Value::Real(bits) => Variant::Real(bits),
-            Value::Integer(number) => Variant::Integer(number),
-            Value::String(text) => Variant::String(text),
-            Value::Uid(uid) => Variant::Uid(uid),
-        }
-    }
 
     /// The array, if the value is one.
     pub fn into_array(self) -> Option<Vec<Value>>
         ensures value { option_map (λ a. item_trees a.items) result ≡ array_in (tree_of self) }
         ensures made { IfSome result (λ items. self ≡ made.Array items) }
     {
-        let Value::Array(array) = self else {
-            return None;
-        };
-        Some(array)
+        match self {
+            Value::Array(array) => Some(array),
+            other => {
+                other.destroy();
+                None
+            }
+        }
     }
 
     /// The dictionary, if the value is one.
     pub fn into_dictionary(self) -> Option<Dictionary>
-        ensures value { option_map pair_trees result ≡ dictionary_in (tree_of self) }
+        ensures value { option_map (λ pairs. pair_trees (pairs_of pairs)) result
+            ≡ dictionary_in (tree_of self) }
         ensures made { IfSome result (λ pairs. self ≡ made.Dictionary pairs) }
     {
-        let Value::Dictionary(pairs) = self else {
-            return None;
-        };
-        Some(pairs)
+        match self {
+            Value::Dictionary(pairs) => Some(pairs),
+            other => {
+                other.destroy();
+                None
+            }
+        }
     }
 
     /// The bytes of data, if the value is data.
@@ -147,10 +102,13 @@ impl Value {
         ensures value { option_map (λ bytes. bytes.items) result ≡ data_in (tree_of self) }
         ensures made { IfSome result (λ bytes. self ≡ made.Data bytes) }
     {
-        let Value::Data(bytes) = self else {
-            return None;
-        };
-        Some(bytes)
+        match self {
+            Value::Data(bytes) => Some(bytes),
+            other => {
+                other.destroy();
+                None
+            }
+        }
     }
 
     /// The text, if the value is one.
@@ -158,10 +116,13 @@ impl Value {
         ensures value { option_map string_bytes result ≡ text_in (tree_of self) }
         ensures made { IfSome result (λ text. self ≡ made.String text) }
     {
-        let Value::String(text) = self else {
-            return None;
-        };
-        Some(text)
+        match self {
+            Value::String(text) => Some(text),
+            other => {
+                other.destroy();
+                None
+            }
+        }
     }
 
     /// The events of the value, depth first.

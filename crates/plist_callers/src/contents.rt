@@ -6,9 +6,10 @@ ghost use Rattle.std.specs.Option.{option_copied};
 ghost use Rattle.plist_base.specs.declared.error.EventKind.TheVariants as event_kind;
 ghost use Rattle.plist_base.specs.Trees.{Array, Dictionary as Pairs, NoMembers, NoTrees};
 ghost use Rattle.plist.specs.Accessors.{array_in, dictionary_in, text_in};
+ghost use Rattle.plist.specs.Dictionaries.{pairs_of};
 ghost use Rattle.plist.specs.ValueTrees.{item_trees, kind_of_tree, pair_trees, tree_of};
 
-use plist::{Dictionary, Value, Variant, kind_of_value};
+use plist::{Dictionary, Value, kind_of_value};
 use plist_base::{Date, Error, EventKind, RealBits, Uid};
 use std::alloc::Global;
 
@@ -54,11 +55,15 @@ pub fn text_again(text: String) -> Option<String>
     Value::from(text).into_string()
 }
 
-/// A value that was taken apart and made again, which is the same one.
+/// A value whose content was taken out and put in again, which is the same one.
 pub fn value_again(value: Value) -> Value
     ensures { result ≡ value }
 {
-    Value::from(value.into_variant())
+    match value {
+        Value::Array(items) => Value::from(items),
+        Value::Dictionary(pairs) => Value::from(pairs),
+        other => other,
+    }
 }
 
 /// The text of a value, or else the value as it was.
@@ -66,9 +71,9 @@ pub fn text_or_value(value: Value) -> Result<String, Value>
     ensures text { IfOk result (λ text. text_in (tree_of value) ≡ Some (string_bytes text)) }
     ensures other { IfErr result (λ other. other ≡ value) }
 {
-    match value.into_variant() {
-        Variant::String(text) => Ok(text),
-        other => Err(Value::from(other)),
+    match value {
+        Value::String(text) => Ok(text),
+        other => Err(other),
     }
 }
 
@@ -81,7 +86,8 @@ pub fn items_again(items: Vec<Value>) -> Option<Vec<Value>>
 
 /// The pairs of a dictionary, by way of a value.
 pub fn pairs_again(pairs: Dictionary) -> Option<Dictionary>
-    ensures { option_map pair_trees result ≡ Some (pair_trees pairs) }
+    ensures { option_map (λ again. pair_trees (pairs_of again)) result
+        ≡ Some (pair_trees (pairs_of pairs)) }
 {
     Value::from(pairs).into_dictionary()
 }
@@ -177,7 +183,8 @@ pub fn put_array(dest: &mut Value, items: Vec<Value>) -> Option<&Vec<Value>>
 
 /// Puts a dictionary in the place of a value, which lends it then.
 pub fn put_dictionary(dest: &mut Value, pairs: Dictionary) -> Option<&Dictionary>
-    ensures { option_map (λ lent. pair_trees lent.now) result ≡ Some (pair_trees pairs) }
+    ensures { option_map (λ lent. pair_trees (pairs_of lent.now)) result
+        ≡ Some (pair_trees (pairs_of pairs)) }
 {
     *dest = Value::from(pairs);
     dest.as_dictionary()

@@ -2,7 +2,7 @@
 //! dictionary, so a recursion over it ends, by whichever call it comes to the values.
 
 use plist::dictionary::Entry;
-use plist::{Dictionary, Error, Value, Variant};
+use plist::{Dictionary, Error, ErrorKind, Value};
 use std::alloc::Global;
 
 // One more, up to the greatest number.
@@ -62,8 +62,8 @@ pub fn count_by_columns(pairs: &Dictionary) -> u64 {
 pub fn count_of(pairs: Dictionary) -> u64 {
     let mut count = 0;
     for (_key, value) in pairs {
-        count = match value.into_variant() {
-            Variant::Dictionary(inner) => count_of(inner).saturating_add(count),
+        count = match value {
+            Value::Dictionary(inner) => count_of(inner).saturating_add(count),
             _ => one_more(count),
         };
     }
@@ -118,4 +118,117 @@ pub fn levels_by_get_mut(pairs: &mut Dictionary, key: &str) -> u64 {
         Some(Value::Dictionary(inner)) => one_more(levels_by_get_mut(inner, key)),
         _ => 0,
     }
+}
+
+/// How many values but dictionaries lie in a dictionary, none of which is a date.
+///
+/// # Errors
+///
+/// A date is refused.
+pub fn try_count_in(pairs: &Dictionary) -> Result<u64, Error> {
+    let mut count = 0;
+    for (_key, value) in pairs {
+        count = match value {
+            Value::Dictionary(inner) => try_count_in(inner)?.saturating_add(count),
+            Value::Date(_) => return Err(ErrorKind::InvalidXmlDate.without_position()),
+            _ => one_more(count),
+        };
+    }
+    Ok(count)
+}
+
+/// Like [`try_count_in`], by value.
+///
+/// # Errors
+///
+/// A date is refused.
+pub fn try_count_of(pairs: Dictionary) -> Result<u64, Error> {
+    let mut count = 0;
+    for (_key, value) in pairs {
+        count = match value {
+            Value::Dictionary(inner) => try_count_of(inner)?.saturating_add(count),
+            Value::Date(_) => return Err(ErrorKind::InvalidXmlDate.without_position()),
+            _ => one_more(count),
+        };
+    }
+    Ok(count)
+}
+
+/// Like [`try_count_of`], with `None` for a date.
+pub fn count_without_dates(pairs: Dictionary) -> Option<u64> {
+    let mut count = 0;
+    for (_key, value) in pairs {
+        count = match value {
+            Value::Dictionary(inner) => count_without_dates(inner)?.saturating_add(count),
+            Value::Date(_) => return None,
+            _ => one_more(count),
+        };
+    }
+    Some(count)
+}
+
+/// Like [`try_count_of`], by [`Value::into_dictionary`]: how many dictionaries lie in one that has
+/// nothing else.
+///
+/// # Errors
+///
+/// Any other value is refused.
+pub fn try_count_dictionaries(pairs: Dictionary) -> Result<u64, Error> {
+    let mut count = 0;
+    for (_key, value) in pairs {
+        let Some(inner) = value.into_dictionary() else {
+            return Err(ErrorKind::UnexpectedEndOfEventStream.without_position());
+        };
+        count = one_more(try_count_dictionaries(inner)?).saturating_add(count);
+    }
+    Ok(count)
+}
+
+/// Merges a dictionary into another one: where both have a dictionary at a key these are merged,
+/// and else the value is set.
+///
+/// # Errors
+///
+/// `OutOfMemory`; a part has been merged then.
+pub fn merge(base: &mut Dictionary, over: Dictionary) -> Result<(), Error> {
+    merge_into(over, base)
+}
+
+// The same. The dictionary that gets less deep comes first: by it the recursion is seen to end.
+fn merge_into(over: Dictionary, base: &mut Dictionary) -> Result<(), Error> {
+    for (key, value) in over {
+        match value {
+            Value::Dictionary(inner) => match base.get_mut(key.as_str()) {
+                Some(Value::Dictionary(below)) => merge_into(inner, below)?,
+                _ => {
+                    let _old = base.insert(key, Value::Dictionary(inner))?;
+                }
+            },
+            other => {
+                let _old = base.insert(key, other)?;
+            }
+        }
+    }
+    Ok(())
+}
+
+/// How many keys two dictionaries have in common, at any depth.
+///
+/// # Errors
+///
+/// A date in the first is refused.
+pub fn try_count_common(pairs: &Dictionary, others: &Dictionary) -> Result<u64, Error> {
+    let mut count = 0;
+    for (key, value) in pairs {
+        let inner = match (value, others.get(key.as_str())) {
+            (Value::Date(_), _) => return Err(ErrorKind::InvalidXmlDate.without_position()),
+            (Value::Dictionary(inner), Some(Value::Dictionary(other))) => {
+                one_more(try_count_common(inner, other)?)
+            }
+            (_, Some(_)) => 1,
+            (_, None) => 0,
+        };
+        count = inner.saturating_add(count);
+    }
+    Ok(count)
 }

@@ -1,60 +1,68 @@
 //! Proved callers of entries: the entry of a key has that key and its value, and by it the key's
 //! value is set and taken out.
 
-ghost use Rattle.std.specs.Prelude.{◌≡◌, IfErr, IfOk, OnErr, OnOk, OnSome, string_bytes, unwrap_or};
+ghost use Rattle.std.specs.Prelude.{◌≡◌, IfErr, IfOk, OnErr, OnOk, OnSome, string_bytes, unwrap_or, option_and_then, false};
 ghost use Rattle.std.specs.Map.{lookup};
 ghost use Rattle.std.specs.Str.{bytes_eq};
+ghost use Rattle.plist.specs.Accessors.{boolean_in};
+ghost use Rattle.plist.specs.Dictionaries.{pairs_of};
+ghost use Rattle.plist.specs.ValueTrees.{tree_of};
+ghost use Rattle.plist.specs.declared.value.Value.TheVariants as made;
 ghost use Rattle.plist_base.specs.Outcomes.{OnlyMemory};
 ghost use Rattle.plist_pairs.specs.Keys.{IsSetAt, IsTakenAt};
 
 use plist::dictionary::Entry;
-use plist::{Error, Pairs};
+use plist::{Dictionary, Error, Value};
 
 /// Whether the entry of a key has this key.
-pub fn entry_has_key<V>(pairs: &mut Pairs<V>, key: String, name: &str) -> bool
+pub fn entry_has_key(pairs: &mut Dictionary, key: String, name: &str) -> bool
     ensures { result ≡ bytes_eq (string_bytes key) name.now }
 {
     pairs.entry(key).key().as_str() == name
 }
 
-/// The value of a key, by its entry.
-pub fn value_by_entry(pairs: &mut Pairs<u64>, key: String) -> Option<u64>
-    ensures { result ≡ lookup (bytes_eq (string_bytes key)) pairs.old }
+/// The truth value of a key, by its entry.
+pub fn flag_by_entry(pairs: &mut Dictionary, key: String) -> Option<bool>
+    ensures { result ≡ option_and_then (λ value. boolean_in (tree_of value))
+        (lookup (bytes_eq (string_bytes key)) (pairs_of pairs.old)) }
 {
     match pairs.entry(key) {
-        Entry::Occupied(found) => Some(*found.get()),
+        Entry::Occupied(found) => found.get().as_boolean(),
         Entry::Vacant(_entry) => None,
     }
 }
 
-/// The count of a key. One that isn't there is added with none.
-pub fn count_of(pairs: &mut Pairs<u64>, key: String) -> Result<u64, (String, u64)>
-    ensures { IfOk result (λ n. n ≡ unwrap_or (lookup (bytes_eq (string_bytes key)) pairs.old) 0) }
+/// The truth value of a key. One that isn't there is added with `false`.
+pub fn flag_or_false(pairs: &mut Dictionary, key: String) -> Result<Option<bool>, (String, Value)>
+    ensures { IfOk result (λ flag. flag ≡ boolean_in (tree_of
+        (unwrap_or (lookup (bytes_eq (string_bytes key)) (pairs_of pairs.old))
+        (made.Boolean false)))) }
 {
-    let count = pairs.entry(key).or_insert(0)?;
-    Ok(*count)
+    let lent = pairs.entry(key).or_insert(Value::Boolean(false))?;
+    Ok(lent.as_boolean())
 }
 
 /// The same, with lack of memory as the fault.
-pub fn count_or_fault(pairs: &mut Pairs<u64>, key: String) -> Result<u64, Error>
-    ensures n { IfOk result (λ count.
-        count ≡ unwrap_or (lookup (bytes_eq (string_bytes key)) pairs.old) 0) }
+pub fn flag_or_fault(pairs: &mut Dictionary, key: String) -> Result<Option<bool>, Error>
+    ensures flag { IfOk result (λ flag. flag ≡ boolean_in (tree_of
+        (unwrap_or (lookup (bytes_eq (string_bytes key)) (pairs_of pairs.old))
+        (made.Boolean false)))) }
     ensures memory { OnlyMemory result }
 {
-    let count = pairs.entry(key).or_insert(0)?;
-    Ok(*count)
+    let lent = pairs.entry(key).or_insert(Value::Boolean(false))?;
+    Ok(lent.as_boolean())
 }
 
 /// Sets a key's value through its entry, which first adds the key with another value where it
 /// isn't there.
-pub fn set_by_entry<V: Drop>(
-    pairs: &mut Pairs<V>,
+pub fn set_by_entry(
+    pairs: &mut Dictionary,
     key: String,
-    first: V,
-    value: V,
-) -> Result<(), (String, V)>
-    ensures done { OnOk result (IsSetAt pairs.old (string_bytes key) value pairs.new) }
-    ensures refused { OnErr result (pairs.new ≡ pairs.old) }
+    first: Value,
+    value: Value,
+) -> Result<(), (String, Value)>
+    ensures done { OnOk result (IsSetAt (pairs_of pairs.old) (string_bytes key) value (pairs_of pairs.new)) }
+    ensures refused { OnErr result (pairs_of pairs.new ≡ pairs_of pairs.old) }
     ensures handed_back { IfErr result (λ back. back ≡ (key, first)) }
 {
     let lent = pairs.entry(key).or_insert(first)?;
@@ -63,15 +71,15 @@ pub fn set_by_entry<V: Drop>(
 }
 
 /// Sets a key's value through its entry, for which a first one is made where the key isn't there.
-pub fn set_by_made_entry<V: Drop, F: FnOnce() -> V>(
-    pairs: &mut Pairs<V>,
+pub fn set_by_made_entry<F: FnOnce() -> Value>(
+    pairs: &mut Dictionary,
     key: String,
     first: F,
-    value: V,
-) -> Result<(), (String, V)>
+    value: Value,
+) -> Result<(), (String, Value)>
     requires { F.pre first }
-    ensures done { OnOk result (IsSetAt pairs.old (string_bytes key) value pairs.new) }
-    ensures refused { OnErr result (pairs.new ≡ pairs.old) }
+    ensures done { OnOk result (IsSetAt (pairs_of pairs.old) (string_bytes key) value (pairs_of pairs.new)) }
+    ensures refused { OnErr result (pairs_of pairs.new ≡ pairs_of pairs.old) }
     ensures handed_back { IfErr result (λ back. (back.0 ≡ key) × F.post first back.1) }
 {
     let lent = pairs.entry(key).or_insert_with(first)?;
@@ -80,9 +88,9 @@ pub fn set_by_made_entry<V: Drop, F: FnOnce() -> V>(
 }
 
 /// Takes a key out through its entry.
-pub fn take_by_entry<V>(pairs: &mut Pairs<V>, key: String) -> Option<V>
-    ensures value { result ≡ lookup (bytes_eq (string_bytes key)) pairs.old }
-    ensures pairs { OnSome result (IsTakenAt pairs.old (string_bytes key) pairs.new) }
+pub fn take_by_entry(pairs: &mut Dictionary, key: String) -> Option<Value>
+    ensures value { result ≡ lookup (bytes_eq (string_bytes key)) (pairs_of pairs.old) }
+    ensures pairs { OnSome result (IsTakenAt (pairs_of pairs.old) (string_bytes key) (pairs_of pairs.new)) }
 {
     match pairs.entry(key) {
         Entry::Occupied(entry) => Some(entry.remove()),

@@ -4,9 +4,10 @@
 ghost use Rattle.std.specs.Prelude.{◌≡◌, length, option_map, slice_get, Some};
 ghost use Rattle.std.specs.Map.Iter.{deref};
 ghost use Rattle.std.specs.Map.{keys_of, values_of};
+ghost use Rattle.plist.specs.Dictionaries.{pairs_of};
 ghost use Rattle.plist_pairs.specs.Shown.{shown_key, shown_owned_pair, shown_pair};
 
-use plist::Pairs;
+use plist::{Dictionary, Value};
 
 /// What an iterator said before its first call, and what that call gave.
 pub struct Begun<T> {
@@ -19,10 +20,10 @@ pub struct Begun<T> {
 }
 
 /// Begins to go over the pairs.
-pub fn begin_pairs<V>(pairs: &Pairs<V>) -> Begun<(&String, &V)>
-    ensures left { result.left ≡ length pairs.now }
-    ensures hint { result.hint ≡ (length pairs.now, Some (length pairs.now)) }
-    ensures first { option_map shown_pair result.first ≡ slice_get pairs.now 0 }
+pub fn begin_pairs(pairs: &Dictionary) -> Begun<(&String, &Value)>
+    ensures left { result.left ≡ length (pairs_of pairs.now) }
+    ensures hint { result.hint ≡ (length (pairs_of pairs.now), Some (length (pairs_of pairs.now))) }
+    ensures first { option_map shown_pair result.first ≡ slice_get (pairs_of pairs.now) 0 }
 {
     let mut iter = pairs.into_iter();
     let (left, hint) = (iter.len(), iter.size_hint());
@@ -31,10 +32,10 @@ pub fn begin_pairs<V>(pairs: &Pairs<V>) -> Begun<(&String, &V)>
 }
 
 /// Begins to go over the keys.
-pub fn begin_keys<V>(pairs: &Pairs<V>) -> Begun<&String>
-    ensures left { result.left ≡ length (keys_of pairs.now) }
+pub fn begin_keys(pairs: &Dictionary) -> Begun<&String>
+    ensures left { result.left ≡ length (keys_of (pairs_of pairs.now)) }
     ensures hint { result.hint ≡ (result.left, Some result.left) }
-    ensures first { option_map shown_key result.first ≡ slice_get (keys_of pairs.now) 0 }
+    ensures first { option_map shown_key result.first ≡ slice_get (keys_of (pairs_of pairs.now)) 0 }
 {
     let mut keys = pairs.keys();
     let (left, hint) = (keys.len(), keys.size_hint());
@@ -43,10 +44,10 @@ pub fn begin_keys<V>(pairs: &Pairs<V>) -> Begun<&String>
 }
 
 /// Begins to go over the values.
-pub fn begin_values<V>(pairs: &Pairs<V>) -> Begun<&V>
-    ensures left { result.left ≡ length (values_of pairs.now) }
+pub fn begin_values(pairs: &Dictionary) -> Begun<&Value>
+    ensures left { result.left ≡ length (values_of (pairs_of pairs.now)) }
     ensures hint { result.hint ≡ (result.left, Some result.left) }
-    ensures first { option_map deref result.first ≡ slice_get (values_of pairs.now) 0 }
+    ensures first { option_map deref result.first ≡ slice_get (values_of (pairs_of pairs.now)) 0 }
 {
     let mut values = pairs.values();
     let (left, hint) = (values.len(), values.size_hint());
@@ -55,10 +56,10 @@ pub fn begin_values<V>(pairs: &Pairs<V>) -> Begun<&V>
 }
 
 /// Begins to go over the pairs by value.
-pub fn begin_own_pairs<V: Drop>(pairs: Pairs<V>) -> Begun<(String, V)>
-    ensures left { result.left ≡ length pairs }
+pub fn begin_own_pairs(pairs: Dictionary) -> Begun<(String, Value)>
+    ensures left { result.left ≡ length (pairs_of pairs) }
     ensures hint { result.hint ≡ (result.left, Some result.left) }
-    ensures first { option_map shown_owned_pair result.first ≡ slice_get pairs 0 }
+    ensures first { option_map shown_owned_pair result.first ≡ slice_get (pairs_of pairs) 0 }
 {
     let mut iter = pairs.into_iter();
     let (left, hint) = (iter.len(), iter.size_hint());

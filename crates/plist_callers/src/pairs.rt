@@ -5,16 +5,17 @@ ghost use Rattle.std.specs.Cmp.Lexicographic.{slice_cmp};
 ghost use Rattle.std.specs.Ordering.{nat_cmp};
 ghost use Rattle.std.specs.Map.{keys_of, lookup, set_value};
 ghost use Rattle.std.specs.Str.{bytes_eq};
+ghost use Rattle.plist.specs.Dictionaries.{pairs_of};
 ghost use Rattle.plist_base.specs.Outcomes.{OnlyMemory};
 ghost use Rattle.plist_pairs.specs.Keys.{IsSetAt};
 
-use plist::{Error, Pairs};
+use plist::{Dictionary, Error, Value};
 use std::mem;
 
 /// Makes this pair the only one.
-pub fn make_only<V: Drop>(pairs: &mut Pairs<V>, key: String, value: V) -> Result<(), (String, V)>
-    ensures only { OnOk result (pairs.new ≡ (string_bytes key, value) ∷ []) }
-    ensures refused { OnErr result (pairs.new ≡ []) }
+pub fn make_only(pairs: &mut Dictionary, key: String, value: Value) -> Result<(), (String, Value)>
+    ensures only { OnOk result (pairs_of pairs.new ≡ (string_bytes key, value) ∷ []) }
+    ensures refused { OnErr result (pairs_of pairs.new ≡ []) }
 {
     pairs.clear();
     let _old = pairs.insert(key, value)?;
@@ -22,8 +23,8 @@ pub fn make_only<V: Drop>(pairs: &mut Pairs<V>, key: String, value: V) -> Result
 }
 
 /// The value of a key, or another one where the key isn't there.
-pub fn value_or<'a, V>(pairs: &'a Pairs<V>, key: &str, other: &'a V) -> &'a V
-    ensures { result.now ≡ unwrap_or (lookup (bytes_eq key.now) pairs.now) other.now }
+pub fn value_or<'a>(pairs: &'a Dictionary, key: &str, other: &'a Value) -> &'a Value
+    ensures { result.now ≡ unwrap_or (lookup (bytes_eq key.now) (pairs_of pairs.now)) other.now }
 {
     if pairs.contains_key(key) {
         &pairs[key]
@@ -33,18 +34,18 @@ pub fn value_or<'a, V>(pairs: &'a Pairs<V>, key: &str, other: &'a V) -> &'a V
 }
 
 /// Replaces the value of a key that is there.
-pub fn replace_at<V>(pairs: &mut Pairs<V>, key: &str, value: V) -> V
-    requires { IsSome (lookup (bytes_eq key.now) pairs.old) }
-    ensures old { lookup (bytes_eq key.now) pairs.old ≡ Some result }
-    ensures pairs { pairs.new ≡ set_value (bytes_eq key.now) pairs.old value }
+pub fn replace_at(pairs: &mut Dictionary, key: &str, value: Value) -> Value
+    requires { IsSome (lookup (bytes_eq key.now) (pairs_of pairs.old)) }
+    ensures old { lookup (bytes_eq key.now) pairs_of pairs.old ≡ Some result }
+    ensures pairs { pairs_of pairs.new ≡ set_value (bytes_eq key.now) (pairs_of pairs.old) value }
 {
     mem::replace(&mut pairs[key], value)
 }
 
 /// Sets the value of a key that is there: that takes no memory.
-pub fn set_where_there<V: Drop>(pairs: &mut Pairs<V>, key: String, value: V) -> Option<V>
-    ensures old { result ≡ lookup (bytes_eq (string_bytes key)) pairs.old }
-    ensures pairs { OnSome result (IsSetAt pairs.old (string_bytes key) value pairs.new) }
+pub fn set_where_there(pairs: &mut Dictionary, key: String, value: Value) -> Option<Value>
+    ensures old { result ≡ lookup (bytes_eq (string_bytes key)) (pairs_of pairs.old) }
+    ensures pairs { OnSome result (IsSetAt (pairs_of pairs.old) (string_bytes key) value (pairs_of pairs.new)) }
 {
     if !pairs.contains_key(key.as_str()) {
         return None;
@@ -56,9 +57,9 @@ pub fn set_where_there<V: Drop>(pairs: &mut Pairs<V>, key: String, value: V) -> 
 }
 
 /// Sets a key's value. Without memory the pairs are as they were, and that is the fault.
-pub fn set_or_fault<V: Drop>(pairs: &mut Pairs<V>, key: String, value: V) -> Result<(), Error>
-    ensures done { OnOk result (IsSetAt pairs.old (string_bytes key) value pairs.new) }
-    ensures refused { OnErr result (pairs.new ≡ pairs.old) }
+pub fn set_or_fault(pairs: &mut Dictionary, key: String, value: Value) -> Result<(), Error>
+    ensures done { OnOk result (IsSetAt (pairs_of pairs.old) (string_bytes key) value (pairs_of pairs.new)) }
+    ensures refused { OnErr result (pairs_of pairs.new ≡ pairs_of pairs.old) }
     ensures memory { OnlyMemory result }
 {
     let _old = pairs.insert(key, value)?;
@@ -66,9 +67,9 @@ pub fn set_or_fault<V: Drop>(pairs: &mut Pairs<V>, key: String, value: V) -> Res
 }
 
 /// The index of the last pair, if there is one.
-pub fn last_index<V>(pairs: &Pairs<V>) -> Option<usize>
-    ensures index { IfSome result (λ index. index + 1 ≡ length pairs.now) }
-    ensures none { IsNone result → pairs.now ≡ [] }
+pub fn last_index(pairs: &Dictionary) -> Option<usize>
+    ensures index { IfSome result (λ index. index + 1 ≡ length (pairs_of pairs.now)) }
+    ensures none { IsNone result → pairs_of pairs.now ≡ [] }
 {
     if pairs.is_empty() {
         None
@@ -78,9 +79,10 @@ pub fn last_index<V>(pairs: &Pairs<V>) -> Option<usize>
 }
 
 /// The same pairs in the order of their keys; or, where memory is wanting, as they were.
-pub fn sorted<V: Drop>(pairs: Pairs<V>) -> Result<Pairs<V>, Pairs<V>>
-    ensures sorted { IfOk result (λ done. IsSorted (slice_cmp nat_cmp) (keys_of done)) }
-    ensures pairs { IfOk result (λ done. IsPermutation pairs done) }
+pub fn sorted(pairs: Dictionary) -> Result<Dictionary, Dictionary>
+    ensures sorted { IfOk result (λ done. IsSorted (slice_cmp nat_cmp)
+        (keys_of (pairs_of done))) }
+    ensures pairs { IfOk result (λ done. IsPermutation (pairs_of pairs) (pairs_of done)) }
     ensures handed_back { IfErr result (λ back. back ≡ pairs) }
 {
     let mut done = pairs;

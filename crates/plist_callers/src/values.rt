@@ -9,6 +9,7 @@ ghost use Rattle.plist.specs.Collecting.{built_tree};
 ghost use Rattle.plist.specs.ValueOfItems.{IsValueOf};
 ghost use Rattle.plist.specs.Limiting.{NestsWithin};
 ghost use Rattle.plist.specs.FromReader.{items_of_text};
+ghost use Rattle.plist.specs.Dictionaries.{pairs_of};
 ghost use Rattle.plist.specs.ValueTrees.{tree_of, tree_pairs};
 
 use plist::callers::are_equal;
@@ -87,7 +88,8 @@ pub fn meets_an_end<R: Files>(rt: &R, alloc: Global, value: &Value, path: &str) 
 
 /// A copy of a dictionary: the same trees at the same keys, in the same order.
 pub fn copy_of(pairs: &Dictionary) -> Result<Dictionary, Error>
-    ensures copy { IfOk result (λ copy. tree_pairs copy ≡ tree_pairs pairs.now) }
+    ensures copy { IfOk result (λ copy.
+        tree_pairs (pairs_of copy) ≡ tree_pairs (pairs_of pairs.now)) }
 {
     pairs.clone()
 }

@@ -181,7 +181,9 @@ fn stream_to<R: Files, S: Source>(
 // Writes the property list of a file to another one by way of its value.
 fn convert_value<R: Files>(rt: &R, alloc: Global, from: &str, to: &str) -> Result<(), Error> {
     let value = Value::from_file(rt, alloc, from)?;
-    value.to_file_binary(rt, alloc, to)
+    let stored = value.to_file_binary(rt, alloc, to);
+    value.destroy();
+    stored
 }
 
 /// Writes the property list of a file to another one, or to itself. The other file is created, or

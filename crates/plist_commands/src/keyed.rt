@@ -49,7 +49,9 @@ pub fn print_at<O: Write>(
         (λ error. IsUnprintedAt root.now key.now (plain_failure_of error)) }
 {
     let tree = tree_at(alloc, root, key)?;
-    match print_value(alloc, &tree, out) {
+    let printed = print_value(alloc, &tree, out);
+    tree.destroy();
+    match printed {
         Ok(()) => Ok(()),
         Err(error) => Err(Failure::Plist(error)),
     }
@@ -68,7 +70,11 @@ pub fn keyed_file<R: Files, O: Write>(
     out: &mut O,
 ) -> Result<(), Failure> {
     match Value::from_file(rt, alloc, path) {
-        Ok(root) => print_at(alloc, &root, key, out),
+        Ok(root) => {
+            let printed = print_at(alloc, &root, key, out);
+            root.destroy();
+            printed
+        }
         Err(error) => Err(Failure::Plist(error)),
     }
 }

@@ -2,7 +2,7 @@
 
 use crate::rows::{Row, limits_given, unreadable};
 use crate::words::{value_of, words_of_answer};
-use plist::{RealBits, Value, Variant};
+use plist::{Limits, RealBits, Value};
 use plist_support::{Wrong, expect_same};
 use std::alloc::Global;
 use std::rt::Files;
@@ -16,9 +16,9 @@ fn words_in_file<R: Files>(rt: &R, alloc: Global, given: &str) -> Result<String,
 
 // The text of a value that is one, taken out of it.
 fn text_in(alloc: Global, words: &str) -> Result<String, Wrong> {
-    match value_of(alloc, words)?.into_variant() {
-        Variant::String(text) => Ok(text),
-        other => Ok(words_of_answer(alloc, &Ok(Value::from(other)))?),
+    match value_of(alloc, words)? {
+        Value::String(text) => Ok(text),
+        other => Ok(words_of_answer(alloc, &Ok(other))?),
     }
 }
 

@@ -1,35 +1,36 @@
 -- Which property lists are no archives.
-use Rattle.std.proofs.Common.{◌≡◌, ℕ, List, sym, ap, ◌∙◌, subst, codes, Vec, Global}
+use Rattle.std.proofs.Common.{◌≡◌, sym, ap, ◌∙◌, subst, codes, Vec, Global}
+use Rattle.plist.specs.declared.dictionary.Dictionary.{Dictionary}
 use Rattle.plist.specs.declared.value.Value.{Value, Value-F, out-Value, out-roll-Value}
 use Rattle.plist.specs.declared.value.Value.TheVariants as value
 use Rattle.plist.specs.declared.value.Value.TheVariants.{rolls-Dictionary}
+use Rattle.plist.specs.Dictionaries.{pairs_of}
 use Rattle.plist_keyed.specs.Contents.{IsArchive, IsArrayAt, IsDictionaryAt}
 
-out_of : (pairs : List (List ℕ × Value))
-    → out-Value (value.Dictionary pairs) ≡ Value-F.Dictionary pairs
-out_of pairs =
-    ap out-Value (sym (rolls-Dictionary pairs)) ∙ out-roll-Value (Value-F.Dictionary pairs)
+out_of : (d : Dictionary) → out-Value (value.Dictionary d) ≡ Value-F.Dictionary d
+out_of d = ap out-Value (sym (rolls-Dictionary d)) ∙ out-roll-Value (Value-F.Dictionary d)
 
-same_layer : (left right : List (List ℕ × Value))
-    → ◌≡◌ {A = Value-F Value} (Value-F.Dictionary left) (Value-F.Dictionary right) → left ≡ right
+same_layer : (left right : Dictionary)
+    → ◌≡◌ {A = Value-F Value Dictionary} (Value-F.Dictionary left) (Value-F.Dictionary right)
+    → left ≡ right
 same_layer left right p = cc
 
-same_pairs : (left right : List (List ℕ × Value)) → value.Dictionary left ≡ value.Dictionary right
+same_pairs : (left right : Dictionary) → value.Dictionary left ≡ value.Dictionary right
     → left ≡ right
 same_pairs left right p = same_layer left right (sym (out_of left) ∙ ap out-Value p ∙ out_of right)
 
 -- there is no array of objects
-pub no_objects : (root : Value) (pairs : List (List ℕ × Value)) → root ≡ value.Dictionary pairs
-    → ((array : Vec Value Global) → ¬ (IsArrayAt (codes "$objects") pairs array))
+pub no_objects : (root : Value) (d : Dictionary) → root ≡ value.Dictionary d
+    → ((array : Vec Value Global) → ¬ (IsArrayAt (codes "$objects") (pairs_of d) array))
     → ¬ (IsArchive root)
-no_objects root pairs is none (objects, names, (others, array, same, found, items, top)) =
-    none array (subst (λ l. IsArrayAt (codes "$objects") l array)
-    (same_pairs others pairs (sym same ∙ is)) found)
+no_objects root d is none (objects, names, (other, array, top, same, found, items, named, pairs)) =
+    none array (subst (λ o. IsArrayAt (codes "$objects") (pairs_of o) array)
+    (same_pairs other d (sym same ∙ is)) found)
 
 -- there is no dictionary of names
-pub no_names : (root : Value) (pairs : List (List ℕ × Value)) → root ≡ value.Dictionary pairs
-    → ((others : List (List ℕ × Value)) → ¬ (IsDictionaryAt (codes "$top") pairs others))
+pub no_names : (root : Value) (d : Dictionary) → root ≡ value.Dictionary d
+    → ((top : Dictionary) → ¬ (IsDictionaryAt (codes "$top") (pairs_of d) top))
     → ¬ (IsArchive root)
-no_names root pairs is none (objects, names, (others, array, same, found, items, top)) =
-    none names (subst (λ l. IsDictionaryAt (codes "$top") l names)
-    (same_pairs others pairs (sym same ∙ is)) top)
+no_names root d is none (objects, names, (other, array, top, same, found, items, named, pairs)) =
+    none top (subst (λ o. IsDictionaryAt (codes "$top") (pairs_of o) top)
+    (same_pairs other d (sym same ∙ is)) named)

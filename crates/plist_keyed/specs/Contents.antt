@@ -7,6 +7,8 @@ use Rattle.std.specs.declared.vec.Vec.{Vec}
 use Rattle.plist_base.specs.Trees.{Tree}
 use Rattle.plist.specs.declared.value.Value.{Value}
 use Rattle.plist.specs.declared.value.Value.TheVariants as value
+use Rattle.plist.specs.declared.dictionary.Dictionary.{Dictionary}
+use Rattle.plist.specs.Dictionaries.{pairs_of}
 use Rattle.plist.specs.ValueTrees.{tree_of}
 use Rattle.plist_keyed.specs.declared.archive.Archive.{Archive}
 use Rattle.plist_keyed.specs.declared.error.KeyedError.{KeyedError}
@@ -22,7 +24,7 @@ trees_in archive = map tree_of (objects_of archive)
 
 -- the pairs of a name and what it stands for
 abbrev pub names_of : Archive → List (List ℕ × Value)
-names_of archive = archive.names.now
+names_of archive = pairs_of archive.names.now
 
 -- the array stands at the key
 abbrev pub IsArrayAt : (key : List ℕ) → (pairs : List (List ℕ × Value)) → (array : Vec Value Global)
@@ -33,13 +35,15 @@ IsArrayAt key pairs array = lookup (bytes_eq key) pairs ≡ Some (value.Array ar
 abbrev pub HasNoArrayAt : (key : List ℕ) → (pairs : List (List ℕ × Value)) → Type 0
 HasNoArrayAt key pairs = (array : Vec Value Global) → ¬ (IsArrayAt key pairs array)
 
--- the dictionary of these pairs stands at the key
-abbrev pub IsDictionaryAt : (key : List ℕ) → (pairs others : List (List ℕ × Value)) → Type 0
-IsDictionaryAt key pairs others = lookup (bytes_eq key) pairs ≡ Some (value.Dictionary others)
+-- the dictionary stands at the key
+abbrev pub IsDictionaryAt : (key : List ℕ) → (pairs : List (List ℕ × Value))
+    → (dictionary : Dictionary) → Type 0
+IsDictionaryAt key pairs dictionary =
+    lookup (bytes_eq key) pairs ≡ Some (value.Dictionary dictionary)
 
 -- none does
 abbrev pub HasNoDictionaryAt : (key : List ℕ) → (pairs : List (List ℕ × Value)) → Type 0
-HasNoDictionaryAt key pairs = (others : List (List ℕ × Value)) → ¬ (IsDictionaryAt key pairs others)
+HasNoDictionaryAt key pairs = (dictionary : Dictionary) → ¬ (IsDictionaryAt key pairs dictionary)
 
 -- the Uid stands at the key
 abbrev pub IsUidAt : (key : List ℕ) → (pairs : List (List ℕ × Value)) → (uid : ℕ) → Type 0
@@ -50,9 +54,10 @@ IsUidAt key pairs uid = lookup (bytes_eq key) pairs ≡ Some (value.Uid uid)
 abbrev pub IsArchiveOf : (root : Value) → (objects : List Value) → (names : List (List ℕ × Value))
     → Type 0
 IsArchiveOf root objects names =
-    (pairs : List (List ℕ × Value)) × (array : Vec Value Global)
-    × (root ≡ value.Dictionary pairs) × IsArrayAt (codes "$objects") pairs array
-    × (array.items ≡ objects) × IsDictionaryAt (codes "$top") pairs names
+    (dictionary : Dictionary) × (array : Vec Value Global) × (top : Dictionary)
+    × (root ≡ value.Dictionary dictionary)
+    × IsArrayAt (codes "$objects") (pairs_of dictionary) array × (array.items ≡ objects)
+    × IsDictionaryAt (codes "$top") (pairs_of dictionary) top × (pairs_of top ≡ names)
 
 -- the property list is an archive
 abbrev pub IsArchive : (root : Value) → Type 0

@@ -5,6 +5,7 @@ ghost use Rattle.std.specs.declared.alloc.Global.{Global};
 ghost use Rattle.std.specs.declared.vec.Vec.{Vec};
 ghost use Rattle.std.specs.Option.{option_copied};
 ghost use Rattle.plist_keyed.specs.Contents.{IsArrayAt, IsDictionaryAt, IsUidAt, names_of, objects_of, trees_in, HasNoArrayAt, HasNoDictionaryAt, IsOpenedOf, IsNoArchive};
+ghost use Rattle.plist.specs.Dictionaries.{pairs_of};
 ghost use Rattle.plist.specs.ValueTrees.{tree_of};
 ghost use Rattle.plist_keyed.specs.Archives.{resolved_tree};
 ghost use Rattle.plist_keyed.specs.Errors.{IsFaultOf};
@@ -26,8 +27,8 @@ pub struct Archive<'a> {
 
 // The array at a key.
 fn array_at<'a>(pairs: &'a Dictionary, key: &str) -> Option<&'a Vec<Value>>
-    ensures found { IfSome result (λ array. IsArrayAt key.now pairs.now array.now) }
-    ensures missing { IsNone result → HasNoArrayAt key.now pairs.now }
+    ensures found { IfSome result (λ array. IsArrayAt key.now (pairs_of pairs.now) array.now) }
+    ensures missing { IsNone result → HasNoArrayAt key.now (pairs_of pairs.now) }
 {
     let Some(Value::Array(array)) = pairs.get(key) else {
         return None;
@@ -37,8 +38,8 @@ fn array_at<'a>(pairs: &'a Dictionary, key: &str) -> Option<&'a Vec<Value>>
 
 // The dictionary at a key.
 fn dictionary_at<'a>(pairs: &'a Dictionary, key: &str) -> Option<&'a Dictionary>
-    ensures found { IfSome result (λ others. IsDictionaryAt key.now pairs.now others.now) }
-    ensures missing { IsNone result → HasNoDictionaryAt key.now pairs.now }
+    ensures found { IfSome result (λ others. IsDictionaryAt key.now (pairs_of pairs.now) others.now) }
+    ensures missing { IsNone result → HasNoDictionaryAt key.now (pairs_of pairs.now) }
 {
     let Some(Value::Dictionary(others)) = pairs.get(key) else {
         return None;
@@ -96,8 +97,8 @@ impl<'a> Archive<'a> {
     /// names the next one twice, make a tree of 2^30 leaves. To walk over an archive without making
     /// its tree, follow its Uids by [`Archive::get`].
     ///
-    /// The walk has a list of its own for the objects that are open, so it goes over any depth, and
-    /// what it makes is dropped as any [`Value`]: without more of the call stack.
+    /// The walk has a list of its own for the objects that are open, so it goes over any depth. What it
+    /// makes may be as deep: [`Value::destroy`] drops it without more of the call stack.
     ///
     /// # Errors
     ///

@@ -1,6 +1,6 @@
 -- Pairs by their keys. Two keys are one where their bytes are equal.
-use Rattle.std.specs.Prelude.{◌≡◌, ℕ, List, false, is_some, bytes_eq}
-use Rattle.std.specs.Map.{lookup}
+use Rattle.std.specs.Prelude.{◌≡◌, ◌<◌, ℕ, List, None, Some, false, is_some, length, position, bytes_eq}
+use Rattle.std.specs.Map.{keys_of, lookup}
 use Rattle.indexmap.specs.IndexMap.{insert_entry, swap_remove_entry}
 
 module _ {V : Type 0} where
@@ -14,3 +14,12 @@ module _ {V : Type 0} where
 
   abbrev pub IsTakenAt : (old : List (List ℕ × V)) → List ℕ → (new : List (List ℕ × V)) → Type 0
   IsTakenAt old key new = new ≡ swap_remove_entry (bytes_eq key) old
+
+module _ {V : Type 0} (key : List ℕ) (pairs : List (List ℕ × V)) where
+  -- the key has no value
+  abbrev pub HasNone : Type 0
+  HasNone = lookup (bytes_eq key) pairs ≡ None
+
+  -- the key's index
+  abbrev pub IsIndexOf : ℕ → Type 0
+  IsIndexOf index = (index < length pairs) × (Some index ≡ position (bytes_eq key) (keys_of pairs))

@@ -3,7 +3,6 @@ pub mod Keys
 pub mod Lends
 pub mod Shown
 pub mod EntryLends
-pub mod Entry
 pub mod Bulk
 pub mod Equal
 pub mod Copies

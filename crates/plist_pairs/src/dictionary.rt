@@ -8,7 +8,7 @@ ghost use Rattle.plist_pairs.specs.Keys.{IsAbsent, IsSetAt, IsTakenAt};
 
 mod bulk;
 mod copy;
-mod entry;
+mod discard;
 mod equal;
 mod index;
 mod indices;
@@ -17,7 +17,7 @@ mod store;
 
 use crate::dictionary::store::Store;
 pub use copy::TryCopy;
-pub use entry::{Entry, OccupiedEntry, VacantEntry};
+pub use discard::Discard;
 pub use iter::{IntoIter, Iter, Keys, Values};
 use std::alloc::{AllocError, Global};
 use std::fmt;
@@ -87,7 +87,7 @@ impl<V> Pairs<V> {
     /// Removes all pairs, and keeps the memory for others.
     pub fn clear(&mut self)
     where
-        V: Drop,
+        V: Discard,
         ensures empty { self.new ≡ [] }
     {
         match &mut self.store {

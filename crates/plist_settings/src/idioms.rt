@@ -5,7 +5,7 @@
 use crate::Failure;
 use plist::stream::reading::format_of;
 use plist::stream::{BinaryWriter, Event, Reader, Seeking, Writer};
-use plist::{Date, Dialect, Dictionary, Error, Limits, RealBits, Value, Variant};
+use plist::{Date, Dialect, Dictionary, Error, Limits, RealBits, Value};
 use std::alloc::{AllocError, Global};
 use std::borrow::CowStr;
 use std::fs;
@@ -125,8 +125,8 @@ fn seen(alloc: Global, value: &Value, name: &str) -> Option<String> {
 fn taken(alloc: Global, value: Value, name: &str) -> Option<String> {
     let mut settings = value.into_dictionary()?;
     match name {
-        "match by value" => match settings.remove("Name")?.into_variant() {
-            Variant::String(text) => Some(text),
+        "match by value" => match settings.remove("Name")? {
+            Value::String(text) => Some(text),
             _ => None,
         },
         "into_string" => settings.remove("Name")?.into_string(),
@@ -150,7 +150,7 @@ fn taken(alloc: Global, value: Value, name: &str) -> Option<String> {
 // The keys of a dictionary, in their order.
 fn keys_of(alloc: Global, settings: &Dictionary) -> Result<String, AllocError> {
     let mut keys = String::new(alloc);
-    for (key, _value) in settings.iter() {
+    for (key, _value) in settings {
         keys.push_str(key.as_str())?;
         keys.push_str(" ")?;
     }

@@ -5,7 +5,7 @@
 
 mod idioms;
 
-use plist::{Dictionary, Error, Value, Variant};
+use plist::{Dictionary, Error, Value};
 use std::alloc::{AllocError, Global};
 use std::env::Env;
 use std::io::Write;
@@ -139,8 +139,8 @@ fn list<W: Write>(alloc: Global, out: &mut W, at: &Dictionary, path: &str) -> Re
 
 // The dictionary of a file.
 fn open<R: Files>(rt: &R, alloc: Global, path: &str) -> Result<Dictionary, Failure> {
-    match Value::from_file(rt, alloc, path)?.into_variant() {
-        Variant::Dictionary(settings) => Ok(settings),
+    match Value::from_file(rt, alloc, path)? {
+        Value::Dictionary(settings) => Ok(settings),
         _ => Err(Failure::NoDictionary),
     }
 }

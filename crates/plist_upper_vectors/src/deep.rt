@@ -52,10 +52,12 @@ fn nested(rt: &(impl Abort + AllocGlobal), number: u32) -> Value {
 fn expect_same(rt: &(impl Abort + AllocGlobal), value: Value, other: &Value) {
     assert!(rt; value == *other);
     assert!(rt; *other == value);
+    value.destroy();
 }
 
 fn expect_other(rt: &(impl Abort + AllocGlobal), value: Value, other: &Value) {
     assert!(rt; value != *other);
+    value.destroy();
 }
 
 #[test]
@@ -64,6 +66,7 @@ fn deep_values(rt: HostRuntime) {
     expect_same(&rt, must(&rt, value.clone(rt.alloc())), &value);
     expect_same(&rt, nested(&rt, 1), &value);
     expect_other(&rt, nested(&rt, 2), &value);
+    value.destroy();
 }
 
 #[test]
@@ -108,6 +111,7 @@ fn deep_texts(rt: HostRuntime) {
     let value = value_of_ascii(&rt, parentheses(&rt, "a"));
     expect_same(&rt, value_of_ascii(&rt, parentheses(&rt, "a")), &value);
     expect_other(&rt, value_of_ascii(&rt, parentheses(&rt, "b")), &value);
+    value.destroy();
 }
 
 // The tree of the object of this number.
@@ -141,4 +145,5 @@ fn deep_archives(rt: HostRuntime) {
     let value = must(&rt, tree(&rt, &root, 0));
     expect_same(&rt, must(&rt, tree(&rt, &root, 0)), &value);
     expect_other(&rt, must(&rt, tree(&rt, &root, 1)), &value);
+    value.destroy();
 }

@@ -10,18 +10,19 @@ use Rattle.plist_uses.specs.declared.settings.SettingsError.TheVariants as setti
 use Rattle.plist_binwrite.specs.Files.{IsFileOf}
 use Rattle.plist.specs.declared.value.Value.{Value}
 use Rattle.plist.specs.Accessors.{dictionary_in, text_in}
+use Rattle.plist.specs.Dictionaries.{pairs_of}
 use Rattle.plist.specs.ValueOfItems.{IsValueOf}
 use Rattle.plist.specs.ValueTrees.{pair_trees, tree_of}
 use Rattle.plist_reader.specs.Reader.{items_of_input}
 use Rattle.plist_uses.specs.declared.settings.Settings.{Settings}
 
 -- the names with their settings, in order
-abbrev pub pairs_of : Settings → List (List ℕ × Value)
-pairs_of settings = settings.pairs
+abbrev pub settings_in : Settings → List (List ℕ × Value)
+settings_in settings = pairs_of settings.pairs
 
 -- the property list of the settings
 abbrev pub tree_in : Settings → Tree
-tree_in settings = Dictionary (pair_trees settings.pairs)
+tree_in settings = Dictionary (pair_trees (settings_in settings))
 
 -- where the bytes of a file are known, their items are those of this property list
 abbrev pub IsReadOf : (known : Option (List ℕ)) → Tree → Type 0
@@ -39,12 +40,12 @@ RefusesOpening known settings_error.NoDictionary =
 
 -- the name has this setting; the others and their order are left
 abbrev pub Sets : Settings → (name : List ℕ) → (setting : Value) → Settings → Type 0
-Sets old name setting new = pairs_of new ≡ insert_entry bytes_eq (pairs_of old) name setting
+Sets old name setting new = settings_in new ≡ insert_entry bytes_eq (settings_in old) name setting
 
 -- the text that a name has
 abbrev pub text_at : (name : List ℕ) → Settings → Option (List ℕ)
 text_at name settings =
-    option_and_then (λ setting. text_in (tree_of setting)) (lookup (bytes_eq name) settings.pairs)
+    option_and_then (λ setting. text_in (tree_of setting)) (lookup (bytes_eq name) (settings_in settings))
 
 -- the bytes are a file of the settings of another one, once the name has this setting
 abbrev pub IsChanged : (known : Option (List ℕ)) → (name : List ℕ) → (setting : Value)

@@ -9,7 +9,7 @@ ghost use Rattle.plist_base.specs.Outcomes.{OnlyMemory};
 ghost use Rattle.plist_base.specs.Writing.{answer_of};
 ghost use Rattle.plist.specs.SendingValues.{SendsTree};
 ghost use Rattle.plist.specs.ValueTrees.{tree_of};
-ghost use Rattle.plist_uses.specs.Settings.{IsFaultOfFile, IsReadOf, RefusesOpening, Sets, pairs_of, tree_in};
+ghost use Rattle.plist_uses.specs.Settings.{IsFaultOfFile, IsReadOf, RefusesOpening, Sets, settings_in, tree_in};
 
 use plist::stream::Source;
 use plist::{Dictionary, Error, Value};
@@ -70,7 +70,7 @@ impl Settings {
 
     /// The setting of a name, if there is one.
     pub fn get(&self, name: &str) -> Option<&Value>
-        ensures { option_copied result ≡ lookup (bytes_eq name.now) (pairs_of self.now) }
+        ensures { option_copied result ≡ lookup (bytes_eq name.now) (settings_in self.now) }
     {
         self.pairs.get(name)
     }
@@ -83,7 +83,7 @@ impl Settings {
     pub fn set(&mut self, name: String, setting: Value) -> Result<(), Error>
         ensures done { OnOk result (Sets self.old (string_bytes name) setting self.new) }
         ensures memory { OnlyMemory result }
-        ensures unchanged { OnErr result (pairs_of self.new ≡ pairs_of self.old) }
+        ensures unchanged { OnErr result (settings_in self.new ≡ settings_in self.old) }
     {
         let _old = self.pairs.insert(name, setting)?;
         Ok(())

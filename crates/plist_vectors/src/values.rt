@@ -1,7 +1,7 @@
 //! Dictionaries that keep their order, and values.
 
 use crate::support::must;
-use plist::{Dictionary, Pairs, Value, kind_of_value};
+use plist::{Dictionary, Value, kind_of_value};
 use plist_base::{Date, EventKind, Integer, RealBits, Uid};
 use std::process::Abort;
 
@@ -12,16 +12,26 @@ fn text(rt: &(impl Abort + AllocGlobal), text: &str) -> String {
 // What `insert` answers.
 fn put(
     rt: &(impl Abort + AllocGlobal),
-    pairs: &mut Pairs<u32>,
+    pairs: &mut Dictionary,
     key: &str,
-    value: u32,
-) -> Option<u32> {
-    must(rt, pairs.insert(text(rt, key), value))
+    value: u64,
+) -> Option<u64> {
+    must(rt, pairs.insert(text(rt, key), Value::from(value)))?.as_unsigned_integer()
+}
+
+// What `remove` answers.
+fn removed(pairs: &mut Dictionary, key: &str) -> Option<u64> {
+    pairs.remove(key)?.as_unsigned_integer()
+}
+
+// What `get` answers.
+fn number_at(pairs: &Dictionary, key: &str) -> Option<u64> {
+    pairs.get(key)?.as_unsigned_integer()
 }
 
 // The pairs a = 1, b = 2 and c = 3.
-fn three(rt: &(impl Abort + AllocGlobal)) -> Pairs<u32> {
-    let mut pairs = Pairs::new(rt.alloc());
+fn three(rt: &(impl Abort + AllocGlobal)) -> Dictionary {
+    let mut pairs = Dictionary::new(rt.alloc());
     put(rt, &mut pairs, "a", 1);
     put(rt, &mut pairs, "b", 2);
     put(rt, &mut pairs, "c", 3);
@@ -29,10 +39,11 @@ fn three(rt: &(impl Abort + AllocGlobal)) -> Pairs<u32> {
 }
 
 // The pairs as ` a=1 b=2`.
-fn expect_pairs(rt: &(impl Abort + AllocGlobal), pairs: &Pairs<u32>, wanted: &str) {
+fn expect_pairs(rt: &(impl Abort + AllocGlobal), pairs: &Dictionary, wanted: &str) {
     let mut all = String::new(rt.alloc());
     for (key, value) in pairs {
-        let pair = must(rt, format!(in rt.alloc(); " {}={value}", key.as_str()));
+        let number = value.as_unsigned_integer().unwrap_or(0);
+        let pair = must(rt, format!(in rt.alloc(); " {}={number}", key.as_str()));
         must(rt, all.push_str(pair.as_str()));
     }
     assert_eq!(rt; all.as_str(), wanted);
@@ -41,11 +52,11 @@ fn expect_pairs(rt: &(impl Abort + AllocGlobal), pairs: &Pairs<u32>, wanted: &st
 #[test]
 fn remove_moves_the_last_pair(rt: HostRuntime) {
     let mut pairs = three(&rt);
-    assert_eq!(rt; pairs.remove("a"), Some(1));
+    assert_eq!(rt; removed(&mut pairs, "a"), Some(1));
     expect_pairs(&rt, &pairs, " c=3 b=2");
-    assert_eq!(rt; pairs.remove("a"), None);
-    assert_eq!(rt; pairs.remove("b"), Some(2));
-    assert_eq!(rt; pairs.get("c").copied(), Some(3));
+    assert_eq!(rt; removed(&mut pairs, "a"), None);
+    assert_eq!(rt; removed(&mut pairs, "b"), Some(2));
+    assert_eq!(rt; number_at(&pairs, "c"), Some(3));
     assert_eq!(rt; pairs.len(), 1);
 }
 
@@ -60,13 +71,13 @@ fn insert_keeps_the_place(rt: HostRuntime) {
 #[test]
 fn looks_up(rt: HostRuntime) {
     let mut pairs = three(&rt);
-    assert_eq!(rt; pairs.get("b").copied(), Some(2));
-    assert_eq!(rt; pairs.get("B"), None);
+    assert_eq!(rt; number_at(&pairs, "b"), Some(2));
+    assert!(rt; pairs.get("B").is_none());
     assert!(rt; pairs.contains_key("c"));
     assert!(rt; !pairs.contains_key(""));
     match pairs.get_mut("c") {
         None => assert!(rt; false, "the key is there"),
-        Some(value) => *value = 30,
+        Some(value) => *value = Value::from(30u64),
     }
     assert!(rt; pairs.get_mut("d").is_none());
     expect_pairs(&rt, &pairs, " a=1 b=2 c=30");
@@ -78,7 +89,7 @@ fn clear_empties(rt: HostRuntime) {
     assert!(rt; !pairs.is_empty());
     pairs.clear();
     assert!(rt; pairs.is_empty());
-    assert_eq!(rt; pairs.get("a"), None);
+    assert!(rt; pairs.get("a").is_none());
     assert_eq!(rt; put(&rt, &mut pairs, "a", 7), None);
     assert_eq!(rt; pairs.len(), 1);
 }
@@ -94,7 +105,10 @@ fn iter_gives_the_order(rt: HostRuntime) {
     let pairs = three(&rt);
     let mut iter = pairs.iter();
     expect_length(&rt, &iter, 3);
-    assert_eq!(rt; iter.next().map(|pair| *pair.1), Some(1));
+    assert_eq!(rt;
+        iter.next().and_then(|pair| pair.1.as_unsigned_integer()),
+        Some(1)
+    );
     expect_length(&rt, &iter, 2);
 }
 
@@ -112,17 +126,23 @@ fn values_give_the_order(rt: HostRuntime) {
     let pairs = three(&rt);
     let mut values = pairs.values();
     expect_length(&rt, &values, 3);
-    assert_eq!(rt; values.next().copied(), Some(1));
-    assert_eq!(rt; values.next().copied(), Some(2));
+    assert_eq!(rt;
+        values.next().and_then(|value| value.as_unsigned_integer()),
+        Some(1)
+    );
+    assert_eq!(rt;
+        values.next().and_then(|value| value.as_unsigned_integer()),
+        Some(2)
+    );
 }
 
 // The next pair of the iterator.
-fn expect_pair(rt: &impl Abort, next: Option<(String, u32)>, key: &str, value: u32) {
+fn expect_pair(rt: &impl Abort, next: Option<(String, Value)>, key: &str, value: u64) {
     match next {
         None => panic!(rt; "too few pairs"),
         Some((name, number)) => {
             assert_eq!(rt; name.as_str(), key);
-            assert_eq!(rt; number, value);
+            assert_eq!(rt; number.as_unsigned_integer(), Some(value));
         }
     }
 }

@@ -4,16 +4,19 @@ use Rattle.std.specs.declared.alloc.Global.{Global}
 use Rattle.std.specs.declared.vec.Vec.{Vec}
 use Rattle.std.specs.Map.{values_of}
 use Rattle.plist.specs.declared.value.Value.{Value, fold-Value}
-use Rattle.plist.specs.declared.value.Value.TheOpen.{Value-F}
+use Rattle.plist.specs.declared.value.Value.TheOpen.{Dictionary-F, Value-F}
 
-abbrev pub weight_step : Value-F ℕ → ℕ
+abbrev pub weight_step : Value-F ℕ ℕ → ℕ
 weight_step (Value-F.Array items) = 1 + sum items.items
-weight_step (Value-F.Dictionary pairs) = 1 + sum (values_of pairs)
+weight_step (Value-F.Dictionary pairs) = 1 + pairs
 weight_step other = 1
+
+abbrev pub pairs_step : Dictionary-F ℕ ℕ → ℕ
+pairs_step dictionary = sum (values_of dictionary.pairs)
 
 -- how many values a value holds, itself among them
 abbrev pub weight : Value → ℕ
-weight = fold-Value ℕ weight_step
+weight = fold-Value ℕ ℕ weight_step pairs_step
 
 abbrev pub weights : List Value → ℕ
 weights values = sum (map weight values)

@@ -3,6 +3,7 @@
 ghost use Rattle.std.specs.Prelude.{◌≡◌, ◌↔◌, IfSome, IsSome, IsSomeAnd, Some, option_map, pos};
 ghost use Rattle.std.specs.Option.{option_copied};
 ghost use Rattle.plist.specs.Accessors.{array_in, boolean_in, data_in, date_in, dictionary_in, integer_in, real_in, text_in, uid_in, IsBelowSigned, IsNatural};
+ghost use Rattle.plist.specs.Dictionaries.{pairs_of};
 ghost use Rattle.plist.specs.ValueTrees.{item_trees, pair_trees, tree_of};
 
 use crate::{Dictionary, Value};
@@ -40,7 +41,7 @@ impl Value {
 
     /// The dictionary, if the value is one.
     pub fn as_dictionary(&self) -> Option<&Dictionary>
-        ensures value { option_map (λ d. pair_trees d.now) result
+        ensures value { option_map (λ d. pair_trees (pairs_of d.now)) result
             ≡ dictionary_in (tree_of self.now) }
         ensures made { IfSome result (λ pairs. self.now ≡ made.Dictionary pairs.now) }
     {
@@ -138,10 +139,13 @@ impl Value {
     pub fn into_uid(self) -> Option<Uid>
         ensures { result ≡ uid_in (tree_of self) }
     {
-        let Value::Uid(uid) = &self else {
-            return None;
-        };
-        Some(*uid)
+        match self {
+            Value::Uid(uid) => Some(uid),
+            other => {
+                other.destroy();
+                None
+            }
+        }
     }
 
     /// The identifier, if the value is one.

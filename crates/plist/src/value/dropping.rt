@@ -1,18 +1,68 @@
-//! How a value is dropped: the values that are left stand in one list, which is kept as an array in
-//! the next one, in the place of a value that was taken out of that one.
+//! How a value is dropped without recursion: the values that are left lie in one list, which is kept
+//! as an array in the next one, in the place of a value that was taken out of that one.
 
 ghost use Rattle.std.specs.Prelude.{◌<◌, vec_len};
 ghost use Rattle.std.specs.Vec.{vec_capacity};
-ghost use Rattle.plist.specs.inner.Weights.{IsLess};
+ghost use Rattle.plist.specs.inner.Weights.{IsLess, SplitsInto};
 
 use crate::Value;
+use crate::dictionary::Discard;
 use std::mem;
 
-/// One list of the values that are left and of those that a collection held.
-///
-/// It takes no memory: the collection was taken out of the first list, which has capacity for one
-/// value then, and so has the second.
-pub(super) fn joined(mut left: Vec<Value>, mut below: Vec<Value>) -> Vec<Value>
+impl Value {
+    // What a collection contains, without its keys; a scalar is dropped.
+    fn into_children(self) -> Option<Vec<Value>>
+        ensures { SplitsInto result self }
+    {
+        match self {
+            Value::Array(items) => Some(items),
+            Value::Dictionary(pairs) => Some(pairs.into_items()),
+            Value::Boolean(_flag) => None,
+            Value::Data(_bytes) => None,
+            Value::Date(_date) => None,
+            Value::Real(_bits) => None,
+            Value::Integer(_number) => None,
+            Value::String(_text) => None,
+            Value::Uid(_uid) => None,
+        }
+    }
+
+    /// Drops the value without recursion and without memory, however deep it is.
+    ///
+    /// A value that goes out of scope is dropped by recursion over the arrays in it: one whose
+    /// arrays nest some 100,000 levels deep ends the program. Call this for a value that may be as
+    /// deep, as one that was read from a stranger's file without [`Limits`].
+    pub fn destroy(self) {
+        match self.into_children() {
+            None => {}
+            Some(below) => destroy_all(below),
+        }
+    }
+}
+
+impl Discard for Value {
+    fn discard(self) {
+        self.destroy();
+    }
+}
+
+/// Drops the values without recursion and without memory.
+pub(crate) fn destroy_all(values: Vec<Value>) {
+    let mut left = values;
+    while let Some(value) = left.pop() {
+        match value.into_children() {
+            None => {}
+            Some(below) => left = joined(left, below),
+        }
+    }
+    left.destroy_empty();
+}
+
+// One list of the values that are left and of those that a collection contained.
+//
+// It takes no memory: the collection was taken out of the first list, which has capacity for one
+// value then, and so has the second.
+fn joined(mut left: Vec<Value>, mut below: Vec<Value>) -> Vec<Value>
     requires { vec_len left < vec_capacity left }
     ensures { IsLess result.items left.items below.items }
 {

@@ -1,19 +1,10 @@
--- Where a key stands among pairs, and what is borrowed of a store of pairs by `&mut`.
-use Rattle.std.specs.Prelude.{◌≡◌, ◌<◌, ℕ, List, None, Some, length, position, bytes_eq, Option}
-use Rattle.std.specs.Map.{keys_of, lookup, set_value}
+-- What is borrowed of a store of pairs by `&mut`.
+use Rattle.std.specs.Prelude.{ℕ, List, bytes_eq, Option}
+use Rattle.std.specs.Map.{set_value}
 use Rattle.std.specs.Borrow.{Lends, LendsIf, MutBor, Fml}
 use Rattle.indexmap.specs.IndexMap.{set_value_at}
 use denote.RattleType.{RattleType}
 use Rattle.plist_pairs.specs.contracts.dictionary.store.Store.{the_row}
-
-module _ {V : Type 0} (key : List ℕ) (pairs : List (List ℕ × V)) where
-  -- the key has no value
-  abbrev pub HasNone : Type 0
-  HasNone = lookup (bytes_eq key) pairs ≡ None
-
-  -- the key's index
-  abbrev pub IsIndexOf : ℕ → Type 0
-  IsIndexOf index = (index < length pairs) × (Some index ≡ position (bytes_eq key) (keys_of pairs))
 
 -- the pairs end with the last value behind the reference at the key, and as they are where there is
 -- no reference

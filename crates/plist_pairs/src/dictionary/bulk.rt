@@ -1,13 +1,14 @@
 //! Calls that go over all pairs.
 
-ghost use Rattle.std.specs.Prelude.{◌≡◌, IfOk, OnErr, OnOk, IsPermutation, IsSorted};
+ghost use Rattle.std.specs.Prelude.{◌≡◌, IfOk, OnErr, OnOk, IsPermutation, IsSorted, string_bytes};
 ghost use Rattle.std.specs.Cmp.Lexicographic.{slice_cmp};
 ghost use Rattle.std.specs.Ordering.{nat_cmp};
 ghost use Rattle.std.specs.Map.{keys_of};
 ghost use Rattle.plist_base.specs.Outcomes.{OnlyMemory};
+ghost use Rattle.plist_pairs.specs.Keys.{IsAbsent, IsSetAt};
 
-use crate::dictionary::Pairs;
-use plist_base::Error;
+use crate::dictionary::{Discard, Pairs};
+use plist_base::{Error, ErrorKind};
 use std::alloc::Global;
 
 impl<V> Pairs<V> {
@@ -17,7 +18,7 @@ impl<V> Pairs<V> {
     /// It asks once for each pair, in their order.
     pub fn retain<F: Fn(&String, &V) -> bool>(&mut self, keep: F)
     where
-        V: Drop,
+        V: Discard,
         requires { F.IsAlwaysCallable keep }
         ensures kept { Retains F.Fn keep self.old self.new }
     {
@@ -31,6 +32,32 @@ impl<V> Pairs<V> {
         self.truncate(kept);
     }
 
+    /// Sets the key's value. The value that it had is dropped, and this one where memory runs out.
+    ///
+    /// # Errors
+    ///
+    /// `OutOfMemory`: the pairs stay as they are.
+    pub fn set(&mut self, key: String, value: V) -> Result<(), Error>
+    where
+        V: Discard,
+        ensures pairs { OnOk result (IsSetAt self.old (string_bytes key) value self.new) }
+        ensures absent { OnErr result (IsAbsent (string_bytes key) self.old) }
+        ensures memory { OnlyMemory result }
+        ensures unchanged { OnErr result (self.new ≡ self.old) }
+    {
+        match self.insert(key, value) {
+            Ok(None) => Ok(()),
+            Ok(Some(old)) => {
+                old.discard();
+                Ok(())
+            }
+            Err((_key, refused)) => {
+                refused.discard();
+                Err(ErrorKind::OutOfMemory.without_position())
+            }
+        }
+    }
+
     /// Inserts each of the pairs, in their order.
     ///
     /// # Errors
@@ -39,7 +66,7 @@ impl<V> Pairs<V> {
     /// those after it are dropped.
     pub fn extend<I: IntoIterator<Item = (String, V)>>(&mut self, more: I) -> Result<(), Error>
     where
-        V: Drop,
+        V: Discard,
         requires asked { IterableEnds I.into_iter_gives I.IntoIter.can_next I.IntoIter.remaining
             more }
         ensures pairs { ExtendsByIterable I.into_iter_gives I.IntoIter.next_gives more self.old
@@ -48,7 +75,7 @@ impl<V> Pairs<V> {
     {
         let mut rest = more.into_iter();
         while let Some((key, value)) = rest.next() {
-            let _old = self.insert(key, value)?;
+            self.set(key, value)?;
         }
         Ok(())
     }
@@ -63,7 +90,7 @@ impl<V> Pairs<V> {
         pairs: I,
     ) -> Result<Pairs<V>, Error>
     where
-        V: Drop,
+        V: Discard,
         requires asked { IterableEnds I.into_iter_gives I.IntoIter.can_next I.IntoIter.remaining
             pairs }
         ensures pairs { IfOk result (λ made.
@@ -71,8 +98,13 @@ impl<V> Pairs<V> {
         ensures memory { OnlyMemory result }
     {
         let mut made = Pairs::new(alloc);
-        made.extend(pairs)?;
-        Ok(made)
+        match made.extend(pairs) {
+            Ok(()) => Ok(made),
+            Err(error) => {
+                made.clear();
+                Err(error)
+            }
+        }
     }
 
     /// Sorts the pairs by the bytes of their keys.

@@ -1,10 +1,10 @@
 //! Copies of pairs.
 
-ghost use Rattle.std.specs.Prelude.{◌≡◌, IfOk};
+ghost use Rattle.std.specs.Prelude.{◌≡◌, IfOk, OnOk, []};
 ghost use Rattle.plist_base.specs.Outcomes.{OnlyMemory};
 ghost use Rattle.plist_pairs.specs.Copies.{with_shown};
 
-use crate::dictionary::Pairs;
+use crate::dictionary::{Discard, Pairs};
 use plist_base::Error;
 use std::alloc::{AllocError, Global};
 
@@ -20,21 +20,27 @@ pub trait TryCopy: Sized {
         ensures { IfOk result (λ copy. shown copy ≡ shown self.now) };
 }
 
-fn copy_pairs<V: TryCopy + Drop>(alloc: Global, pairs: &Pairs<V>) -> Result<Pairs<V>, Error>
-    ensures copy { IfOk result (λ copy. with_shown V.shown copy ≡ with_shown V.shown pairs.now) }
+// Copies the pairs into others, of which there are none yet.
+fn copy_pairs<V: TryCopy + Discard>(
+    alloc: Global,
+    pairs: &Pairs<V>,
+    copies: &mut Pairs<V>,
+) -> Result<(), Error>
+    requires { copies.old ≡ [] }
+    ensures copy { OnOk result (with_shown V.shown copies.new ≡ with_shown V.shown pairs.now) }
     ensures memory { OnlyMemory result }
 {
-    let mut copies = Pairs::new(alloc);
     let count = pairs.pair_count();
     for i in 0..count {
         let (key, value) = pairs.pair_at(i);
         let name = String::from_str(alloc, key)?;
-        let _old = copies.insert(name, value.try_copy(alloc)?)?;
+        let copy = value.try_copy(alloc)?;
+        copies.set(name, copy)?;
     }
-    Ok(copies)
+    Ok(())
 }
 
-impl<V: TryCopy + Drop> Pairs<V> {
+impl<V: TryCopy + Discard> Pairs<V> {
     /// A copy: the same pairs, in the same order, stored where this one is.
     ///
     /// # Errors
@@ -44,6 +50,13 @@ impl<V: TryCopy + Drop> Pairs<V> {
         ensures copy { IfOk result (λ copy. with_shown V.shown copy ≡ with_shown V.shown self.now) }
         ensures memory { OnlyMemory result }
     {
-        copy_pairs(self.alloc, self)
+        let mut copies = Pairs::new(self.alloc);
+        match copy_pairs(self.alloc, self, &mut copies) {
+            Ok(()) => Ok(copies),
+            Err(error) => {
+                copies.clear();
+                Err(error)
+            }
+        }
     }
 }

@@ -3,10 +3,9 @@
 ghost use Rattle.std.specs.Prelude.{◌≡◌, ◌<◌, ◌++◌, ◌∷◌, Some, MatchOption, slice_get, swap, take, [], length, string_bytes, OnOk, IfErr, OnErr};
 ghost use Rattle.std.specs.Str.{bytes_eq};
 ghost use Rattle.std.specs.Map.{keys_of, values_of};
-ghost use Rattle.plist_pairs.specs.Keys.{IsAbsent};
-ghost use Rattle.plist_pairs.specs.inner.StoreLends.{HasNone, IsIndexOf};
+ghost use Rattle.plist_pairs.specs.Keys.{HasNone, IsAbsent, IsIndexOf};
 
-use crate::dictionary::{Pairs, empty_store, put};
+use crate::dictionary::{Discard, Pairs, empty_store, put};
 use std::alloc::Global;
 
 impl<V> Pairs<V> {
@@ -14,23 +13,23 @@ impl<V> Pairs<V> {
     ghost use Rattle.std.specs.List.{IsDistinct};
     ghost use Rattle.plist_pairs.specs.EntryLends.{IsRemovedAt, LendsIndex};
 
-    // The index of a key, if it is there.
-    pub(crate) fn index_of(&self, key: &str) -> Option<usize>
+    /// The index of a key, if it is there.
+    pub fn index_of(&self, key: &str) -> Option<usize>
         ensures { MatchOption result (HasNone key.now self.now) (IsIndexOf key.now self.now) }
     {
         self.store.as_ref()?.index_of(key)
     }
 
-    // The key at an index.
-    pub(crate) fn key_at(&self, index: usize) -> &String
+    /// The key at an index.
+    pub fn key_at(&self, index: usize) -> &String
         requires { index < length self.now }
         ensures { slice_get (keys_of self.now) index ≡ Some (string_bytes result.now) }
     {
         self.store.as_ref().unwrap().key_at(index)
     }
 
-    // The value at an index, to be changed.
-    pub(crate) fn value_at(&mut self, index: usize) -> &mut V
+    /// The value at an index, to be changed.
+    pub fn value_at(&mut self, index: usize) -> &mut V
         requires { index < length self.old }
         ensures value { slice_get (values_of self.old) index ≡ Some result.now }
         ensures* writes_back { sem 𝓛 (LendsIndex V.row self.entry index result) }
@@ -38,8 +37,12 @@ impl<V> Pairs<V> {
         self.store.as_mut().unwrap().value_at(index)
     }
 
-    // Adds a pair whose key isn't there.
-    pub(crate) fn push(&mut self, key: String, value: V) -> Result<(), (String, V)>
+    /// Adds a pair whose key isn't there.
+    ///
+    /// # Errors
+    ///
+    /// If memory runs out, the pairs stay as they are, and the key and the value come back.
+    pub fn push(&mut self, key: String, value: V) -> Result<(), (String, V)>
         requires { IsAbsent (string_bytes key) self.old }
         ensures pairs { OnOk result (self.new ≡ self.old ++ (string_bytes key, value) ∷ []) }
         ensures handed_back { IfErr result (λ back. back ≡ (key, value)) }
@@ -57,8 +60,8 @@ impl<V> Pairs<V> {
         answer
     }
 
-    // Takes the pair at an index; the last one moves there.
-    pub(crate) fn swap_remove_at(&mut self, index: usize) -> V
+    /// Takes the pair at an index; the last one moves there.
+    pub fn swap_remove_at(&mut self, index: usize) -> V
         requires { index < length self.old }
         ensures value { slice_get (values_of self.old) index ≡ Some result }
         ensures pairs { IsRemovedAt self.old index self.new }
@@ -103,7 +106,7 @@ impl<V> Pairs<V> {
     // Drops the pairs after the first ones.
     pub(crate) fn truncate(&mut self, count: usize)
     where
-        V: Drop,
+        V: Discard,
         ensures { self.new ≡ take count self.old }
     {
         match &mut self.store {

@@ -8,7 +8,8 @@ ghost use Rattle.plist_pairs.specs.Keys.{IsAbsent, IsSetAt, IsTakenAt};
 
 mod sorted;
 
-use crate::dictionary::{IntoIter, Iter, Keys, Values};
+use crate::dictionary::discard::discard_after;
+use crate::dictionary::{Discard, IntoIter, Iter, Keys, Values};
 use indexmap::IndexSet;
 use std::alloc::Global;
 use std::marker::Model;
@@ -42,7 +43,8 @@ impl<V> Store<V> {
     ghost use Rattle.std.specs.Borrow.{sem};
     ghost use Rattle.std.specs.List.{IsDistinct};
     ghost use Rattle.plist_pairs.specs.EntryLends.{IsRemovedAt};
-    ghost use Rattle.plist_pairs.specs.inner.StoreLends.{HasNone, IsIndexOf, StoreLendsAtKey, StoreLendsIndex};
+    ghost use Rattle.plist_pairs.specs.Keys.{HasNone, IsIndexOf};
+    ghost use Rattle.plist_pairs.specs.inner.StoreLends.{StoreLendsAtKey, StoreLendsIndex};
 
     // No pairs. It takes no memory.
     pub(crate) fn new(alloc: Global) -> Store<V>
@@ -64,11 +66,11 @@ impl<V> Store<V> {
 
     pub(crate) fn clear(&mut self)
     where
-        V: Drop,
+        V: Discard,
         ensures { self.new ≡ [] }
     {
         self.keys.clear();
-        self.items.clear();
+        discard_after(&mut self.items, 0);
     }
 
     pub(crate) fn get(&self, key: &str) -> Option<&V>
@@ -241,10 +243,10 @@ impl<V> Store<V> {
     // Drops the pairs after the first ones.
     pub(crate) fn truncate(&mut self, count: usize)
     where
-        V: Drop,
+        V: Discard,
         ensures { self.new ≡ take count self.old }
     {
         self.keys.truncate(count);
-        self.items.truncate(count);
+        discard_after(&mut self.items, count);
     }
 }

@@ -4,10 +4,12 @@ use Rattle.std.specs.Cmp.Lexicographic.{nat_list_eq_equiv}
 use Rattle.std.proofs.lemmas.List.{drop_all}
 use Rattle.std_collections.proofs.HashMapEq.{unequal_len}
 use Rattle.plist_base.specs.Trees.{Dictionary}
+use Rattle.plist.specs.declared.dictionary.Dictionary.{size_is-Dictionary}
 use Rattle.plist.specs.declared.value.Value.{size-Value}
 use Rattle.plist_pairs.specs.inner.PairsSame.{as_map}
 use Rattle.plist.specs.inner.PutOff.{are_covered, are_same, same_values, waiting}
 use Rattle.plist.specs.Equal.{same, same_items}
+use Rattle.plist.specs.Dictionaries.{pairs_of}
 use Rattle.plist.specs.ValueTrees.{item_trees, pair_trees}
 use Rattle.plist.specs.inner.Weights.{weights}
 use Rattle.plist.proofs.Comparing.{at-once, covered-is-same, items-next, pairs-lack, pairs-next, no-deeper}
@@ -56,8 +58,8 @@ compare_items-returns t c =
 
 pub compare_pairs-returns-then-count-pair_count : goal.compare_pairs-returns-then-count-pair_count
 compare_pairs-returns-then-count-pair_count t c =
-    let ps = c.args.pairs.now in
-    let qs = c.args.others.now in
+    let ps = pairs_of c.args.pairs.now in
+    let qs = pairs_of c.args.others.now in
     let a = c.pair_count-count.ensures in
     let b = c.pair_count.ensures in
     at-once c.args.self.now (same (Dictionary (pair_trees ps)) (Dictionary (pair_trees qs))) false
@@ -68,8 +70,9 @@ compare_pairs-returns-then-count-pair_count t c =
 
 pub compare_pairs-compare-requires : goal.compare_pairs-compare-requires
 compare_pairs-compare-requires t c = (
-  let d = no-deeper size-Value c.args.pairs.now c.loop-i.i c.pair_at.result.0.now
-      c.pair_at.result.1.now c.pair_at.ensures in omega arith,
+  let d = no-deeper size-Value (pairs_of c.args.pairs.now) c.loop-i.i c.pair_at.result.0.now
+      c.pair_at.result.1.now c.pair_at.ensures in
+      let s = size_is-Dictionary c.args.pairs.now in omega arith,
   tt,
 )
 
@@ -92,8 +95,8 @@ compare_pairs-loop-i-preserved t c =
 
 pub compare_pairs-returns : goal.compare_pairs-returns
 compare_pairs-returns t c =
-    let ps = c.args.pairs.now in
-    let qs = c.args.others.now in
+    let ps = pairs_of c.args.pairs.now in
+    let qs = pairs_of c.args.others.now in
     let i = c.loop-i.i in
     let a = c.pair_count-count.ensures in
     let b = c.pair_count.ensures in

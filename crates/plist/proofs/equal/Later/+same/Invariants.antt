@@ -1,3 +1,4 @@
+use Rattle.plist.specs.Dictionaries.{pairs_of}
 use Rattle.plist.specs.inner.PutOff.{ItemsLeft, PairsLeft}
 use Rattle.plist.proofs.equal.Later.+same.Given as goal
 
@@ -6,4 +7,5 @@ invariant-compare_items-loop-i l =
     ItemsLeft l.items.items l.others.items l.initial.self l.i l.self
 
 abbrev pub invariant-compare_pairs-loop-i : goal.invariant-compare_pairs-loop-i
-invariant-compare_pairs-loop-i l = PairsLeft l.pairs l.others l.initial.self l.i l.self
+invariant-compare_pairs-loop-i l =
+    PairsLeft (pairs_of l.pairs) (pairs_of l.others) l.initial.self l.i l.self

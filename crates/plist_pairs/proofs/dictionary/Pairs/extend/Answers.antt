@@ -10,24 +10,16 @@ loop-key-init g c =
     let asked = c.requires.asked _ c.into_iter-rest.ensures.into_iter_gives in
     it.begun asked.0 asked.1 refl
 
-pub loop-key-preserved-in_ok-_old : goal.loop-key-preserved-in_ok-_old
-loop-key-preserved-in_ok-_old g c =
-    let kept = c.loop-key.invariant in
-    let row : String Global × g.row.V.Denot = (c.in-Some.key, c.in-Some.value) in
-    it.again kept row c.in-Some.is (c.next.ensures.steps, c.next.ensures.goes)
-    (inserted-more c.args.self.now c.loop-key.self c.insert.new.self kept.seen row kept.holds
-    c.in_ok-_old.ensures.pairs)
-
 pub loop-key-preserved : goal.loop-key-preserved
 loop-key-preserved g c =
     let kept = c.loop-key.invariant in
     let row : String Global × g.row.V.Denot = (c.in-Some.key, c.in-Some.value) in
     it.again kept row c.in-Some.is (c.next.ensures.steps, c.next.ensures.goes)
-    (inserted-more c.args.self.now c.loop-key.self c.insert.new.self kept.seen row kept.holds
-    c.in_ok-_old.ensures.pairs)
+    (inserted-more c.args.self.now c.loop-key.self c.set.new.self kept.seen row kept.holds
+    c.in_ok-set.ensures.pairs)
 
-pub returns-in_err-_old-clause-pairs : goal.returns-in_err-_old-clause-pairs
-returns-in_err-_old-clause-pairs g c =
+pub returns-in_err-set-clause-pairs : goal.returns-in_err-set-clause-pairs
+returns-in_err-set-clause-pairs g c =
     let kept = c.loop-key.invariant in
     let row : String Global × g.row.V.Denot = (c.in-Some.key, c.in-Some.value) in
     let gave = it.Yields-more g.I.IntoIter.Iterator.next_gives c.into_iter-rest.result kept.seen
@@ -37,12 +29,12 @@ returns-in_err-_old-clause-pairs g c =
       c.into_iter-rest.result,
       c.into_iter-rest.ensures.into_iter_gives,
       subst (λ r. ExtendsBy g.I.IntoIter.Iterator.next_gives c.into_iter-rest.result
-          c.args.self.now r c.insert.new.self) (sym refused.1) (
+          c.args.self.now r c.set.new.self) (sym refused.1) (
             kept.seen,
             row,
             (c.next.new.self, gave),
-            c.in_err-_old.ensures.unchanged ∙ kept.holds,
-            rw c.in_err-_old.ensures.unchanged c.in_err-_old.ensures.absent,
+            c.in_err-set.ensures.unchanged ∙ kept.holds,
+            rw c.in_err-set.ensures.unchanged c.in_err-set.ensures.absent,
           ),
     )
 

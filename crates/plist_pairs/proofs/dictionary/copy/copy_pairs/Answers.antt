@@ -8,6 +8,9 @@ use Rattle.plist_pairs.proofs.Keeping.{values-insert, next-last}
 use Rattle.plist_pairs.proofs.Columns.{get-map}
 use Rattle.plist_pairs.proofs.dictionary.copy.copy_pairs.Goals as goal
 
+pub loop-i-init : goal.loop-i-init
+loop-i-init g c = ap (with_shown g.V.TryCopy.shown) c.requires
+
 pub loop-i-preserved : goal.loop-i-preserved
 loop-i-preserved g c =
     let shown = g.V.TryCopy.shown in
@@ -16,13 +19,13 @@ loop-i-preserved g c =
     let k = c.pair_at.result.0.now in
     let v = c.pair_at.result.1.now in
     let name = c.in_ok-name.name in
-    let copied = c.in_ok-try_copy.field-0 in
+    let copied = c.in_ok-copy.copy in
     let one : suc i ≡ i + 1 = omega arith in
-    ap (with_shown shown) c.in_ok-_old.ensures.pairs
+    ap (with_shown shown) c.in_ok-set.ensures.pairs
     ∙ values-insert shown (string_bytes name) copied c.loop-i.copies
     ∙ ap (λ l. insert_entry bytes_eq l (string_bytes name) (shown copied)) c.loop-i.invariant
     ∙ (λ j. insert_entry bytes_eq (take i (with_shown shown ps)) (c.in_ok-name.ensures.ok j)
-    (c.in_ok-try_copy.ensures j))
+    (c.in_ok-copy.ensures j))
     ∙ next-last (with_shown shown ps) i k (shown v)
     (subst (IsDistinct _) (sym (keys_of-map_values _ ps)) c.pair_count-count.ensures.distinct)
     (get-map _ ps i (k, v) c.pair_at.ensures)

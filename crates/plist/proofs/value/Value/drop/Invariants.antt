@@ -1,5 +1,0 @@
-use Rattle.plist.specs.inner.Weights.{to_drop}
-use Rattle.plist.proofs.value.Value.drop.Given as goal
-
-abbrev pub decreases-loop-value : goal.decreases-loop-value
-decreases-loop-value l = to_drop l.left.items

@@ -1,0 +1,94 @@
+//! Calls that go over all pairs of a dictionary.
+
+ghost use Rattle.std.specs.Prelude.{◌≡◌, IfOk, OnErr, OnOk, IsPermutation, IsSorted};
+ghost use Rattle.std.specs.Cmp.Lexicographic.{slice_cmp};
+ghost use Rattle.std.specs.Ordering.{nat_cmp};
+ghost use Rattle.std.specs.Map.{keys_of};
+ghost use Rattle.plist_base.specs.Outcomes.{OnlyMemory};
+ghost use Rattle.plist_pairs.specs.Bulk.{ExtendsByIterable, IterableEnds, IsMadeOfIterable, Retains};
+ghost use Rattle.plist.specs.Dictionaries.{pairs_of};
+ghost use Rattle.plist.specs.ValueTrees.{tree_pairs};
+
+use crate::{Dictionary, Value};
+use plist_base::Error;
+use plist_pairs::Pairs;
+use std::alloc::Global;
+
+impl Dictionary {
+    /// Keeps the pairs for which the closure answers `true`, in their order, and drops the others.
+    /// It asks once for each pair, in their order.
+    pub fn retain<F: Fn(&String, &Value) -> bool>(&mut self, keep: F)
+        requires { F.IsAlwaysCallable keep }
+        ensures kept { Retains F.Fn keep (pairs_of self.old) (pairs_of self.new) }
+    {
+        self.pairs.retain(keep);
+    }
+
+    /// Inserts each of the pairs, in their order. Values that are replaced are dropped without
+    /// recursion.
+    ///
+    /// # Errors
+    ///
+    /// `OutOfMemory`: the pairs before the one that found no memory are inserted; that one and
+    /// those after it are dropped.
+    pub fn extend<I: IntoIterator<Item = (String, Value)>>(&mut self, more: I) -> Result<(), Error>
+        requires asked { IterableEnds I.into_iter_gives I.IntoIter.can_next I.IntoIter.remaining
+            more }
+        ensures pairs { ExtendsByIterable I.into_iter_gives I.IntoIter.next_gives more
+            (pairs_of self.old) result (pairs_of self.new) }
+        ensures memory { OnlyMemory result }
+    {
+        self.pairs.extend(more)
+    }
+
+    /// The dictionary of these pairs, inserted in their order.
+    ///
+    /// # Errors
+    ///
+    /// `OutOfMemory`; all pairs are dropped.
+    pub fn from_pairs<I: IntoIterator<Item = (String, Value)>>(
+        alloc: Global,
+        pairs: I,
+    ) -> Result<Dictionary, Error>
+        requires asked { IterableEnds I.into_iter_gives I.IntoIter.can_next I.IntoIter.remaining
+            pairs }
+        ensures pairs { IfOk result (λ made.
+            IsMadeOfIterable I.into_iter_gives I.IntoIter.next_gives pairs (pairs_of made)) }
+        ensures memory { OnlyMemory result }
+    {
+        match Pairs::from_pairs(alloc, pairs) {
+            Ok(pairs) => Ok(Dictionary { pairs }),
+            Err(error) => Err(error),
+        }
+    }
+
+    /// Sorts the pairs by the bytes of their keys.
+    ///
+    /// # Errors
+    ///
+    /// `OutOfMemory`: the pairs stay as they are. Memory is taken before the first pair moves.
+    pub fn sort_keys(&mut self) -> Result<(), Error>
+        ensures sorted { OnOk result (IsSorted (slice_cmp nat_cmp) (keys_of (pairs_of self.new))) }
+        ensures pairs { OnOk result (IsPermutation (pairs_of self.old) (pairs_of self.new)) }
+        ensures memory { OnlyMemory result }
+        ensures unchanged { OnErr result (self.new ≡ self.old) }
+    {
+        self.pairs.sort_keys()
+    }
+
+    /// A copy: the same pairs, in the same order, stored where this one is.
+    ///
+    /// # Errors
+    ///
+    /// `OutOfMemory`.
+    pub fn clone(&self) -> Result<Dictionary, Error>
+        ensures copy { IfOk result (λ copy.
+            tree_pairs (pairs_of copy) ≡ tree_pairs (pairs_of self.now)) }
+        ensures memory { OnlyMemory result }
+    {
+        match self.pairs.clone() {
+            Ok(pairs) => Ok(Dictionary { pairs }),
+            Err(error) => Err(error),
+        }
+    }
+}

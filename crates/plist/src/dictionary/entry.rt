@@ -1,0 +1,205 @@
+//! The place of a key in a dictionary.
+//!
+//! A clause `writes_back` says what the pairs are once the borrow that the call returns has ended.
+
+ghost use Rattle.std.specs.Prelude.{◌≡◌, ◌<◌, false, length, None, Some, IfErr, IfOk, OnErr, is_some, string_bytes, unwrap_or};
+ghost use Rattle.std.specs.Str.{bytes_eq};
+ghost use Rattle.std.specs.Map.{lookup};
+ghost use Rattle.plist.specs.Dictionaries.{pairs_of};
+
+use crate::{Dictionary, Value};
+use std::mem;
+
+/// The place of a key in a dictionary: its pair, or none yet.
+#[derive(Drop)]
+pub enum Entry<'a> {
+    /// The key isn't there.
+    Vacant(VacantEntry<'a>),
+    /// The key is there.
+    Occupied(OccupiedEntry<'a>),
+}
+
+/// The place of a key that isn't there. It holds the key.
+#[derive(Drop)]
+pub struct VacantEntry<'a> {
+    pairs: &'a mut Dictionary,
+    key: String,
+    ghost absent: { is_some (lookup (bytes_eq (string_bytes key)) (pairs_of pairs.now)) ≡ false },
+}
+
+/// The pair of a key that is there.
+#[derive(Drop)]
+pub struct OccupiedEntry<'a> {
+    pairs: &'a mut Dictionary,
+    at: usize,
+    ghost within: { at < length (pairs_of pairs.now) },
+}
+
+impl Dictionary {
+    ghost use Rattle.plist.specs.Entries.{Inserts, Removes, entry_key, entry_pairs, entry_ref, entry_value, kept_key, unless_there};
+
+    /// The place of the key. It takes no memory: a vacant one takes it with its insert.
+    pub fn entry(&mut self, key: String) -> Entry<'_>
+        // The answer.
+        ensures now { entry_pairs result ≡ pairs_of self.old }
+        ensures key { entry_key result ≡ Some (string_bytes key) }
+        ensures value { entry_value result ≡ lookup (bytes_eq (string_bytes key)) (pairs_of self.old) }
+        ensures kept { kept_key result ≡ unless_there key (pairs_of self.old) }
+        // The state after it.
+        ensures same_pairs { (entry_ref result).ghost_name ≡ self.entry.ghost_name }
+        ensures writes { Inserts result (pairs_of self.old) (string_bytes key) }
+        ensures removes { Removes result (pairs_of self.old) (string_bytes key) }
+    {
+        match self.index_of(key.as_str()) {
+            Some(at) => Entry::Occupied(OccupiedEntry { pairs: self, at }),
+            None => Entry::Vacant(VacantEntry { pairs: self, key }),
+        }
+    }
+}
+
+impl<'a> OccupiedEntry<'a> {
+    ghost use Rattle.std.specs.Borrow.{sem};
+    ghost use Rattle.std.specs.List.{IsAmong};
+    ghost use Rattle.std.specs.Map.{values_of};
+    ghost use Rattle.plist.specs.Entries.{IsSameEntry, IsTaken, Occupied, entry_key, entry_lends, entry_pairs, entry_value, occupied_lends, with_value};
+
+    /// The key.
+    pub fn key(&self) -> &String
+        ensures { entry_key (Occupied self.now) ≡ Some (string_bytes result.now) }
+    {
+        self.pairs.key_at(self.at)
+    }
+
+    /// The key's value.
+    #[tactic(auto, using(plist_pairs::proofs::EntrySteps::entries))]
+    pub fn get(&self) -> &Value
+        ensures value { entry_value (Occupied self.now) ≡ Some result.now }
+        ensures member { IsAmong (values_of (entry_pairs (Occupied self.now))) result.now }
+    {
+        self.pairs.pair_at(self.at).1
+    }
+
+    /// The key's value, to be changed.
+    pub fn get_mut(&mut self) -> &mut Value
+        ensures value { entry_value (Occupied self.old) ≡ Some result.now }
+        ensures* writes_back { sem 𝓛 (occupied_lends self.entry result) }
+    {
+        let index = self.at;
+        self.pairs.value_at(index)
+    }
+
+    /// The key's value, to be changed for as long as the dictionary is borrowed.
+    pub fn into_mut(self) -> &'a mut Value
+        ensures value { entry_value (Occupied self.entry) ≡ Some result.now }
+        ensures member { IsAmong (values_of (entry_pairs (Occupied self.entry))) result.now }
+        ensures* writes_back { sem 𝓛 (entry_lends (Occupied self.entry) result) }
+    {
+        let OccupiedEntry { pairs, at } = self;
+        pairs.value_at(at)
+    }
+
+    /// Sets the key's value, and returns the one that it had.
+    #[tactic(auto, using(plist_pairs::proofs::EntrySteps::entries))]
+    pub fn insert(&mut self, value: Value) -> Value
+        ensures old { entry_value (Occupied self.old) ≡ Some result }
+        ensures unchanged { IsSameEntry self.old self.new }
+        ensures pairs { entry_pairs (Occupied self.new) ≡ with_value (Occupied self.old) value }
+    {
+        let at = self.at;
+        mem::replace(self.pairs.value_at(at), value)
+    }
+
+    /// Removes the key, and returns its value. The last pair moves to its place.
+    pub fn remove(self) -> Value
+        ensures value { entry_value (Occupied self.entry) ≡ Some result }
+        ensures pairs { IsTaken (Occupied self.entry) (pairs_of self.exit.0.now) }
+    {
+        let at = self.at;
+        self.pairs.swap_remove_at(at)
+    }
+}
+
+impl<'a> VacantEntry<'a> {
+    ghost use Rattle.std.specs.Borrow.{sem};
+    ghost use Rattle.plist.specs.Entries.{HandsBack, Vacant, entry_lends_ok, kept_key};
+
+    /// The key that an insert would add.
+    pub fn key(&self) -> &String
+        ensures { kept_key (Vacant self.now) ≡ Some result.now }
+    {
+        &self.key
+    }
+
+    /// Adds the key with this value, as the last pair.
+    ///
+    /// # Errors
+    ///
+    /// If memory runs out, the dictionary stays as it is, and the key and the value come back.
+    pub fn insert(self, value: Value) -> Result<&'a mut Value, (String, Value)>
+        ensures value { IfOk result (λ lent. lent.now ≡ value) }
+        ensures handed_back { IfErr result (HandsBack (Vacant self.entry) value) }
+        ensures* writes_back { sem 𝓛 (entry_lends_ok (Vacant self.entry) result) }
+    {
+        let VacantEntry { pairs, key } = self;
+        let at = pairs.len();
+        pairs.push(key, value)?;
+        Ok(pairs.value_at(at))
+    }
+}
+
+impl<'a> Entry<'a> {
+    ghost use Rattle.std.specs.Borrow.{sem};
+    ghost use Rattle.plist.specs.Entries.{HandsBack, HandsBackMade, HasOrMakes, entry_key, entry_lends_ok, entry_value};
+
+    /// The key.
+    pub fn key(&self) -> &String
+        ensures { entry_key self.now ≡ Some (string_bytes result.now) }
+    {
+        match self {
+            Entry::Vacant(entry) => entry.key(),
+            Entry::Occupied(entry) => entry.key(),
+        }
+    }
+
+    /// The key's value, to be changed: the one that it has, or else this one, which is added.
+    ///
+    /// # Errors
+    ///
+    /// Those of [`VacantEntry::insert`].
+    pub fn or_insert(self, value: Value) -> Result<&'a mut Value, (String, Value)>
+        ensures value { IfOk result (λ lent. lent.now ≡ unwrap_or (entry_value self.entry) value) }
+        ensures absent { OnErr result (entry_value self.entry ≡ None) }
+        ensures handed_back { IfErr result (HandsBack self.entry value) }
+        ensures* writes_back { sem 𝓛 (entry_lends_ok self.entry result) }
+    {
+        match self {
+            Entry::Vacant(entry) => entry.insert(value),
+            Entry::Occupied(found) => {
+                value.destroy();
+                Ok(found.into_mut())
+            }
+        }
+    }
+
+    /// Like [`Entry::or_insert`], with the value that the closure returns, which is called only if
+    /// the key isn't there.
+    ///
+    /// # Errors
+    ///
+    /// Those of [`VacantEntry::insert`].
+    pub fn or_insert_with<F: FnOnce() -> Value>(
+        self,
+        value: F,
+    ) -> Result<&'a mut Value, (String, Value)>
+        requires { entry_value self ≡ None → F.pre value }
+        ensures value { IfOk result (HasOrMakes self.entry (F.post value)) }
+        ensures absent { OnErr result (entry_value self.entry ≡ None) }
+        ensures handed_back { IfErr result (HandsBackMade self.entry (F.post value)) }
+        ensures* writes_back { sem 𝓛 (entry_lends_ok self.entry result) }
+    {
+        match self {
+            Entry::Vacant(entry) => entry.insert(value()),
+            Entry::Occupied(entry) => Ok(entry.into_mut()),
+        }
+    }
+}
