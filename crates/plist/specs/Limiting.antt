@@ -25,8 +25,8 @@ abbrev mutual
 
 -- this is so of a tree's events, and of those that it came of: the events of a tree whose last-value
 -- form it is
-abbrev pub IfCame : (List PlainEvent → Type 0) → Tree → Type 0
-IfCame P tree =
+abbrev pub IfEvents : (List PlainEvent → Type 0) → Tree → Type 0
+IfEvents P tree =
     P (bracketing tree) × ((whole : Tree) × (tree ≡ last_wins whole) × P (bracketing whole))
 
 -- there are no more events than these limits allow
@@ -40,9 +40,9 @@ AreWithinBudget limits bytes events = AreWithin limits events × (total_bytes ev
 -- a value's tree nests at most `depth` collections, and its events are within these limits, as are
 -- those that it came of
 abbrev pub IsWithinLimits : Limits → Tree → Type 0
-IsWithinLimits limits tree = NestsWithin tree limits.depth × IfCame (AreWithin limits) tree
+IsWithinLimits limits tree = NestsWithin tree limits.depth × IfEvents (AreWithin limits) tree
 
 -- the same within a budget of bytes
 abbrev pub IsWithinBudget : Limits → (bytes : ℕ) → Tree → Type 0
 IsWithinBudget limits bytes tree =
-    NestsWithin tree limits.depth × IfCame (AreWithinBudget limits bytes) tree
+    NestsWithin tree limits.depth × IfEvents (AreWithinBudget limits bytes) tree

@@ -9,7 +9,6 @@ use Rattle.plist_base.specs.declared.limits.Limits.{Limits}
 use Rattle.plist_base.specs.declared.limits.Limit.{Limit}
 use Rattle.plist_base.specs.declared.limits.Limit.TheVariants as limit
 use Rattle.plist_base.specs.declared.limits.Limiter.{Limiter}
-use Rattle.plist_base.specs.Allowances as allowance
 use Rattle.plist_base.specs.Allowances.{AdmitsEvent, GivesAllowed, RefusesEvent, items_allowed}
 use Rattle.plist_base.specs.Faults.{Fault, LimitReached, fault_nowhere}
 use Rattle.plist_base.specs.Events.{PlainEvent, Item, shape_of}
@@ -97,11 +96,6 @@ AdmitsAny old event new =
 abbrev pub RefusesAny : Option Limiter → PlainEvent → Fault → Type 0
 RefusesAny None event fault = ⊥
 RefusesAny (Some limiter) event fault = Refuses limiter event fault
-
--- what comes of an item of the iterator inside, or of its `None`
-abbrev pub PassesNext : (old : Limiter) → (asked given : Option (Result Event Error))
-    → (new : Limiter) → (ended : Bool) → Type 0
-PassesNext = allowance.PassesNext limited_by IsLimitReached
 
 -- of the items that the iterator inside has to come, those that come
 abbrev pub items_admitted : {I : Type 0} → Limited I Limiter → List Item → List Item

@@ -10,8 +10,8 @@ use Rattle.plist_base.specs.declared.limited.Limited.{Limited}
 use Rattle.plist_base.specs.declared.limits.Limit.{Limit}
 use Rattle.plist_base.specs.declared.limits.Limits.{Limits}
 use Rattle.plist_base.specs.declared.limits.Limiter.{Limiter}
-use Rattle.plist_base.specs.Allowances.{iterator_of}
-use Rattle.plist_base.specs.Limits.{GivesLimited, PassesNext, items_admitted, event_or_limit, limited_items, limited_by}
+use Rattle.plist_base.specs.Allowances.{PassesNext as PassesAllowed, iterator_of}
+use Rattle.plist_base.specs.Limits.{GivesLimited, IsLimitReached, items_admitted, event_or_limit, limited_items, limited_by}
 use Rattle.plist_base.specs.Faults.{FaultKind, Fault, Io, OutOfMemory, InvalidUtf16String, UnclosedString, IncompleteComment, InvalidUtf8AsciiStream, InvalidOctalString, LimitReached, MatchFault, fault_nowhere, kind_of, error_kind_of, fault_of}
 use Rattle.plist_base.specs.Sequential.{from_place}
 use Rattle.plist_reader.specs.Streams.{stream_bytes_left, stream_source, stream_place, held}
@@ -149,6 +149,9 @@ ascii-items dialect (Some bytes) l e is =
     rw (e, take-twice bytes) (ap (λ f. Some (items_in_format dialect f bytes)) is)
 
 -- ---- under limits
+
+abbrev PassesNext : (old : Limiter) (asked item : Given) (new : Limiter) (ended : Bool) → Type 0
+PassesNext = PassesAllowed limited_by IsLimitReached
 
 abbrev come : Bool → Limiter → List Item → List Item
 come ended limiter items = cond ended [] (limited_by limiter items)
