@@ -1,4 +1,4 @@
-//! Calls that go by a file's name under limits, values taken apart, and the texts of reals.
+//! Calls that go by a file's name under limits, values taken apart, and the numbers of reals.
 
 use crate::rows::{Row, limits_given, unreadable};
 use crate::words::{value_of, words_of_answer};
@@ -25,7 +25,7 @@ fn text_in(alloc: Global, words: &str) -> Result<String, Wrong> {
 // The text of a real of four bytes.
 fn real_text(alloc: Global, digits: &str) -> Result<String, Wrong> {
     match u32::from_str_radix(digits, 16) {
-        Ok(bits) => Ok(format!(in alloc; "{}", RealBits::Four(bits.to_be_bytes()))?),
+        Ok(bits) => Ok(format!(in alloc; "{}", RealBits::Four(bits.to_be_bytes()).to_f64())?),
         Err(_) => unreadable(alloc, digits),
     }
 }

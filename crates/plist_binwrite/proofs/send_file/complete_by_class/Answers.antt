@@ -1,6 +1,8 @@
-use Rattle.std.proofs.Common.{rules}
+use Rattle.std.proofs.Common.{rules, subst}
 use Rattle.std.proofs.lemmas.Result.{err_from_is_err_and}
-use Rattle.plist_binwrite.specs.EventTable.{nth_number}
+use Rattle.plist_base.specs.Writing.{answer_of}
+use Rattle.plist_binwrite.specs.Classes.{SendsBy}
+use Rattle.plist_binwrite.specs.EventTable.{nth_number, plain_events}
 use Rattle.plist_binwrite.proofs.SendingFiles.{sends_nothing}
 use Rattle.plist_binwrite.proofs.Lengthless.{whole_bracketed}
 use Rattle.plist_binwrite.proofs.send_file.complete_by_class.Goals as goal
@@ -15,8 +17,11 @@ draft_file-requires g c = record {
 
 pub returns : goal.returns
 returns g c =
-    rw c.new-sink.ensures.unwritten at
-    (c.send_draft.ensures.sent (nth_number c.args.classes.of) c.in_ok-draft.ensures.class)
+    subst (λ w. SendsBy (nth_number c.args.classes.of) g.W.Write.contents
+    (plain_events c.args.events.now) (answer_of c.send_draft.result) c.args.writer.now w)
+    (search rules)
+    (rw c.new-sink.ensures.unwritten at
+    (c.send_draft.ensures.sent (nth_number c.args.classes.of) c.in_ok-draft.ensures.class))
 
 pub returns-in_err-buffer : goal.returns-in_err-buffer
 returns-in_err-buffer g c =
