@@ -93,6 +93,7 @@ def main():
         events["text"] = 2 * levels + 1
         events["archive"] = 3 * (levels - 1) + 1
         events["refused"] = 1
+        events["let go"] = 1
         for call, count in events.items():
             tell(call, run(built, levels, call), f"{count}\n".encode())
         count = nested_events(levels)

@@ -1,6 +1,6 @@
 -- What the `&mut` accessors of a value lend, and the types of that.
 use denote.RattleType.{RattleType}
-use Rattle.std.specs.Prelude.{ℕ, List, Option, option_map}
+use Rattle.std.specs.Prelude.{Option, option_map}
 use Rattle.plist_base.specs.Trees.{Members, Trees}
 use Rattle.plist.specs.ValueTrees.{item_trees, pair_trees}
 use Rattle.std.specs.Borrow.{LendsIf, MutBor, Fml}

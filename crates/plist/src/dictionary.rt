@@ -1,13 +1,12 @@
 //! Dictionaries: pairs of a key and a value, in the order in which the keys came.
 
-ghost use Rattle.std.specs.Prelude.{◌≡◌, ◌<◌, ◌++◌, ◌∷◌, ◌↔◌, MatchOption, IsTrue, None, Some, [], length, is_some, string_bytes, IfOk, IfSome, OnOk, IfErr, OnErr, slice_get};
+ghost use Rattle.std.specs.Prelude.{◌≡◌, ◌<◌, ◌++◌, ◌∷◌, ◌↔◌, MatchOption, IsTrue, Some, [], length, is_some, string_bytes, IfOk, IfSome, OnOk, IfErr, OnErr, slice_get};
 ghost use Rattle.std.specs.Str.{bytes_eq};
 ghost use Rattle.std.specs.Option.{option_copied, option_copied_mut};
 ghost use Rattle.std.specs.Map.{lookup, keys_of, values_of};
 ghost use Rattle.std.specs.Map.Iter.{ShowsInOrder, ShowsValuesInOrder, deref};
 ghost use Rattle.std.specs.List.{IsAmong, IsDistinct};
 ghost use Rattle.std.specs.Borrow.{sem};
-ghost use Rattle.plist_base.specs.Outcomes.{OnlyMemory};
 ghost use Rattle.plist_pairs.specs.Keys.{HasNone, IsAbsent, IsIndexOf, IsSetAt, IsTakenAt};
 ghost use Rattle.plist_pairs.specs.EntryLends.{IsRemovedAt};
 ghost use Rattle.plist_pairs.specs.Shown.{shown_key, shown_pair};

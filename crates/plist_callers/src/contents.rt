@@ -1,11 +1,11 @@
 //! Proved callers of the conversions into values and of the look into them: what was put in is
 //! found as what it is, and as nothing else.
 
-ghost use Rattle.std.specs.Prelude.{◌≡◌, IfErr, IfOk, IsSome, None, Some, option_map, string_bytes, true};
+ghost use Rattle.std.specs.Prelude.{◌≡◌, IfErr, IfOk, IsSome, IsTrue, None, Some, option_map, string_bytes, true};
 ghost use Rattle.std.specs.Option.{option_copied};
 ghost use Rattle.plist_base.specs.declared.error.EventKind.TheVariants as event_kind;
 ghost use Rattle.plist_base.specs.Trees.{Array, Dictionary as Pairs, NoMembers, NoTrees};
-ghost use Rattle.plist.specs.Accessors.{array_in, dictionary_in, text_in};
+ghost use Rattle.plist.specs.Accessors.{array_in, boolean_in, dictionary_in, text_in, uid_in};
 ghost use Rattle.plist.specs.Dictionaries.{pairs_of};
 ghost use Rattle.plist.specs.ValueTrees.{item_trees, kind_of_tree, pair_trees, tree_of};
 
@@ -75,6 +75,24 @@ pub fn text_or_value(value: Value) -> Result<String, Value>
         Value::String(text) => Ok(text),
         other => Err(other),
     }
+}
+
+/// The identifier of a value, taken by a pattern.
+pub fn uid_in_value(value: Value) -> Option<Uid>
+    ensures { result ≡ uid_in (tree_of value) }
+{
+    if let Value::Uid(uid) = value {
+        Some(uid)
+    } else {
+        None
+    }
+}
+
+/// Whether a value is `true`.
+pub fn is_true(value: Value) -> bool
+    ensures { IsTrue result → boolean_in (tree_of value) ≡ Some true }
+{
+    matches!(value, Value::Boolean(true))
 }
 
 /// The items of an array, by way of a value.

@@ -12,6 +12,7 @@ ghost use Rattle.plist_base.specs.Outcomes.{OnlyMemory};
 ghost use Rattle.plist_pairs.specs.Keys.{IsSetAt, IsTakenAt};
 
 use plist::dictionary::Entry;
+use plist::dictionary::Entry::{Occupied, Vacant};
 use plist::{Dictionary, Error, Value};
 
 /// Whether the entry of a key has this key.
@@ -93,7 +94,7 @@ pub fn take_by_entry(pairs: &mut Dictionary, key: String) -> Option<Value>
     ensures pairs { OnSome result (IsTakenAt (pairs_of pairs.old) (string_bytes key) (pairs_of pairs.new)) }
 {
     match pairs.entry(key) {
-        Entry::Occupied(entry) => Some(entry.remove()),
-        Entry::Vacant(_entry) => None,
+        Occupied(entry) => Some(entry.remove()),
+        Vacant(_entry) => None,
     }
 }

@@ -131,7 +131,9 @@ fn taken(alloc: Global, value: Value, name: &str) -> Option<String> {
         },
         "into_string" => settings.remove("Name")?.into_string(),
         "into_array" => {
-            let items = settings.remove("Offsets")?.into_array()?;
+            let Some(Value::Array(items)) = settings.remove("Offsets") else {
+                return None;
+            };
             format!(in alloc; "{}", items.len()).ok()
         }
         "remove" => {

@@ -1,4 +1,4 @@
-//! By value.
+//! The iterator over a dictionary by value. Contracts see the list of what it has left.
 
 ghost use Rattle.std.specs.Prelude.{◌≡◌, length, Some, IfSome};
 ghost use Rattle.std.specs.Iterator.{at_most, UpTo};
@@ -10,7 +10,7 @@ use crate::{Dictionary, Value};
 use plist_pairs::dictionary;
 use std::marker::Model;
 
-/// The pairs by value, in their order.
+/// The pairs by value, in their order. What it has left is dropped without recursion.
 pub struct IntoIter {
     pairs: dictionary::IntoIter<Value>,
 }
