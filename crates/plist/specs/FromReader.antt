@@ -1,5 +1,5 @@
 -- The value of a source or of a file, which is read whole, item by item; and why there is none.
-use Rattle.std.specs.Prelude.{◌≡◌, ℕ, ◌⊎◌, Bool, List, Option, None, Some, Result, Err, option_map, ⊤}
+use Rattle.std.specs.Prelude.{◌≡◌, ℕ, ◌⊎◌, Bool, List, Option, None, Some, Result, Err, ⊤}
 use Rattle.plist_base.specs.Events.{Item, event_of}
 use Rattle.plist_base.specs.Faults.{Fault, FaultKind, ExpectedEndOfEventStream, Io, UnexpectedEndOfEventStream, UnexpectedEventType, fault_nowhere}
 use Rattle.plist_base.specs.Limits.{GivesLimited, items_admitted, iterator_of as inner_of_limited, limited_items}
@@ -15,17 +15,15 @@ use Rattle.plist_ascii.specs.declared.reader.AsciiReader.{AsciiReader}
 use Rattle.plist_ascii.specs.declared.dialect.Dialect.{Dialect}
 use Rattle.plist_reader.specs.Formats.{input_front}
 use Rattle.plist_reader.specs.declared.reader.Reader.{Reader}
-use Rattle.plist_reader.specs.Reader.{Gives, FaultHasOffset, IsReaderFault, items_of_input, limited_input, reader_source, reader_items}
+use Rattle.plist_reader.specs.Reader.{Gives, FaultHasOffset, IsReaderFault, IsUnread}
 use Rattle.plist.specs.Collecting.{Collects}
 
--- the answer comes of the run of a reader that holds this very source and has all its items to give
+-- the answer comes of the run of a new reader of this very source
 abbrev pub IsReadByReader : {R : Type 0} (known : R → Option (List ℕ)) (failed : R → ℕ) (source : R)
     → Result Tree Fault → Type 0
 IsReadByReader {R} known failed source answer =
     (reader : Reader R (record { known = known; failures = failed }))
-    × (reader_source reader ≡ Some source)
-    × (reader_items known reader ≡ option_map items_of_input (known source))
-    × Collects event_of (Gives known failed) reader answer
+    × IsUnread reader source None × Collects event_of (Gives known failed) reader answer
 
 -- the same under these limits
 abbrev pub IsReadWithin : {R : Type 0} → Limits
@@ -33,9 +31,7 @@ abbrev pub IsReadWithin : {R : Type 0} → Limits
 IsReadWithin {R} limits known failed source answer =
     (limited : Limited (Reader R (record { known = known; failures = failed })))
     × (items_admitted limited ≡ limited_items limits)
-    × (reader_source (inner_of_limited limited) ≡ Some source)
-    × (reader_items known (inner_of_limited limited)
-    ≡ option_map (limited_input limits) (known source))
+    × IsUnread (inner_of_limited limited) source (Some limits)
     × Collects event_of (GivesLimited (Gives known failed)) limited answer
 
 -- the same of a reader of ASCII in this dialect, which has taken no byte and looked at none

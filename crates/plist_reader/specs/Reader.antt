@@ -98,6 +98,10 @@ source_in state.Moved = None
 abbrev pub reader_source : {R : Type 0} {g : Ghosts R} → Reader R g → Option R
 reader_source reader = source_in reader.state
 
+-- no item has been asked for: the reader has all those of this source to give, under these limits
+abbrev pub IsUnread : {R : Type 0} {g : Ghosts R} → Reader R g → (source : R) → Option Limits → Type 0
+IsUnread reader source limits = reader.state ≡ state.Unread source limits
+
 -- the reader gives nothing more
 abbrev pub HasEndedState : {R : Type 0} {g : Ghosts R} → State R g → Type 0
 HasEndedState (state.Unread source limits) = ⊥

@@ -123,13 +123,14 @@ pub struct Reader<R: Source> {
 impl<R: Source> Reader<R> {
     ghost use Rattle.std.specs.Prelude.{◌≡◌, true, false};
     ghost use Rattle.std.specs.Option.{option_map};
-    ghost use Rattle.plist_reader.specs.Reader.{FirstAdvances, GivesFirst, reader_is_limited, items_of_input, limited_input, reader_items, reader_source};
+    ghost use Rattle.plist_reader.specs.Reader.{FirstAdvances, GivesFirst, IsUnread, reader_is_limited, items_of_input, limited_input, reader_items, reader_source};
 
     /// A reader over a source. It reads nothing before its first item is asked for.
     pub fn new(alloc: Global, source: R) -> Self
         ensures items { reader_items R.known result ≡ option_map items_of_input (R.known source) }
         ensures source { reader_source result ≡ Some source }
         ensures limited { reader_is_limited result ≡ false }
+        ensures new { IsUnread result source None }
     {
         Reader {
             alloc,
@@ -149,6 +150,7 @@ impl<R: Source> Reader<R> {
             (R.known source) }
         ensures source { reader_source result ≡ Some source }
         ensures limited { reader_is_limited result ≡ true }
+        ensures new { IsUnread result source (Some limits) }
     {
         Reader {
             alloc,

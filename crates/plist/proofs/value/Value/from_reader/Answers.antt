@@ -15,12 +15,8 @@ returns-clause-reads_back g c =
     reads-back _ (built_tree c.collect.result) (returns-clause-value g c)
 
 pub returns-clause-read : goal.returns-clause-read
-returns-clause-read g c = (
-  c.new-reader.result,
-  c.new-reader.ensures.source,
-  c.new-reader.ensures.items,
-  c.collect.ensures.value,
-)
+returns-clause-read g c =
+    (c.new-reader.result, c.new-reader.ensures.new, c.collect.ensures.value)
 
 pub returns-clause-fault : goal.returns-clause-fault
 returns-clause-fault g c =

@@ -27,9 +27,7 @@ pub returns-clause-read : goal.returns-clause-read
 returns-clause-read g c = (
   c.new.result,
   c.new.ensures.items,
-  ap reader_source c.new.ensures.inner ∙ c.with_limits-reader.ensures.source,
-  ap (reader_items _) c.new.ensures.inner
-      ∙ c.with_limits-reader.ensures.items,
+  ap (λ reader. reader.state) c.new.ensures.inner ∙ c.with_limits-reader.ensures.new,
   c.collect.ensures.value,
 )
 
