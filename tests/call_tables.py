@@ -130,6 +130,11 @@ def advances(calls):
     wants = {"".join(f"{kind} " for kind in kinds[:i]) + WANT
              for i, word in enumerate(words) if in_binary(i, word)}
     calls.sweep("advancing BinaryReader", BINARY, "".join(f"{kind} " for kind in kinds), wants)
+    # a text, data and an integer, each twice: the second time none takes memory
+    twice = file_of("a6010102020303 5161 420102 1005 080f1114", 4, 22)
+    kinds = ["StartArray", "String", "String", "Data", "Data", "Integer", "Integer", "EndCollection"]
+    wants = {"".join(f"{kind} " for kind in kinds[:i]) + WANT for i in (0, 1, 3)}
+    calls.sweep("advancing BinaryReader", twice, "".join(f"{kind} " for kind in kinds), wants)
 
 
 def failures(count):
@@ -145,17 +150,17 @@ def writers(calls):
     for words, built in builds:
         count = len(words.split(" "))
         wants = {f"{answers}| {FAILED}" for answers in failures(count)}
-        calls.sweep("Builder", words, "ok; " * count + "| " + built, wants)
+        calls.sweep("Builder", words, "ok; " * count + "| " + built, wants, stops=True)
     # the file of an earlier plist stands before
     count = len(PAIRS.split(" "))
     wants = {f"{answers}\nok | {TRUE_FILE.hex()}" for answers in failures(count)}
     both = (TRUE_FILE + PAIRS_FILE).hex()
-    calls.sweep("BinaryWriter", PAIRS, "ok; " * count + f"\nok | {both}", wants)
+    calls.sweep("BinaryWriter", PAIRS, "ok; " * count + f"\nok | {both}", wants, stops=True)
     for words, file in ((PAIRS, PAIRS_FILE), (TWICE, TWICE_FILE)):
         count = len(words.split(" "))
         wants = {f"{answers}\nok | {TRUE_FILE.hex()}" for answers in failures(count)}
         both = (TRUE_FILE + file).hex()
-        calls.sweep("SharingWriter", words, "ok; " * count + f"\nok | {both}", wants)
+        calls.sweep("SharingWriter", words, "ok; " * count + f"\nok | {both}", wants, stops=True)
 
 
 def buffers(calls):

@@ -101,11 +101,15 @@ class Calls:
         self.all["otherwise"] += 1
         print(text)
 
-    def sweep(self, name, given, ample, wants):
-        """Each request refused alone, and with all behind it; `wants` are wants of memory."""
-        self.add("sweep", name, given, lambda call, runs: self.test_sweep(call, runs, ample, wants))
+    def sweep(self, name, given, ample, wants, stops=False):
+        """Each request refused alone, and with all behind it; `wants` are wants of memory.
 
-    def test_sweep(self, call, runs, ample, wants):
+        What stops makes no other request after one that was refused and told.
+        """
+        self.add("sweep", name, given,
+                 lambda call, runs: self.test_sweep(call, runs, ample, wants, stops))
+
+    def test_sweep(self, call, runs, ample, wants, stops):
         found, requests, _ = next(runs)
         self.all["requests"] += requests
         if found != ample:
@@ -117,7 +121,7 @@ class Calls:
                 found, count, _ = next(runs)
                 if found == ample:
                     self.all["as with ample memory"] += count >= number
-                elif count >= number and found in wants:
+                elif count >= number and found in wants and not (stops and count > number):
                     self.all["want of memory"] += 1
                 else:
                     self.bad(f"{call}, request {number} of {requests}: {found!r}")

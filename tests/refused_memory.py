@@ -3,7 +3,7 @@
 
 The n-th call of malloc, realloc or aligned_alloc answers none. Then a command has to give the answer that
 it gives with ample memory, or to tell want of memory, with status 1, behind a beginning of its lines;
-`convert` leaves OUT as it was, whole or not there.
+`convert` leaves OUT as it was, whole or not there. Wrong words print nothing, with the usage and status 2.
 
 Usage: refused_memory.py      Needs a C compiler. Ends with its counts, and status 1 where a run does otherwise.
 """
@@ -18,6 +18,7 @@ import tempfile
 REPOSITORY = pathlib.Path(__file__).resolve().parents[1]
 PROGRAM = REPOSITORY / "crates/plist_tool/out/plist_tool"
 SETTINGS, ARCHIVE = REPOSITORY / "examples/settings.plist", REPOSITORY / "examples/archive.plist"
+USAGE = b"Usage: plist_tool print FILE | convert IN OUT | keyed FILE KEY\n"
 ASCII = b'{ name = "caf\\U00e9"; list = (1, two, { deep = "x y z, and a longer text"; }); }\n'
 SHIM = r"""
 #define _GNU_SOURCE
@@ -78,6 +79,16 @@ def is_want_of_memory(found, ample):
     return status == 1 and error == b"Error: OutOfMemory\n" and ample[1].startswith(out)
 
 
+def is_usage(driver, words, output):
+    """Whether these words are told to be wrong, with nothing printed and the file as it was."""
+    output.write_bytes(b"an older file")
+    found, _ = driver.run(0, words)
+    if found == (2, b"", USAGE) and output.read_bytes() == b"an older file":
+        return True
+    print(f"{words}: {found!r}, {output.read_bytes()!r}")
+    return False
+
+
 def sweep(driver, name, words, output=None):
     """Each request of a command refused in turn; `output` is the file that it makes."""
     counts = collections.Counter()
@@ -127,7 +138,11 @@ def main():
             sweep(driver, "convert of an ASCII file", ["convert", text, out], out),
             sweep(driver, "keyed", ["keyed", ARCHIVE, "root"]),
             sweep(driver, "keyed without such a key", ["keyed", ARCHIVE, "other"]),
+            sweep(driver, "one word too many", ["convert", SETTINGS, out, "more"], out),
         ])
+        wrong = [[], ["print"], ["print", SETTINGS, "more"], ["show", SETTINGS],
+                 ["convert", SETTINGS, out, "more"], ["keyed", ARCHIVE, "root", "more"]]
+        bad += sum(not is_usage(driver, words, out) for words in wrong)
     return 1 if bad else 0
 
 

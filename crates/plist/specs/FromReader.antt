@@ -1,5 +1,5 @@
 -- The value of a source or of a file, which is read whole, item by item; and why there is none.
-use Rattle.std.specs.Prelude.{◌≡◌, ℕ, ◌⊎◌, Bool, List, Option, None, Some, Result, Err, option_map, ⊤}
+use Rattle.std.specs.Prelude.{◌≡◌, ℕ, ◌⊎◌, Bool, List, Option, None, Some, Result, Err, ⊤}
 use Rattle.plist_base.specs.Events.{Item, event_of}
 use Rattle.plist_base.specs.Faults.{Fault, FaultKind, ExpectedEndOfEventStream, Io, UnexpectedEndOfEventStream, UnexpectedEventType, fault_nowhere}
 use Rattle.plist_base.specs.Allowances.{iterator_of as inner_of_limited}
@@ -20,18 +20,15 @@ use Rattle.plist_ascii.specs.declared.dialect.Dialect.{Dialect}
 use Rattle.plist_ascii.specs.declared.dialect.Dialect.TheVariants.{Lax}
 use Rattle.plist_reader.specs.Formats.{input_front}
 use Rattle.plist_reader.specs.declared.reader.Reader.{Reader}
-use Rattle.plist_reader.specs.Reader.{Gives, FaultHasOffset, IsReaderFault, items_of_dialect, items_of_input, limited_input, reader_source, reader_items}
+use Rattle.plist_reader.specs.Reader.{Gives, FaultHasOffset, IsReaderFault, IsNewReader, IsUnread, limited_input}
 use Rattle.plist.specs.Collecting.{Collects}
 
--- the answer comes of the run of a reader that holds this very source and has all its items to give,
--- in ASCII those of this dialect
+-- the answer comes of the run of a new reader of this very source, in ASCII in this dialect
 abbrev pub IsReadInDialect : {R : Type 0} → Dialect → (known : R → Option (List ℕ))
     (failed : R → ℕ) (source : R) → Result Tree Fault → Type 0
 IsReadInDialect {R} dialect known failed source answer =
     (reader : Reader R (record { known = known; failures = failed }))
-    × (reader_source reader ≡ Some source)
-    × (reader_items known reader ≡ option_map (items_of_dialect dialect) (known source))
-    × Collects event_of (Gives known failed) reader answer
+    × IsUnread reader source None dialect × Collects event_of (Gives known failed) reader answer
 
 -- the same in the lax dialect
 abbrev pub IsReadByReader : {R : Type 0} (known : R → Option (List ℕ)) (failed : R → ℕ) (source : R)
@@ -42,7 +39,7 @@ IsReadByReader known failed source answer = IsReadInDialect Lax known failed sou
 abbrev pub budgeted_input : Limits → (bytes : ℕ) → List ℕ → List Item
 budgeted_input limits bytes input = within_bytes bytes (limited_input limits input)
 
--- a reader of this very source under these limits, all of whose items are still to come
+-- a new reader of this very source, under these limits
 abbrev pub LimitedReader : {R : Type 0} (known : R → Option (List ℕ)) (failed : R → ℕ) → Type 0
 LimitedReader {R} known failed =
     Limited (Reader R (record { known = known; failures = failed })) Limiter
@@ -51,8 +48,7 @@ abbrev pub BeginsUnder : {R : Type 0} → Limits → (known : R → Option (List
     (source : R) → LimitedReader known failed → Type 0
 BeginsUnder limits known failed source limited =
     (items_admitted limited ≡ limited_items limits)
-    × (reader_source (inner_of_limited limited) ≡ Some source)
-    × (reader_items known (inner_of_limited limited) ≡ option_map items_of_input (known source))
+    × IsNewReader (inner_of_limited limited) source
 
 -- the answer comes of the run of one
 abbrev pub IsReadWithin : {R : Type 0} → Limits

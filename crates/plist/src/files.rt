@@ -61,6 +61,12 @@ impl<'a, R: Files> Write for Output<'a, R> {
     }
 }
 
+// Whether a sync failed in this way since the file has no store: a pipe or a terminal has none, and
+// a regular file has one.
+fn is_without_store<F: OpenFile>(file: &F, kind: io::ErrorKind) -> bool {
+    kind == io::ErrorKind::InvalidInput && file.metadata().is_ok_and(|it| !it.is_file())
+}
+
 impl<'a, R: Files> Output<'a, R> {
     /// The file of this name, which nothing is done to yet.
     pub fn new(rt: &'a R, path: &'a str) -> Self
@@ -86,7 +92,7 @@ impl<'a, R: Files> Output<'a, R> {
         };
         match file.sync_all() {
             Ok(()) => Ok(()),
-            Err(failure) if failure.kind() == io::ErrorKind::InvalidInput => Ok(()),
+            Err(failure) if is_without_store(file, failure.kind()) => Ok(()),
             Err(failure) => Err(ErrorKind::Io(failure).without_position()),
         }
     }

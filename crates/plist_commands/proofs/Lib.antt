@@ -7,3 +7,4 @@ pub mod Runs
 pub mod Printed
 pub mod Streaming
 pub mod Trees
+pub mod Said

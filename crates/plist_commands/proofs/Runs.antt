@@ -7,7 +7,8 @@ use Rattle.std.proofs.lemmas.List.{map-append}
 use Rattle.plist_base.specs.Bracketing.{without_length}
 use Rattle.plist_base.specs.Sources.{CountsIo, Rises}
 use Rattle.plist_commands.specs.declared.convert.Streamed.{Streamed}
-use Rattle.plist_commands.specs.declared.convert.Streamed.TheVariants.{NeedsValue}
+use Rattle.plist_commands.specs.declared.convert.Streamed.TheVariants.{NeedsValue, Sent}
+use Rattle.plist_commands.specs.Converting.{IfOkIs}
 use Rattle.plist_base.specs.declared.error.Error.{Error}
 use Rattle.plist_base.specs.Events.{PlainEvent}
 use Rattle.plist_base.specs.Faults.{FaultKind, Io, IsIo, MatchFault, OutOfMemory, error_kind_of, fault_nowhere, fault_of, kind_of, offset_of}
@@ -238,12 +239,8 @@ module _ {I : Type 0} (goes : I → StepAnswer → I → Type 0) (last : I → P
   pub held_refused : (old now new : I) (held final : List PlainEvent)
       → HasHeld old now held → goes now (Some (Ok tt)) new
       → HoldsRun goes last old (Ok false) new final
-  held_refused old now new held final (events, through, is) step = (
-    events ++ last new ∷ [],
-    new,
-    one_more goes last events old now new through step,
-    (inl refl, λ no. absurd (true≢false (sym no))),
-  )
+  held_refused old now new held final (events, through, is) step =
+      (events, now, through, (inr step, λ no. absurd (true≢false (sym no))))
 
   -- memory was wanted for it
   pub held_stopped : (old now new : I) (held final : List PlainEvent) (error : Error)
@@ -262,7 +259,7 @@ module _ {I : Type 0} (goes : I → StepAnswer → I → Type 0) (last : I → P
       → HasHeld old now held → goes now None new
       → HoldsRun goes last old (Ok whole) new held
   held_whole old now new held whole (events, through, is) step =
-      (events, now, through, (inr (None, step), λ _. (step, is)))
+      (events, now, through, (inl step, λ _. (step, is)))
 
 -- ---- what comes of them
 
@@ -275,9 +272,12 @@ io_rises error old new io counts = by (kind_of (error_kind_of error)) io counts
     by Io io counts = counts
     by kind io counts = absurd io
 
-pub ends_sent : (whole : Bool) (answer : Result Streamed Error) → whole ≡ true
-    → IfErr answer (λ error. offset_of error ≡ None) → ComesOfReading (Ok whole) answer
-ends_sent whole answer is nowhere = rw is nowhere
+pub ends_sent : (sent : Type 0) (whole : Bool) (answer : Result Streamed Error) → whole ≡ true
+    → IfOkIs answer Sent sent → IfErr answer (λ error. offset_of error ≡ None)
+    → ComesOfReading sent (Ok whole) answer
+ends_sent sent whole (Ok found) is wrote nowhere = rw is wrote
+ends_sent sent whole (Err error) is wrote nowhere = rw is nowhere
 
-pub ends_left : (whole : Bool) → whole ≡ false → ComesOfReading (Ok whole) (Ok NeedsValue)
-ends_left whole is = rw is refl
+pub ends_left : (sent : Type 0) (whole : Bool) → whole ≡ false
+    → ComesOfReading sent (Ok whole) (Ok NeedsValue)
+ends_left sent whole is = rw is refl

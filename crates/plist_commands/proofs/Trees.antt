@@ -1,5 +1,5 @@
 -- Why an archive has no tree under a key.
-use Rattle.std.proofs.Common.{ℕ, List, map}
+use Rattle.std.proofs.Common.{ℕ, List, Option, map, refl}
 use Rattle.plist.specs.declared.value.Value.{Value}
 use Rattle.plist.specs.ValueTrees.{tree_of}
 use Rattle.plist_keyed.specs.declared.error.KeyedError.{KeyedError}
@@ -22,8 +22,9 @@ refused root key objects names uid (error.RecursiveUid n) archive at h =
 refused root key objects names uid error.OutOfMemory archive at h = tt
 
 -- the tree isn't printed where there is none
-pub unprinted : (root : Value) (key : List ℕ) (failure : PlainFailure)
-    → IsRefusedAt root key failure → IsUnprintedAt root key failure
-unprinted root key (OfPlist fault) h = absurd h
-unprinted root key (OfArchive e) h = h
-unprinted root key NoSuchTop h = h
+pub unprinted : {W : Type 0} (contents : W → Option (List ℕ)) (root : Value) (key : List ℕ)
+    (failure : PlainFailure) (writer : W)
+    → IsRefusedAt root key failure → IsUnprintedAt contents root key failure writer writer
+unprinted contents root key (OfPlist fault) writer h = absurd h
+unprinted contents root key (OfArchive e) writer h = (h, refl)
+unprinted contents root key NoSuchTop writer h = (h, refl)

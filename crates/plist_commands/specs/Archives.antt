@@ -3,6 +3,7 @@ use Rattle.std.specs.Prelude.{◌≡◌, ℕ, List, Option, None, Result, Ok, Er
 use Rattle.std.specs.Io.KnownBytes.{Appends}
 use Rattle.plist_base.specs.Bracketing.{bracketing}
 use Rattle.plist_base.specs.Faults.{IsIoOrMemory}
+use Rattle.plist_base.specs.Prefixes.{AppendsPrefix}
 use Rattle.plist_base.specs.Trees.{Tree}
 use Rattle.plist.specs.declared.value.Value.{Value}
 use Rattle.plist.specs.ValueTrees.{tree_of}
@@ -42,8 +43,14 @@ PrintsTreeAt contents root key old new =
     (tree : Tree) × IsTreeAt root key tree
     × Appends (contents old) (contents new) (lines_of_events (bracketing tree))
 
--- the failure says why they didn't: there is no tree, or the writer or memory failed
-abbrev pub IsUnprintedAt : (root : Value) → (key : List ℕ) → PlainFailure → Type 0
-IsUnprintedAt root key (OfPlist fault) = (fault.offset ≡ None) × IsIoOrMemory fault.kind
-IsUnprintedAt root key (OfArchive error) = IsRefusedAt root key (OfArchive error)
-IsUnprintedAt root key NoSuchTop = IsRefusedAt root key NoSuchTop
+-- the failure says why they didn't: there is no tree, and nothing went out; or the writer or memory
+-- failed, and a beginning did
+abbrev pub IsUnprintedAt : {W : Type 0} → (contents : W → Option (List ℕ)) → (root : Value)
+    → (key : List ℕ) → PlainFailure → (old new : W) → Type 0
+IsUnprintedAt contents root key (OfPlist fault) old new =
+    (fault.offset ≡ None) × IsIoOrMemory fault.kind
+    × ((tree : Tree) × IsTreeAt root key tree
+    × AppendsPrefix (contents old) (contents new) (lines_of_events (bracketing tree)))
+IsUnprintedAt contents root key (OfArchive error) old new =
+    IsRefusedAt root key (OfArchive error) × (new ≡ old)
+IsUnprintedAt contents root key NoSuchTop old new = IsRefusedAt root key NoSuchTop × (new ≡ old)

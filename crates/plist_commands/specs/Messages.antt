@@ -25,9 +25,7 @@ abbrev pub message_text : PlainMessage → List ℕ
 message_text Usage = usage
 message_text (Fault failure) = codes "Error: " ++ failure_text failure ++ codes "\n"
 
--- what a writer took of a message: all of it where no write failed, and else of the usage a
--- beginning
+-- what a writer took of a message: all of it, or a beginning where a write failed
 abbrev pub TakesMessage : PlainMessage → (whole : Bool) → (old new : Option (List ℕ)) → Type 0
 TakesMessage said true old new = Appends old new (message_text said)
-TakesMessage Usage false old new = AppendsPrefix old new usage
-TakesMessage (Fault failure) false old new = Unit {0}
+TakesMessage said false old new = AppendsPrefix old new (message_text said)

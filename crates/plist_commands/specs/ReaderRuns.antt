@@ -1,5 +1,5 @@
 -- What becomes of the events that a reader goes through, whatever its source gives.
-use Rattle.std.specs.Prelude.{◌≡◌, ◌⊎◌, ℕ, Bool, true, false, List, [], ◌∷◌, map, Option, None, Some, Result, Ok, Err, IfErr, IsErrAnd, MatchOption, MatchResult}
+use Rattle.std.specs.Prelude.{◌≡◌, ◌⊎◌, ℕ, Bool, true, false, List, [], ◌∷◌, map, Option, None, Some, Result, Ok, Err, IsErrAnd, MatchOption, MatchResult}
 use Rattle.std.specs.Io.KnownBytes.{Appends}
 use Rattle.plist_base.specs.declared.error.Error.{Error}
 use Rattle.plist_base.specs.declared.source.Source.{Ghosts}
@@ -11,10 +11,10 @@ use Rattle.plist_base.specs.Sources.{Rises}
 use Rattle.plist_binread.specs.BinaryReader.{is_new, binary_source}
 use Rattle.plist_binread.specs.FaultOffsets.{HasOffset}
 use Rattle.plist_binread.specs.Advancing.{Advances, current_event}
-use Rattle.plist_reader.specs.Reader.{Gives, BinaryReaderOf, reader_is_limited, reader_source as source_of_any}
+use Rattle.plist_reader.specs.Reader.{Gives, BinaryReaderOf, IsNewReader}
 use Rattle.plist_commands.specs.declared.reader_events.ReaderEvents.{ReaderEvents}
 use Rattle.plist_commands.specs.declared.convert.Streamed.{Streamed}
-use Rattle.plist_commands.specs.declared.convert.Streamed.TheVariants.{NeedsValue}
+use Rattle.plist_commands.specs.declared.convert.Streamed.TheVariants.{NeedsValue, Sent}
 use Rattle.plist_commands.specs.EscapedLines.{lines_of_events}
 use Rattle.plist_commands.specs.Items.{failures_in}
 use Rattle.plist_commands.specs.Printing.{CountsReads, CountsReadsOf, IsWriterError}
@@ -45,13 +45,13 @@ module _ {I : Type 0} (goes : I → StepAnswer → I → Type 0) (last : I → P
       ⊎ (IsWriterError error × IsAskedOnce left new
       × AppendsPrefix before after (lines_of_events events)))
 
-  -- Events came, and were held where they are a tree's: nothing came after them then. Or a fault
-  -- came, which is the answer; or memory ran out.
+  -- Events came, and nothing after them, or one that isn't held; they were held where they are a
+  -- tree's: nothing came after them then. Or a fault came, which is the answer; or memory ran out.
   abbrev pub HoldsRun : (old : I) → Result Bool Error → (new : I) → (held : List PlainEvent)
       → Type 0
   HoldsRun old answer new held =
       (events : List PlainEvent) × (left : I) × AdvancesOver old events left × MatchResult answer
-      (λ whole. IsAskedOnce left new
+      (λ whole. (goes left None new ⊎ goes left (Some (Ok tt)) new)
       × (whole ≡ true → goes left None new × (held ≡ map without_length events)))
       (λ error. goes left (Some (Err error)) new
       ⊎ ((fault_of error ≡ fault_nowhere OutOfMemory) × (new ≡ left)))
@@ -102,13 +102,13 @@ HoldsBinary {S} known failed source answer held =
     × HoldsRun (AdvancesBinary known failed) current_event reader answer left held
     × CountsReadsOf failed reader answer left
 
--- the same of a reader of a source of any format
+-- the same of a new reader of a source of any format
 abbrev pub HoldsOther : {S : Type 0} (known : S → Option (List ℕ)) (failed : S → ℕ) (source : S)
     → Result Bool Error → (held : List PlainEvent) → Type 0
 HoldsOther {S} known failed source answer held =
     (events : ReaderEvents S (record { known = known; failures = failed }))
     × (left : ReaderEvents S (record { known = known; failures = failed }))
-    × (source_of_any events.reader ≡ Some source) × (reader_is_limited events.reader ≡ false)
+    × IsNewReader events.reader source
     × HoldsRun (AdvancesReading known failed) last_read events answer left held
     × CountsReads answer (failures_in failed events) (failures_in failed left)
 
@@ -124,14 +124,15 @@ ReadsSource {S} known failed source answer held =
 
 -- what comes of a source that was read so: it needs a value, or is refused for the same; or what
 -- was held is sent, or needs a value, or is refused for lack of memory, for size or by the writer
-abbrev pub ComesOfReading : Result Bool Error → Result Streamed Error → Type 0
-ComesOfReading (Ok true) answer = IfErr answer (λ error. offset_of error ≡ None)
-ComesOfReading (Ok false) answer = answer ≡ Ok NeedsValue
-ComesOfReading (Err error) answer = answer ≡ Err error
+abbrev pub ComesOfReading : (sent : Type 0) → Result Bool Error → Result Streamed Error → Type 0
+ComesOfReading sent (Ok true) answer =
+    MatchResult answer (λ found. found ≡ Sent → sent) (λ error. offset_of error ≡ None)
+ComesOfReading sent (Ok false) answer = answer ≡ Ok NeedsValue
+ComesOfReading sent (Err error) answer = answer ≡ Err error
 
--- a source was read so, and this came of it
+-- a source was read so, and this came of it; what is sent of the events that were held is this
 abbrev pub ConvertsSource : {S : Type 0} (known : S → Option (List ℕ)) (failed : S → ℕ)
-    (source : S) → Result Streamed Error → Type 0
-ConvertsSource known failed source answer =
+    (source : S) → Result Streamed Error → (sends : List PlainEvent → Type 0) → Type 0
+ConvertsSource known failed source answer sends =
     (read : Result Bool Error) × (held : List PlainEvent)
-    × ReadsSource known failed source read held × ComesOfReading read answer
+    × ReadsSource known failed source read held × ComesOfReading (sends held) read answer

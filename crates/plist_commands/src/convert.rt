@@ -4,6 +4,7 @@ ghost use Rattle.std.specs.Prelude.{◌≡◌, false, IfErr, IfSome, None};
 ghost use Rattle.plist_base.specs.Bracketing.{AreTreeEvents};
 ghost use Rattle.plist_base.specs.Faults.{offset_of};
 ghost use Rattle.plist_binwrite.specs.EventBuffers.{buffered_events, is_whole};
+ghost use Rattle.plist_binwrite.specs.Sending.{Sends};
 ghost use Rattle.plist_reader.specs.Formats.{format_of};
 ghost use Rattle.plist_commands.specs.Converting.{AreNoTree, FindsTree, IfOkIs, IsRefusedFor, IsStoppedFor, LeavesToValue, ForBytesOf, SendsAll, items_of_known};
 ghost use Rattle.plist_commands.specs.Holding.{IsEmpty};
@@ -128,6 +129,8 @@ fn send_events<W: Write>(
         (LeavesToValue known writer.old writer.new)) }
     ensures refused { ForBytesOf (buffered_events pending.now)
         (λ known. IsStoppedFor W.contents known result writer.old writer.new) }
+    ensures wrote { IfOkIs result Sent (Sends W.contents (buffered_events pending.now) (Ok tt)
+        writer.old writer.new) }
     ensures nowhere { IfErr result (λ error. offset_of error ≡ None) }
 {
     let events = pending.events();
@@ -152,7 +155,8 @@ pub fn convert_binary<S: Source, W: Write>(
 ) -> Result<Streamed, Error>
     ensures sent { IfOkIs result Sent (SendsAll W.contents (S.known source) writer.old writer.new) }
     ensures left { IfOkIs result NeedsValue (LeavesToValue (S.known source) writer.old writer.new) }
-    ensures answers { ConvertsSource S.known S.failures source result }
+    ensures answers { ConvertsSource S.known S.failures source result
+        (λ held. Sends W.contents held (Ok tt) writer.old writer.new) }
     ensures refused { IsStoppedFor W.contents (S.known source) result writer.old writer.new }
 {
     let mut pending = EventBuffer::new(alloc);

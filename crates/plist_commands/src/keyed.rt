@@ -45,8 +45,8 @@ pub fn print_at<O: Write>(
     out: &mut O,
 ) -> Result<(), Failure>
     ensures printed { OnOk result (PrintsTreeAt O.contents root.now key.now out.old out.new) }
-    ensures refused { IfErr result
-        (λ error. IsUnprintedAt root.now key.now (plain_failure_of error)) }
+    ensures refused { IfErr result (λ error.
+        IsUnprintedAt O.contents root.now key.now (plain_failure_of error) out.old out.new) }
 {
     let tree = tree_at(alloc, root, key)?;
     let printed = print_value(alloc, &tree, out);

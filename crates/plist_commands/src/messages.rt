@@ -1,11 +1,14 @@
 //! What the program says beside its output.
 
-ghost use Rattle.std.specs.Prelude.{Bool, is_ok};
-ghost use Rattle.plist_commands.specs.Messages.{PlainMessage, plain_message_of, TakesMessage};
+ghost use Rattle.std.specs.Prelude.{◌≡◌, Bool, IfOk, is_ok};
+ghost use Rattle.plist_commands.specs.Failures.{plain_failure_of};
+ghost use Rattle.plist_commands.specs.Messages.{Fault, PlainMessage, message_text, plain_message_of, TakesMessage};
 
 use crate::failure::Failure;
+use arrayvec::ArrayString;
 use plist_base::send::send;
 use plist_base::{Error, ErrorKind};
+use std::fmt::Write as _;
 use std::io::Write;
 
 /// What is said where a command isn't done.
@@ -30,7 +33,18 @@ pub trait Messages {
         ensures { reports self.old (plain_message_of message.entry) (is_ok result) self.new };
 }
 
-/// Each message is a line.
+// The line of a fault, which has at most 256 bytes.
+fn line_of_failure(failure: &Failure) -> Result<ArrayString<256>, Error>
+    ensures { IfOk result (λ line. line.bytes ≡ message_text (Fault (plain_failure_of failure.now))) }
+{
+    let mut line = ArrayString::new();
+    match writeln!(line, "Error: {failure}") {
+        Ok(()) => Ok(line),
+        Err(_) => Err(ErrorKind::OutOfMemory.without_position()),
+    }
+}
+
+/// Each message is a line, which is given to the writer at once.
 impl<W: Write> Messages for W {
     ghost reports = { λ old said whole new. TakesMessage said whole (W.contents old)
         (W.contents new) };
@@ -41,10 +55,10 @@ impl<W: Write> Messages for W {
                 self,
                 b"Usage: plist_tool print FILE | convert IN OUT | keyed FILE KEY\n",
             ),
-            Message::Fault(failure) => match writeln!(self, "Error: {failure}") {
-                Ok(()) => Ok(()),
-                Err(error) => Err(ErrorKind::Io(error).without_position()),
-            },
+            Message::Fault(failure) => {
+                let line = line_of_failure(failure)?;
+                send(self, line.as_bytes())
+            }
         }
     }
 }

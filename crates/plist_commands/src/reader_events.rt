@@ -19,8 +19,8 @@ pub(crate) struct ReaderEvents<S: Source> {
 }
 
 impl<S: Source> ReaderEvents<S> {
-    ghost use Rattle.std.specs.Prelude.{Some, false};
-    ghost use Rattle.plist_reader.specs.Reader.{reader_is_limited};
+    ghost use Rattle.std.specs.Prelude.{None, Some};
+    ghost use Rattle.plist_reader.specs.Reader.{IsNewReader};
     ghost use Rattle.plist_commands.specs.Items.{failures_in, items_to_read};
     ghost use Rattle.plist_commands.specs.Converting.{items_of_known};
 
@@ -28,7 +28,7 @@ impl<S: Source> ReaderEvents<S> {
     pub(crate) fn new(alloc: Global, source: S) -> Self
         ensures items { items_to_read S.known result ≡ items_of_known (S.known source) }
         ensures source { reader_source result.reader ≡ Some source }
-        ensures limited { reader_is_limited result.reader ≡ false }
+        ensures new { IsNewReader result.reader source }
         ensures failures { failures_in S.failures result ≡ S.failures source }
     {
         ReaderEvents {

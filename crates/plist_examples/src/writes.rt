@@ -5,8 +5,8 @@ use plist::{Value, write_value};
 use plist_base::{Error, Writer};
 use plist_binwrite::{FileWriter, Sharing};
 use plist_support::{
-    Device, DeviceFault, Wrong, event_of, expect_answers, expect_bytes, expect_io, expect_that,
-    fail, front, write_all,
+    Device, DeviceFault, Wrong, event_of, expect_answers, expect_bytes, expect_failure, expect_io,
+    expect_that, fail, front, write_all,
 };
 use std::alloc::Global;
 use std::io::ErrorKind;
@@ -126,10 +126,11 @@ fn expect_nothing_before_last<S: Sharing>(alloc: Global, words: &str) -> Result<
     )
 }
 
-fn kind_of(fault: DeviceFault) -> ErrorKind {
+// The answer is the error of a device with this fault.
+fn expect_failed(fault: DeviceFault, answer: Result<(), Error>) -> Result<(), Wrong> {
     match fault {
-        DeviceFault::Fails(kind) => kind,
-        _ => ErrorKind::WriteZero,
+        DeviceFault::Fails(kind) => expect_io(answer, kind, None),
+        _ => expect_failure(answer, ErrorKind::WriteZero, "write zero", None),
     }
 }
 
@@ -171,7 +172,7 @@ fn expect_answer(
         expect_whole(alloc, device, sending.bytes)?;
         return Ok(false);
     }
-    expect_io(answer, kind_of(sending.fault), None)?;
+    expect_failed(sending.fault, answer)?;
     expect_cut(alloc, device, sending.bytes, call)?;
     Ok(true)
 }

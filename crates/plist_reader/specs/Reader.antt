@@ -111,6 +111,16 @@ source_in state.Moved = None
 abbrev pub reader_source : {R : Type 0} {g : Ghosts R} → Reader R g → Option R
 reader_source reader = source_in reader.state
 
+-- no item has been asked for: the reader has all those of this source to give, under these limits
+-- and in ASCII in this dialect
+abbrev pub IsUnread : {R : Type 0} {g : Ghosts R} → Reader R g → (source : R) → Option Limits
+    → Dialect → Type 0
+IsUnread reader source limits dialect = reader.state ≡ state.Unread source limits dialect
+
+-- the same without limits, and in the lax dialect
+abbrev pub IsNewReader : {R : Type 0} {g : Ghosts R} → Reader R g → (source : R) → Type 0
+IsNewReader reader source = IsUnread reader source None Lax
+
 -- the reader gives nothing more
 abbrev pub HasEndedState : {R : Type 0} {g : Ghosts R} → State R g → Type 0
 HasEndedState (state.Unread source limits dialect) = ⊥

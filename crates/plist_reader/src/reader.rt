@@ -128,7 +128,7 @@ pub struct Reader<R: Source> {
 impl<R: Source> Reader<R> {
     ghost use Rattle.std.specs.Prelude.{◌≡◌, true, false};
     ghost use Rattle.std.specs.Option.{option_map};
-    ghost use Rattle.plist_reader.specs.Reader.{FirstAdvances, GivesFirst, reader_is_limited, items_of_dialect, items_of_input, limited_input, reader_items, reader_source};
+    ghost use Rattle.plist_reader.specs.Reader.{FirstAdvances, GivesFirst, IsNewReader, IsUnread, reader_is_limited, items_of_dialect, items_of_input, limited_input, reader_items, reader_source};
 
     /// A reader over a source. It reads nothing before its first item is asked for. A source in
     /// ASCII is read in the lax dialect, in which a bare text doesn't end at a line end.
@@ -136,6 +136,7 @@ impl<R: Source> Reader<R> {
         ensures items { reader_items R.known result ≡ option_map items_of_input (R.known source) }
         ensures source { reader_source result ≡ Some source }
         ensures limited { reader_is_limited result ≡ false }
+        ensures new { IsNewReader result source }
     {
         Reader::with_dialect(alloc, source, Dialect::Lax)
     }
@@ -147,6 +148,7 @@ impl<R: Source> Reader<R> {
             ≡ option_map (items_of_dialect dialect) (R.known source) }
         ensures source { reader_source result ≡ Some source }
         ensures limited { reader_is_limited result ≡ false }
+        ensures new { IsUnread result source None dialect }
     {
         Reader {
             alloc,
@@ -162,6 +164,7 @@ impl<R: Source> Reader<R> {
             (R.known source) }
         ensures source { reader_source result ≡ Some source }
         ensures limited { reader_is_limited result ≡ true }
+        ensures new { IsUnread result source (Some limits) Dialect.Lax }
     {
         Reader {
             alloc,

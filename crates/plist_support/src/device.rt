@@ -6,8 +6,9 @@ ghost use Rattle.plist_base.specs.Sources.{CountsFailure};
 use crate::wrong::{Wrong, fail};
 use plist_base::{Error, Source};
 use std::alloc::Global;
-use std::io;
+use std::fmt::Write as _;
 use std::io::{Cursor, ErrorKind, Read, Seek, SeekFrom, Write};
+use std::{fmt, io};
 
 /// What comes of the one call that is unlike the others.
 #[derive(Clone, Copy)]
@@ -18,6 +19,14 @@ pub enum DeviceFault {
     MovesNothing,
     /// From there on this many bytes are left to be read.
     Shrinks(usize),
+}
+
+/// The message of each error of a device, which no error of the libraries or of the system has.
+pub const DEVICE_MESSAGE: &str = "the device said so";
+
+/// A device's own error.
+pub fn device_error(kind: ErrorKind) -> io::Error {
+    io::Error::new(kind, DEVICE_MESSAGE)
 }
 
 /// A device's own errors, each of which ends a reader.
@@ -88,7 +97,7 @@ impl Device {
             }
             DeviceFault::Fails(kind) => {
                 self.failures = self.failures.saturating_add(1);
-                Err(io::Error::from(kind))
+                Err(device_error(kind))
             }
         }
     }
@@ -163,29 +172,63 @@ impl Write for Device {
     }
 }
 
+// A text that is still to be written, each part as it stands.
+#[derive(Drop)]
+struct Remaining<'a> {
+    text: &'a str,
+}
+
+impl<'a> fmt::Write for Remaining<'a> {
+    fn write_str(&mut self, part: &str) -> fmt::Result {
+        match self.text.strip_prefix(part) {
+            Some(rest) => {
+                self.text = rest;
+                Ok(())
+            }
+            None => Err(fmt::Error),
+        }
+    }
+}
+
+// Is this the error's text?
+fn has_text(failure: &io::Error, text: &str) -> bool {
+    let mut remaining = Remaining { text };
+    write!(remaining, "{failure}").is_ok() && remaining.text.is_empty()
+}
+
+/// The fault is an I/O error of this kind and text, with this offset.
+pub fn expect_failure<T: Drop>(
+    answer: Result<T, Error>,
+    kind: ErrorKind,
+    text: &str,
+    offset: Option<u64>,
+) -> Result<(), Wrong> {
+    let Err(error) = answer else {
+        return Err(Wrong::NoFault);
+    };
+    let Some(failure) = error.as_io() else {
+        return Err(Wrong::OtherFault(error.offset(), None));
+    };
+    if error.offset() != offset || failure.kind() != kind {
+        return Err(Wrong::OtherFault(error.offset(), Some(failure.kind())));
+    }
+    if !has_text(failure, text) {
+        return Err(Wrong::OtherMessage);
+    }
+    Ok(())
+}
+
 /// The fault is a device's own error of this kind, with this offset.
 pub fn expect_io<T: Drop>(
     answer: Result<T, Error>,
     kind: ErrorKind,
     offset: Option<u64>,
 ) -> Result<(), Wrong> {
-    match answer {
-        Ok(_) => Err(Wrong::NoFault),
-        Err(error) => {
-            let found = match error.as_io() {
-                None => None,
-                Some(failure) => Some(failure.kind()),
-            };
-            if error.offset() == offset && found == Some(kind) {
-                return Ok(());
-            }
-            Err(Wrong::OtherFault(error.offset(), found))
-        }
-    }
+    expect_failure(answer, kind, DEVICE_MESSAGE, offset)
 }
 
 // The device failed once, at its last call, and after the items before that stands that fault,
-// with the place of the call.
+// with the place of the call and the device's message.
 pub(crate) fn expect_cut(
     alloc: Global,
     device: &Device,
@@ -197,7 +240,7 @@ pub(crate) fn expect_cut(
     if failures != 1 || calls != call.saturating_add(1) {
         return fail(format!(in alloc; "{failures} failures and {calls} calls at call {call}"));
     }
-    let fault = format!(in alloc; "Io (offset {})", device.place)?;
+    let fault = format!(in alloc; "Io (offset {}): {DEVICE_MESSAGE}", device.place)?;
     match items.strip_suffix(fault.as_str()) {
         Some(found) if found.trim_end() == before.trim_end() => Ok(()),
         _ => fail(format!(in alloc; "at call {call} came {items}, and not {before} {fault}")),
@@ -237,7 +280,7 @@ impl Disk {
         self.calls = call.saturating_add(1);
         if call == self.fails_at {
             self.failures = self.failures.saturating_add(1);
-            return Err(io::Error::from(self.kind));
+            return Err(device_error(self.kind));
         }
         Ok(())
     }

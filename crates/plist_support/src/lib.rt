@@ -11,7 +11,10 @@ mod reads;
 mod words;
 mod wrong;
 
-pub use device::{Device, DeviceFault, Disk, READ_FAILURES, expect_io};
+pub use device::{
+    DEVICE_MESSAGE, Device, DeviceFault, Disk, READ_FAILURES, device_error, expect_failure,
+    expect_io,
+};
 pub use events::{event_of, expect_answers, write_all};
 pub use files::{bytes_of, file, file_of, file_of_object, front};
 pub use reads::{By, expect_on_devices, expect_on_shrinking_devices, words_over};

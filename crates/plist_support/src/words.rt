@@ -53,6 +53,14 @@ pub fn word_of(alloc: Global, event: &Event<'_>) -> Result<String, AllocError> {
     }
 }
 
+// The text of a fault, and after a colon that of the I/O error in it.
+fn word_of_fault(alloc: Global, error: &Error) -> Result<String, AllocError> {
+    match error.as_io() {
+        Some(failure) => format!(in alloc; "{error}: {failure}"),
+        None => error.to_string(alloc),
+    }
+}
+
 // Adds an item's word, or the text of its fault, after those that are there.
 fn add_item(
     alloc: Global,
@@ -61,7 +69,7 @@ fn add_item(
 ) -> Result<(), AllocError> {
     let word = match item {
         Ok(event) => word_of(alloc, event)?,
-        Err(error) => error.to_string(alloc)?,
+        Err(error) => word_of_fault(alloc, error)?,
     };
     add_words(all, " ", word.as_str())
 }

@@ -12,6 +12,8 @@ pub enum Wrong {
     NoFault,
     /// A fault has this offset, and this kind where it is a device's own.
     OtherFault(Option<u64>, Option<ErrorKind>),
+    /// An I/O error has another text.
+    OtherMessage,
     /// Anything else, in words.
     Words(String),
 }

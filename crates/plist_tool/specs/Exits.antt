@@ -1,9 +1,21 @@
 -- How a run of the program ends.
-use Rattle.std.specs.Prelude.{◌≡◌, ℕ, Bool, Result, MatchResult}
+use Rattle.std.specs.Prelude.{◌≡◌, ◌⊎◌, ℕ, Bool, List, Result, MatchResult}
 use Rattle.plist_base.specs.declared.error.Error.{Error}
 use Rattle.plist_base.specs.Faults.{fault_of}
-use Rattle.plist_commands.specs.Failures.{OfPlist}
-use Rattle.plist_commands.specs.Messages.{PlainMessage, Fault}
+use Rattle.plist_commands.specs.Commands.{IsNoCommand, IsStatusAfter, PlainCommand, words_for}
+use Rattle.plist_commands.specs.Failures.{CommandOutcome, OfPlist}
+use Rattle.plist_commands.specs.Messages.{PlainMessage, Fault, Usage}
+
+-- for some words this is the status of their run: they are no command, nothing is printed, and the
+-- usage is told; or they ask for a command, whose end this is
+abbrev pub RunsWords : {O E : Type 0} → (reports : E → PlainMessage → Bool → E → Type 0)
+    → (status : ℕ) → (old new : O) → (err told : E) → Type 0
+RunsWords reports status old new err told =
+    (words : List (List ℕ))
+    × ((IsNoCommand words × (status ≡ 2) × (new ≡ old)
+    × ((whole : Bool) × reports err Usage whole told))
+    ⊎ ((asked : PlainCommand) × (words ≡ words_for asked)
+    × ((answer : CommandOutcome) × IsStatusAfter reports answer status err told)))
 
 -- the exit code is the status, or 1 where there was none
 abbrev pub IsStatusOf : Result ℕ Error → (code : ℕ) → Type 0

@@ -3,10 +3,10 @@
 //! `plist_tool keyed FILE KEY` prints a tree of a keyed archive as `print` prints a file.
 #![tactic(auto)]
 
-ghost use Rattle.std.specs.Prelude.{◌≤◌, IfOk};
+ghost use Rattle.std.specs.Prelude.{◌≡◌, IfOk, OnErr};
 ghost use Rattle.std.specs.Process.{exit_status};
 ghost use Rattle.plist_base.specs.Outcomes.{OnlyMemory};
-ghost use Rattle.plist_tool.specs.Exits.{IsStatusOf, ReportsFault};
+ghost use Rattle.plist_tool.specs.Exits.{IsStatusOf, ReportsFault, RunsWords};
 
 use plist_base::Error;
 use plist_commands::{Failure, Message, Messages, program_arguments, run_words};
@@ -22,8 +22,9 @@ fn run<R: Files + Env + AllocGlobal, O: Write, E: Messages>(
     out: &mut O,
     err: &mut E,
 ) -> Result<u8, Error>
-    ensures status { IfOk result (λ status. status ≤ 2) }
+    ensures runs { IfOk result (λ status. RunsWords E.reports status out.old out.new err.old err.new) }
     ensures memory { OnlyMemory result }
+    ensures unchanged { OnErr result ((out.new ≡ out.old) × (err.new ≡ err.old)) }
 {
     let words = program_arguments(rt, rt.alloc())?;
     Ok(run_words(rt, rt.alloc(), words.as_slice(), out, err))

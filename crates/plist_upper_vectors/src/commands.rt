@@ -1,6 +1,8 @@
 //! What the words ask for: the status, what is printed, and what is said on standard error.
 
-use crate::support::{RECURSIVE, expect_fault, expect_given, expect_run, failing, put, run};
+use crate::support::{RECURSIVE, expect_fault, expect_given, expect_run, failing, must, put, run};
+use plist_commands::{Failure, Message, Messages};
+use plist_support::{expect_io, front};
 use std::env::Env;
 use std::io::ErrorKind;
 use std::process::Abort;
@@ -25,13 +27,17 @@ fn wrong_words(rt: HostRuntime) {
     expect_usage(&rt, "keyed one two three");
 }
 
-// A word that is no text is a wrong one, and the program's name is no word.
+// A word that is no text is a wrong one, and so is one too many. The program's name is no word.
 #[test]
 fn words_that_are_no_text(rt: HostRuntime) {
+    expect_given(&rt, &[b"plist_tool"], USAGE, 2);
     let path = b"no_such_folder/\xff".as_slice();
     expect_given(&rt, &[b"plist_tool", b"print", path], USAGE, 2);
     let path = b"no_such_folder/in".as_slice();
     expect_given(&rt, &[b"plist_\xff", b"print", path], b"Error: Io\n", 1);
+    expect_given(&rt, &[b"plist_tool", b"convert", path, path, b""], USAGE, 2);
+    let words: [&[u8]; 6] = [b"plist_tool", b"keyed", path, b"root", path, path];
+    expect_given(&rt, &words, USAGE, 2);
 }
 
 #[test]
@@ -43,19 +49,54 @@ fn a_missing_file(rt: HostRuntime) {
     );
 }
 
-// Standard error takes four bytes of what is said.
-fn expect_status(rt: &(impl Abort + AllocGlobal + Env + Files), line: &str, status: u8) {
-    let mut out = Vec::new(rt.alloc());
-    let mut err = failing(rt, 4, ErrorKind::PermissionDenied);
-    assert_eq!(rt; run(rt, line, &mut out, &mut err), status, "at {line}");
-    assert_eq!(rt; err.bytes.len(), 4, "at {line}");
-    assert_eq!(rt; err.calls, 5, "at {line}");
+// Standard error is given all that is said at once, and takes four bytes of it. No write is tried
+// again.
+fn expect_status(
+    rt: &(impl Abort + AllocGlobal + Env + Files),
+    line: &str,
+    said: &[u8],
+    status: u8,
+) {
+    for kind in [ErrorKind::PermissionDenied, ErrorKind::Interrupted] {
+        let mut out = Vec::new(rt.alloc());
+        let mut err = failing(rt, 4, kind);
+        assert_eq!(rt; run(rt, line, &mut out, &mut err), status, "at {line}");
+        assert_eq!(rt; err.longest, said.len(), "at {line}");
+        assert_eq!(rt; err.bytes.as_slice(), front(said, 4), "at {line}");
+        assert_eq!(rt; err.calls, 5, "at {line}");
+    }
 }
 
 #[test]
 fn a_failing_standard_error_changes_no_status(rt: HostRuntime) {
-    expect_status(&rt, "show one", 2);
-    expect_status(&rt, "print no_such_folder/no_such_file", 1);
+    expect_status(&rt, "show one", USAGE, 2);
+    let said = b"Error: Io\n";
+    expect_status(&rt, "print no_such_folder/no_such_file", said, 1);
+}
+
+// What a message makes of a failing device is told as the device said it.
+#[test]
+fn a_report_hands_the_failure_on(rt: HostRuntime) {
+    for call in 0..9 {
+        let mut err = failing(&rt, call, ErrorKind::TimedOut);
+        let answer = err.report(Message::Fault(&Failure::NoSuchTop));
+        must(&rt, expect_io(answer, ErrorKind::TimedOut, None));
+        let mut err = failing(&rt, call, ErrorKind::TimedOut);
+        let answer = err.report(Message::Usage);
+        must(&rt, expect_io(answer, ErrorKind::TimedOut, None));
+    }
+}
+
+// `print` shows what a binary file holds, and no other.
+#[test]
+fn prints_no_ascii(rt: HostRuntime) {
+    put(
+        &rt,
+        "in_ascii",
+        b"{ name = \"a text that is longer than a trailer\"; }",
+    );
+    let said = b"Error: InvalidMagic (offset 0)\n";
+    expect_fault(&rt, "print @in_ascii", said);
 }
 
 #[test]

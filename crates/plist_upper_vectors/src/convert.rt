@@ -24,8 +24,6 @@ fn converts_to_a_new_file(rt: HostRuntime) {
     expect_done(&rt, "convert @new_in @new_out", b"");
     expect_holds(&rt, "new_out", CONVERTED);
     expect_holds(&rt, "new_in", SETTINGS);
-    // a device, as a pipe, has nothing to store
-    expect_done(&rt, "convert @new_in /dev/null", b"");
 }
 
 // A longer file is cut, and a binary one is read like one in ASCII.
@@ -120,14 +118,16 @@ fn an_integer_is_no_key(rt: HostRuntime) {
     let bytes = b"bplist00\
         \xd1\x01\x02\x10\x01\x09\x08\x0b\x0d\
         \0\0\0\0\0\0\x01\x01\0\0\0\0\0\0\0\x03\0\0\0\0\0\0\0\0\0\0\0\0\0\0\0\x0e";
+    let said: &[u8] =
+        b"Error: UnexpectedEventType { expected: DictionaryKeyOrEndCollection, found: Integer }\n";
     put(&rt, "integer_key", bytes);
     remove(&rt, "of_integer_key");
-    expect_fault(
-        &rt,
-        "convert @integer_key @of_integer_key",
-        b"Error: UnexpectedEventType { expected: DictionaryKeyOrEndCollection, found: Integer }\n",
-    );
+    expect_fault(&rt, "convert @integer_key @of_integer_key", said);
     expect_missing(&rt, "of_integer_key");
+    // an older file stays
+    put(&rt, "of_integer_key", &[b'x'; 2048]);
+    expect_fault(&rt, "convert @integer_key @of_integer_key", said);
+    expect_holds(&rt, "of_integer_key", &[b'x'; 2048]);
 }
 
 // What is sent without a value is this, with a flush after it.
@@ -168,15 +168,6 @@ fn stops_where_a_device_fails(rt: HostRuntime) {
         must(&rt, expect_io(answer, ErrorKind::PermissionDenied, Some(0)));
         expect_taken(&rt, &writer, b"", 0, 0);
     }
-}
-
-// It takes no byte.
-#[test]
-fn a_full_device(rt: HostRuntime) {
-    put(&rt, "for_full", SETTINGS);
-    expect_fault(&rt, "convert @for_full /dev/full", b"Error: Io\n");
-    put(&rt, "for_full", CONVERTED);
-    expect_fault(&rt, "convert @for_full /dev/full", b"Error: Io\n");
 }
 
 #[test]

@@ -13,7 +13,11 @@ mod deep;
 #[cfg(test)]
 mod keyed;
 #[cfg(test)]
+mod levels;
+#[cfg(test)]
 mod lines;
+#[cfg(test)]
+mod memory;
 #[cfg(test)]
 mod print;
 #[cfg(test)]

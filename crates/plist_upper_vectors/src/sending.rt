@@ -2,7 +2,7 @@
 
 use crate::support::{expect_taken, failing, must, sound};
 use plist_base::send::{flush, send};
-use plist_support::{Device, DeviceFault, expect_io};
+use plist_support::{Device, DeviceFault, expect_failure, expect_io};
 use std::io::ErrorKind;
 
 #[test]
@@ -27,7 +27,8 @@ fn stops_at_a_failure(rt: HostRuntime) {
 fn a_write_that_takes_nothing(rt: HostRuntime) {
     let mut writer = Device::with_fault(Vec::new(rt.alloc()), 2, DeviceFault::MovesNothing);
     let answer = send(&mut writer, b"three");
-    must(&rt, expect_io(answer, ErrorKind::WriteZero, None));
+    let kind = ErrorKind::WriteZero;
+    must(&rt, expect_failure(answer, kind, "write zero", None));
     expect_taken(&rt, &writer, b"th", 3, 0);
 }
 

@@ -1,9 +1,11 @@
 //! When the file is made that a value or a property list is written to, and that it is stored.
 
-use crate::support::{Stage, Watched, expect_holds, must, path_of, put, remove};
+use crate::support::{
+    Failure, Stage, Watched, expect_holds, expect_missing, must, path_of, put, remove,
+};
 use plist::{Output, Value};
 use plist_base::{Error, Limits};
-use plist_commands::convert_file;
+use plist_commands::{Command, Commands, Failure as CommandFailure, convert_file};
 use plist_support::expect_io;
 use std::cell::Cell;
 use std::env::Env;
@@ -29,55 +31,71 @@ enum Origin<'a> {
     File(&'a str),
 }
 
-// Writes it to the file of this path, whose flush or sync may fail. Answers how far that has come,
-// too.
+// Writes it to a new file, of which one call may fail. Answers how far that has come, too.
 fn write_to(
     rt: &(impl Abort + AllocGlobal + Env + Files),
     from: Origin<'_>,
-    to: &str,
-    failure: Option<(Stage, ErrorKind)>,
+    is_regular: bool,
+    failure: Option<Failure>,
 ) -> (Result<(), Error>, Stage) {
+    remove(rt, "stored");
+    let to = path_of(rt, "stored");
     let stage = Cell::new(Stage::Untouched);
     let watched = Watched {
         rt,
         stage: &stage,
         opened: &Cell::new(0),
         failure,
+        is_regular,
     };
     let answer = match from {
-        Origin::Memory => Value::Boolean(true).to_file_binary(&watched, rt.alloc(), to),
+        Origin::Memory => Value::Boolean(true).to_file_binary(&watched, rt.alloc(), to.as_str()),
         Origin::File(name) => {
             let path = path_of(rt, name);
-            convert_file(&watched, rt.alloc(), path.as_str(), to)
+            convert_file(&watched, rt.alloc(), path.as_str(), to.as_str())
         }
     };
     (answer, stage.get())
 }
 
-// The same, to a new file, whose sync may fail in this way.
-fn write_watched(
-    rt: &(impl Abort + AllocGlobal + Env + Files),
-    from: Origin<'_>,
-    failure: Option<ErrorKind>,
-) -> (Result<(), Error>, Stage) {
-    remove(rt, "stored");
-    let to = path_of(rt, "stored");
-    let failure = failure.map(|kind| (Stage::Stored, kind));
-    write_to(rt, from, to.as_str(), failure)
-}
-
-// The file is made once, after the last read, written, and stored after that. A sync that has
-// nowhere to store it is no failure, and another one is.
+// The file is made once, after the last read, written, flushed, and stored after that. A sync that
+// has nowhere to store it is no failure.
 fn expect_stored(rt: &(impl Abort + AllocGlobal + Env + Files), from: Origin<'_>, wanted: &[u8]) {
-    for failure in [None, Some(ErrorKind::InvalidInput)] {
-        let (answer, stage) = write_watched(rt, from, failure);
+    let nowhere = Some(Failure {
+        stage: Stage::Stored,
+        kind: ErrorKind::InvalidInput,
+    });
+    for (is_regular, failure) in [(true, None), (false, None), (false, nowhere)] {
+        let (answer, stage) = write_to(rt, from, is_regular, failure);
         must(rt, answer);
         assert_eq!(rt; stage, Stage::Stored);
         expect_holds(rt, "stored", wanted);
     }
-    let (answer, stage) = write_watched(rt, from, Some(ErrorKind::TimedOut));
-    must(rt, expect_io(answer, ErrorKind::TimedOut, None));
-    assert_eq!(rt; stage, Stage::Stored);
+}
+
+// Each call of the file that can fail. `InvalidInput` is a failure where a file can be stored.
+const FAILURES: [(Stage, ErrorKind); 8] = [
+    (Stage::Made, ErrorKind::PermissionDenied),
+    (Stage::Made, ErrorKind::Interrupted),
+    (Stage::Written, ErrorKind::StorageFull),
+    (Stage::Written, ErrorKind::Interrupted),
+    (Stage::Flushed, ErrorKind::Interrupted),
+    (Stage::Stored, ErrorKind::InvalidInput),
+    (Stage::Stored, ErrorKind::Interrupted),
+    (Stage::Stored, ErrorKind::TimedOut),
+];
+
+// The answer is the failure, with its own message, and no call comes after it.
+fn expect_failures(rt: &(impl Abort + AllocGlobal + Env + Files), from: Origin<'_>) {
+    for (failing, kind) in FAILURES {
+        let failure = Some(Failure {
+            stage: failing,
+            kind,
+        });
+        let (answer, stage) = write_to(rt, from, true, failure);
+        must(rt, expect_io(answer, kind, None));
+        assert_eq!(rt; stage, failing);
+    }
 }
 
 #[test]
@@ -89,66 +107,134 @@ fn makes_its_file_once(rt: HostRuntime) {
     expect_stored(&rt, Origin::File("to_be_read"), TEXT);
 }
 
-// After a write or a flush that fails the file isn't stored, and nothing is tried again: the
-// answer is that failure, and not that of a sync.
-fn expect_unstored(rt: &(impl Abort + AllocGlobal + Env + Files), from: Origin<'_>) {
-    let late = Some((Stage::Stored, ErrorKind::TimedOut));
-    let (answer, stage) = write_to(rt, from, "/dev/full", late);
-    must(rt, expect_io(answer, ErrorKind::StorageFull, None));
-    assert_eq!(rt; stage, Stage::Written);
-    let failure = Some((Stage::Written, ErrorKind::TimedOut));
-    let (answer, stage) = write_to(rt, from, "/dev/null", failure);
-    must(rt, expect_io(answer, ErrorKind::TimedOut, None));
-    assert_eq!(rt; stage, Stage::Written);
-}
-
+// A key that stands twice needs a value, so that file is read twice, and the other made once.
 #[test]
-fn stores_nothing_after_a_failure(rt: HostRuntime) {
-    expect_unstored(&rt, Origin::Memory);
+fn goes_no_further_than_a_failure(rt: HostRuntime) {
+    expect_failures(&rt, Origin::Memory);
     put(&rt, "unstored", TRUTH);
-    expect_unstored(&rt, Origin::File("unstored"));
-}
-
-// A key that stands twice needs a value, so the file is read twice, and made once.
-#[test]
-fn stores_no_value_after_a_failure(rt: HostRuntime) {
+    expect_failures(&rt, Origin::File("unstored"));
     put(&rt, "unstored_value", b"{ a = 1; a = 2; }");
-    expect_unstored(&rt, Origin::File("unstored_value"));
+    expect_failures(&rt, Origin::File("unstored_value"));
 }
 
-// Neither one that isn't there nor a folder, which can't be read.
-#[test]
-fn opens_no_file_again(rt: HostRuntime) {
-    for path in ["no_such_folder/in", "."] {
-        let (stage, opened) = (Cell::new(Stage::Untouched), Cell::new(0));
-        let watched = Watched {
-            rt: &rt,
-            stage: &stage,
-            opened: &opened,
-            failure: None,
-        };
-        assert!(rt; Value::from_file(&watched, rt.alloc(), path).is_err());
-        assert_eq!(rt; opened.get(), 1);
-        let limits = Limits { depth: 9, items: 9 };
-        assert!(rt; Value::from_file_with_limits(&watched, rt.alloc(), path, limits).is_err());
-        assert_eq!(rt; opened.get(), 2);
-        assert!(rt; convert_file(&watched, rt.alloc(), path, "no_such_folder/out").is_err());
-        assert_eq!(rt; opened.get(), 3);
+// The error of a command that is refused for one of a property list.
+fn error_of(answer: Result<(), CommandFailure>) -> Result<(), Error> {
+    match answer {
+        Err(CommandFailure::Plist(error)) => Err(error),
+        _ => Ok(()),
     }
 }
 
-// What a first write made stays, though it failed.
+// The failure of a call that opens or reads a file, and its offset.
+#[derive(Clone, Copy)]
+struct Unread<'a> {
+    path: &'a str,
+    offset: Option<u64>,
+}
+
+impl<'a> Unread<'a> {
+    // It is the device's own error.
+    fn expect<T: Drop>(&self, rt: &impl Abort, answer: Result<T, Error>) {
+        must(
+            rt,
+            expect_io(answer, ErrorKind::PermissionDenied, self.offset),
+        );
+    }
+
+    // Each call opens its file once, and answers what the device said.
+    fn expect_of_calls<R: Files>(&self, rt: &(impl Abort + AllocGlobal), watched: &Watched<'_, R>) {
+        let (alloc, path, other) = (rt.alloc(), self.path, "no_such_folder/out");
+        self.expect(rt, Value::from_file(watched, alloc, path));
+        let limits = Limits { depth: 9, items: 9 };
+        self.expect(
+            rt,
+            Value::from_file_with_limits(watched, alloc, path, limits),
+        );
+        self.expect(rt, convert_file(watched, alloc, path, other));
+        let commands = [
+            Command::Print(path),
+            Command::Convert(path, other),
+            Command::Keyed(path, "root"),
+        ];
+        for command in commands {
+            let mut out = Vec::new(alloc);
+            self.expect(rt, error_of(watched.perform(alloc, command, &mut out)));
+            assert!(rt; out.is_empty());
+        }
+        assert_eq!(rt; watched.opened.get(), 6);
+    }
+}
+
+// The file can't be opened, or not read.
 #[test]
-fn an_output_keeps_its_file(rt: HostRuntime) {
+fn opens_no_file_again(rt: HostRuntime) {
+    put(&rt, "unread", &[0; 64]);
+    let path = path_of(&rt, "unread");
+    for (stage, offset) in [(Stage::Untouched, None), (Stage::Read, Some(0))] {
+        let watched = Watched {
+            rt: &rt,
+            stage: &Cell::new(Stage::Untouched),
+            opened: &Cell::new(0),
+            failure: Some(Failure {
+                stage,
+                kind: ErrorKind::PermissionDenied,
+            }),
+            is_regular: true,
+        };
+        let unread = Unread {
+            path: path.as_str(),
+            offset,
+        };
+        unread.expect_of_calls(&rt, &watched);
+    }
+}
+
+// A flush before the first write makes no file. What that one made stays, though it failed.
+#[test]
+fn an_output_makes_its_file_once(rt: HostRuntime) {
     let (stage, opened) = (Cell::new(Stage::Untouched), Cell::new(0));
     let watched = Watched {
         rt: &rt,
         stage: &stage,
         opened: &opened,
-        failure: None,
+        failure: Some(Failure {
+            stage: Stage::Written,
+            kind: ErrorKind::TimedOut,
+        }),
+        is_regular: true,
     };
-    let mut output = Output::new(&watched, "/dev/full");
+    let path = path_of(&rt, "output");
+    let mut output = Output::new(&watched, path.as_str());
+    must(&rt, output.flush());
+    assert_eq!(rt; opened.get(), 0);
     assert!(rt; output.write(b"a").is_err());
     assert!(rt; output.write(b"a").is_err());
     assert_eq!(rt; opened.get(), 1);
+}
+
+// A blank at the end of a name is a part of it.
+#[test]
+fn a_name_may_end_in_a_blank(rt: HostRuntime) {
+    remove(&rt, "blank");
+    let path = path_of(&rt, "blank ");
+    let path = path.as_str();
+    must(
+        &rt,
+        Value::Boolean(true).to_file_binary(&rt, rt.alloc(), path),
+    );
+    expect_holds(&rt, "blank ", TRUTH);
+    must(&rt, Value::from_file(&rt, rt.alloc(), path));
+    let limits = Limits { depth: 9, items: 9 };
+    must(
+        &rt,
+        Value::from_file_with_limits(&rt, rt.alloc(), path, limits),
+    );
+    must(&rt, convert_file(&rt, rt.alloc(), path, path));
+    expect_holds(&rt, "blank ", TRUTH);
+    let mut out = Vec::new(rt.alloc());
+    must(&rt, rt.perform(rt.alloc(), Command::Print(path), &mut out));
+    assert_eq!(rt; out.as_slice(), b"Boolean true\n".as_slice());
+    let answer = rt.perform(rt.alloc(), Command::Keyed(path, "root"), &mut out);
+    assert!(rt; matches!(answer, Err(CommandFailure::Keyed(_))));
+    expect_missing(&rt, "blank");
 }

@@ -2,7 +2,7 @@
 
 use crate::support::must;
 use plist_base::{Error, ErrorKind, EventKind};
-use plist_support::expect_io;
+use plist_support::expect_failure;
 use std::io;
 use std::process::Abort;
 
@@ -109,7 +109,11 @@ fn device_errors_come_back(rt: HostRuntime) {
         Err(_) => panic!(rt; "a device failed"),
     }
     let answer: Result<(), Error> = Err(failed_device());
-    must(&rt, expect_io(answer, io::ErrorKind::Other, Some(3)));
+    let kind = io::ErrorKind::Other;
+    must(
+        &rt,
+        expect_failure(answer, kind, "the device is gone", Some(3)),
+    );
 }
 
 #[test]

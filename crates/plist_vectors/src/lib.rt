@@ -7,6 +7,8 @@ mod ascii;
 #[cfg(test)]
 mod building;
 #[cfg(test)]
+mod cut;
+#[cfg(test)]
 mod decode_counter;
 #[cfg(test)]
 mod entries;

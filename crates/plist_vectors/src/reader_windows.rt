@@ -66,7 +66,11 @@ fn errors_of_devices(rt: HostRuntime) {
     expect_handed_on(&rt, b"bplist00", 3);
     let truth = must(&rt, file(rt.alloc(), "09 08", [1, 1], [1, 0, 9]));
     expect_handed_on(&rt, truth.as_slice(), 12);
-    expect_handed_on(&rt, b"  'a'", 0);
-    expect_handed_on(&rt, b"  'a'", 3);
-    expect_handed_on(&rt, b" <plist/>", 9);
+    // the magic, the mark of the byte order, white space, and then the text
+    for call in 0..14 {
+        expect_handed_on(&rt, b"  'a'", call);
+    }
+    for call in 0..13 {
+        expect_handed_on(&rt, b" <plist/>", call);
+    }
 }

@@ -3,7 +3,7 @@
 use crate::support::must;
 use plist_base::{Seeking, Sequential, Source, read_exact_at};
 use plist_binread::BinaryReader;
-use plist_support::{Device, DeviceFault, Disk, expect_io, file, words_of};
+use plist_support::{DEVICE_MESSAGE, Device, DeviceFault, Disk, expect_io, file, words_of};
 use std::io::{Cursor, ErrorKind, Read};
 use std::process::Abort;
 
@@ -197,6 +197,50 @@ fn goes_on_after_a_failure(rt: HostRuntime) {
     }
 }
 
+// Windows of one slot are read in turn, and the disk fails at this call, which is made for the third
+// or the fourth of them. Nothing is held there then, and later reads give the file's bytes.
+fn expect_failed_window(rt: &(impl Abort + AllocGlobal), call: u64) {
+    let mut source = Seeking::with_windows(rt.alloc(), Disk::new(sample(rt, 100_000), call));
+    let mut failures = 0u32;
+    for place in OF_ONE {
+        if fails_at(rt, &mut source, place) {
+            failures = failures.saturating_add(1);
+            assert!(rt;
+                source.buffered(u64::from(place)).is_empty(),
+                "at call {call}"
+            );
+            assert!(rt; !fails_at(rt, &mut source, place), "at call {call}");
+        }
+    }
+    assert_eq!(rt; failures, 1, "at call {call}");
+    for place in OF_ONE {
+        assert!(rt; !fails_at(rt, &mut source, place), "at call {call}");
+    }
+}
+
+#[test]
+fn a_failed_window_holds_nothing(rt: HostRuntime) {
+    for call in 4..8 {
+        expect_failed_window(&rt, call);
+    }
+}
+
+// What a short read didn't reach is read at its place, also of windows that were added: each round
+// over the four places fills all their windows again, until there are twice as many.
+#[test]
+fn gives_the_bytes_of_short_reads_of_more_windows(rt: HostRuntime) {
+    let size = 300_000;
+    let mut disk = Disk::new(sample(&rt, size), u64::MAX);
+    disk.most = 100;
+    let mut source = Seeking::with_windows(rt.alloc(), disk);
+    for _ in 0..9 {
+        for place in OF_ONE {
+            expect_read(&rt, &mut source, size, place, 2);
+            expect_read(&rt, &mut source, size, place.saturating_add(99), 2);
+        }
+    }
+}
+
 // The items of a file of eight events that gives a byte a read and fails at this call, with the
 // offset of `Io` left out. Tells whether it failed.
 fn expect_items_of_disk(rt: &(impl Abort + AllocGlobal), windows: bool, call: u64) -> bool {
@@ -219,7 +263,13 @@ fn expect_items_of_disk(rt: &(impl Abort + AllocGlobal), windows: bool, call: u6
     assert_eq!(rt; disk.calls, call.saturating_add(1));
     match found.split_once("Io (offset ") {
         None => panic!(rt; "at call {call} came {found}"),
-        Some((before, _)) => assert!(rt; whole.starts_with(before.trim_end()), "at call {call}"),
+        Some((before, said)) => {
+            assert!(rt; whole.starts_with(before.trim_end()), "at call {call}");
+            assert!(rt;
+                said.ends_with(DEVICE_MESSAGE),
+                "at call {call} came {said}"
+            );
+        }
     }
     true
 }

@@ -2,7 +2,7 @@
 
 use crate::support::must;
 use plist_base::Seeking;
-use plist_support::{Device, DeviceFault, Disk};
+use plist_support::{Device, DeviceFault, Disk, device_error};
 use std::io;
 use std::io::{ErrorKind, Write};
 use std::process::Abort;
@@ -51,6 +51,6 @@ impl Write for Stuck {
 
     fn flush(&mut self) -> io::Result<()> {
         self.flushes = self.flushes.saturating_add(1);
-        Err(io::Error::from(ErrorKind::TimedOut))
+        Err(device_error(ErrorKind::TimedOut))
     }
 }

@@ -1,5 +1,6 @@
 //! A runtime whose files are watched: how far the one has come that is written.
 
+use plist_support::device_error;
 use std::alloc::Allocator;
 use std::cell::Cell;
 use std::fs::{Metadata, OpenFile, OpenOptions};
@@ -10,39 +11,51 @@ use std::rt::Files;
 // How far the file has come that is written.
 #[derive(Clone, Copy, Debug, PartialEq, Eq)]
 pub(crate) enum Stage {
+    // Another one may be opened, and read.
     Untouched,
+    // No stage that is reached: it names a read of that.
+    Read,
     Made,
     Written,
+    Flushed,
     Stored,
     // Something came out of turn: it was made again, nothing was written before it was to be
-    // stored, or anything came after that; or a file was read once it was made.
+    // stored, it was removed, or anything came after that; or a file was read once it was made.
     OutOfTurn,
 }
 
-// Files of another runtime, and how many were opened. The flush of one fails in this way, where the
-// stage is that something is written, or the sync of one, where it is stored.
+// The call that leads to this stage fails with a device's own error of this kind. That to the first
+// one opens a file to be read.
+#[derive(Clone, Copy)]
+pub(crate) struct Failure {
+    pub stage: Stage,
+    pub kind: ErrorKind,
+}
+
+// Files of another runtime, and how many were opened. One call may fail.
 #[derive(Drop)]
 pub(crate) struct Watched<'a, R> {
     pub rt: &'a R,
     pub stage: &'a Cell<Stage>,
     pub opened: &'a Cell<u64>,
-    pub failure: Option<(Stage, ErrorKind)>,
+    pub failure: Option<Failure>,
+    // Is what is written a regular file, and no pipe or other device?
+    pub is_regular: bool,
 }
 
 #[derive(Drop)]
 pub(crate) struct WatchedFile<'a, F> {
     file: F,
     stage: &'a Cell<Stage>,
-    failure: Option<(Stage, ErrorKind)>,
+    failure: Option<Failure>,
+    is_regular: bool,
 }
 
-impl<'a, F> WatchedFile<'a, F> {
-    // The failure of the call that leads to this stage.
-    fn fail_at(&self, stage: Stage) -> io::Result<()> {
-        match self.failure {
-            Some((failing, kind)) if failing == stage => Err(io::Error::from(kind)),
-            _ => Ok(()),
-        }
+// The failure of the call that leads to this stage.
+fn fail_at(failure: Option<Failure>, stage: Stage) -> io::Result<()> {
+    match failure {
+        Some(failure) if failure.stage == stage => Err(device_error(failure.kind)),
+        _ => Ok(()),
     }
 }
 
@@ -59,6 +72,7 @@ fn go_on(stage: &Cell<Stage>, from: [Stage; 2], to: Stage) {
 impl<'a, F: Read> Read for WatchedFile<'a, F> {
     fn read(&mut self, buf: &mut [u8]) -> io::Result<usize> {
         go_on(self.stage, [Stage::Untouched; 2], Stage::Untouched);
+        fail_at(self.failure, Stage::Read)?;
         self.file.read(buf)
     }
 }
@@ -66,12 +80,13 @@ impl<'a, F: Read> Read for WatchedFile<'a, F> {
 impl<'a, F: Write> Write for WatchedFile<'a, F> {
     fn write(&mut self, buf: &[u8]) -> io::Result<usize> {
         go_on(self.stage, [Stage::Made, Stage::Written], Stage::Written);
+        fail_at(self.failure, Stage::Written)?;
         self.file.write(buf)
     }
 
     fn flush(&mut self) -> io::Result<()> {
-        go_on(self.stage, [Stage::Written; 2], Stage::Written);
-        self.fail_at(Stage::Written)?;
+        go_on(self.stage, [Stage::Written; 2], Stage::Flushed);
+        fail_at(self.failure, Stage::Flushed)?;
         self.file.flush()
     }
 }
@@ -84,20 +99,25 @@ impl<'a, F: Seek> Seek for WatchedFile<'a, F> {
 
 impl<'a, F: OpenFile> OpenFile for WatchedFile<'a, F> {
     fn metadata(&self) -> io::Result<Metadata> {
-        self.file.metadata()
+        if self.is_regular {
+            return Ok(Metadata::of_file(0));
+        }
+        Ok(Metadata::of_dir())
     }
 
     fn set_len(&self, size: u64) -> io::Result<()> {
+        self.stage.set(Stage::OutOfTurn);
         self.file.set_len(size)
     }
 
     fn sync_all(&self) -> io::Result<()> {
-        go_on(self.stage, [Stage::Written; 2], Stage::Stored);
-        self.fail_at(Stage::Stored)?;
+        go_on(self.stage, [Stage::Flushed; 2], Stage::Stored);
+        fail_at(self.failure, Stage::Stored)?;
         self.file.sync_all()
     }
 
     fn sync_data(&self) -> io::Result<()> {
+        self.stage.set(Stage::OutOfTurn);
         self.file.sync_data()
     }
 }
@@ -111,11 +131,15 @@ impl<'a, R: Files> Files for Watched<'a, R> {
         self.opened.set(self.opened.get().saturating_add(1));
         if how.asks_write() {
             go_on(self.stage, [Stage::Untouched; 2], Stage::Made);
+            fail_at(self.failure, Stage::Made)?;
+        } else {
+            fail_at(self.failure, Stage::Untouched)?;
         }
         Ok(WatchedFile {
             file: self.rt.open_file(how, path)?,
             stage: self.stage,
             failure: self.failure,
+            is_regular: self.is_regular,
         })
     }
 
@@ -131,27 +155,34 @@ impl<'a, R: Files> Files for Watched<'a, R> {
         self.rt.symlink_metadata(path)
     }
 
-    fn copy(&self, from: &str, to: &str) -> io::Result<u64> {
-        self.rt.copy(from, to)
+    // Nothing copies, renames or removes a file, or touches a folder.
+    fn copy(&self, _from: &str, _to: &str) -> io::Result<u64> {
+        self.stage.set(Stage::OutOfTurn);
+        Ok(0)
     }
 
-    fn rename(&self, from: &str, to: &str) -> io::Result<()> {
-        self.rt.rename(from, to)
+    fn rename(&self, _from: &str, _to: &str) -> io::Result<()> {
+        self.stage.set(Stage::OutOfTurn);
+        Ok(())
     }
 
-    fn remove_file(&self, path: &str) -> io::Result<()> {
-        self.rt.remove_file(path)
+    fn remove_file(&self, _path: &str) -> io::Result<()> {
+        self.stage.set(Stage::OutOfTurn);
+        Ok(())
     }
 
-    fn create_dir(&self, path: &str) -> io::Result<()> {
-        self.rt.create_dir(path)
+    fn create_dir(&self, _path: &str) -> io::Result<()> {
+        self.stage.set(Stage::OutOfTurn);
+        Ok(())
     }
 
-    fn remove_dir(&self, path: &str) -> io::Result<()> {
-        self.rt.remove_dir(path)
+    fn remove_dir(&self, _path: &str) -> io::Result<()> {
+        self.stage.set(Stage::OutOfTurn);
+        Ok(())
     }
 
-    fn remove_dir_all<B: Allocator>(&self, alloc: B, path: &str) -> io::Result<()> {
-        self.rt.remove_dir_all(alloc, path)
+    fn remove_dir_all<B: Allocator>(&self, _alloc: B, _path: &str) -> io::Result<()> {
+        self.stage.set(Stage::OutOfTurn);
+        Ok(())
     }
 }

@@ -27,8 +27,8 @@ returns-clause-answers g c = (
   Ok c.in_ok-hold_source.field-0,
   buffered_events c.hold_source.new.pending,
   c.in_ok-hold_source.ensures.answers,
-  ends_sent c.in_ok-hold_source.field-0 c.send_events.result c.if-not-branch.false
-      c.send_events.ensures.nowhere,
+  ends_sent _ c.in_ok-hold_source.field-0 c.send_events.result c.if-not-branch.false
+      c.send_events.ensures.wrote c.send_events.ensures.nowhere,
 )
 
 pub returns-then-not-branch-clause-answers : goal.returns-then-not-branch-clause-answers
@@ -36,7 +36,7 @@ returns-then-not-branch-clause-answers g c = (
   Ok c.in_ok-hold_source.field-0,
   buffered_events c.hold_source.new.pending,
   c.in_ok-hold_source.ensures.answers,
-  ends_left c.in_ok-hold_source.field-0 c.if-not-branch.true,
+  ends_left _ c.in_ok-hold_source.field-0 c.if-not-branch.true,
 )
 
 pub returns-then-not-branch-clause-left : goal.returns-then-not-branch-clause-left

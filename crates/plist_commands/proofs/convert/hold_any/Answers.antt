@@ -22,8 +22,7 @@ pub returns-clause-answers : goal.returns-clause-answers
 returns-clause-answers g c = (
   c.new-events.result,
   c.hold_events.new.items,
-  c.new-events.ensures.source,
-  c.new-events.ensures.limited,
+  c.new-events.ensures.new,
   c.hold_events.ensures.answers,
   c.hold_events.ensures.failures,
 )

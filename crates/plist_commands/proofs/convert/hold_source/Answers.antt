@@ -22,3 +22,10 @@ returns-in_err-format_of-clause-answers g c =
             c.in_err-format_of.ensures.failures,
       )),
     )
+
+pub returns-in-Xml-clause-answers : goal.returns-in-Xml-clause-answers
+returns-in-Xml-clause-answers g c = (
+  c.format_of.new.source,
+  c.format_of.ensures.unchanged,
+  inr (c.in_ok-format_of.ensures.failures, inr c.hold_any.ensures.answers),
+)

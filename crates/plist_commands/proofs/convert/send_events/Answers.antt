@@ -1,7 +1,8 @@
-use Rattle.std.proofs.Common.{ap, inr, Ok, Err, refl, sym, ◌∙◌, true≢false}
+use Rattle.std.proofs.Common.{ap, inr, Ok, Err, refl, subst, sym, ◌∙◌, true≢false}
 use Rattle.std.proofs.lemmas.Result.{err_from_is_err_and}
 use Rattle.plist_base.specs.Faults.{Fault, fault_of}
 use Rattle.plist_binwrite.specs.EventTable.{plain_events}
+use Rattle.plist_binwrite.specs.Sending.{Sends}
 use Rattle.plist_commands.proofs.Streaming.{not_direct, sends_read}
 use Rattle.plist_commands.proofs.convert.send_events.Goals as goal
 
@@ -36,3 +37,8 @@ pub returns-in_err-repeats_key-clause-nowhere : goal.returns-in_err-repeats_key-
 returns-in_err-repeats_key-clause-nowhere g c =
     let f = err_from_is_err_and c.from_residual.result c.from_residual.ensures.1 in
     rw (f.1, f.2) (ap (λ (fault : Fault). fault.offset) c.in_err-repeats_key.ensures.memory)
+
+pub returns-clause-wrote : goal.returns-clause-wrote
+returns-clause-wrote g c = λ e.
+    subst (λ events. Sends g.W.Write.contents events (Ok tt) c.args.writer.now c.complete.new.writer)
+    c.events-events.ensures c.in_ok-complete.ensures

@@ -15,12 +15,8 @@ returns-clause-reads_back g c =
     reads-back c.args.dialect _ (built_tree c.collect.result) (returns-clause-value g c)
 
 pub returns-clause-read : goal.returns-clause-read
-returns-clause-read g c = (
-  c.with_dialect-reader.result,
-  c.with_dialect-reader.ensures.source,
-  c.with_dialect-reader.ensures.items,
-  c.collect.ensures.value,
-)
+returns-clause-read g c =
+    (c.with_dialect-reader.result, c.with_dialect-reader.ensures.new, c.collect.ensures.value)
 
 pub returns-clause-fault : goal.returns-clause-fault
 returns-clause-fault g c =

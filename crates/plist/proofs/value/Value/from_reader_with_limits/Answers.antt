@@ -29,8 +29,7 @@ returns-clause-read g c = (
   c.new.result,
   (
     c.new.ensures.items,
-    ap reader_source c.new.ensures.inner ∙ c.new-reader.ensures.source,
-    ap (reader_items _) c.new.ensures.inner ∙ c.new-reader.ensures.items,
+    ap (λ reader. reader.state) c.new.ensures.inner ∙ c.new-reader.ensures.new,
   ),
   c.collect.ensures.value,
 )

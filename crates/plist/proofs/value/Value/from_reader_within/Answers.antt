@@ -43,11 +43,8 @@ returns-clause-read g c = (
   c.within_bytes.ensures.items,
   (
     ap items_admitted c.within_bytes.ensures.inner ∙ c.new-limited.ensures.items,
-    ap (λ l. reader_source (iterator_of l)) c.within_bytes.ensures.inner
-        ∙ ap reader_source c.new-limited.ensures.inner ∙ c.new-reader.ensures.source,
-    ap (λ l. reader_items g.R.Source.known (iterator_of l)) c.within_bytes.ensures.inner
-        ∙ ap (reader_items g.R.Source.known) c.new-limited.ensures.inner
-        ∙ c.new-reader.ensures.items,
+    ap (λ l. (iterator_of l).state) c.within_bytes.ensures.inner
+        ∙ ap (λ reader. reader.state) c.new-limited.ensures.inner ∙ c.new-reader.ensures.new,
   ),
   c.collect.ensures.value,
 )

@@ -1,0 +1,16 @@
+use Rattle.std.proofs.Common.{◌∙◌}
+use Rattle.plist_commands.specs.Failures.{plain_failure_of}
+use Rattle.plist_commands.specs.Messages.{Fault, Usage}
+use Rattle.plist_commands.proofs.Said.{takes_sent}
+use Rattle.plist_commands.proofs.messages.AnyMessages.report.Goals as goal
+
+pub returns-in-Usage : goal.returns-in-Usage
+returns-in-Usage g c =
+    rw c.in-Usage.is (takes_sent Usage c.send.result _ _ c.send.ensures.sent c.send.ensures.prefix)
+
+pub returns-in_ok-line-in-Fault : goal.returns-in_ok-line-in-Fault
+returns-in_ok-line-in-Fault g c =
+    let text = c.as_bytes.ensures.value ∙ c.deref.ensures.0 ∙ c.in_ok-line-in-Fault.ensures in
+    rw c.in-Fault.is
+    (takes_sent (Fault (plain_failure_of c.in-Fault.failure.now)) c.send-in-Fault.result _ _
+    (rw text at c.send-in-Fault.ensures.sent) (rw text at c.send-in-Fault.ensures.prefix))

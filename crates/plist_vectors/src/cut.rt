@@ -1,0 +1,174 @@
+//! Sources that end earlier than they said: at each byte of the objects, and of the table.
+
+ghost use Rattle.std.specs.Prelude.{◌<◌, ◌≤◌, None, length};
+
+use crate::support::{must, value_of};
+use plist::Value;
+use plist_base::Source;
+use plist_binread::BinaryReader;
+use plist_reader::Reader;
+use plist_support::{add_words, words_of};
+use std::io;
+use std::process::Abort;
+
+// How many bytes a trailer has.
+const TRAILER: usize = 32;
+
+// A file of which nothing is there from `end` on up to `resumes`, where its table or trailer begins.
+#[derive(Drop)]
+struct Cut {
+    bytes: Vec<u8>,
+    end: usize,
+    resumes: usize,
+    // The place that the last read was asked for.
+    place: u64,
+}
+
+// The bytes from a place on and before an end, of which a buffer takes as many as it can.
+fn copy_between(bytes: &[u8], place: u64, end: usize, buf: &mut [u8]) -> usize
+    ensures { result ≤ length buf.new }
+{
+    if end > bytes.len() || place >= end as u64 {
+        return 0;
+    }
+    let rest = &bytes[place as usize..end];
+    let count = rest.len().min(buf.len());
+    buf[..count].copy_from_slice(&rest[..count]);
+    count
+}
+
+impl Source for Cut {
+    ghost known = { λ _. None };
+
+    ghost failures = { λ _. 0 };
+
+    fn size(&mut self) -> Result<u64, io::Error> {
+        Ok(self.bytes.len() as u64)
+    }
+
+    fn read_at(&mut self, place: u64, buf: &mut [u8]) -> Result<usize, io::Error> {
+        self.place = place;
+        let end = if place >= self.resumes as u64 {
+            self.bytes.len()
+        } else {
+            self.end
+        };
+        Ok(copy_between(self.bytes.as_slice(), place, end, buf))
+    }
+}
+
+// Lent to a reader, so that it can be looked at afterwards.
+impl<'a> Source for &'a mut Cut {
+    ghost known = { λ _. None };
+
+    ghost failures = { λ _. 0 };
+
+    fn size(&mut self) -> Result<u64, io::Error> {
+        (**self).size()
+    }
+
+    fn read_at(&mut self, place: u64, buf: &mut [u8]) -> Result<usize, io::Error> {
+        (**self).read_at(place, buf)
+    }
+}
+
+// The items found are a beginning of those wanted, and in the place of the next one stands the end
+// at the last read, which is of no byte that is there.
+fn expect_end(rt: &(impl Abort + AllocGlobal), cut: &Cut, found: &str, items: &str) {
+    let fault = must(
+        rt,
+        format!(in rt.alloc(); "UnexpectedEof (offset {})", cut.place),
+    );
+    match found.strip_suffix(fault.as_str()) {
+        Some(before) => assert!(rt; items.starts_with(before.trim_end()), "at {}", cut.end),
+        None => panic!(rt; "cut at {} it gave {found}, and not {fault}", cut.end),
+    }
+    assert!(rt; cut.place >= cut.end as u64, "at {}", cut.end);
+    assert!(rt; cut.place < cut.resumes as u64, "at {}", cut.end);
+}
+
+// The reader of binary files ends so.
+fn expect_binary(rt: &(impl Abort + AllocGlobal), cut: &mut Cut, items: &str) {
+    let found = words_of(rt.alloc(), BinaryReader::new(rt.alloc(), &mut *cut));
+    expect_end(rt, cut, must(rt, found).as_str(), items);
+}
+
+// So does the one that chooses by the format.
+fn expect_either(rt: &(impl Abort + AllocGlobal), cut: &mut Cut, items: &str) {
+    let found = words_of(rt.alloc(), Reader::new(rt.alloc(), &mut *cut));
+    expect_end(rt, cut, must(rt, found).as_str(), items);
+}
+
+// No value is read.
+fn expect_no_value(rt: &(impl Abort + AllocGlobal), cut: &mut Cut) {
+    match Value::from_reader(rt.alloc(), cut) {
+        Ok(_) => panic!(rt; "it gave a value"),
+        Err(error) => assert!(rt; error.is_eof()),
+    }
+}
+
+// Where the table begins: the last eight bytes say so.
+fn table_of(rt: &impl Abort, file: &[u8]) -> usize {
+    match file.last_chunk::<8>() {
+        Some(bytes) => u64::from_be_bytes(*bytes).min(file.len() as u64) as usize,
+        None => panic!(rt; "a file is longer"),
+    }
+}
+
+// The file of these events, cut at every so many bytes.
+fn expect_cuts(rt: &(impl Abort + AllocGlobal), items: &str, step: usize)
+    requires { 0 < step }
+{
+    let mut file = Vec::new(rt.alloc());
+    must(
+        rt,
+        value_of(rt, items).to_writer_binary(rt.alloc(), &mut file),
+    );
+    let table = table_of(rt, file.as_slice());
+    let trailer = file.len().saturating_sub(TRAILER);
+    let mut cut = Cut {
+        bytes: file,
+        end: 0,
+        resumes: 0,
+        place: 0,
+    };
+    for end in 8..trailer {
+        if end % step == 0 {
+            cut.end = end;
+            cut.resumes = if end < table { table } else { trailer };
+            expect_binary(rt, &mut cut, items);
+            expect_either(rt, &mut cut, items);
+            expect_no_value(rt, &mut cut);
+        }
+    }
+}
+
+// Words, in the middle of which a part stands so often.
+fn repeated(rt: &(impl Abort + AllocGlobal), around: [&str; 2], part: &str, times: u32) -> String {
+    let mut all = must(rt, String::from_str(rt.alloc(), around[0]));
+    for _ in 0..times {
+        must(rt, all.push_str(part));
+    }
+    must(rt, all.push_str(around[1]));
+    all
+}
+
+// A text of 200 bytes, data of 200 bytes, and a text of 200 units, in collections.
+#[test]
+fn cut_at_each_byte(rt: HostRuntime) {
+    let mut items = repeated(&rt, ["[4 'k' {1 'k' '", "' end"], "a", 200);
+    let data = repeated(&rt, ["<", ">"], "7f", 200);
+    must(&rt, add_words(&mut items, " ", data.as_str()));
+    let wide = repeated(&rt, ["'", "' end"], "é", 200);
+    must(&rt, add_words(&mut items, " ", wide.as_str()));
+    expect_cuts(&rt, items.as_str(), 1);
+}
+
+// Of 100 KB.
+#[test]
+fn long_contents_cut(rt: HostRuntime) {
+    let text = repeated(&rt, ["'", "'"], "a", 100_000);
+    expect_cuts(&rt, text.as_str(), 997);
+    let data = repeated(&rt, ["<", ">"], "7f", 100_000);
+    expect_cuts(&rt, data.as_str(), 997);
+}
