@@ -17,10 +17,7 @@ const BINARY: &[u8] = b"bplist00\
 
 const ASCII: &[u8] = b"'ab'";
 
-const LIMITS: Limits = Limits {
-    depth: 9,
-    items: 9,
-};
+const LIMITS: Limits = Limits { depth: 9, items: 9 };
 
 // Did memory run out?
 fn ran_out<T: Drop>(answer: Result<T, Error>) -> bool {
