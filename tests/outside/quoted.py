@@ -1,7 +1,8 @@
 #!/usr/bin/env python3
-"""Tells whether the program that README.md quotes is examples/first.rt.in.
+"""Tells whether the programs that README.md quotes are those of the repository.
 
-Each block of Rust in README.md has to be that file, whole. Ends with status 1 where one isn't.
+The first block of Rust in README.md has to be examples/first.rt.in, whole, and the second a function
+of crates/plist_uses/src/untrusted_file.rt. Ends with status 1 where one isn't, or one is missing.
 """
 import pathlib
 import re
@@ -12,12 +13,18 @@ TOP = pathlib.Path(__file__).resolve().parents[2]
 
 def main():
     program = (TOP / "examples/first.rt.in").read_text()
+    functions = (TOP / "crates/plist_uses/src/untrusted_file.rt").read_text()
     blocks = re.findall(r"```rust\n(.*?)```", (TOP / "README.md").read_text(), re.S)
-    status = 0 if blocks else 1
-    for block in blocks:
-        if block != program:
-            print(f"README.md: examples/first.rt.in isn't\n{block}")
-            status = 1
+    status = 0
+    if len(blocks) != 2:
+        print(f"README.md has {len(blocks)} blocks of Rust, and not two")
+        return 1
+    if blocks[0] != program:
+        print("README.md: the first block isn't examples/first.rt.in")
+        status = 1
+    if blocks[1] not in functions:
+        print("README.md: the second block isn't in crates/plist_uses/src/untrusted_file.rt")
+        status = 1
     return status
 
 
