@@ -130,7 +130,7 @@ pub fn try_count_in(pairs: &Dictionary) -> Result<u64, Error> {
     for (_key, value) in pairs {
         count = match value {
             Value::Dictionary(inner) => try_count_in(inner)?.saturating_add(count),
-            Value::Date(_) => return Err(ErrorKind::InvalidXmlDate.without_position()),
+            Value::Date(_) => return Err(ErrorKind::OverflowOrNanDate.without_position()),
             _ => one_more(count),
         };
     }
@@ -147,7 +147,7 @@ pub fn try_count_of(pairs: Dictionary) -> Result<u64, Error> {
     for (_key, value) in pairs {
         count = match value {
             Value::Dictionary(inner) => try_count_of(inner)?.saturating_add(count),
-            Value::Date(_) => return Err(ErrorKind::InvalidXmlDate.without_position()),
+            Value::Date(_) => return Err(ErrorKind::OverflowOrNanDate.without_position()),
             _ => one_more(count),
         };
     }
@@ -221,7 +221,7 @@ pub fn try_count_common(pairs: &Dictionary, others: &Dictionary) -> Result<u64, 
     let mut count = 0;
     for (key, value) in pairs {
         let inner = match (value, others.get(key.as_str())) {
-            (Value::Date(_), _) => return Err(ErrorKind::InvalidXmlDate.without_position()),
+            (Value::Date(_), _) => return Err(ErrorKind::OverflowOrNanDate.without_position()),
             (Value::Dictionary(inner), Some(Value::Dictionary(other))) => {
                 one_more(try_count_common(inner, other)?)
             }
