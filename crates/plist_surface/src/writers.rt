@@ -1,0 +1,88 @@
+//! Writers: the calls of the trait, and what takes events.
+
+use crate::events::event_at;
+use plist::Builder;
+use plist_base::{Date, Error, Event, Integer, RealBits, Sealed, Uid, Writer};
+use plist_binwrite::{BinaryWriter, forms};
+use plist_share::SharingWriter;
+use std::alloc::Global;
+use std::borrow::{CowSlice, CowStr};
+use std::io::Write;
+
+pub fn is_sealed<T: Sealed>(_writer: &T) {}
+
+// An array of each kind of value, by the ten calls.
+pub fn write_each<W: Writer>(writer: &mut W, date: Date) -> Result<(), Error> {
+    is_sealed(writer);
+    writer.write_start_array(Some(8))?;
+    writer.write_boolean(true)?;
+    writer.write_data(CowSlice::Borrowed(b"\x00\xff"))?;
+    writer.write_date(date)?;
+    writer.write_integer(Integer::from(5_i64))?;
+    writer.write_real(RealBits::Four([0x3f, 0xc0, 0, 0]))?;
+    writer.write_string(CowStr::Borrowed("x"))?;
+    writer.write_uid(Uid::new(4))?;
+    writer.write_start_dictionary(None)?;
+    writer.write_end_collection()?;
+    writer.write_end_collection()
+}
+
+// The same events, each by `write`.
+pub fn write_events<W: Writer>(writer: &mut W) -> Result<(), Error> {
+    for number in 0..=10_u8 {
+        if let Some(event) = event_at(number) {
+            let done: Result<(), Error> = writer.write(event);
+            done?;
+        }
+    }
+    Ok(())
+}
+
+pub fn built(alloc: Global) -> Result<plist::Value, Error> {
+    let mut builder: Builder = Builder::new(alloc);
+    write_events(&mut builder)?;
+    builder.finish()
+}
+
+// The file of an array of two arrays of one text.
+fn array_of_arrays<W: Writer>(writer: &mut W) -> Result<(), Error> {
+    writer.write(Event::StartArray(None))?;
+    for _ in 0..2 {
+        writer.write(Event::StartArray(None))?;
+        writer.write(Event::String(CowStr::Borrowed("x")))?;
+        writer.write(Event::EndCollection)?;
+    }
+    writer.write(Event::EndCollection)
+}
+
+pub fn binary(alloc: Global) -> Result<Vec<u8>, Error> {
+    let mut writer: BinaryWriter<Vec<u8>> = BinaryWriter::new(alloc, Vec::new(alloc));
+    array_of_arrays(&mut writer)?;
+    Ok(writer.into_inner())
+}
+
+pub fn shared(alloc: Global) -> Result<Vec<u8>, Error> {
+    let mut writer: SharingWriter<Vec<u8>> = SharingWriter::new(alloc, Vec::new(alloc));
+    array_of_arrays(&mut writer)?;
+    Ok(writer.into_inner())
+}
+
+// One form of an object by itself.
+pub fn put_true(out: &mut Vec<u8>, buffer: &mut Vec<u8>) -> Result<(), Error> {
+    forms::put_boolean(out, buffer, true)
+}
+
+// Prints bytes in hexadecimal after a name.
+pub fn print_bytes<W: Write>(out: &mut W, name: &str, bytes: &[u8]) -> Result<(), Error> {
+    write!(out, "{name}: ")?;
+    for byte in bytes {
+        write!(out, "{byte:02x}")?;
+    }
+    writeln!(out)?;
+    Ok(())
+}
+
+pub fn print<W: Write>(alloc: Global, out: &mut W) -> Result<(), Error> {
+    print_bytes(out, "binary", binary(alloc)?.as_slice())?;
+    print_bytes(out, "shared", shared(alloc)?.as_slice())
+}
