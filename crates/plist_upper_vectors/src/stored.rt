@@ -1,11 +1,11 @@
 //! When the file is made that a value or a property list is written to, and that it is stored.
 
 use crate::support::{
-    Failure, Stage, Watched, expect_holds, expect_missing, must, path_of, put, remove,
+    FailingCall, Stage, Watched, expect_holds, expect_missing, must, path_of, put, remove,
 };
 use plist::{Output, Value};
 use plist_base::{Error, Limits};
-use plist_commands::{Command, Commands, Failure as CommandFailure, convert_file};
+use plist_commands::{Command, Commands, Failure, convert_file};
 use plist_support::expect_io;
 use std::cell::Cell;
 use std::env::Env;
@@ -36,7 +36,7 @@ fn write_to(
     rt: &(impl Abort + AllocGlobal + Env + Files),
     from: Origin<'_>,
     is_regular: bool,
-    failure: Option<Failure>,
+    failure: Option<FailingCall>,
 ) -> (Result<(), Error>, Stage) {
     remove(rt, "stored");
     let to = path_of(rt, "stored");
@@ -61,7 +61,7 @@ fn write_to(
 // The file is made once, after the last read, written, flushed, and stored after that. A sync that
 // has nowhere to store it is no failure.
 fn expect_stored(rt: &(impl Abort + AllocGlobal + Env + Files), from: Origin<'_>, wanted: &[u8]) {
-    let nowhere = Some(Failure {
+    let nowhere = Some(FailingCall {
         stage: Stage::Stored,
         kind: ErrorKind::InvalidInput,
     });
@@ -88,7 +88,7 @@ const FAILURES: [(Stage, ErrorKind); 8] = [
 // The answer is the failure, with its own message, and no call comes after it.
 fn expect_failures(rt: &(impl Abort + AllocGlobal + Env + Files), from: Origin<'_>) {
     for (failing, kind) in FAILURES {
-        let failure = Some(Failure {
+        let failure = Some(FailingCall {
             stage: failing,
             kind,
         });
@@ -118,9 +118,9 @@ fn goes_no_further_than_a_failure(rt: HostRuntime) {
 }
 
 // The error of a command that is refused for one of a property list.
-fn error_of(answer: Result<(), CommandFailure>) -> Result<(), Error> {
+fn error_of(answer: Result<(), Failure>) -> Result<(), Error> {
     match answer {
-        Err(CommandFailure::Plist(error)) => Err(error),
+        Err(Failure::Plist(error)) => Err(error),
         _ => Ok(()),
     }
 }
@@ -175,7 +175,7 @@ fn opens_no_file_again(rt: HostRuntime) {
             rt: &rt,
             stage: &Cell::new(Stage::Untouched),
             opened: &Cell::new(0),
-            failure: Some(Failure {
+            failure: Some(FailingCall {
                 stage,
                 kind: ErrorKind::PermissionDenied,
             }),
@@ -197,7 +197,7 @@ fn an_output_makes_its_file_once(rt: HostRuntime) {
         rt: &rt,
         stage: &stage,
         opened: &opened,
-        failure: Some(Failure {
+        failure: Some(FailingCall {
             stage: Stage::Written,
             kind: ErrorKind::TimedOut,
         }),
@@ -235,6 +235,6 @@ fn a_name_may_end_in_a_blank(rt: HostRuntime) {
     must(&rt, rt.perform(rt.alloc(), Command::Print(path), &mut out));
     assert_eq!(rt; out.as_slice(), b"Boolean true\n".as_slice());
     let answer = rt.perform(rt.alloc(), Command::Keyed(path, "root"), &mut out);
-    assert!(rt; matches!(answer, Err(CommandFailure::Keyed(_))));
+    assert!(rt; matches!(answer, Err(Failure::Keyed(_))));
     expect_missing(&rt, "blank");
 }
