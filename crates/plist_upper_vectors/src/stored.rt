@@ -1,7 +1,7 @@
 //! When the file is made that a value or a property list is written to, and that it is stored.
 
 use crate::support::{
-    Stage, StageFailure, Watched, expect_holds, expect_missing, must, path_of, put, remove,
+    FailingCall, Stage, Watched, expect_holds, expect_missing, must, path_of, put, remove,
 };
 use plist::{Output, Value};
 use plist_base::{Error, Limits};
@@ -36,7 +36,7 @@ fn write_to(
     rt: &(impl Abort + AllocGlobal + Env + Files),
     from: Origin<'_>,
     is_regular: bool,
-    failure: Option<StageFailure>,
+    failure: Option<FailingCall>,
 ) -> (Result<(), Error>, Stage) {
     remove(rt, "stored");
     let to = path_of(rt, "stored");
@@ -61,7 +61,7 @@ fn write_to(
 // The file is made once, after the last read, written, flushed, and stored after that. A sync that
 // has nowhere to store it is no failure.
 fn expect_stored(rt: &(impl Abort + AllocGlobal + Env + Files), from: Origin<'_>, wanted: &[u8]) {
-    let nowhere = Some(StageFailure {
+    let nowhere = Some(FailingCall {
         stage: Stage::Stored,
         kind: ErrorKind::InvalidInput,
     });
@@ -88,7 +88,7 @@ const FAILURES: [(Stage, ErrorKind); 8] = [
 // The answer is the failure, with its own message, and no call comes after it.
 fn expect_failures(rt: &(impl Abort + AllocGlobal + Env + Files), from: Origin<'_>) {
     for (failing, kind) in FAILURES {
-        let failure = Some(StageFailure {
+        let failure = Some(FailingCall {
             stage: failing,
             kind,
         });
@@ -175,7 +175,7 @@ fn opens_no_file_again(rt: HostRuntime) {
             rt: &rt,
             stage: &Cell::new(Stage::Untouched),
             opened: &Cell::new(0),
-            failure: Some(StageFailure {
+            failure: Some(FailingCall {
                 stage,
                 kind: ErrorKind::PermissionDenied,
             }),
@@ -197,7 +197,7 @@ fn an_output_makes_its_file_once(rt: HostRuntime) {
         rt: &rt,
         stage: &stage,
         opened: &opened,
-        failure: Some(StageFailure {
+        failure: Some(FailingCall {
             stage: Stage::Written,
             kind: ErrorKind::TimedOut,
         }),

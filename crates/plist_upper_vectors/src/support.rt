@@ -12,7 +12,7 @@ use plist_support::{words_of_events, write_all};
 pub(crate) use runs::{expect_done, expect_fault, expect_given, expect_run, run};
 use std::fmt::Debug;
 use std::process::Abort;
-pub(crate) use watched::{Stage, StageFailure, Watched};
+pub(crate) use watched::{FailingCall, Stage, Watched};
 
 // What an answer holds that is to be no fault.
 pub(crate) fn must<T, E: Debug>(rt: &impl Abort, answer: Result<T, E>) -> T {

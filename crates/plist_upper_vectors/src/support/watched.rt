@@ -27,7 +27,7 @@ pub(crate) enum Stage {
 // The call that leads to this stage fails with a device's own error of this kind. That to the first
 // one opens a file to be read.
 #[derive(Clone, Copy)]
-pub(crate) struct StageFailure {
+pub(crate) struct FailingCall {
     pub stage: Stage,
     pub kind: ErrorKind,
 }
@@ -38,7 +38,7 @@ pub(crate) struct Watched<'a, R> {
     pub rt: &'a R,
     pub stage: &'a Cell<Stage>,
     pub opened: &'a Cell<u64>,
-    pub failure: Option<StageFailure>,
+    pub failure: Option<FailingCall>,
     // Is what is written a regular file, and no pipe or other device?
     pub is_regular: bool,
 }
@@ -47,12 +47,12 @@ pub(crate) struct Watched<'a, R> {
 pub(crate) struct WatchedFile<'a, F> {
     file: F,
     stage: &'a Cell<Stage>,
-    failure: Option<StageFailure>,
+    failure: Option<FailingCall>,
     is_regular: bool,
 }
 
 // The failure of the call that leads to this stage.
-fn fail_at(failure: Option<StageFailure>, stage: Stage) -> io::Result<()> {
+fn fail_at(failure: Option<FailingCall>, stage: Stage) -> io::Result<()> {
     match failure {
         Some(failure) if failure.stage == stage => Err(device_error(failure.kind)),
         _ => Ok(()),
