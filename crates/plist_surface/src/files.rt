@@ -17,7 +17,11 @@ pub fn loaded<R: Files>(rt: &R, alloc: Global, path: &str) -> Result<Value, Erro
     Value::from_file(rt, alloc, path)
 }
 
-pub fn print<R: Files + AllocGlobal, W: Write>(rt: &R, alloc: Global, out: &mut W) -> Result<(), Error> {
+pub fn print<R: Files + AllocGlobal, W: Write>(
+    rt: &R,
+    alloc: Global,
+    out: &mut W,
+) -> Result<(), Error> {
     let text: &[u8] = b"{k = k;}";
     let value = read(alloc, text)?;
     stored(rt, alloc, &value, "written.plist")?;

@@ -26,7 +26,11 @@ use std::io::Write;
 use std::process::ExitCode;
 use std::rt::Files;
 
-fn print<R: Files + AllocGlobal, W: Write>(rt: &R, alloc: Global, out: &mut W) -> Result<(), Error> {
+fn print<R: Files + AllocGlobal, W: Write>(
+    rt: &R,
+    alloc: Global,
+    out: &mut W,
+) -> Result<(), Error> {
     errors::print(out)?;
     scalars::print(alloc, out)?;
     readers::print(alloc, out)?;

@@ -93,9 +93,7 @@ pub fn binary_writer(
     it
 }
 
-pub fn sequential(
-    it: plist::stream::Sequential<Vec<u8>>,
-) -> plist_base::Sequential<Vec<u8>> {
+pub fn sequential(it: plist::stream::Sequential<Vec<u8>>) -> plist_base::Sequential<Vec<u8>> {
     it
 }
 

@@ -58,9 +58,15 @@ pub fn inner_of_ascii<R: Read + Drop>(alloc: Global, inner: R) -> R {
 }
 
 fn print_limited<W: Write>(alloc: Global, out: &mut W) -> Result<(), Error> {
-    let all: Limits = Limits { depth: 3, items: 14 };
+    let all: Limits = Limits {
+        depth: 3,
+        items: 14,
+    };
     print_items(out, "3 14", BinaryReader::with_limits(alloc, SHARED, all))?;
-    let fewer = Limits { depth: 3, items: 13 };
+    let fewer = Limits {
+        depth: 3,
+        items: 13,
+    };
     print_items(out, "3 13", BinaryReader::with_limits(alloc, SHARED, fewer))?;
     let flat = Limits {
         depth: 2,

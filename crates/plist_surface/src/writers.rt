@@ -2,7 +2,7 @@
 
 use crate::events::event_at;
 use plist::Builder;
-use plist_base::{Date, Error, Event, Integer, RealBits, Sealed, Uid, Writer};
+use plist_base::{Date, Error, Event, Integer, RealBits, Sealed, Sink, Uid, Writer};
 use plist_binwrite::{BinaryWriter, forms};
 use plist_share::SharingWriter;
 use std::alloc::Global;
@@ -68,8 +68,8 @@ pub fn shared(alloc: Global) -> Result<Vec<u8>, Error> {
 }
 
 // One form of an object by itself.
-pub fn put_true(out: &mut Vec<u8>, buffer: &mut Vec<u8>) -> Result<(), Error> {
-    forms::put_boolean(out, buffer, true)
+pub fn put_true(sink: &mut Sink<'_, Vec<u8>>) -> Result<(), Error> {
+    forms::put_boolean(sink, true)
 }
 
 // Prints bytes in hexadecimal after a name.
