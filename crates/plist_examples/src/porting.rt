@@ -2,7 +2,7 @@
 
 use crate::rows::{Row, limits_given, unreadable};
 use crate::words::{value_of, words_of_answer};
-use plist::{Limits, RealBits, Value};
+use plist::{RealBits, Value};
 use plist_support::{Wrong, expect_same};
 use std::alloc::Global;
 use std::rt::Files;
