@@ -15,7 +15,6 @@ use crate::input::{Input, Stop};
 use plist_base::{Error, ErrorKind, Event, Integer, OwnedEvent};
 use std::alloc::Global;
 use std::borrow::CowStr;
-use std::str::FromStr;
 
 /// Appends a byte.
 pub fn push_byte(text: &mut Vec<u8>, byte: u8) -> Result<(), Error>
