@@ -13,6 +13,7 @@ ghost use Rattle.plist_binread.specs.Front.{DecodesData, DecodesText, DecodesUni
 use crate::counted_content::{Content, ContentKind};
 use crate::object_faults::Outcome;
 use crate::packed::{PackedKind, pack, pack_data, pack_text};
+use crate::utf8::text_in;
 use plist_base::{Error, ErrorKind, Event, Integer, OwnedEvent, RealBits, Uid};
 use std::alloc::Global;
 use std::borrow::{CowSlice, CowStr};
@@ -221,8 +222,8 @@ impl EventSlot {
     pub fn set_text(&mut self, bytes: &[u8]) -> Outcome
         ensures { DecodesText bytes.now self.new result }
     {
-        match str::from_utf8(bytes) {
-            Ok(text) => {
+        match text_in(bytes) {
+            Some(text) => {
                 self.text.clear();
                 self.current = CompactEvent::Text;
                 match self.text.push_str(text) {
@@ -230,7 +231,7 @@ impl EventSlot {
                     Err(_) => Outcome::NoMemory,
                 }
             }
-            Err(_) => Outcome::NotUtf8,
+            None => Outcome::NotUtf8,
         }
     }
 
