@@ -1,35 +1,33 @@
 -- Entering an object.
-use Rattle.std.proofs.Common.{◌≡◌, ℕ, ◌<◌, ◌≤◌, false, List, length, get_or, Option, Some, IfSome, ap, ◌∙◌}
+use Rattle.std.proofs.Common.{◌≡◌, ℕ, ◌<◌, ◌≤◌, false, List, length, get_or, Option, Some, Result, Ok, Err, IfSome, ap, sym, subst, ◌∙◌}
 use Rattle.std.specs.List.{slice_get}
 use Rattle.plist_base.specs.Events.{PlainEvent}
 use Rattle.plist_base.specs.declared.error.Error.{Error}
 use Rattle.plist_binread.specs.Reading.{object_at}
-use Rattle.plist_binread.specs.declared.object_faults.Outcome.{Outcome}
+use Rattle.plist_binread.specs.declared.decoded.Decoded.{Decoded}
 use Rattle.plist_binread.specs.declared.head.Bounds.{Bounds}
 use Rattle.plist_binread.specs.declared.walk.Walk.{Walk}
 use Rattle.plist_binread.specs.Beginning.{IsKnownWalk}
 use Rattle.plist_binread.specs.Remaining.{Explains, entries_of}
-use Rattle.plist_binread.specs.Decoding.{IsDecodedAs, IsRefusedAs}
-use Rattle.plist_binread.specs.DecodeOutcome.{IsOutcomeOf, YieldsCurrent}
+use Rattle.plist_binread.specs.Decoded.{IsDecodedAs, SetsDecoded, SetsEvent, bytes_at, event_of_object}
+use Rattle.plist_binread.specs.Decoding.{IsRefusedAs}
+use Rattle.plist_binread.specs.DecodeOutcome.{YieldsAnswer, YieldsCurrent}
 use Rattle.plist_binread.specs.Step.{OpensObject}
 use Rattle.plist_binread.specs.Walking.{IsWalkOf, open_in, remaining_entering, remaining_in, walk_objects}
-use Rattle.plist_format.specs.Object.{Object}
 use Rattle.plist_format.specs.Unfolding.{until_fault}
 use Rattle.plist_binread.specs.Packed.{is_marked, unmarked, cached, scalar_event}
-use Rattle.plist_binread.proofs.Known.{IsPlaceIn, entry_of, entry_there, found_refused, found_scalar, held_scalar, outcome_as, place_is}
+use Rattle.plist_binread.proofs.Known.{IsPlaceIn, entry_of, entry_there, found_refused, found_scalar, held_scalar, place_is}
 use Rattle.std.proofs.lemmas.Option.{IfSome_then}
-use Rattle.plist_binread.proofs.OverKnown.{IfSome-both}
-
--- wherever it is referred to from
-pub from_any : (known : Option (List ℕ)) (P : List ℕ → ℕ → Type 0) (at : ℕ)
-    → IfSome known (λ bytes. (at : ℕ) → P bytes at) → IfSome known (λ bytes. P bytes at)
-from_any known P at h = IfSome_then known h (λ bytes h. h at)
+use Rattle.plist_binread.proofs.OverKnown.{IfSome-both, IfSome-three}
 
 -- the object of a number is what was decoded at its place
-abbrev pub OutcomeAt : (bytes : List ℕ) (bounds : Bounds) (number : ℕ) → PlainEvent → Outcome → Type 0
-OutcomeAt bytes bounds number current outcome =
-    (slice_get (entries_of bytes bounds) number ≡ Some (entry_of bytes bounds number))
-    × IsOutcomeOf (entry_of bytes bounds number).object current outcome
+pub record IsDecodedAt (bytes : List ℕ) (bounds : Bounds) (number place : ℕ) (d : Decoded) : Type 0
+  where
+    pub entry : slice_get (entries_of bytes bounds) number ≡ Some (entry_of bytes bounds number)
+    pub there : (entry_of bytes bounds number).object ≡ object_at bounds place bytes
+    pub at_place : place ≡ (entry_of bytes bounds number).place
+    pub within : bounds.trailer ≤ length bytes
+    pub decoded : IsDecodedAs (bytes_at bounds place bytes) (object_at bounds place bytes) d
 
 module _ (known : Option (List ℕ)) (bounds : Bounds) (walk : Walk) (number : ℕ)
     (k : IsKnownWalk known bounds walk) (h : number < walk_objects walk) where
@@ -59,30 +57,52 @@ module _ (known : Option (List ℕ)) (bounds : Bounds) (walk : Walk) (number : �
       (rw (place_is bytes bounds walk k number place h is) at (refused k.within)))
 
   -- the object of a number is what is decoded at its place
-  pub known_decoded : (place : ℕ) (current : PlainEvent) (outcome : Outcome)
-      → IsPlaceIn walk number place → IfSome known (λ bytes. bounds.trailer ≤ length bytes
-      → IsDecodedAs (object_at bounds place bytes) current outcome)
-      → IfSome known (λ bytes. OutcomeAt bytes bounds number current outcome)
-  known_decoded place current outcome is decoded = IfSome-both known k decoded (λ bytes k decoded. (
-    entry_there bytes bounds walk.tags.items walk.contents.items (open_in walk) k number h,
-    outcome_as _ current outcome
-        (rw (place_is bytes bounds walk k number place h is) at (decoded k.within)),
-  ))
+  pub known_decoded : (place : ℕ) (d : Decoded) → IsPlaceIn walk number place
+      → IfSome known (λ bytes. bounds.trailer ≤ length bytes
+      → IsDecodedAs (bytes_at bounds place bytes) (object_at bounds place bytes) d)
+      → IfSome known (λ bytes. IsDecodedAt bytes bounds number place d)
+  known_decoded place d is decodes = IfSome-both known k decodes (λ bytes k decodes. record {
+    entry = entry_there bytes bounds walk.tags.items walk.contents.items (open_in walk) k number h;
+    there = ap (λ p. object_at bounds p bytes) (sym (place_is bytes bounds walk k number place h is));
+    at_place = place_is bytes bounds walk k number place h is;
+    within = k.within;
+    decoded = decodes k.within;
+  })
 
--- the walk goes on with it
-pub known_opens : (known : Option (List ℕ)) (bounds : Bounds) (old new : Walk) (number : ℕ)
-    (current : PlainEvent) (outcome : Outcome) → IsKnownWalk known bounds old
-    → IfSome known (λ bytes. OutcomeAt bytes bounds number current outcome)
-    → OpensObject number current outcome old new → IfSome known (λ bytes.
-    ((at : ℕ) → YieldsCurrent (remaining_entering bytes bounds old at number) current
-    (remaining_in bytes bounds new)) × IsWalkOf bytes bounds new)
-known_opens known bounds old new number current outcome k there opens =
-    IfSome-both known k there (λ bytes k there.
-    opens bytes bounds (entry_of bytes bounds number) k there.0 there.1)
+  -- its event comes, or it is refused
+  pub known_set : {A : Type 0} (at place : ℕ) (d : Decoded) (new : Walk) (now : Option (List ℕ))
+      (answer : Result A Error) (current : PlainEvent) → now ≡ known
+      → is_marked (get_or walk.tags.items number 0) ≡ false
+      → IfSome known (λ bytes. IsDecodedAt bytes bounds number place d)
+      → OpensObject number d walk new → SetsDecoded now bounds place d answer current
+      → IfSome known (λ bytes. YieldsAnswer (remaining_entering bytes bounds walk at number) answer
+      current (remaining_in bytes bounds new))
+  known_set {A = A} at place d new now answer current same free there opens sets =
+      IfSome-three known k there (rw same at sets) (λ bytes k t sets.
+      by bytes k t (opens bytes bounds (entry_of bytes bounds number)
+      (bytes_at bounds place bytes) k t.entry
+      (subst (λ o. IsDecodedAs (bytes_at bounds place bytes) o d) (sym t.there) t.decoded)).0
+      answer (sets t.within t.decoded))
+    where
+      by : (bytes : List ℕ) → IsWalkOf bytes bounds walk → IsDecodedAt bytes bounds number place d
+          → ((at : ℕ) (event : PlainEvent)
+          → event_of_object (entry_of bytes bounds number).object ≡ Some event
+          → YieldsCurrent (remaining_entering bytes bounds walk at number) event
+          (remaining_in bytes bounds new))
+          → (answer : Result A Error)
+          → SetsEvent (object_at bounds place bytes) place answer current
+          → YieldsAnswer (remaining_entering bytes bounds walk at number) answer current
+          (remaining_in bytes bounds new)
+      by bytes k t yields (Ok value) sets =
+          yields at current (ap event_of_object t.there ∙ sets)
+      by bytes k t yields (Err e) sets =
+          found_refused bytes bounds walk.tags.items walk.contents.items (open_in walk) k walk.path
+          at number h free e (subst (λ p. IsRefusedAs (object_at bounds p bytes) p e) t.at_place sets)
 
-pub known_small : (known : Option (List ℕ)) (bounds : Bounds) (number : ℕ) (current : PlainEvent)
-    (outcome : Outcome) (X : Type 0)
-    → IfSome known (λ bytes. OutcomeAt bytes bounds number current outcome)
-    → ((object : Object) → IsOutcomeOf object current outcome → X) → IfSome known (λ bytes. X)
-known_small known bounds number current outcome X there kept =
-    IfSome_then known there (λ bytes there. kept _ there.1)
+  -- the walk goes on with it
+  pub known_opens : (place : ℕ) (d : Decoded) (new : Walk)
+      → IfSome known (λ bytes. IsDecodedAt bytes bounds number place d)
+      → OpensObject number d walk new → IfSome known (λ bytes. IsWalkOf bytes bounds new)
+  known_opens place d new there opens = IfSome-both known k there (λ bytes k t.
+      (opens bytes bounds (entry_of bytes bounds number) (bytes_at bounds place bytes) k t.entry
+      (subst (λ o. IsDecodedAs (bytes_at bounds place bytes) o d) (sym t.there) t.decoded)).1)

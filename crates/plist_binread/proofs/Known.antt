@@ -10,10 +10,11 @@ use Rattle.plist_base.specs.Events.{PlainEvent, ScalarEvent, Item}
 use Rattle.plist_base.specs.Trees.{Scalar}
 use Rattle.plist_base.proofs.Refusals.{MatchFault-at, MatchFault-weaker}
 use Rattle.plist_binread.specs.declared.frames.Frame.{Frame}
-use Rattle.plist_binread.specs.declared.object_faults.Outcome.{Outcome}
-use Rattle.plist_binread.specs.declared.object_faults.Outcome.TheVariants.{Scalar as ScalarOutcome, Collection}
-use Rattle.plist_binread.specs.DecodeOutcome.{IsOutcomeOf}
-use Rattle.plist_binread.specs.Step.{AllocatesFor}
+use Rattle.plist_binread.specs.Decoded.{IsDecodedAs, bytes_at}
+use Rattle.plist_binread.specs.Reading.{object_at}
+use Rattle.plist_binread.specs.declared.decoded.Decoded.{Decoded}
+use Rattle.plist_binread.specs.declared.decoded.Decoded.TheVariants as decoded
+use Rattle.plist_binread.specs.Step.{IsCollectionStart}
 use Rattle.plist_binread.specs.Walking.{IsWalkOf, open_in, walk_objects}
 use Rattle.plist_binread.specs.declared.walk.Walk.{Walk}
 use Rattle.plist_binread.specs.declared.head.Bounds.{Bounds}
@@ -23,7 +24,7 @@ use Rattle.plist_binread.specs.declared.packed.PackedKind.{PackedKind}
 use Rattle.plist_binread.proofs.Packing.{kind_of_tag-some}
 use Rattle.plist_format.specs.Unfolding.{TableEntry, unfolding_of, until_fault}
 use Rattle.plist_binread.specs.Remaining.{children_at, place_at, scalar_at, path_of, MarksOpenPath, HoldsPlaceOr, IsHeld, MatchesFile, places_of, entries_of, remaining_items, Explains}
-use Rattle.plist_binread.specs.Decoding.{IsCollection, IsDecodedAs, IsRefusedAs, scalar_event_in, scalar_in}
+use Rattle.plist_binread.specs.Decoding.{IsCollection, IsRefusedAs, scalar_event_in, scalar_in}
 use Rattle.plist_binread.proofs.Steps.{collection_count, items_beyond, items_open, yields_refused, yields_scalar, refused_cached, refused_memory}
 use Rattle.plist_format.proofs.Tables.{slice_get-within, slice_get-beyond, length-table_of}
 use Rattle.std.proofs.lemmas.Option.{IfSome_then}
@@ -239,25 +240,18 @@ place_is bytes bounds walk k number place h is = cc (
   entry_there bytes bounds walk.tags.items walk.contents.items (open_in walk) k number h,
 )
 
--- what was decoded without a fault
-pub outcome_as : (object : Object) (current : PlainEvent) (outcome : Outcome) → IsDecodedAs object current outcome
-    → IsOutcomeOf object current outcome
-outcome_as object current ScalarOutcome h = h
-outcome_as object current (Collection count) h = h
-outcome_as object current outcome h = absurd h
-
 -- a collection for which room is wanted
-pub known_full : (known : Option (List ℕ)) (t place : ℕ) (object : List ℕ → Object)
-    (current : PlainEvent) (outcome : Outcome) (e : Error) → fault_of e ≡ fault_nowhere OutOfMemory
-    → AllocatesFor outcome
-    → IfSome known (λ bytes. t ≤ length bytes → IsDecodedAs (object bytes) current outcome)
-    → IfSome known (λ bytes. t ≤ length bytes → IsRefusedAs (object bytes) place e)
-known_full known t place object current outcome e memory wanted decoded =
-    IfSome_then known decoded (λ bytes decoded fits. by (object bytes) outcome wanted (decoded fits))
+pub known_full : (known : Option (List ℕ)) (bounds : Bounds) (place : ℕ) (d : Decoded) (e : Error)
+    → fault_of e ≡ fault_nowhere OutOfMemory → IsCollectionStart d
+    → IfSome known (λ bytes. bounds.trailer ≤ length bytes
+    → IsDecodedAs (bytes_at bounds place bytes) (object_at bounds place bytes) d)
+    → IfSome known (λ bytes. bounds.trailer ≤ length bytes
+    → IsRefusedAs (object_at bounds place bytes) place e)
+known_full known bounds place d e memory wanted decodes =
+    IfSome_then known decodes (λ bytes decodes fits. by _ _ d wanted (decodes fits))
   where
-    by : (object : Object) (outcome : Outcome) → AllocatesFor outcome
-        → IsDecodedAs object current outcome
-        → IsRefusedAs object place e
-    by object ScalarOutcome wanted h = absurd wanted
-    by object (Collection count) wanted h = refused_memory object place e current count memory h
-    by object outcome wanted h = absurd h
+    by : (all : List ℕ) (object : Object) (d : Decoded) → IsCollectionStart d
+        → IsDecodedAs all object d → IsRefusedAs object place e
+    by all object (decoded.Array count) wanted h = refused_memory object place e _ _ memory h
+    by all object (decoded.Dictionary count) wanted h = refused_memory object place e _ _ memory h.0
+    by all object other wanted h = absurd wanted

@@ -2,6 +2,7 @@ pub mod Begun
 pub mod Children
 pub mod Columns
 pub mod Contents
+pub mod Decodings
 pub mod Counted
 pub mod Digits
 pub mod Extents

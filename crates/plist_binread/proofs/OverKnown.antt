@@ -17,3 +17,10 @@ pub IfSome-both : {X : Type 0} (known : Option X) {P Q S : X → Type 0} → IfS
     → IfSome known Q → ((bytes : X) → P bytes → Q bytes → S bytes) → IfSome known S
 IfSome-both None p q f = tt
 IfSome-both (Some bytes) p q f = f _ p q
+
+-- and from three
+pub IfSome-three : {X : Type 0} (known : Option X) {P Q R S : X → Type 0} → IfSome known P
+    → IfSome known Q → IfSome known R → ((bytes : X) → P bytes → Q bytes → R bytes → S bytes)
+    → IfSome known S
+IfSome-three None p q r f = tt
+IfSome-three (Some bytes) p q r f = f _ p q r

@@ -1,26 +1,14 @@
 -- What the bytes at an object's front tell, whatever follows them.
-use Rattle.std.proofs.Common.{◌≡◌, ℕ, suc, ◌+◌, ◌-◌, ◌*◌, ◌<◌, ◌≤◌, List, ◌∷◌, ◌++◌, length, take, drop, Option, Some, Result, IfSome, true, refl, ap, sym, ◌∙◌, arith}
-use Rattle.std.proofs.lemmas.List.{take-take, length-append, drop-append-le, drop-drop, length-drop, length-take-le, take-append-drop}
+use Rattle.std.proofs.Common.{◌≡◌, ℕ, suc, ◌+◌, ◌-◌, ◌<◌, ◌≤◌, List, ◌∷◌, ◌++◌, length, take, drop, Option, Some, IfSome, refl, ap, sym, ◌∙◌, arith}
+use Rattle.std.proofs.lemmas.List.{take-take, length-append, drop-append-le, length-drop, length-take-le, take-append-drop}
 use Rattle.std.proofs.Math.Seq.{take-length}
 use Rattle.plist_base.specs.Sources.{LiesAt}
-use Rattle.plist_binread.specs.Reading.{HasPairs, object_at, object_counted, object_with}
-use Rattle.plist_binread.specs.CountedContent.{content_means, unit_size}
-use Rattle.plist_binread.specs.Front.{IfUnseen, LeavesUnseen, DecodesWhole, UnseenAfter, is_fault}
-use Rattle.plist_base.specs.declared.error.Error.{Error}
+use Rattle.plist_binread.specs.Reading.{HasPairs, object_counted, object_with}
 use Rattle.plist_format.specs.declared.marker.CountedKind.{CountedKind}
-use Rattle.plist_binread.specs.declared.event_slot.EventSlot.{EventSlot}
-use Rattle.plist_binread.specs.Slot.{event_in}
-use Rattle.plist_binread.specs.declared.object_faults.Outcome.{Outcome}
-use Rattle.plist_binread.specs.declared.head.Bounds.{Bounds}
-use Rattle.plist_base.specs.Events.{PlainEvent}
-use Rattle.plist_binread.specs.DecodeOutcome.{IsOutcomeOf, AreReferencesAt, small_outcome}
-use Rattle.plist_binread.specs.declared.object_faults.Outcome.TheVariants as tag
+use Rattle.plist_binread.specs.DecodeOutcome.{AreReferencesAt}
 use Rattle.plist_format.specs.Object.{Object, layout_of, length_in, object_after_marker, object_in}
 use Rattle.plist_binread.proofs.Columns.{take-drop-take}
 use Rattle.std.proofs.lemmas.Option.{IfSome_then}
-use Rattle.plist_binread.proofs.OverKnown.{IfSome-both}
-use Rattle.plist_binread.specs.Decoding.{DecodesCurrent, IsRefusedAs}
-use Rattle.plist_binread.specs.declared.counted_content.Content.{Content}
 
 -- the object after a marker
 pub object_front : (w m : ℕ) (xs ys : List ℕ) → xs ≡ m ∷ ys
@@ -59,27 +47,6 @@ known_seen known t w p seen P buffered is means = IfSome_then known is (λ bytes
     ∙ length-drop p (take t bytes) ∙ ap (λ m. m - p) (length-take-le t bytes fits) in
     rw cut.1 (means _ extent))
 
--- what its marker and what lies after it tell of an object whose content isn't all seen
-pub long_behind : (w m extent : ℕ) (seen rest : List ℕ) (slot : EventSlot) (outcome : Outcome) → seen ≡ m ∷ rest
-    → 0 < extent → UnseenAfter (extent - 1) (object_with w m) rest slot outcome
-    → LeavesUnseen extent (object_in w) seen slot outcome
-long_behind w m extent seen rest slot tag.Unseen is some h =
-    let sum : extent - 1 + 1 ≡ extent = omega arith in (
-      omega (arith, (h m).0),
-      λ more whole.
-          object_front w m (seen ++ more) (rest ++ more) (ap (λ xs. xs ++ more) is)
-          ∙ rw is ((h m).1 more (ap (λ xs. length (xs ++ more)) (sym is) ∙ whole ∙ sym sum)),
-    )
-long_behind w m extent seen rest slot outcome is some h = tt
-
--- the same by other words for the object
-pub long_as : (extent : ℕ) (object same : List ℕ → Object) (rest : List ℕ) (slot : EventSlot)
-    (outcome : Outcome) → ((xs : List ℕ) → same xs ≡ object xs)
-    → UnseenAfter extent object rest slot outcome → UnseenAfter extent same rest slot outcome
-long_as extent object same rest slot tag.Unseen is h =
-    λ first. ((h first).0, λ more whole. is _ ∙ (h first).1 more whole)
-long_as extent object same rest slot outcome is h = λ first. tt
-
 -- a beginning of bytes that lie there lies there
 pub known_prefix : (known : Option (List ℕ)) (p k : ℕ) (buffered : List ℕ) → k ≤ length buffered
     → IfSome known (λ bytes. LiesAt bytes p buffered)
@@ -87,83 +54,6 @@ pub known_prefix : (known : Option (List ℕ)) (p k : ℕ) (buffered : List ℕ)
 known_prefix known p k buffered h is = IfSome_then known is (λ bytes is.
     let n = length-take-le k buffered h in
     rw n (ap (take k) is ∙ take-take k (length buffered) (drop p bytes) h))
-
--- a fault counts nothing
-pub fault_small : (outcome : Outcome) (current : PlainEvent) → is_fault outcome ≡ true → small_outcome outcome current ≡ 0
-fault_small tag.Scalar current fault = absurd (cc)
-fault_small outcome current fault = refl
-
--- ---- what is seen of an object at a place
-
-pub seen_decodes : (known : Option (List ℕ)) (bounds : Bounds) (place : ℕ) (seen : List ℕ)
-    → place + length seen ≤ bounds.trailer → IfSome known (λ bytes. LiesAt bytes place seen)
-    → (outcome : Outcome) (slot : EventSlot)
-    → DecodesWhole (bounds.trailer - place) (object_in bounds.reference_width) seen slot outcome
-    → IfSome known (λ bytes. bounds.trailer ≤ length bytes
-    → IsOutcomeOf (object_at bounds place bytes) (event_in slot) outcome)
-seen_decodes known bounds place seen buffered is outcome slot means =
-    known_seen known bounds.trailer bounds.reference_width place seen
-    (λ object. IsOutcomeOf object (event_in slot) outcome) buffered is means
-
--- the content lies before the trailer, and is that of the object
-abbrev pub IsContentThere : (known : Option (List ℕ)) → Bounds → (place : ℕ) → Content → Type 0
-IsContentThere known bounds place content =
-    (place + content.start + content.count * unit_size content.kind ≤ bounds.trailer)
-    × IfSome known (λ bytes. bounds.trailer ≤ length bytes → object_at bounds place bytes
-    ≡ content_means content.kind (take (content.count * unit_size content.kind)
-    (drop (place + content.start) bytes)))
-
-pub seen_long : (known : Option (List ℕ)) (bounds : Bounds) (place : ℕ) (seen : List ℕ)
-    → place + length seen ≤ bounds.trailer → IfSome known (λ bytes. LiesAt bytes place seen)
-    → (outcome : Outcome) (slot : EventSlot)
-    → LeavesUnseen (bounds.trailer - place) (object_in bounds.reference_width) seen slot outcome
-    → IfUnseen outcome slot (IsContentThere known bounds place)
-seen_long known bounds place seen buffered is tag.Unseen slot h = (
-  omega (arith, h.0, buffered),
-  IfSome_then known is (λ bytes is fits.
-      let content = slot.content in
-      let n = content.count * unit_size content.kind in
-      let front = drop place (take bounds.trailer bytes) in
-      let cut = known_front (Some bytes) seen seen bounds.trailer place _ buffered
-      (omega arith)
-      (sym (take-length _)) is fits in
-      let extent = ap length (sym cut.1) ∙ length-drop place (take bounds.trailer bytes)
-      ∙ ap (λ m. m - place) (length-take-le bounds.trailer bytes fits) in
-      ap (object_in bounds.reference_width) cut.1 ∙ h.1 cut.0 extent
-      ∙ ap (λ xs. content_means content.kind (take n (drop content.start xs))) (sym cut.1)
-      ∙ ap (λ xs. content_means content.kind (take n xs))
-      (drop-drop content.start place (take bounds.trailer bytes))
-      ∙ ap (content_means content.kind)
-      (take-drop-take (place + content.start) n bounds.trailer bytes
-      (omega (arith, h.0, buffered)))),
-)
-seen_long known bounds place seen buffered is outcome slot h = tt
-
--- what was decoded is a fault
-pub seen_refused : (known : Option (List ℕ)) (bounds : Bounds) (place : ℕ) (outcome : Outcome)
-    (current : PlainEvent) (error : Error) → IfSome known (λ bytes. bounds.trailer ≤ length bytes
-    → IsOutcomeOf (object_at bounds place bytes) current outcome)
-    → ((object : Object) (current : PlainEvent) → IsOutcomeOf object current outcome
-    → IsRefusedAs object place error)
-    → IfSome known (λ bytes. bounds.trailer ≤ length bytes
-    → IsRefusedAs (object_at bounds place bytes) place error)
-seen_refused known bounds place outcome current error means refused =
-    IfSome_then known means (λ bytes means fits. refused _ _ (means fits))
-
--- or a content that was read
-pub long_decodes : (known now : Option (List ℕ)) (bounds : Bounds) (place : ℕ) (content : Content)
-    (current : PlainEvent) (answer : Result Outcome Error) → now ≡ known
-    → IsContentThere known bounds place content
-    → IfSome now (λ bytes. place + content.start + content.count * unit_size content.kind
-    ≤ length bytes → DecodesCurrent (content_means content.kind
-    (take (content.count * unit_size content.kind) (drop (place + content.start) bytes))) place
-    current
-    answer)
-    → IfSome known (λ bytes. bounds.trailer ≤ length bytes
-    → DecodesCurrent (object_at bounds place bytes) place current answer)
-long_decodes known now bounds place content current answer same long read =
-    IfSome-both known long.1 (rw same at read) (λ bytes is read fits.
-    rw (is fits) (read (omega (arith, long.0, fits))))
 
 -- where the references of a collection stand whose length is seen
 pub front_slots : (w m low : ℕ) (k : CountedKind) (count pairs start : ℕ)

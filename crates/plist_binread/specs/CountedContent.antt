@@ -1,13 +1,13 @@
 -- Words for objects that have a length: by the low half of the marker, and the bytes after that.
 use Rattle.std.specs.Prelude.{◌≡◌, ℕ, ◌+◌, ◌-◌, ◌*◌, ◌<◌, ◌≤◌, List, ◌++◌, length, drop, None, Some}
 use Rattle.std.specs.Borrow.{Bor}
-use Rattle.plist_base.specs.Events.{PlainEvent}
-use Rattle.plist_format.specs.Object.{Object, length_in, meaning_counted, text, wide_text}
-use Rattle.plist_binread.specs.DecodeOutcome.{IsOutcomeOf}
+use Rattle.plist_base.specs.Faults.{ObjectOffsetTooLarge}
+use Rattle.plist_format.specs.Object.{Object, Faulty, length_in, meaning_counted, text, wide_text}
 use Rattle.plist_binread.specs.Reading.{data_of_content}
-use Rattle.plist_binread.specs.declared.counted_content.ContentKind.{ContentKind}
-use Rattle.plist_binread.specs.declared.counted_content.ContentKind.TheVariants as kind
-use Rattle.plist_binread.specs.declared.object_faults.Outcome.{Outcome}
+use Rattle.plist_binread.specs.declared.decoded.ContentKind.{ContentKind}
+use Rattle.plist_binread.specs.declared.decoded.ContentKind.TheVariants as kind
+use Rattle.plist_binread.specs.declared.decoded.ObjectFault.{ObjectFault}
+use Rattle.plist_binread.specs.declared.decoded.ObjectFault.TheVariants as fault
 
 -- ---- what the content is
 
@@ -36,18 +36,9 @@ IsLengthCut low rest = (length rest < 9) × (length_in low rest ≡ None)
 abbrev pub LiesAfter : (rest : List ℕ) → ℕ × Bor (List ℕ) → Type 0
 LiesAfter rest found = drop (length rest - length found.1.now) rest ≡ found.1.now
 
--- the content of a text or data, whose elements have this size
-abbrev pub IsCounted : (low size extent : ℕ) (rest : List ℕ) → Bor (List ℕ) → Type 0
-IsCounted low size extent rest found = (more : List ℕ) → length (rest ++ more) ≡ extent →
-    (meaning : List ℕ → Object) →
-    meaning_counted size (λ _. meaning) (length_in low (rest ++ more)) ≡ meaning found.now
-
 -- bytes that are whole elements
 abbrev pub AreUnits : (size : ℕ) (bytes : List ℕ) → Type 0
 AreUnits size bytes = (count : ℕ) × (length bytes ≡ count * size)
-
-abbrev pub HasUnits : (size : ℕ) → Bor (List ℕ) → Type 0
-HasUnits size found = AreUnits size found.now
 
 -- a length, where this many elements lie before the trailer, and what is seen after it
 abbrev pub IsCount : (low size extent : ℕ) (rest : List ℕ) → ℕ × Bor (List ℕ) → Type 0
@@ -66,8 +57,8 @@ counted_with kind low rest =
     meaning_counted (unit_size kind) (λ _. content_means kind) (length_in low rest)
 
 -- a collection whose length isn't all there, or which doesn't end before the trailer
-abbrev pub RefusesCounted : (low size extent : ℕ) (rest : List ℕ) → Outcome → Type 0
-RefusesCounted low size extent rest outcome =
-    (meaning : ℕ → List ℕ → Object) (current : PlainEvent) (more : List ℕ)
+abbrev pub RefusesCounted : (low size extent : ℕ) (rest : List ℕ) → ObjectFault → Type 0
+RefusesCounted low size extent rest refusal =
+    (refusal ≡ fault.Overrun) × ((meaning : ℕ → List ℕ → Object) (more : List ℕ)
     → length (rest ++ more) ≡ extent
-    → IsOutcomeOf (meaning_counted size meaning (length_in low (rest ++ more))) current outcome
+    → meaning_counted size meaning (length_in low (rest ++ more)) ≡ Faulty ObjectOffsetTooLarge)

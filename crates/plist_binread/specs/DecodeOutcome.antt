@@ -1,40 +1,14 @@
--- What came of decoding an object, and where the references of a collection stand.
-use Rattle.std.specs.Prelude.{◌≡◌, ℕ, ◌+◌, ◌*◌, ◌/◌, ◌%◌, ◌<◌, ◌≤◌, List, [], ◌∷◌, Option, Some, Result, Ok, MatchOption, MatchResult, length, take, drop, get_or, cond, nat_eq}
+-- What a step yields of the items that remain, and where the references of a collection stand.
+use Rattle.std.specs.Prelude.{◌≡◌, ℕ, ◌+◌, ◌*◌, ◌/◌, ◌%◌, ◌<◌, ◌≤◌, List, [], ◌∷◌, Option, Result, Ok, MatchOption, MatchResult, length, take, drop, get_or, cond, nat_eq}
 use Rattle.plist_base.specs.declared.error.Error.{Error}
-use Rattle.plist_base.specs.Faults.{ObjectOffsetTooLarge, NullObjectUnimplemented, FillObjectUnimplemented, UnknownObjectType, IntegerOutOfRange, OverflowOrNanDate, InvalidUtf8String, InvalidUtf16String}
 use Rattle.plist_base.specs.Events.{PlainEvent, EndCollection, Item}
 use Rattle.plist_binread.specs.declared.references.References.{References}
-use Rattle.plist_binread.specs.declared.object_faults.Outcome.{Outcome}
-use Rattle.plist_binread.specs.declared.object_faults.Outcome.TheVariants as outcome
 use Rattle.plist_binread.specs.declared.head.Bounds.{Bounds}
 use Rattle.plist_format.specs.Container.{number_at}
 use Rattle.plist_binread.specs.Remaining.{Explains}
-use Rattle.plist_binread.specs.Decoding.{Allocates, IsCollection, scalar_event_in, children_in}
-use Rattle.plist_format.specs.Object.{Object, Faulty, object_in}
-use Rattle.plist_binread.specs.Packed.{is_small_event}
+use Rattle.plist_binread.specs.Decoding.{children_in}
+use Rattle.plist_format.specs.Object.{object_in}
 use Rattle.plist_format.specs.Unfolding.{until_fault}
-
--- what was decoded is this object: a scalar or a collection, whose event is the current one, or a
--- fault
-abbrev pub IsOutcomeOf : Object → (current : PlainEvent) → Outcome → Type 0
-IsOutcomeOf object current outcome.Unseen = Unit {0}
-IsOutcomeOf object current outcome.Overrun = object ≡ Faulty ObjectOffsetTooLarge
-IsOutcomeOf object current outcome.Null = object ≡ Faulty NullObjectUnimplemented
-IsOutcomeOf object current outcome.Fill = object ≡ Faulty FillObjectUnimplemented
-IsOutcomeOf object current (outcome.Unknown marker) =
-    (object ≡ Faulty (UnknownObjectType marker)) × (marker < 256)
-IsOutcomeOf object current outcome.OutOfRange = object ≡ Faulty IntegerOutOfRange
-IsOutcomeOf object current outcome.NoDate = object ≡ Faulty OverflowOrNanDate
-IsOutcomeOf object current outcome.NotUtf8 = object ≡ Faulty InvalidUtf8String
-IsOutcomeOf object current outcome.NotUtf16 = object ≡ Faulty InvalidUtf16String
-IsOutcomeOf object current outcome.NoMemory = Allocates object
-IsOutcomeOf object current outcome.Scalar = scalar_event_in object ≡ Some current
-IsOutcomeOf object current (outcome.Collection count) = IsCollection object current count
-
--- how many small objects were decoded
-abbrev pub small_outcome : Outcome → (current : PlainEvent) → ℕ
-small_outcome outcome.Scalar current = cond (is_small_event current) 1 0
-small_outcome outcome current = 0
 
 -- the number of a child's reference among all those of its collection, where that has this many
 -- pairs, or none since it is an array

@@ -6,8 +6,6 @@ use Rattle.plist_base.specs.Events.{PlainEvent, StartArray, StartDictionary, eve
 use Rattle.plist_base.specs.Trees as trees
 use Rattle.plist_base.specs.Trees.{Data, String}
 use Rattle.plist_base.specs.declared.event.Event.{Event}
-use Rattle.plist_binread.specs.declared.object_faults.Outcome.{Outcome}
-use Rattle.plist_binread.specs.declared.object_faults.Outcome.TheVariants as outcome
 use Rattle.plist_binread.specs.Packed.{is_small_event, scalar_event}
 use Rattle.plist_format.specs.Object.{Object, Scalar, Array, Dictionary, Faulty, children_of}
 
@@ -40,12 +38,6 @@ scalar_in (Faulty kind) = None
 abbrev pub scalar_event_in : Object → Option PlainEvent
 scalar_event_in object = scalar_event (scalar_in object)
 
--- what was decoded is this object: a scalar or a collection, whose event is the current one
-abbrev pub IsDecodedAs : Object → (current : PlainEvent) → Outcome → Type 0
-IsDecodedAs object current outcome.Scalar = scalar_event_in object ≡ Some current
-IsDecodedAs object current (outcome.Collection count) = IsCollection object current count
-IsDecodedAs object current outcome = ⊥
-
 -- the event isn't one of a small scalar
 abbrev pub IsLarge : Result Event Error → Type 0
 IsLarge answer = IfOk answer (λ event. is_small_event (event_of event) ≡ false)
@@ -72,15 +64,3 @@ abbrev pub Decodes : Object → (place : ℕ) → Result Event Error → Type 0
 Decodes object place answer =
     MatchResult answer (λ event. scalar_event_in object ≡ Some (event_of event))
     (λ e. IsRefusedAs object place e)
-
--- an object is decoded into the current event, or refused
-abbrev pub DecodesCurrent : Object → (place : ℕ) → (current : PlainEvent) → Result Outcome Error
-    → Type 0
-DecodesCurrent object place current answer =
-    MatchResult answer (λ outcome. IsDecodedAs object current outcome)
-    (λ error. IsRefusedAs object place error)
-
--- a text or data of this event is decoded, or memory for it ran out
-abbrev pub DecodesEvent : (current : PlainEvent) → Result Event Error → Type 0
-DecodesEvent current answer = (object : Object) (place : ℕ) → Allocates object
-    → scalar_event_in object ≡ Some current → Decodes object place answer

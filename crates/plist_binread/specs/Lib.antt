@@ -5,6 +5,7 @@ pub mod Remaining
 pub mod Decoding
 pub mod FaultOffsets
 pub mod Frames
+pub mod Decoded
 pub mod DecodeOutcome
 pub mod CountedContent
 pub mod Front

@@ -1,11 +1,13 @@
 -- Words for what a step does to the walk, to the current event and to the remaining items.
-use Rattle.std.specs.Prelude.{◌≡◌, ℕ, ◌<◌, true, List, get_or, Option, Some, Result, Err, IfSome, OnOk, ⊤}
+use Rattle.std.specs.Prelude.{◌≡◌, ℕ, ◌<◌, List, get_or, Option, Some, Result, Err, IfSome, OnOk, ⊤}
 use Rattle.std.specs.List.{slice_get}
 use Rattle.plist_base.specs.Events.{PlainEvent}
 use Rattle.plist_binread.specs.Reading.{ReadsChildAt}
 use Rattle.plist_binread.specs.Remaining.{Explains, entries_of, next_number, walk_weight}
-use Rattle.plist_binread.specs.DecodeOutcome.{IsOutcomeOf, YieldsAnswer, YieldsNext, YieldsCurrent}
-use Rattle.plist_binread.specs.Packed.{is_small_event, unmarked}
+use Rattle.plist_binread.specs.Decoding.{IsCollection}
+use Rattle.plist_binread.specs.Decoded.{IsDecodedAs, event_of_object, small_count}
+use Rattle.plist_binread.specs.DecodeOutcome.{YieldsAnswer, YieldsNext, YieldsCurrent}
+use Rattle.plist_binread.specs.Packed.{unmarked}
 use Rattle.plist_binread.specs.declared.event_slot.Refused.{Refused}
 use Rattle.plist_base.specs.Faults.{MatchFault, kind_of, error_kind_of, fault_of}
 use Rattle.plist_base.specs.Limits.{RefusesAny}
@@ -14,13 +16,12 @@ use Rattle.plist_binread.specs.Slot.{answer_in, event_in, item_in}
 use Rattle.plist_binread.specs.NextChild.{IsFound, IsCurrentCached, WeightFalls, TakesNextChild}
 use Rattle.plist_format.specs.Unfolding.{TableEntry, until_fault}
 use Rattle.plist_binread.specs.Walking.{IsWalkOf, walk_objects, open_in, remaining_entering, remaining_in, weight_entering, weight_in}
-use Rattle.plist_binread.specs.declared.object_faults.Outcome.{Outcome}
-use Rattle.plist_binread.specs.declared.object_faults.Outcome.TheVariants as outcome
+use Rattle.plist_binread.specs.declared.decoded.Decoded.{Decoded}
+use Rattle.plist_binread.specs.declared.decoded.Decoded.TheVariants as decoded
 use Rattle.plist_binread.specs.declared.head.Bounds.{Bounds}
 use Rattle.plist_binread.specs.declared.event_slot.EventSlot.{EventSlot}
 use Rattle.plist_binread.specs.declared.walk.NextChild.{NextChild}
 use Rattle.plist_binread.specs.declared.walk.Walk.{Walk}
-use Rattle.plist_format.specs.Object.{Object}
 
 -- ---- the walk
 
@@ -76,24 +77,35 @@ RefusesWithoutIo slot refused = MatchFault (kind_of (error_kind_of slot.fault)) 
 -- ---- an object that is opened
 
 -- what was decoded is cached if it is small
-abbrev pub CachesOutcome : (current : PlainEvent) → Outcome → (number : ℕ) → Walk → Type 0
-CachesOutcome current outcome number walk = (object : Object) → IsOutcomeOf object current outcome →
-    is_small_event current ≡ true → 0 < unmarked (get_or walk.tags.items number 0)
+abbrev pub CachesDecoded : Decoded → (number : ℕ) → Walk → Type 0
+CachesDecoded decoded number walk =
+    small_count decoded ≡ 1 → 0 < unmarked (get_or walk.tags.items number 0)
 
 -- and its first item comes
-abbrev pub OpensObject : (number : ℕ) (current : PlainEvent) → Outcome → (old new : Walk) → Type 0
-OpensObject number current outcome old new = (bytes : List ℕ) (bounds : Bounds)
-    (entry : TableEntry) →
-    IsWalkOf bytes bounds old → slice_get (entries_of bytes bounds) number ≡ Some entry →
-    IsOutcomeOf entry.object current outcome →
-    ((at : ℕ) → YieldsCurrent (remaining_entering bytes bounds old at number) current
+abbrev pub OpensObject : (number : ℕ) → Decoded → (old new : Walk) → Type 0
+OpensObject number decoded old new = (bytes : List ℕ) (bounds : Bounds) (entry : TableEntry)
+    (all : List ℕ) → IsWalkOf bytes bounds old
+    → slice_get (entries_of bytes bounds) number ≡ Some entry → IsDecodedAs all entry.object decoded
+    → ((at : ℕ) (event : PlainEvent) → event_of_object entry.object ≡ Some event
+    → YieldsCurrent (remaining_entering bytes bounds old at number) event
+    (remaining_in bytes bounds new))
+    × IsWalkOf bytes bounds new
+
+-- the same of a collection of so many children, which is open then
+abbrev pub OpensCollection : (number count : ℕ) → (old new : Walk) → Type 0
+OpensCollection number count old new = (bytes : List ℕ) (bounds : Bounds) (entry : TableEntry)
+    (start : PlainEvent) → IsWalkOf bytes bounds old
+    → slice_get (entries_of bytes bounds) number ≡ Some entry
+    → IsCollection entry.object start count
+    → ((at : ℕ) → YieldsCurrent (remaining_entering bytes bounds old at number) start
     (remaining_in bytes bounds new))
     × IsWalkOf bytes bounds new
 
 -- only a collection needs memory
-abbrev pub AllocatesFor : Outcome → Type 0
-AllocatesFor outcome.Scalar = ⊥
-AllocatesFor outcome = ⊤
+abbrev pub IsCollectionStart : Decoded → Type 0
+IsCollectionStart (decoded.Array count) = ⊤
+IsCollectionStart (decoded.Dictionary count) = ⊤
+IsCollectionStart other = ⊥
 
 -- ---- over known bytes
 

@@ -16,12 +16,10 @@ use crate::head::Bounds;
 use crate::references::{References, read_child};
 use crate::walk::{NextChild, Walk};
 use plist_base::Source;
-use std::alloc::Global;
 
 /// Sets the next item of the walk.
 #[inline(always)]
 pub fn advance<S: Source, C: DecodeCounter>(
-    alloc: Global,
     source: &mut S,
     counter: &mut C,
     bounds: &Bounds,
@@ -56,7 +54,7 @@ pub fn advance<S: Source, C: DecodeCounter>(
         NextChild::Child(object, index) => {
             let at = walk.contents[object as usize];
             match read_child(source, bounds, references, at, index, slot) {
-                Ok(number) => Some(enter(alloc, source, counter, bounds, walk, slot, at, number)),
+                Ok(number) => Some(enter(source, counter, bounds, walk, slot, at, number)),
                 Err(refused) => Some(Err(refused)),
             }
         }

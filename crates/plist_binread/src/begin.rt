@@ -66,5 +66,5 @@ pub fn begin<S: Source, C: DecodeCounter>(
     };
     walk.tags = none;
     walk.contents = places;
-    enter(alloc, source, counter, bounds, walk, slot, trailer, root)
+    enter(source, counter, bounds, walk, slot, trailer, root)
 }

@@ -1,54 +1,26 @@
 //! Objects that have a length, decoded by the bytes after their marker: all up to the trailer, or
 //! at least as many as tell what isn't a long text or data.
 
-ghost use Rattle.std.specs.Prelude.{◌≡◌, ◌*◌, ◌%◌, ◌^◌, ◌<◌, ◌≤◌, length, IfErr, IfNone, IfOk, IfSome};
+ghost use Rattle.std.specs.Prelude.{ℕ, ◌≡◌, ◌+◌, ◌-◌, ◌*◌, ◌%◌, ◌^◌, ◌<◌, ◌≤◌, List, length, IfErr, IfNone, IfOk, IfSome};
 ghost use Rattle.plist_format.specs.declared.marker.CountedKind.TheVariants.{Array as ArrayKind, Dictionary as DictionaryKind};
-ghost use Rattle.plist_binread.specs.CountedContent.{EndsBefore, HasUnits, IsCount, IsCounted, IsLength, IsLengthCut, LiesAfter, RefusesCounted, counted_with, unit_size};
-ghost use Rattle.plist_binread.specs.Front.{DecodesWhole, IsAllSeen, UnseenAfter, ShowsFixedContent};
+ghost use Rattle.plist_base.specs.Trees.{String};
+ghost use Rattle.plist_format.specs.Object.{Scalar, text, wide_text};
+ghost use Rattle.plist_binread.specs.CountedContent.{AreUnits, EndsBefore, IsCount, IsLength, IsLengthCut, LiesAfter, RefusesCounted, counted_with};
+ghost use Rattle.plist_binread.specs.Decoded.{DecodesAfter, DecodesIfShort, IsAnswerFor, IsDecodedAs};
+ghost use Rattle.plist_binread.specs.Front.{ShowsContent};
 ghost use Rattle.plist_binread.specs.Reading.{object_counted};
-ghost use Rattle.plist_binread.specs.declared.counted_content.ContentKind.TheVariants.{Data as KindData, Text as KindText, WideText as KindWideText};
+ghost use Rattle.plist_binread.specs.declared.decoded.ContentKind.TheVariants.{Data as KindData, Text as KindText, WideText as KindWideText};
+ghost use Rattle.plist_binread.specs.declared.decoded.Decoded.TheVariants.{Long as LongContent};
 
-use crate::event_slot::{CompactEvent, EventSlot};
+use crate::decoded::{Content, ContentKind, Decoded, ObjectFault};
 use crate::numbers::{number_from, write_units};
-use crate::object_faults::Outcome;
+use crate::packed::{PackedKind, content_from};
+use crate::utf8::text_in;
 use plist_format::LowHalf;
-
-/// What the content of a text or data means.
-#[derive(Clone, Copy)]
-pub enum ContentKind {
-    /// Its bytes are data.
-    Data,
-    /// They are a text.
-    Text,
-    /// They are the units of a text, of two bytes each.
-    WideText,
-}
-
-impl ContentKind {
-    /// How many bytes an element of the content has.
-    pub fn unit_size(self) -> u64
-        ensures value { result ≡ unit_size self }
-        ensures small { (0 < result) × (result ≤ 2) }
-    {
-        match self {
-            ContentKind::Data | ContentKind::Text => 1,
-            ContentKind::WideText => 2,
-        }
-    }
-}
-
-/// The content of a text or data.
-#[derive(Clone, Copy)]
-pub struct Content {
-    /// What it means.
-    pub kind: ContentKind,
-    /// How far after the object's place it begins.
-    pub start: u64,
-    /// How many elements it has.
-    pub count: u64,
-}
+use std::alloc::Global;
 
 // How many bytes a number has, as the low two bits of the byte before it say.
+#[inline(always)]
 fn number_width(byte: u64) -> u64
     ensures value { result ≡ 2 ^ (byte % 4) }
     ensures small { result ≤ 8 }
@@ -62,9 +34,11 @@ fn number_width(byte: u64) -> u64
 }
 
 /// The length of an object, and the bytes after it.
+#[inline(always)]
 pub fn front_length(low: LowHalf, rest: &[u8]) -> Option<(u64, &[u8])>
     ensures length { IfSome result (IsLength low rest.now) }
     ensures short { IfSome result (λ found. length found.1.now ≤ length rest.now) }
+    ensures near { IfSome result (λ found. length rest.now ≤ length found.1.now + 9) }
     ensures after { IfSome result (LiesAfter rest.now) }
     ensures cut { IfNone result (IsLengthCut low rest.now) }
 {
@@ -81,155 +55,182 @@ pub fn front_length(low: LowHalf, rest: &[u8]) -> Option<(u64, &[u8])>
 
 // How many elements of this size an object has that lies before the trailer, which is so far away,
 // and what is seen after its length.
-fn front_count(low: LowHalf, rest: &[u8], extent: u64, size: u64) -> Result<(u64, &[u8]), Outcome>
+#[inline(always)]
+fn front_count(
+    low: LowHalf,
+    rest: &[u8],
+    extent: u64,
+    size: u64,
+) -> Result<(u64, &[u8]), ObjectFault>
     requires extent { length rest.now ≤ extent }
-    requires shown { ShowsFixedContent extent rest.now }
+    requires shown { ShowsContent extent rest.now }
     ensures count { IfOk result (IsCount low size extent rest.now) }
     ensures small { IfOk result (λ found. found.0 * size ≤ extent) }
     ensures within { IfOk result (EndsBefore size extent rest.now) }
+    ensures short { IfOk result (λ found. length found.1.now ≤ length rest.now) }
+    ensures near { IfOk result (λ found. length rest.now ≤ length found.1.now + 9) }
     ensures after { IfOk result (LiesAfter rest.now) }
     ensures refused { IfErr result (RefusesCounted low size extent rest.now) }
-    ensures whole { IfErr result IsAllSeen }
 {
     match front_length(low, rest) {
         Some((count, behind)) => {
             let left = extent - (rest.len() - behind.len()) as u64;
             match count.checked_mul(size) {
                 Some(all) if all <= left => Ok((count, behind)),
-                _ => Err(Outcome::Overrun),
+                _ => Err(ObjectFault::Overrun),
             }
         }
-        None => Err(Outcome::Overrun),
+        None => Err(ObjectFault::Overrun),
     }
 }
 
-// The content of a text or data, if all of it is seen and it has at most this many bytes.
-fn front_content_of<'a>(
-    kind: ContentKind,
-    low: LowHalf,
-    rest: &'a [u8],
-    extent: u64,
-    most: u64,
-    slot: &mut EventSlot,
-) -> Result<&'a [u8], Outcome>
-    requires extent { length rest.now ≤ extent }
-    requires shown { ShowsFixedContent extent rest.now }
-    ensures content { IfOk result (IsCounted low (unit_size kind) extent rest.now) }
-    ensures size { IfOk result (HasUnits (unit_size kind)) }
-    ensures bound { IfOk result (λ content. length content.now ≤ most) }
-    ensures refused { IfErr result (RefusesCounted low (unit_size kind) extent rest.now) }
-    ensures unseen { IfErr result (UnseenAfter extent (counted_with kind low) rest.now slot.new) }
+// The content of a text or data, of which only the length was looked at.
+#[inline(always)]
+fn long_content(kind: ContentKind, rest: &[u8], behind: &[u8], count: u64) -> Decoded
+    requires { length behind.now ≤ length rest.now }
+    ensures { result ≡ LongContent (record {
+      kind = kind;
+      start = 1 + (length rest.now
+          - length behind.now);
+      count = count;
+    }) }
 {
-    let size = kind.unit_size();
-    let (count, behind) = front_count(low, rest, extent, size)?;
-    let all = count * size;
-    if all > (behind.len() as u64).min(most) {
-        let start = 1 + (rest.len() - behind.len()) as u64;
-        slot.content = Content { kind, start, count };
-        return Err(Outcome::Unseen);
-    }
-    Ok(&behind[..all as usize])
+    Decoded::Long(Content {
+        kind,
+        start: 1 + (rest.len() - behind.len()) as u64,
+        count,
+    })
 }
 
 /// Data.
-pub fn front_data(low: LowHalf, rest: &[u8], extent: u64, slot: &mut EventSlot) -> Outcome
+pub fn front_data(low: LowHalf, rest: &[u8], extent: u64) -> Result<Decoded, ObjectFault>
     requires extent { length rest.now ≤ extent }
-    requires shown { ShowsFixedContent extent rest.now }
-    ensures outcome { DecodesWhole extent (counted_with KindData low) rest.now slot.new result }
-    ensures unseen { UnseenAfter extent (counted_with KindData low) rest.now slot.new result }
+    requires shown { ShowsContent extent rest.now }
+    ensures { DecodesAfter extent (counted_with KindData low) rest.now result }
 {
-    match front_content_of(ContentKind::Data, low, rest, extent, u64::MAX, slot) {
-        Ok(bytes) => slot.set_data(bytes),
-        Err(outcome) => outcome,
+    let (count, behind) = front_count(low, rest, extent, 1)?;
+    if count > 8 {
+        return Ok(long_content(ContentKind::Data, rest, behind, count));
+    }
+    let bytes = &behind[..count as usize];
+    Ok(Decoded::Small(PackedKind::Data(count as u8), content_from(bytes)))
+}
+
+// A text of at most eight bytes.
+fn small_text(text: &str) -> Decoded
+    requires { length text.now ≤ 8 }
+    ensures { (all : List ℕ) → IsDecodedAs all (Scalar (String text.now)) result }
+{
+    Decoded::Small(
+        PackedKind::Text(text.len() as u8),
+        content_from(text.as_bytes()),
+    )
+}
+
+// The text in at most eight bytes.
+fn short_text(bytes: &[u8]) -> Result<Decoded, ObjectFault>
+    requires { length bytes.now ≤ 8 }
+    ensures { (all : List ℕ) → IsAnswerFor all (text bytes.now) result }
+{
+    match text_in(bytes) {
+        Some(text) => Ok(small_text(text)),
+        None => Err(ObjectFault::NotUtf8),
     }
 }
 
 /// A text in UTF-8.
-pub fn front_text(low: LowHalf, rest: &[u8], extent: u64, slot: &mut EventSlot) -> Outcome
+#[inline(always)]
+pub fn front_text(low: LowHalf, rest: &[u8], extent: u64) -> Result<Decoded, ObjectFault>
     requires extent { length rest.now ≤ extent }
-    requires shown { ShowsFixedContent extent rest.now }
-    ensures outcome { DecodesWhole extent (counted_with KindText low) rest.now slot.new result }
-    ensures unseen { UnseenAfter extent (counted_with KindText low) rest.now slot.new result }
+    requires shown { ShowsContent extent rest.now }
+    ensures { DecodesAfter extent (counted_with KindText low) rest.now result }
 {
-    match front_content_of(ContentKind::Text, low, rest, extent, u64::MAX, slot) {
-        Ok(bytes) => slot.set_text(bytes),
-        Err(outcome) => outcome,
+    let (count, behind) = front_count(low, rest, extent, 1)?;
+    if count > 8 {
+        return Ok(long_content(ContentKind::Text, rest, behind, count));
+    }
+    short_text(&behind[..count as usize])
+}
+
+// A text of at most eight units, if it has at most eight bytes.
+fn short_wide_text(alloc: Global, bytes: &[u8]) -> Result<Option<Decoded>, ObjectFault>
+    requires few { length bytes.now ≤ 16 }
+    requires units { AreUnits 2 bytes.now }
+    ensures { DecodesIfShort (wide_text bytes.now) result }
+{
+    let mut all = [0; 8];
+    let units = &mut all[..bytes.len() / 2];
+    write_units(bytes, units);
+    let made: Result<Result<String, _>, _> = String::from_utf16(alloc, units);
+    match made {
+        Ok(Ok(text)) => {
+            if text.len() > 8 {
+                return Ok(None);
+            }
+            Ok(Some(small_text(text.as_str())))
+        }
+        Ok(Err(_)) => Err(ObjectFault::NotUtf16),
+        Err(_) => Err(ObjectFault::NoMemory),
     }
 }
 
-// A text of at most this many units is decoded without memory for its units.
-const UNITS: usize = 32;
-
 /// A text in UTF-16.
-pub fn front_wide_text(low: LowHalf, rest: &[u8], extent: u64, slot: &mut EventSlot) -> Outcome
+pub fn front_wide_text(
+    alloc: Global,
+    low: LowHalf,
+    rest: &[u8],
+    extent: u64,
+) -> Result<Decoded, ObjectFault>
     requires extent { length rest.now ≤ extent }
-    requires shown { ShowsFixedContent extent rest.now }
-    ensures outcome { DecodesWhole extent (counted_with KindWideText low) rest.now slot.new
-        result }
-    ensures unseen { UnseenAfter extent (counted_with KindWideText low) rest.now slot.new result }
+    requires shown { ShowsContent extent rest.now }
+    ensures { DecodesAfter extent (counted_with KindWideText low) rest.now result }
 {
-    match front_content_of(
-        ContentKind::WideText,
-        low,
-        rest,
-        extent,
-        2 * UNITS as u64,
-        slot,
-    ) {
-        Ok(bytes) => {
-            let mut all = [0; UNITS];
-            let units = &mut all[..bytes.len() / 2];
-            write_units(bytes, units);
-            slot.set_units(units)
-        }
-        Err(outcome) => outcome,
+    let (count, behind) = front_count(low, rest, extent, 2)?;
+    let long = long_content(ContentKind::WideText, rest, behind, count);
+    if count > 8 {
+        return Ok(long);
+    }
+    match short_wide_text(alloc, &behind[..2 * count as usize]) {
+        Ok(Some(short)) => Ok(short),
+        Ok(None) => Ok(long),
+        Err(fault) => Err(fault),
     }
 }
 
 /// The start of an array, whose references lie before the trailer.
+#[inline(always)]
 pub fn front_array(
     low: LowHalf,
     rest: &[u8],
     extent: u64,
     width: usize,
-    slot: &mut EventSlot,
-) -> Outcome
+) -> Result<Decoded, ObjectFault>
     requires extent { length rest.now ≤ extent }
-    requires shown { ShowsFixedContent extent rest.now }
+    requires shown { ShowsContent extent rest.now }
     requires width { 0 < width }
-    ensures outcome { DecodesWhole extent (object_counted width ArrayKind low) rest.now slot.new
-        result }
-    ensures whole { IsAllSeen result }
+    ensures { DecodesAfter extent (object_counted width ArrayKind low) rest.now result }
 {
     match front_count(low, rest, extent, width as u64) {
-        Ok((count, _)) => {
-            slot.set(CompactEvent::Array(count));
-            Outcome::Collection(count)
-        }
-        Err(outcome) => outcome,
+        Ok((count, _)) => Ok(Decoded::Array(count)),
+        Err(fault) => Err(fault),
     }
 }
 
 /// The start of a dictionary, whose references lie before the trailer.
+#[inline(always)]
 pub fn front_dictionary(
     low: LowHalf,
     rest: &[u8],
     extent: u64,
     width: usize,
-    slot: &mut EventSlot,
-) -> Outcome
+) -> Result<Decoded, ObjectFault>
     requires extent { length rest.now ≤ extent }
-    requires shown { ShowsFixedContent extent rest.now }
+    requires shown { ShowsContent extent rest.now }
     requires width { (0 < width) × (width ≤ 8) }
-    ensures outcome { DecodesWhole extent (object_counted width DictionaryKind low) rest.now
-        slot.new result }
-    ensures whole { IsAllSeen result }
+    ensures { DecodesAfter extent (object_counted width DictionaryKind low) rest.now result }
 {
     match front_count(low, rest, extent, 2 * width as u64) {
-        Ok((count, _)) => {
-            slot.set(CompactEvent::Dictionary(count));
-            Outcome::Collection(2 * count)
-        }
-        Err(outcome) => outcome,
+        Ok((count, _)) => Ok(Decoded::Dictionary(count)),
+        Err(fault) => Err(fault),
     }
 }

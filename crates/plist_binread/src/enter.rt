@@ -5,19 +5,18 @@ ghost use Rattle.plist_base.specs.Faults.{ObjectReferenceTooLarge, RecursiveObje
 ghost use Rattle.plist_binread.specs.Packed.{is_marked};
 ghost use Rattle.plist_binread.specs.Walking.{IsWalkOf, cached_in, walk_objects};
 ghost use Rattle.plist_binread.specs.FaultOffsets.{ErrWithin};
-ghost use Rattle.plist_binread.specs.Front.{small_decoded};
-ghost use Rattle.plist_binread.specs.Step.{IsFoundAt, IsLighterEntered, IsUnchanged, CachesEntered, CachesOutcome, EntersObject, OpensObject, RefusesEntering, RefusesWithoutIo, AllocatesFor};
+ghost use Rattle.plist_binread.specs.Decoded.{FitsWalk, small_count};
+ghost use Rattle.plist_binread.specs.Step.{IsFoundAt, IsLighterEntered, IsUnchanged, CachesDecoded, CachesEntered, EntersObject, IsCollectionStart, OpensCollection, OpensObject, RefusesEntering, RefusesWithoutIo};
 ghost use Rattle.plist_binread.specs.Slot.{AnswersInSlot, answer_in, event_in};
 
 use crate::counter::DecodeCounter;
+use crate::decoded::Decoded;
 use crate::event_slot::{EventSlot, Refused};
 use crate::head::Bounds;
-use crate::object::decode;
-use crate::object_faults::Outcome;
+use crate::object::{decode, set_decoded};
 use crate::packed::{PackedKind, cache, is_open, mark_open};
 use crate::walk::Walk;
 use plist_base::{ErrorKind, Source};
-use std::alloc::Global;
 
 // Holds the fault that no object has the number of the reference at `at`.
 #[cold]
@@ -73,61 +72,66 @@ fn look_up(walk: &Walk, slot: &mut EventSlot, at: u64, number: u64) -> Result<Op
     }
 }
 
-// Caches a small scalar that was decoded, or opens a collection. Where there is no memory for the
-// collection it answers `false` and changes nothing.
+// Opens a collection of so many children, if there is memory for it.
 #[inline(always)]
-fn cache_or_open(walk: &mut Walk, number: u64, outcome: Outcome, slot: &EventSlot) -> bool
+fn open(walk: &mut Walk, number: u64, count: u64) -> bool
     requires below { number < walk_objects walk.old }
     requires new { get_or walk.old.tags.items number 0 ≡ 0 }
     // The answer.
-    ensures yields { result ≡ true → OpensObject number (event_in slot.now) outcome walk.old
-        walk.new }
-    ensures wanted { result ≡ false → AllocatesFor outcome }
+    ensures yields { result ≡ true → OpensCollection number count walk.old walk.new }
     // The state after it.
     ensures size { walk_objects walk.new ≡ walk_objects walk.old }
-    ensures counted { cached_in walk.new ≡ cached_in walk.old + small_decoded outcome slot.now }
-    ensures cached { result ≡ true → CachesOutcome (event_in slot.now) outcome number walk.new }
+    ensures counted { cached_in walk.new ≡ cached_in walk.old }
     ensures falls { result ≡ true → IsLighterEntered walk.old walk.new }
     ensures unchanged { result ≡ false → IsUnchanged walk.old walk.new }
 {
-    match outcome {
-        Outcome::Unseen
-        | Outcome::Overrun
-        | Outcome::Null
-        | Outcome::Fill
-        | Outcome::Unknown(_)
-        | Outcome::OutOfRange
-        | Outcome::NoDate
-        | Outcome::NotUtf8
-        | Outcome::NotUtf16
-        | Outcome::NoMemory => false,
-        Outcome::Scalar => match slot.pack() {
-            Some((kind, content)) => {
-                cache(
-                    &mut walk.tags,
-                    &mut walk.contents,
-                    number as usize,
-                    kind,
-                    content,
-                );
-                true
-            }
-            None => true,
-        },
-        Outcome::Collection(count) => match walk.frames.push(number, count) {
-            Ok(()) => {
-                mark_open(&mut walk.tags, number as usize);
-                true
-            }
-            Err(_) => false,
-        },
+    match walk.frames.push(number, count) {
+        Ok(()) => {
+            mark_open(&mut walk.tags, number as usize);
+            true
+        }
+        Err(_) => false,
+    }
+}
+
+// Caches a small scalar that was decoded, or opens a collection. Where there is no memory for the
+// collection it answers `false` and changes nothing.
+#[inline(always)]
+fn cache_or_open(walk: &mut Walk, number: u64, decoded: Decoded) -> bool
+    requires below { number < walk_objects walk.old }
+    requires new { get_or walk.old.tags.items number 0 ≡ 0 }
+    requires fits { FitsWalk decoded }
+    // The answer.
+    ensures yields { result ≡ true → OpensObject number decoded walk.old walk.new }
+    ensures wanted { result ≡ false → IsCollectionStart decoded }
+    // The state after it.
+    ensures size { walk_objects walk.new ≡ walk_objects walk.old }
+    ensures counted { cached_in walk.new ≡ cached_in walk.old + small_count decoded }
+    ensures cached { CachesDecoded decoded number walk.new }
+    ensures falls { result ≡ true → IsLighterEntered walk.old walk.new }
+    ensures unchanged { result ≡ false → IsUnchanged walk.old walk.new }
+{
+    match decoded {
+        Decoded::Small(kind, content) => {
+            cache(
+                &mut walk.tags,
+                &mut walk.contents,
+                number as usize,
+                kind,
+                content,
+            );
+            true
+        }
+        Decoded::Date(_) => true,
+        Decoded::Long(_) => true,
+        Decoded::Array(count) => open(walk, number, count),
+        Decoded::Dictionary(count) => open(walk, number, 2 * count),
     }
 }
 
 /// Sets the first item of an object, referred to from `at`. A collection is then open.
 #[inline(always)]
 pub fn enter<S: Source, C: DecodeCounter>(
-    alloc: Global,
     source: &mut S,
     counter: &mut C,
     bounds: &Bounds,
@@ -155,9 +159,9 @@ pub fn enter<S: Source, C: DecodeCounter>(
     match look_up(walk, slot, at, number)? {
         None => Ok(()),
         Some(place) => {
-            let outcome = decode(alloc, source, counter, bounds, place, slot)?;
-            if cache_or_open(walk, number, outcome, slot) {
-                return Ok(());
+            let decoded = decode(source, counter, bounds, place, slot)?;
+            if cache_or_open(walk, number, decoded) {
+                return set_decoded(source, bounds, place, decoded, slot);
             }
             Err(slot.refuse_memory())
         }

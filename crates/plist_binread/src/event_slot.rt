@@ -1,19 +1,24 @@
 //! The current event of a reader, in a slot that holds its text or data.
 
-ghost use Rattle.std.specs.Prelude.{◌≡◌, Some, true, false, IfSome};
+ghost use Rattle.std.specs.Prelude.{◌≡◌, ℕ, List, Some, true, false, IfOk, OnOk};
 ghost use Rattle.plist_base.specs.Events.{ScalarEvent, event_of};
 ghost use Rattle.plist_base.specs.Faults.{ObjectOffsetTooLarge, OutOfMemory, fault_at, fault_nowhere, fault_of};
-ghost use Rattle.plist_base.specs.Trees.{Boolean as BooleanScalar, Integer as IntegerScalar};
-ghost use Rattle.plist_binread.specs.declared.object_faults.Outcome.TheVariants.{Scalar as ScalarOutcome};
-ghost use Rattle.plist_format.specs.Object.{signed};
-ghost use Rattle.plist_binread.specs.Packed.{FitsContent, MayAllocate, PacksEvent, is_small_event, scalar_event, unpacked};
+ghost use Rattle.plist_base.specs.Trees.{Data as DataScalar, String as StringScalar};
+ghost use Rattle.plist_base.specs.Sources.{AnswersIo, CountsIo};
+ghost use Rattle.plist_format.specs.Object.{Object, date, text, wide_text};
+ghost use Rattle.plist_binread.specs.Reading.{data_of_content};
+ghost use Rattle.plist_binread.specs.CountedContent.{AreUnits, content_means, unit_size};
+ghost use Rattle.plist_binread.specs.FaultOffsets.{ErrWithin, FailsWithin};
+ghost use Rattle.plist_binread.specs.Decoding.{IsRefusedAs};
+ghost use Rattle.plist_binread.specs.Decoded.{IsFaultOf, IsLongBytes, KeepsFault, SetsEvent, small_in};
+ghost use Rattle.plist_binread.specs.Packed.{MayAllocate, content_bytes, is_small_event, scalar_event, text_if_any, unpacked};
 ghost use Rattle.plist_binread.specs.Slot.{answer_in, event_in, compact_event_of, is_in_slot};
-ghost use Rattle.plist_binread.specs.Front.{DecodesData, DecodesText, DecodesUnits};
 
-use crate::counted_content::{Content, ContentKind};
-use crate::object_faults::Outcome;
-use crate::packed::{PackedKind, pack, pack_data, pack_text};
-use plist_base::{Error, ErrorKind, Event, Integer, OwnedEvent, RealBits, Uid};
+use crate::decoded::{ContentKind, Decoded, ObjectFault};
+use crate::long_content::wide_text_event;
+use crate::packed::PackedKind;
+use crate::utf8::text_in;
+use plist_base::{Date, Error, ErrorKind, Event, Integer, OwnedEvent, RealBits, Uid};
 use std::alloc::Global;
 use std::borrow::{CowSlice, CowStr};
 use std::mem;
@@ -81,8 +86,6 @@ pub struct EventSlot {
     pub text: String,
     /// Data.
     pub data: Vec<u8>,
-    /// The content of a text or data that isn't all seen with its object's front.
-    pub content: Content,
     /// The error of a step that was refused.
     pub fault: Error,
     /// Where memory for a text of units comes from.
@@ -97,11 +100,6 @@ impl EventSlot {
             held: Event::EndCollection,
             text: String::new(alloc),
             data: Vec::new(alloc),
-            content: Content {
-                kind: ContentKind::Data,
-                start: 0,
-                count: 0,
-            },
             fault: ErrorKind::OutOfMemory.without_position(),
             alloc,
         }
@@ -180,6 +178,7 @@ impl EventSlot {
     }
 
     /// Holds this event.
+    #[inline(always)]
     pub fn hold(&mut self, event: OwnedEvent)
         ensures { event_in self.new ≡ event_of event.entry }
     {
@@ -188,102 +187,163 @@ impl EventSlot {
     }
 
     /// Sets this event.
+    #[inline(always)]
     pub fn set(&mut self, current: CompactEvent)
         ensures { event_in self.new ≡ compact_event_of self.new current }
     {
         self.current = current;
     }
 
-    /// Sets the whole number that these 64 bits spell with their sign.
-    pub fn set_signed(&mut self, bits: u64) -> Outcome
-        ensures current { event_in self.new ≡ ScalarEvent (IntegerScalar (signed 64 bits)) }
-        ensures scalar { result ≡ ScalarOutcome }
+    /// Holds the error of the object at a place.
+    #[cold]
+    #[inline(never)]
+    pub fn refuse_object(&mut self, fault: ObjectFault, place: u64) -> Refused
+        ensures refused { (object : Object) → IsFaultOf object fault
+            → IsRefusedAs object place self.new.fault }
+        ensures fault { (end : ℕ) → FailsWithin place end (fault_of self.new.fault) }
+        ensures failures { (count : ℕ) → CountsIo self.new.fault count count }
     {
-        if bits < 1 << 63 {
-            self.set(CompactEvent::Unsigned(bits));
-        } else {
-            self.hold(Event::Integer(Integer::from(bits.cast_signed())));
-        }
-        Outcome::Scalar
+        self.refuse(fault.at(place))
     }
 
-    /// Sets this truth value.
-    pub fn set_boolean(&mut self, value: bool) -> Outcome
-        ensures current { event_in self.new ≡ ScalarEvent (BooleanScalar value) }
-        ensures scalar { result ≡ ScalarOutcome }
-    {
-        self.set(CompactEvent::Boolean(value));
-        Outcome::Scalar
-    }
-
-    /// Sets the text in these bytes, if they are one and there is memory for it.
+    /// The same decoded object, or the error of the one at a place, which is held.
     #[inline(always)]
-    pub fn set_text(&mut self, bytes: &[u8]) -> Outcome
-        ensures { DecodesText bytes.now self.new result }
+    pub fn keep_fault(
+        &mut self,
+        answer: Result<Decoded, ObjectFault>,
+        place: u64,
+    ) -> Result<Decoded, Refused>
+        ensures decoded { KeepsFault answer place result self.new }
+        ensures same { IfOk result (λ decoded. answer ≡ Ok decoded) }
+        ensures small { small_in result ≡ small_in answer }
+        ensures fault { (end : ℕ) → ErrWithin place end (answer_in result self.new) }
+        ensures failures { (count : ℕ) → AnswersIo (answer_in result self.new) count count }
     {
-        match str::from_utf8(bytes) {
-            Ok(text) => {
-                self.text.clear();
-                self.current = CompactEvent::Text;
-                match self.text.push_str(text) {
-                    Ok(()) => Outcome::Scalar,
-                    Err(_) => Outcome::NoMemory,
-                }
-            }
-            Err(_) => Outcome::NotUtf8,
+        match answer {
+            Ok(decoded) => Ok(decoded),
+            Err(fault) => Err(self.refuse_object(fault, place)),
         }
     }
 
-    /// Sets the text in these units, if they are one and there is memory for it.
-    pub fn set_units(&mut self, units: &[u16]) -> Outcome
-        ensures { DecodesUnits units.now self.new result }
+    // Sets this text, if there is memory for it.
+    #[inline(always)]
+    fn put_text(&mut self, text: &str) -> bool
+        ensures { result ≡ true → event_in self.new ≡ ScalarEvent (StringScalar text.now) }
     {
-        let made: Result<Result<_, _>, _> = String::from_utf16(self.alloc, units);
-        match made {
-            Ok(Ok(text)) => {
-                self.text = text;
-                self.current = CompactEvent::Text;
-                Outcome::Scalar
-            }
-            Ok(Err(_)) => Outcome::NotUtf16,
-            Err(_) => Outcome::NoMemory,
+        self.text.clear();
+        self.current = CompactEvent::Text;
+        self.text.push_str(text).is_ok()
+    }
+
+    // Sets the text in these bytes, if they are one and there is memory for it.
+    #[inline(always)]
+    fn put_valid_text(&mut self, bytes: &[u8]) -> bool
+        ensures { result ≡ true → scalar_event (text_if_any bytes.now) ≡ Some (event_in self.new) }
+    {
+        match text_in(bytes) {
+            Some(text) => self.put_text(text),
+            None => false,
         }
     }
 
-    /// Sets this data, if there is memory for it.
-    pub fn set_data(&mut self, bytes: &[u8]) -> Outcome
-        ensures { DecodesData bytes.now self.new result }
+    // Sets this data, if there is memory for it.
+    #[inline(always)]
+    fn put_data(&mut self, bytes: &[u8]) -> bool
+        ensures { result ≡ true → event_in self.new ≡ ScalarEvent (DataScalar bytes.now) }
     {
         self.data.clear();
         self.current = CompactEvent::Data;
-        match self.data.extend_from_slice(bytes) {
-            Ok(()) => Outcome::Scalar,
-            Err(_) => Outcome::NoMemory,
+        self.data.extend_from_slice(bytes).is_ok()
+    }
+
+    // Sets the text in these bytes, of the object at a place.
+    #[inline(always)]
+    fn set_text(&mut self, bytes: &[u8], place: u64) -> Result<(), Refused>
+        ensures current { SetsEvent (text bytes.now) place (answer_in result self.new) (event_in self.new) }
+        ensures fault { (end : ℕ) → ErrWithin place end (answer_in result self.new) }
+        ensures failures { (count : ℕ) → AnswersIo (answer_in result self.new) count count }
+    {
+        match text_in(bytes) {
+            Some(text) => {
+                if self.put_text(text) {
+                    return Ok(());
+                }
+                Err(self.refuse_memory())
+            }
+            None => Err(self.refuse_object(ObjectFault::NotUtf8, place)),
         }
     }
 
-    /// Is it a scalar that can be cached?
-    pub fn is_small(&self) -> bool
-        ensures { result ≡ is_small_event (event_in self.now) }
+    // Sets this data, of an object.
+    #[inline(always)]
+    fn set_data(&mut self, bytes: &[u8], place: u64) -> Result<(), Refused>
+        ensures current { SetsEvent (data_of_content bytes.now) place (answer_in result self.new) (event_in self.new) }
+        ensures fault { (end : ℕ) → ErrWithin place end (answer_in result self.new) }
+        ensures failures { (count : ℕ) → AnswersIo (answer_in result self.new) count count }
     {
-        self.pack().is_some()
+        if self.put_data(bytes) {
+            return Ok(());
+        }
+        Err(self.refuse_memory())
     }
 
-    /// The kind and the content of a scalar, if it is small enough.
-    #[inline(always)]
-    pub fn pack(&self) -> Option<(PackedKind, u64)>
-        ensures scalar { PacksEvent (event_in self.now) result }
-        ensures small { IfSome result (λ packed. is_small_event (event_in self.now) ≡ true) }
-        ensures within { IfSome result (λ packed. FitsContent packed.0) }
+    /// Sets the date in these eight bytes, of the object at a place.
+    #[inline(never)]
+    pub fn set_date(&mut self, content: u64, place: u64) -> Result<(), Refused>
+        ensures current { SetsEvent (date (content_bytes content)) place (answer_in result self.new)
+            (event_in self.new) }
+        ensures large { OnOk result (is_small_event (event_in self.new) ≡ false) }
+        ensures fault { (end : ℕ) → ErrWithin place end (answer_in result self.new) }
+        ensures failures { (count : ℕ) → AnswersIo (answer_in result self.new) count count }
     {
-        match self.current {
-            CompactEvent::Other => pack(&self.held),
-            CompactEvent::Text => pack_text(self.text.as_str()),
-            CompactEvent::Data => pack_data(self.data.as_slice()),
-            CompactEvent::Boolean(value) => Some((PackedKind::Boolean(value), 0)),
-            CompactEvent::Unsigned(number) => Some((PackedKind::Unsigned, number)),
-            CompactEvent::Uid(number) => Some((PackedKind::Uid, number)),
-            CompactEvent::Array(_) | CompactEvent::Dictionary(_) | CompactEvent::End => None,
+        match Date::from_plist_real(content.to_be_bytes()) {
+            Ok(date) => {
+                self.hold(Event::Date(date));
+                Ok(())
+            }
+            Err(_) => Err(self.refuse_object(ObjectFault::NoDate, place)),
+        }
+    }
+
+    // Sets the text in these bytes, two a unit, of the object at a place. It stands apart, since
+    // memory for the event is cleared.
+    #[inline(never)]
+    fn set_wide_text(&mut self, bytes: &[u8], place: u64) -> Result<(), Refused>
+        requires { AreUnits 2 bytes.now }
+        ensures current { SetsEvent (wide_text bytes.now) place (answer_in result self.new)
+            (event_in self.new) }
+        ensures large { OnOk result (is_small_event (event_in self.new) ≡ false) }
+        ensures fault { (end : ℕ) → ErrWithin place end (answer_in result self.new) }
+        ensures failures { (count : ℕ) → AnswersIo (answer_in result self.new) count count }
+    {
+        match wide_text_event(self.alloc, bytes, place) {
+            Ok(event) => {
+                self.hold(event);
+                Ok(())
+            }
+            Err(error) => Err(self.refuse(error)),
+        }
+    }
+
+    /// Sets the text or data of this content, whose bytes these are, of the object at a place.
+    #[inline(always)]
+    pub fn set_content(
+        &mut self,
+        kind: ContentKind,
+        bytes: &[u8],
+        place: u64,
+    ) -> Result<(), Refused>
+        requires units { AreUnits (unit_size kind) bytes.now }
+        requires long { IsLongBytes kind bytes.now }
+        ensures current { SetsEvent (content_means kind bytes.now) place (answer_in result self.new) (event_in self.new) }
+        ensures large { OnOk result (is_small_event (event_in self.new) ≡ false) }
+        ensures fault { (end : ℕ) → ErrWithin place end (answer_in result self.new) }
+        ensures failures { (count : ℕ) → AnswersIo (answer_in result self.new) count count }
+    {
+        match kind {
+            ContentKind::Data => self.set_data(bytes, place),
+            ContentKind::Text => self.set_text(bytes, place),
+            ContentKind::WideText => self.set_wide_text(bytes, place),
         }
     }
 
@@ -297,10 +357,10 @@ impl EventSlot {
         let bytes = content.to_be_bytes();
         match kind {
             PackedKind::Data(size) => {
-                return size <= 8 && self.set_data(&bytes[..usize::from(size)]).is_scalar();
+                return size <= 8 && self.put_data(&bytes[..usize::from(size)]);
             }
             PackedKind::Text(size) => {
-                return size <= 8 && self.set_text(&bytes[..usize::from(size)]).is_scalar();
+                return size <= 8 && self.put_valid_text(&bytes[..usize::from(size)]);
             }
             PackedKind::Boolean(value) => self.set(CompactEvent::Boolean(value)),
             PackedKind::Unsigned => self.set(CompactEvent::Unsigned(content)),

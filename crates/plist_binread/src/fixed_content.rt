@@ -1,18 +1,20 @@
 //! Objects of a fixed size, decoded by the bytes after their marker: all up to the trailer, or at
-//! least 16.
+//! least 25.
 
-ghost use Rattle.std.specs.Prelude.{◌^◌, ◌<◌, ◌≤◌, length, IfNone, IfSome};
-ghost use Rattle.plist_format.specs.Object.{date, signed_integer, unsigned_integer, wide_integer};
-ghost use Rattle.plist_binread.specs.Front.{DecodesFront, IsAllSeen, IsContent, IsNumber, ShowsFixedContent};
+ghost use Rattle.std.specs.Prelude.{ℕ, List, ◌^◌, ◌<◌, ◌≤◌, length, IfNone, IfSome};
+ghost use Rattle.plist_format.specs.Object.{Scalar, date, signed, signed_integer, unsigned_integer, wide_integer};
+ghost use Rattle.plist_binread.specs.Decoded.{DecodesFixed, IsDecodedAs};
+ghost use Rattle.plist_base.specs.Trees.{Integer};
+ghost use Rattle.plist_binread.specs.Front.{IsContent, IsNumber, ShowsContent};
 ghost use Rattle.plist_binread.specs.Reading.{short_real, long_real, uid_of_content};
 
-use crate::event_slot::{CompactEvent, EventSlot};
+use crate::decoded::{Decoded, ObjectFault};
 use crate::numbers::number_from;
-use crate::object_faults::Outcome;
-use plist_base::{Date, Event, RealBits};
+use crate::packed::{PackedKind, content_from, content_of};
 use plist_format::UidWidth;
 
 // The number in this many bytes.
+#[inline(always)]
 fn front_number(rest: &[u8], width: usize) -> Option<u64>
     requires { width ≤ 8 }
     ensures value { IfSome result (IsNumber width rest.now) }
@@ -37,117 +39,97 @@ fn front_content<const N: usize>(rest: &[u8]) -> Option<[u8; N]>
 }
 
 /// A number without sign.
-pub fn front_unsigned(rest: &[u8], extent: u64, width: usize, slot: &mut EventSlot) -> Outcome
+#[inline(always)]
+pub fn front_unsigned(rest: &[u8], extent: u64, width: usize) -> Result<Decoded, ObjectFault>
     requires width { width ≤ 8 }
-    requires extent { length rest.now ≤ extent }
-    requires shown { ShowsFixedContent extent rest.now }
-    ensures outcome { DecodesFront extent width unsigned_integer rest.now slot.new result }
-    ensures whole { IsAllSeen result }
+    requires shown { ShowsContent extent rest.now }
+    ensures { DecodesFixed extent width unsigned_integer rest.now result }
 {
     match front_number(rest, width) {
-        Some(number) => {
-            slot.set(CompactEvent::Unsigned(number));
-            Outcome::Scalar
-        }
-        None => Outcome::Overrun,
+        Some(number) => Ok(Decoded::Small(PackedKind::Unsigned, number)),
+        None => Err(ObjectFault::Overrun),
+    }
+}
+
+// The number that these 64 bits spell with their sign.
+fn signed_number(bits: u64) -> Decoded
+    ensures { (all : List ℕ) → IsDecodedAs all (Scalar (Integer (signed 64 bits))) result }
+{
+    if bits < 1 << 63 {
+        Decoded::Small(PackedKind::Unsigned, bits)
+    } else {
+        Decoded::Small(PackedKind::Negative, bits)
     }
 }
 
 /// A number of eight bytes with a sign.
-pub fn front_signed(rest: &[u8], extent: u64, slot: &mut EventSlot) -> Outcome
-    requires extent { length rest.now ≤ extent }
-    requires shown { ShowsFixedContent extent rest.now }
-    ensures outcome { DecodesFront extent 8 signed_integer rest.now slot.new result }
-    ensures whole { IsAllSeen result }
+#[inline(always)]
+pub fn front_signed(rest: &[u8], extent: u64) -> Result<Decoded, ObjectFault>
+    requires { ShowsContent extent rest.now }
+    ensures { DecodesFixed extent 8 signed_integer rest.now result }
 {
     match front_number(rest, 8) {
-        Some(number) => slot.set_signed(number),
-        None => Outcome::Overrun,
+        Some(number) => Ok(signed_number(number)),
+        None => Err(ObjectFault::Overrun),
     }
 }
 
 /// A whole number of sixteen bytes, of which the first eight have to be zero.
-pub fn front_wide(rest: &[u8], extent: u64, slot: &mut EventSlot) -> Outcome
-    requires extent { length rest.now ≤ extent }
-    requires shown { ShowsFixedContent extent rest.now }
-    ensures outcome { DecodesFront extent 16 wide_integer rest.now slot.new result }
-    ensures whole { IsAllSeen result }
+pub fn front_wide(rest: &[u8], extent: u64) -> Result<Decoded, ObjectFault>
+    requires { ShowsContent extent rest.now }
+    ensures { DecodesFixed extent 16 wide_integer rest.now result }
 {
     if rest.len() < 16 {
-        return Outcome::Overrun;
+        return Err(ObjectFault::Overrun);
     }
     let high = number_from(&rest[..8]);
     let low = number_from(&rest[8..16]);
     if high != 0 {
-        return Outcome::OutOfRange;
+        return Err(ObjectFault::OutOfRange);
     }
-    slot.set(CompactEvent::Unsigned(low));
-    Outcome::Scalar
+    Ok(Decoded::Small(PackedKind::Unsigned, low))
 }
 
 /// A Uid.
-pub fn front_uid(rest: &[u8], extent: u64, width: UidWidth, slot: &mut EventSlot) -> Outcome
-    requires extent { length rest.now ≤ extent }
-    requires shown { ShowsFixedContent extent rest.now }
-    ensures outcome { DecodesFront extent width uid_of_content rest.now slot.new result }
-    ensures whole { IsAllSeen result }
+pub fn front_uid(rest: &[u8], extent: u64, width: UidWidth) -> Result<Decoded, ObjectFault>
+    requires { ShowsContent extent rest.now }
+    ensures { DecodesFixed extent width uid_of_content rest.now result }
 {
     match front_number(rest, width.get()) {
-        Some(number) => {
-            slot.set(CompactEvent::Uid(number));
-            Outcome::Scalar
-        }
-        None => Outcome::Overrun,
+        Some(number) => Ok(Decoded::Small(PackedKind::Uid, number)),
+        None => Err(ObjectFault::Overrun),
     }
 }
 
 /// A real of eight bytes.
-pub fn front_real(rest: &[u8], extent: u64, slot: &mut EventSlot) -> Outcome
-    requires extent { length rest.now ≤ extent }
-    requires shown { ShowsFixedContent extent rest.now }
-    ensures outcome { DecodesFront extent 8 long_real rest.now slot.new result }
-    ensures whole { IsAllSeen result }
+pub fn front_real(rest: &[u8], extent: u64) -> Result<Decoded, ObjectFault>
+    requires { ShowsContent extent rest.now }
+    ensures { DecodesFixed extent 8 long_real rest.now result }
 {
     match front_content(rest) {
-        Some(bytes) => {
-            slot.hold(Event::Real(RealBits::Eight(bytes)));
-            Outcome::Scalar
-        }
-        None => Outcome::Overrun,
+        Some(bytes) => Ok(Decoded::Small(PackedKind::Real, content_of(bytes))),
+        None => Err(ObjectFault::Overrun),
     }
 }
 
 /// A real of four bytes.
-pub fn front_short_real(rest: &[u8], extent: u64, slot: &mut EventSlot) -> Outcome
-    requires extent { length rest.now ≤ extent }
-    requires shown { ShowsFixedContent extent rest.now }
-    ensures outcome { DecodesFront extent 4 short_real rest.now slot.new result }
-    ensures whole { IsAllSeen result }
+pub fn front_short_real(rest: &[u8], extent: u64) -> Result<Decoded, ObjectFault>
+    requires { ShowsContent extent rest.now }
+    ensures { DecodesFixed extent 4 short_real rest.now result }
 {
-    match front_content(rest) {
-        Some(bytes) => {
-            slot.hold(Event::Real(RealBits::Four(bytes)));
-            Outcome::Scalar
-        }
-        None => Outcome::Overrun,
+    match front_content::<4>(rest) {
+        Some(bytes) => Ok(Decoded::Small(PackedKind::ShortReal, content_from(&bytes))),
+        None => Err(ObjectFault::Overrun),
     }
 }
 
-/// A date.
-pub fn front_date(rest: &[u8], extent: u64, slot: &mut EventSlot) -> Outcome
-    requires extent { length rest.now ≤ extent }
-    requires shown { ShowsFixedContent extent rest.now }
-    ensures outcome { DecodesFront extent 8 date rest.now slot.new result }
-    ensures whole { IsAllSeen result }
+/// The bytes of a date, which may be none.
+pub fn front_date(rest: &[u8], extent: u64) -> Result<Decoded, ObjectFault>
+    requires { ShowsContent extent rest.now }
+    ensures { DecodesFixed extent 8 date rest.now result }
 {
     match front_content(rest) {
-        Some(bytes) => match Date::from_plist_real(bytes) {
-            Ok(date) => {
-                slot.hold(Event::Date(date));
-                Outcome::Scalar
-            }
-            Err(_) => Outcome::NoDate,
-        },
-        None => Outcome::Overrun,
+        Some(bytes) => Ok(Decoded::Date(content_of(bytes))),
+        None => Err(ObjectFault::Overrun),
     }
 }

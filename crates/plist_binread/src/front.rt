@@ -1,61 +1,111 @@
-//! Objects that are decoded by the bytes at their front: all up to the trailer, or at least as many
-//! as any object needs but a long text or data.
+//! The decoder: an object by the bytes at its front, all up to the trailer, or at least as many as
+//! any object needs but a long text or data.
+//!
+//! Of its faults the first comes: the marker's; that it doesn't end before the trailer; and then
+//! that of its content.
 
-ghost use Rattle.std.specs.Prelude.{◌≡◌, ◌<◌, ◌≤◌, length, cond};
+ghost use Rattle.std.specs.Prelude.{◌≡◌, ◌<◌, ◌≤◌, cond, length};
 ghost use Rattle.plist_format.specs.Object.{object_in};
-ghost use Rattle.plist_binread.specs.DecodeOutcome.{small_outcome};
-ghost use Rattle.plist_binread.specs.Front.{CountsOutcome, DecodesWhole, LeavesUnseen, ShowsFront};
-ghost use Rattle.plist_binread.specs.Slot.{event_in};
+ghost use Rattle.plist_binread.specs.Decoded.{CountsSmall, DecodesAfter, DecodesSeen, small_count};
+ghost use Rattle.plist_binread.specs.Front.{ShowsContent, ShowsFront};
+ghost use Rattle.plist_binread.specs.Reading.{object_with};
 
+use crate::counted_content::{
+    front_array, front_data, front_dictionary, front_text, front_wide_text,
+};
 use crate::counter::DecodeCounter;
-use crate::event_slot::EventSlot;
-use crate::object_faults::{Outcome, front_after_marker};
+use crate::decoded::{Decoded, ObjectFault};
+use crate::fixed_content::{
+    front_date, front_real, front_short_real, front_signed, front_uid, front_unsigned, front_wide,
+};
+use crate::packed::PackedKind;
+use plist_format::{CountedKind, Marker};
+use std::alloc::Global;
 
-// Is it a scalar that can be cached?
-fn is_small_outcome(outcome: Outcome, slot: &EventSlot) -> bool
-    ensures { cond result 1 0 ≡ small_outcome outcome (event_in slot.now) }
+// The object after a marker.
+#[inline(always)]
+fn decode_after_marker(
+    alloc: Global,
+    marker: u8,
+    rest: &[u8],
+    extent: u64,
+    width: usize,
+) -> Result<Decoded, ObjectFault>
+    requires extent { length rest.now ≤ extent }
+    requires shown { ShowsContent extent rest.now }
+    requires width { (0 < width) × (width ≤ 8) }
+    ensures { DecodesAfter extent (object_with width marker) rest.now result }
 {
-    match outcome {
-        Outcome::Scalar => slot.is_small(),
-        Outcome::Unseen
-        | Outcome::Overrun
-        | Outcome::Null
-        | Outcome::Fill
-        | Outcome::Unknown(_)
-        | Outcome::OutOfRange
-        | Outcome::NoDate
-        | Outcome::NotUtf8
-        | Outcome::NotUtf16
-        | Outcome::NoMemory
-        | Outcome::Collection(_) => false,
+    match Marker::decode(marker) {
+        Marker::Null => Err(ObjectFault::Null),
+        Marker::Boolean(value) => Ok(Decoded::Small(PackedKind::Boolean(value), 0)),
+        Marker::Fill => Err(ObjectFault::Fill),
+        Marker::Integer1 => front_unsigned(rest, extent, 1),
+        Marker::Integer2 => front_unsigned(rest, extent, 2),
+        Marker::Integer4 => front_unsigned(rest, extent, 4),
+        Marker::Integer8 => front_signed(rest, extent),
+        Marker::Integer16 => front_wide(rest, extent),
+        Marker::Real4 => front_short_real(rest, extent),
+        Marker::Real8 => front_real(rest, extent),
+        Marker::Date => front_date(rest, extent),
+        Marker::Counted(kind, low) => match kind {
+            CountedKind::Data => front_data(low, rest, extent),
+            CountedKind::Text => front_text(low, rest, extent),
+            CountedKind::WideText => front_wide_text(alloc, low, rest, extent),
+            CountedKind::Array => front_array(low, rest, extent, width),
+            CountedKind::Dictionary => front_dictionary(low, rest, extent, width),
+        },
+        Marker::Uid(size) => front_uid(rest, extent, size),
+        Marker::Unknown(byte) => Err(ObjectFault::Unknown(byte)),
+    }
+}
+
+// Can it be cached?
+#[inline(always)]
+fn is_small(decoded: Decoded) -> bool
+    ensures { cond result 1 0 ≡ small_count decoded }
+{
+    match decoded {
+        Decoded::Small(_, _) => true,
+        Decoded::Date(_) | Decoded::Long(_) | Decoded::Array(_) | Decoded::Dictionary(_) => false,
+    }
+}
+
+// Counts what was decoded, if it is small.
+#[inline(always)]
+fn count_small<C: DecodeCounter>(answer: &Result<Decoded, ObjectFault>, counter: &mut C)
+    ensures { CountsSmall C.counts C.count counter.old counter.new answer.now }
+{
+    if let Ok(decoded) = answer {
+        if is_small(*decoded) {
+            counter.raise();
+        }
     }
 }
 
 /// Decodes the object that begins these bytes, all up to the trailer or at least 26, and counts it
 /// where it is small. No other function makes a small object of its bytes.
+#[inline(always)]
 pub fn decode_seen<C: DecodeCounter>(
+    alloc: Global,
     seen: &[u8],
     extent: u64,
     width: usize,
     counter: &mut C,
-    slot: &mut EventSlot,
-) -> Outcome
+) -> Result<Decoded, ObjectFault>
     requires extent { length seen.now ≤ extent }
-    requires shown { ShowsFront extent seen.now }
     requires some { 0 < extent }
+    requires shown { ShowsFront extent seen.now }
     requires width { (0 < width) × (width ≤ 8) }
-    ensures outcome { DecodesWhole extent (object_in width) seen.now slot.new result }
-    ensures unseen { LeavesUnseen extent (object_in width) seen.now slot.new result }
-    ensures counted { CountsOutcome C.counts C.count counter.old counter.new result slot.new }
+    ensures decoded { DecodesSeen extent (object_in width) seen.now result }
+    ensures counted { CountsSmall C.counts C.count counter.old counter.new result }
 {
     match seen.split_first() {
         Some((marker, rest)) => {
-            let outcome = front_after_marker(*marker, rest, extent - 1, width, slot);
-            if is_small_outcome(outcome, slot) {
-                counter.raise();
-            }
-            outcome
+            let answer = decode_after_marker(alloc, *marker, rest, extent - 1, width);
+            count_small(&answer, counter);
+            answer
         }
-        None => Outcome::Overrun,
+        None => Err(ObjectFault::Overrun),
     }
 }

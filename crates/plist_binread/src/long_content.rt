@@ -1,74 +1,81 @@
-//! Texts and data whose content isn't all seen with an object's front.
+//! Texts and data whose content isn't decoded with an object's front.
 
 ghost use Rattle.std.specs.Prelude.{◌≡◌, IfErr, IfOk, ⊤};
 ghost use Rattle.plist_base.specs.Outcomes.{OnlyMemory};
 ghost use Rattle.plist_base.specs.Faults.{MatchFault, kind_of, error_kind_of};
-ghost use Rattle.plist_base.specs.Events.{event_of};
 ghost use Rattle.plist_base.specs.Sources.{AnswersIo};
 ghost use Rattle.plist_format.specs.Container.{numbers_spelled};
-ghost use Rattle.plist_format.specs.Object.{text, text_of_units};
-ghost use Rattle.plist_binread.specs.Decoding.{Decodes, DecodesEvent, IsLarge};
+ghost use Rattle.plist_format.specs.Object.{text, text_of_units, wide_text};
+ghost use Rattle.plist_binread.specs.Decoding.{Decodes, IsLarge};
+ghost use Rattle.plist_binread.specs.Decoded.{EndsIn64Bits, FailsInContent, IsLong, IsLongBytes, ReadsContent};
 ghost use Rattle.plist_binread.specs.FaultOffsets.{ErrWithin};
 ghost use Rattle.plist_binread.specs.CountedContent.{AreUnits, content_means, unit_size};
-ghost use Rattle.plist_binread.specs.Front.{EndsIn64Bits, FailsInContent, ReadsContent};
+ghost use Rattle.plist_binread.specs.declared.decoded.ContentKind.TheVariants.{Text as KindText};
 
-use crate::counted_content::{Content, ContentKind};
+use crate::decoded::{Content, ContentKind};
 use crate::numbers::{read_bytes, write_units};
-use crate::packed::is_small;
 use plist_base::{Error, ErrorKind, Event, OwnedEvent, Source};
 use std::alloc::Global;
 use std::borrow::{CowSlice, CowStr};
 
-// The text or data of an object. A small one is never read here, since its front has all of it.
-fn large(event: OwnedEvent) -> Result<OwnedEvent, Error>
-    ensures decoded { DecodesEvent (event_of event.entry) result }
-    ensures large { IsLarge result }
-    ensures memory { OnlyMemory result }
-{
-    if is_small(&event) {
-        return Err(ErrorKind::OutOfMemory.without_position());
-    }
-    Ok(event)
-}
-
 // The text in these bytes, or the fault of the object at this place.
 fn text_event(bytes: Vec<u8>, place: u64) -> Result<OwnedEvent, Error>
+    requires { IsLongBytes KindText bytes.items }
     ensures decoded { Decodes (text bytes.items) place result }
     ensures large { IsLarge result }
     ensures kinds { IfErr result (λ error. MatchFault (kind_of (error_kind_of error)) ⊥ ⊤ ⊤) }
     ensures fault { ErrWithin place place result }
 {
     match String::from_utf8(bytes) {
-        Ok(string) => large(Event::String(CowStr::Owned(string))),
+        Ok(string) => Ok(Event::String(CowStr::Owned(string))),
         Err(_) => Err(ErrorKind::InvalidUtf8String.with_byte_offset(place)),
     }
 }
 
-// The text in these units, or the fault of the object at this place.
-fn wide_text_event(alloc: Global, units: &[u16], place: u64) -> Result<OwnedEvent, Error>
+// The text in these units, or the fault of the object at this place. One of few bytes never comes
+// here, since it is decoded with its object's front.
+fn text_of_units_event(alloc: Global, units: &[u16], place: u64) -> Result<OwnedEvent, Error>
     ensures decoded { Decodes (text_of_units units.now) place result }
     ensures large { IsLarge result }
     ensures kinds { IfErr result (λ error. MatchFault (kind_of (error_kind_of error)) ⊥ ⊤ ⊤) }
     ensures fault { ErrWithin place place result }
 {
     match String::from_utf16(alloc, units)? {
-        Ok(string) => large(Event::String(CowStr::Owned(string))),
+        Ok(string) => {
+            if string.len() <= 8 {
+                return Err(ErrorKind::OutOfMemory.without_position());
+            }
+            Ok(Event::String(CowStr::Owned(string)))
+        }
         Err(_) => Err(ErrorKind::InvalidUtf16String.with_byte_offset(place)),
     }
 }
 
-// The units in these bytes, two a unit. The bytes go before the text is made of the units.
-fn units_in(alloc: Global, bytes: Vec<u8>) -> Result<Vec<u16>, Error>
-    requires { AreUnits 2 bytes.items }
-    ensures units { IfOk result (λ units. units.items ≡ numbers_spelled 2 bytes.items) }
+// The units in these bytes, two a unit.
+fn units_in(alloc: Global, bytes: &[u8]) -> Result<Vec<u16>, Error>
+    requires { AreUnits 2 bytes.now }
+    ensures units { IfOk result (λ units. units.items ≡ numbers_spelled 2 bytes.now) }
     ensures memory { OnlyMemory result }
 {
     let mut units = vec![in alloc; 0u16; bytes.len() / 2]?;
-    write_units(&bytes, &mut units);
+    write_units(bytes, &mut units);
     Ok(units)
 }
 
-// The text or data in these bytes, or the fault of the object at this place.
+/// The text in these bytes, two a unit, which aren't few, or the fault of the object at this place.
+pub fn wide_text_event(alloc: Global, bytes: &[u8], place: u64) -> Result<OwnedEvent, Error>
+    requires { AreUnits 2 bytes.now }
+    ensures decoded { Decodes (wide_text bytes.now) place result }
+    ensures large { IsLarge result }
+    ensures kinds { IfErr result (λ error. MatchFault (kind_of (error_kind_of error)) ⊥ ⊤ ⊤) }
+    ensures fault { ErrWithin place place result }
+{
+    let units = units_in(alloc, bytes)?;
+    text_of_units_event(alloc, &units, place)
+}
+
+// The text or data in these bytes, or the fault of the object at this place. The bytes of a text of
+// units go before it is made of these.
 fn content_event(
     alloc: Global,
     kind: ContentKind,
@@ -76,17 +83,19 @@ fn content_event(
     place: u64,
 ) -> Result<OwnedEvent, Error>
     requires units { AreUnits (unit_size kind) bytes.items }
+    requires long { IsLongBytes kind bytes.items }
     ensures decoded { Decodes (content_means kind bytes.items) place result }
     ensures large { IsLarge result }
     ensures kinds { IfErr result (λ error. MatchFault (kind_of (error_kind_of error)) ⊥ ⊤ ⊤) }
     ensures fault { ErrWithin place place result }
 {
     match kind {
-        ContentKind::Data => large(Event::Data(CowSlice::Owned(bytes))),
+        ContentKind::Data => Ok(Event::Data(CowSlice::Owned(bytes))),
         ContentKind::Text => text_event(bytes, place),
         ContentKind::WideText => {
-            let units = units_in(alloc, bytes)?;
-            wide_text_event(alloc, &units, place)
+            let units = units_in(alloc, &bytes)?;
+            drop(bytes);
+            text_of_units_event(alloc, &units, place)
         }
     }
 }
@@ -99,6 +108,7 @@ pub fn read_long<S: Source>(
     content: Content,
 ) -> Result<OwnedEvent, Error>
     requires fits { EndsIn64Bits place content }
+    requires long { IsLong content }
     // The answer.
     ensures decoded { ReadsContent (S.known source.old) place content result }
     ensures large { IsLarge result }

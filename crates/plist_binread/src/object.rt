@@ -1,18 +1,18 @@
-//! One object, decoded by its bytes.
+//! One object, decoded by its bytes, and its event.
 
-ghost use Rattle.std.specs.Prelude.{◌≡◌, ◌-◌, ◌<◌, OnOk};
+ghost use Rattle.std.specs.Prelude.{◌≡◌, ◌<◌, false, IfOk, OnOk};
+ghost use Rattle.plist_binread.specs.Decoded.{CountsSmall, DecodesAt, EndsIn64Bits, FitsBefore, FailsInContent, IsLong, SetsAsSmall, SetsContentAt, SetsDecoded};
 ghost use Rattle.plist_binread.specs.FaultOffsets.{ErrWithin};
-ghost use Rattle.plist_binread.specs.Front.{CountsFound, EndsIn64Bits, FailsInContent, IsLargeScalar, DecodesAt, UnseenAt, DecodesContentAt, DecodesObject};
-ghost use Rattle.plist_binread.specs.Slot.{AnswersInSlot, answer_in};
+ghost use Rattle.plist_binread.specs.Slot.{AnswersInSlot, answer_in, event_in};
+ghost use Rattle.plist_binread.specs.Packed.{is_small_event};
 
 use crate::counter::DecodeCounter;
-use crate::event_slot::{EventSlot, Refused};
+use crate::decoded::{Content, Decoded};
+use crate::event_slot::{CompactEvent, EventSlot, Refused};
 use crate::front::decode_seen;
 use crate::head::Bounds;
 use crate::long_content::read_long;
-use crate::object_faults::{Outcome, refuse_object};
 use plist_base::{Event, Source, read_exact_at};
-use std::alloc::Global;
 
 // As many bytes as any object needs but a long text or data: a marker, a length of nine bytes, and
 // sixteen of content.
@@ -26,81 +26,87 @@ fn read_front<S: Source, C: DecodeCounter>(
     counter: &mut C,
     bounds: &Bounds,
     place: u64,
-    extent: u64,
     slot: &mut EventSlot,
-) -> Result<Outcome, Refused>
+) -> Result<Decoded, Refused>
     requires place { place < bounds.now.trailer }
-    requires extent { extent ≡ bounds.now.trailer - place }
     // The answer.
-    ensures outcome { DecodesAt S.known source.old bounds.now place slot.new result }
-    ensures unseen { UnseenAt S.known source.old bounds.now place slot.new result }
+    ensures decoded { DecodesAt (S.known source.old) bounds.now place (answer_in result slot.new) }
+    ensures fits { IfOk result (FitsBefore bounds.now.trailer place) }
     // A refusal.
     ensures fault { ErrWithin place bounds.now.trailer (answer_in result slot.new) }
     // The state after it.
-    ensures counted { CountsFound C.counts C.count counter.old counter.new result slot.new }
+    ensures counted { CountsSmall C.counts C.count counter.old counter.new result }
     ensures unchanged { S.known source.new ≡ S.known source.old }
     ensures failures { AnswersInSlot S.failures result slot.new source.old source.new }
 {
+    let extent = bounds.trailer - place;
     let mut front = [0; FRONT];
     let seen = &mut front[..extent.min(FRONT as u64) as usize];
     match read_exact_at(source, place, seen) {
-        Ok(()) => Ok(decode_seen(seen, extent, bounds.reference_width, counter, slot)),
+        Ok(()) => {
+            let decoded = decode_seen(slot.alloc, seen, extent, bounds.reference_width, counter);
+            slot.keep_fault(decoded, place)
+        }
         Err(error) => Err(slot.refuse(error)),
     }
 }
 
-// Decodes the object at a place by the bytes of its front.
+/// Decodes the object at a place by the bytes of its front, and counts it if it is small.
 #[inline(always)]
-fn decode_front<S: Source, C: DecodeCounter>(
+pub fn decode<S: Source, C: DecodeCounter>(
     source: &mut S,
     counter: &mut C,
     bounds: &Bounds,
     place: u64,
     slot: &mut EventSlot,
-) -> Result<Outcome, Refused>
-    requires place { place < bounds.now.trailer }
+) -> Result<Decoded, Refused>
     // The answer.
-    ensures outcome { DecodesAt S.known source.old bounds.now place slot.new result }
-    ensures unseen { UnseenAt S.known source.old bounds.now place slot.new result }
+    ensures decoded { DecodesAt (S.known source.old) bounds.now place (answer_in result slot.new) }
+    ensures fits { IfOk result (FitsBefore bounds.now.trailer place) }
     // A refusal.
     ensures fault { ErrWithin place bounds.now.trailer (answer_in result slot.new) }
     // The state after it.
-    ensures counted { CountsFound C.counts C.count counter.old counter.new result slot.new }
+    ensures counted { CountsSmall C.counts C.count counter.old counter.new result }
     ensures unchanged { S.known source.new ≡ S.known source.old }
     ensures failures { AnswersInSlot S.failures result slot.new source.old source.new }
 {
+    if place >= bounds.trailer {
+        return Err(slot.refuse_overrun(place));
+    }
     let extent = bounds.trailer - place;
     let buffered = source.buffered(place);
     let seen = &buffered[..extent.min(buffered.len() as u64) as usize];
     if seen.len() >= FRONT || seen.len() as u64 == extent {
-        return Ok(decode_seen(seen, extent, bounds.reference_width, counter, slot));
+        let decoded = decode_seen(slot.alloc, seen, extent, bounds.reference_width, counter);
+        return slot.keep_fault(decoded, place);
     }
-    read_front(source, counter, bounds, place, extent, slot)
+    read_front(source, counter, bounds, place, slot)
 }
 
-// Reads the text or data whose content is held, of the object at a place, and holds it.
+// Reads the text or data of a content, of the object at a place, and sets it.
 #[cold]
 #[inline(never)]
-fn decode_long<S: Source>(
-    alloc: Global,
+fn read_content<S: Source>(
     source: &mut S,
     place: u64,
+    content: Content,
     slot: &mut EventSlot,
 ) -> Result<(), Refused>
-    requires fits { EndsIn64Bits place slot.old.content }
+    requires fits { EndsIn64Bits place content }
+    requires long { IsLong content }
     // The answer.
-    ensures current { DecodesContentAt (S.known source.old) place slot.old.content slot.new result }
-    ensures large { OnOk result (IsLargeScalar slot.new) }
+    ensures current { SetsContentAt (S.known source.old) place content (answer_in result slot.new)
+        (event_in slot.new) }
+    ensures large { OnOk result (is_small_event (event_in slot.new) ≡ false) }
     // A refusal.
-    ensures fault { FailsInContent place slot.old.content (answer_in result slot.new) }
+    ensures fault { FailsInContent place content (answer_in result slot.new) }
     // The state after it.
     ensures unchanged { S.known source.new ≡ S.known source.old }
     ensures failures { AnswersInSlot S.failures result slot.new source.old source.new }
 {
-    let content = slot.content;
     // The one before it goes first, so that there is memory for one alone.
     slot.hold(Event::EndCollection);
-    match read_long(alloc, source, place, content) {
+    match read_long(slot.alloc, source, place, content) {
         Ok(event) => {
             slot.hold(event);
             Ok(())
@@ -109,45 +115,70 @@ fn decode_long<S: Source>(
     }
 }
 
-/// Decodes the object at a place, and counts it if it is small.
+// Sets the text or data of a content, of the object at a place.
 #[inline(always)]
-pub fn decode<S: Source, C: DecodeCounter>(
-    alloc: Global,
+fn set_content<S: Source>(
     source: &mut S,
-    counter: &mut C,
-    bounds: &Bounds,
     place: u64,
+    content: Content,
     slot: &mut EventSlot,
-) -> Result<Outcome, Refused>
+) -> Result<(), Refused>
+    requires fits { EndsIn64Bits place content }
+    requires long { IsLong content }
     // The answer.
-    ensures decoded { DecodesObject S.known source.old bounds.now place slot.new result }
+    ensures current { SetsContentAt (S.known source.old) place content (answer_in result slot.new)
+        (event_in slot.new) }
+    ensures large { OnOk result (is_small_event (event_in slot.new) ≡ false) }
     // A refusal.
-    ensures fault { ErrWithin place bounds.now.trailer (answer_in result slot.new) }
+    ensures fault { FailsInContent place content (answer_in result slot.new) }
     // The state after it.
-    ensures counted { CountsFound C.counts C.count counter.old counter.new result slot.new }
     ensures unchanged { S.known source.new ≡ S.known source.old }
     ensures failures { AnswersInSlot S.failures result slot.new source.old source.new }
 {
-    if place >= bounds.trailer {
-        return Err(slot.refuse_overrun(place));
+    let size = content.count * content.kind.unit_size();
+    let buffered = source.buffered(place + content.start);
+    if size <= buffered.len() as u64 {
+        return slot.set_content(content.kind, &buffered[..size as usize], place);
     }
-    match decode_front(source, counter, bounds, place, slot) {
-        Ok(outcome) => match outcome {
-            Outcome::Scalar | Outcome::Collection(_) => Ok(outcome),
-            Outcome::Unseen => {
-                decode_long(alloc, source, place, slot)?;
-                Ok(Outcome::Scalar)
+    read_content(source, place, content, slot)
+}
+
+/// Sets the event of the object at a place, which was decoded.
+#[inline(always)]
+pub fn set_decoded<S: Source>(
+    source: &mut S,
+    bounds: &Bounds,
+    place: u64,
+    decoded: Decoded,
+    slot: &mut EventSlot,
+) -> Result<(), Refused>
+    requires { FitsBefore bounds.now.trailer place decoded }
+    // The answer.
+    ensures current { SetsDecoded (S.known source.old) bounds.now place decoded
+        (answer_in result slot.new) (event_in slot.new) }
+    ensures small { SetsAsSmall decoded result (event_in slot.new) }
+    // A refusal.
+    ensures fault { ErrWithin place bounds.now.trailer (answer_in result slot.new) }
+    // The state after it.
+    ensures unchanged { S.known source.new ≡ S.known source.old }
+    ensures failures { AnswersInSlot S.failures result slot.new source.old source.new }
+{
+    match decoded {
+        Decoded::Small(kind, content) => {
+            if slot.unpack(kind, content) {
+                return Ok(());
             }
-            Outcome::Overrun
-            | Outcome::Null
-            | Outcome::Fill
-            | Outcome::Unknown(_)
-            | Outcome::OutOfRange
-            | Outcome::NoDate
-            | Outcome::NotUtf8
-            | Outcome::NotUtf16
-            | Outcome::NoMemory => Err(refuse_object(outcome, place, slot)),
-        },
-        Err(refused) => Err(refused),
+            Err(slot.refuse_memory())
+        }
+        Decoded::Date(content) => slot.set_date(content, place),
+        Decoded::Long(content) => set_content(source, place, content, slot),
+        Decoded::Array(count) => {
+            slot.set(CompactEvent::Array(count));
+            Ok(())
+        }
+        Decoded::Dictionary(count) => {
+            slot.set(CompactEvent::Dictionary(count));
+            Ok(())
+        }
     }
 }

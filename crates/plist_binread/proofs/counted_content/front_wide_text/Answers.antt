@@ -1,16 +1,51 @@
-use Rattle.std.proofs.Common.{arith, ℕ, ◌/◌, ◌≤◌, length, replicate}
-use Rattle.std.proofs.lemmas.List.{length-take-le}
-use Rattle.plist_binread.specs.declared.counted_content.ContentKind.TheVariants.{WideText as KindWideText}
+use Rattle.std.proofs.Common.{Ok, Err, refl, arith, ◌≡◌, ◌*◌, ◌≤◌, length}
+use Rattle.plist_binread.specs.declared.decoded.ContentKind.TheVariants.{WideText as KindWideText}
 use Rattle.plist_binread.specs.CountedContent.{content_means}
+use Rattle.plist_binread.proofs.Decodings.{content_enough, few_bytes, long_decoded}
+use Rattle.plist_binread.proofs.Failing.{passed}
 use Rattle.plist_binread.proofs.counted_content.front_wide_text.Goals as goal
 
-pub write_units-requires : goal.write_units-requires
-write_units-requires c =
-    let few : length c.in-Ok.bytes.now / 2 ≤ 32 = omega (arith, c.in-Ok.ensures.bound) in
-    let units = length-take-le {A = ℕ} _ (replicate 32 0) few in
-    omega (arith, c.in-Ok.ensures.size.1, units)
+pub returns-in_err-count : goal.returns-in_err-count
+returns-in_err-count c =
+    rw (passed _ c.from_residual.ensures.1, c.in_err-count.ensures.refused.0)
+    (λ first more whole.
+    c.in_err-count.ensures.refused.1 (λ _. content_means KindWideText) more whole)
 
-pub returns-in-Ok-clause-outcome : goal.returns-in-Ok-clause-outcome
-returns-in-Ok-clause-outcome c = λ more whole.
-    rw (c.in-Ok.ensures.content more whole (content_means KindWideText))
-    (rw c.write_units.ensures at c.set_units.ensures.0)
+pub returns-then-count-gt8 : goal.returns-then-count-gt8
+returns-then-count-gt8 c = λ first more whole.
+    let found = c.in_ok-count.ensures.count more whole in
+    rw c.long_content-long.ensures (long_decoded KindWideText c.args.low c.in_ok-count.count first
+    c.args.rest.now c.in_ok-count.behind.now more found.0 found.1 c.in_ok-count.ensures.short
+    c.in_ok-count.ensures.after tt)
+
+pub returns-in-Ok-None : goal.returns-in-Ok-None
+returns-in-Ok-None c = λ first more whole.
+    let found = c.in_ok-count.ensures.count more whole in
+    rw c.long_content-long.ensures (long_decoded KindWideText c.args.low c.in_ok-count.count first
+    c.args.rest.now c.in_ok-count.behind.now more found.0 found.1 c.in_ok-count.ensures.short
+    c.in_ok-count.ensures.after tt)
+
+pub returns-in-Ok-Some : goal.returns-in-Ok-Some
+returns-in-Ok-Some c = λ first more whole.
+    let found = c.in_ok-count.ensures.count more whole in
+    let seen : 2 * c.in_ok-count.count ≤ length c.in_ok-count.behind.now =
+    content_enough (2 * c.in_ok-count.count) c.args.extent _ _ c.requires.shown
+    (omega (arith, c.in_ok-count.ensures.within)) c.in_ok-count.ensures.short
+    c.in_ok-count.ensures.near (omega arith) in
+    let two : 2 * c.in_ok-count.count ≡ c.in_ok-count.count * 2 = omega arith in
+    few_bytes KindWideText c.args.low c.in_ok-count.count _ first c.args.rest.now
+    c.in_ok-count.behind.now _ more
+    (Ok c.in-Ok-Some.short) found.0 two seen refl
+    (rw c.in-Ok-Some.field-0-is at c.in-Ok-Some.ensures)
+
+pub returns-in-Err : goal.returns-in-Err
+returns-in-Err c = λ first more whole.
+    let found = c.in_ok-count.ensures.count more whole in
+    let seen : 2 * c.in_ok-count.count ≤ length c.in_ok-count.behind.now =
+    content_enough (2 * c.in_ok-count.count) c.args.extent _ _ c.requires.shown
+    (omega (arith, c.in_ok-count.ensures.within)) c.in_ok-count.ensures.short
+    c.in_ok-count.ensures.near (omega arith) in
+    let two : 2 * c.in_ok-count.count ≡ c.in_ok-count.count * 2 = omega arith in
+    few_bytes KindWideText c.args.low c.in_ok-count.count _ first c.args.rest.now
+    c.in_ok-count.behind.now _ more
+    (Err c.in-Err.fault) found.0 two seen refl (λ all. c.in-Err.ensures)

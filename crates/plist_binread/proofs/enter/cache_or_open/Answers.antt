@@ -1,86 +1,91 @@
-use Rattle.std.proofs.Common.{arith, sym, refl, ap, ◌∙◌, ◌+◌, cond}
-use Rattle.std.proofs.lemmas.Bool.{false≢true}
-use Rattle.plist_binread.specs.Remaining.{cached_count, scalar_at}
-use Rattle.plist_binread.specs.Packed.{unmarked, scalar_event}
-use Rattle.plist_binread.specs.Slot.{event_in}
-use Rattle.plist_binread.proofs.Steps.{yields_scalar, yields_collection, collection_large, reverse-push, start_falls, steps_positive}
-use Rattle.plist_binread.proofs.Opened.{IsOpen-push, not_open, admits_more, cached_count-keep, cached_count-mark}
-use Rattle.plist_binread.proofs.Known.{as_many, known_kept, known_opened}
+use Rattle.std.proofs.Common.{◌≡◌, arith, ap, subst, ◌∙◌, Some}
+use Rattle.plist_base.specs.Events.{PlainEvent, ScalarEvent, StartArray, StartDictionary}
+use Rattle.plist_binread.specs.Decoding.{scalar_event_in}
+use Rattle.plist_binread.specs.DecodeOutcome.{YieldsCurrent}
+use Rattle.plist_binread.specs.Packed.{content_bytes, unmarked, scalar_event}
+use Rattle.plist_binread.specs.Walking.{remaining_entering, remaining_in}
+use Rattle.plist_binread.specs.Remaining.{scalar_at}
+use Rattle.plist_binread.proofs.Steps.{yields_scalar, steps_positive}
+use Rattle.plist_binread.proofs.Opened.{not_open, cached_count-keep}
+use Rattle.plist_binread.proofs.Known.{as_many, known_kept}
 use Rattle.plist_binread.proofs.Packing.{kind_of_tag-some}
+use Rattle.plist_binread.proofs.Decodings.{collection-named, named-date, named-long, named-scalar}
 use Rattle.plist_binread.proofs.enter.cache_or_open.Goals as goal
 
-pub returns-in-Some-clause-counted : goal.returns-in-Some-clause-counted
-returns-in-Some-clause-counted c =
-    rw c.in-Scalar.is (cached_count-keep _ _ _ _ c.requires.below
-    (ap unmarked c.requires.new) c.cache.ensures.tags
-    ∙ ap (λ b. cached_count c.args.walk.now.tags.items + cond b 1 0)
-    (sym c.in-Some.ensures.small))
+pub returns-in-Small-clause-counted : goal.returns-in-Small-clause-counted
+returns-in-Small-clause-counted c =
+    rw c.in-Small.is (cached_count-keep _ _ _ _ c.requires.below (ap unmarked c.requires.new)
+    c.cache.ensures.tags)
 
-pub returns-in-Some-clause-cached : goal.returns-in-Some-clause-cached
-returns-in-Some-clause-cached c = λ _ object outcome small.
-    kind_of_tag-some _ _ c.cache.ensures.tags.here
+pub returns-in-Small-clause-cached : goal.returns-in-Small-clause-cached
+returns-in-Small-clause-cached c = λ _. kind_of_tag-some _ _ c.cache.ensures.tags.here
 
-pub returns-in-Some-clause-falls : goal.returns-in-Some-clause-falls
-returns-in-Some-clause-falls c = λ _. omega (arith, steps_positive)
+pub returns-in-Small-clause-falls : goal.returns-in-Small-clause-falls
+returns-in-Small-clause-falls c = λ _. omega (arith, steps_positive, c.cache.ensures.tags.size)
 
-pub returns-in-Some-clause-yields : goal.returns-in-Some-clause-yields
-returns-in-Some-clause-yields c = λ _ bytes bounds entry k is decoded.
-    let scalar = rw c.in-Scalar.is at decoded in (
-      (λ at. yields_scalar _ _ (as_many bytes bounds _ _ _ k) _ at _ entry
+pub returns-in-Small-clause-yields : goal.returns-in-Small-clause-yields
+returns-in-Small-clause-yields c = λ _ bytes bounds entry all k is found.
+    let d = rw c.in-Small.is at found in (
+      (λ at event named. yields_scalar _ _ (as_many bytes bounds _ _ _ k) _ at _ entry
           c.args.walk.now.path c.requires.below is
-          (not_open c.args.walk.now.path c.requires.below c.requires.new) _ scalar),
-      rw c.cache.ensures.contents (known_kept bytes bounds _ _ _ k _ c.in-Some.kind
-          c.in-Some.content _ (event_in c.args.slot.now) c.requires.below c.args.walk.now.same
-          c.cache.ensures.tags c.in-Some.ensures.scalar
-          (ap (λ found. scalar_event (scalar_at found)) is ∙ scalar)),
+          (not_open c.args.walk.now.path c.requires.below c.requires.new) event
+          (named-scalar entry.object d.0 event d.1 named)),
+      rw c.cache.ensures.contents (known_kept bytes bounds _ _ _ k _ c.in-Small.kind
+          c.in-Small.content _ (ScalarEvent d.0) c.requires.below c.args.walk.now.same
+          c.cache.ensures.tags (ap scalar_event d.2)
+          (ap (λ found. scalar_event (scalar_at found)) is ∙ ap scalar_event_in d.1)),
     )
 
-pub returns-in-None-clause-falls : goal.returns-in-None-clause-falls
-returns-in-None-clause-falls c = λ _. omega (arith, steps_positive)
+pub returns-in-Date-clause-falls : goal.returns-in-Date-clause-falls
+returns-in-Date-clause-falls c = λ _. omega (arith, steps_positive)
 
-pub returns-in-None-clause-yields : goal.returns-in-None-clause-yields
-returns-in-None-clause-yields c = λ _ bytes bounds entry k is decoded. (
-  (λ at. yields_scalar _ _ (as_many _ _ _ _ _ k) _ at _ _
-      c.args.walk.now.path c.requires.below is
-      (not_open c.args.walk.now.path c.requires.below c.requires.new) _
-      (rw c.in-Scalar.is at decoded)),
-  k,
-)
-
-pub invariant_of-walk-in-Ok : goal.invariant_of-walk-in-Ok
-invariant_of-walk-in-Ok c = record {
-  same = c.args.walk.now.same ∙ sym c.mark_open.ensures.size;
-  path = rw (reverse-push _ _ _ c.in-Ok.ensures.value)
-      (IsOpen-push _ _ _ _ c.args.walk.now.path c.requires.below
-      (not_open c.args.walk.now.path c.requires.below c.requires.new)
-      (ap unmarked c.requires.new) c.mark_open.ensures);
-}
-
-pub returns-in-Ok-clause-counted : goal.returns-in-Ok-clause-counted
-returns-in-Ok-clause-counted c =
-    let same = cached_count-mark _ _ _ _ c.mark_open.ensures in
-    rw c.in-Collection.is (omega arith)
-
-pub returns-in-Ok-clause-cached : goal.returns-in-Ok-clause-cached
-returns-in-Ok-clause-cached c = λ _ object outcome small.
-    absurd (false≢true (cc (collection_large object (event_in c.args.slot.now) c.in-Collection.count
-    (rw c.in-Collection.is at outcome))))
-
-pub returns-in-Ok-clause-falls : goal.returns-in-Ok-clause-falls
-returns-in-Ok-clause-falls c = λ _.
-    rw (reverse-push _ _ _ c.in-Ok.ensures.value)
-    (start_falls _ _ _ (admits_more _ _ _ c.args.walk.now.path
-    c.requires.below (not_open c.args.walk.now.path c.requires.below c.requires.new))
-    (omega arith))
-
-pub returns-in-Ok-clause-yields : goal.returns-in-Ok-clause-yields
-returns-in-Ok-clause-yields c = λ _ bytes bounds entry k is outcome.
-    let collection = rw c.in-Collection.is at outcome in (
-      (λ at. yields_collection _ _ (as_many _ _ _ _ _ k) _ at _ _
+pub returns-in-Date-clause-yields : goal.returns-in-Date-clause-yields
+returns-in-Date-clause-yields c = λ _ bytes bounds entry all k is found.
+    let d = rw c.in-Date.is at found in (
+      (λ at event named. yields_scalar _ _ (as_many _ _ _ _ _ k) _ at _ _
           c.args.walk.now.path c.requires.below is
-          (not_open c.args.walk.now.path c.requires.below c.requires.new) _ _ _
-          (reverse-push _ _ _ c.in-Ok.ensures.value) refl refl
-          collection),
-      rw (reverse-push _ _ _ c.in-Ok.ensures.value)
-          (known_opened bytes bounds _ _ _ k _ _ _ entry c.mark_open.ensures is collection),
+          (not_open c.args.walk.now.path c.requires.below c.requires.new) event
+          (named-date entry.object (content_bytes c.in-Date.field-0) event d named)),
+      k,
+    )
+
+pub returns-in-Long-clause-falls : goal.returns-in-Long-clause-falls
+returns-in-Long-clause-falls c = λ _. omega (arith, steps_positive)
+
+pub returns-in-Long-clause-yields : goal.returns-in-Long-clause-yields
+returns-in-Long-clause-yields c = λ _ bytes bounds entry all k is found.
+    let d = rw c.in-Long.is at found in (
+      (λ at event named. yields_scalar _ _ (as_many _ _ _ _ _ k) _ at _ _
+          c.args.walk.now.path c.requires.below is
+          (not_open c.args.walk.now.path c.requires.below c.requires.new) event
+          (named-long entry.object _ _ event d.1 named)),
+      k,
+    )
+
+pub returns-in-Array-clause-yields : goal.returns-in-Array-clause-yields
+returns-in-Array-clause-yields c = λ done bytes bounds entry all k is found.
+    let d = rw c.in-Array.is at found in
+    let start = StartArray (Some c.in-Array.count) in
+    let o = c.open.ensures.yields done bytes bounds entry start k is d in (
+      (λ at event named.
+          let n = collection-named entry.object start _ d in
+          let same : start ≡ event = cc in
+          subst (λ (e : PlainEvent).
+          YieldsCurrent (remaining_entering bytes bounds c.args.walk.now at c.args.number) e
+          (remaining_in bytes bounds c.open.new.walk)) same (o.0 at)),
+      o.1,
+    )
+
+pub returns-in-Dictionary-clause-yields : goal.returns-in-Dictionary-clause-yields
+returns-in-Dictionary-clause-yields c = λ done bytes bounds entry all k is found.
+    let d = rw c.in-Dictionary.is at found in
+    let start = StartDictionary (Some c.in-Dictionary.count) in
+    let o = c.open-in-Dictionary.ensures.yields done bytes bounds entry start k is d.0 in (
+      (λ at event named.
+          let n = collection-named entry.object start _ d.0 in
+          let same : start ≡ event = cc in
+          subst (λ (e : PlainEvent).
+          YieldsCurrent (remaining_entering bytes bounds c.args.walk.now at c.args.number) e
+          (remaining_in bytes bounds c.open-in-Dictionary.new.walk)) same (o.0 at)),
+      o.1,
     )

@@ -1,11 +1,13 @@
-use Rattle.std.proofs.Common.{ap, sym, ◌∙◌, Some}
+use Rattle.std.proofs.Common.{ap, Some, rules}
 use Rattle.plist_base.specs.declared.real.RealBits.TheVariants.{Four}
 use Rattle.plist_base.specs.Trees.{Real}
-use Rattle.plist_binread.specs.Decoding.{scalar_event_in}
 use Rattle.plist_format.specs.Object.{Scalar}
 use Rattle.plist_binread.proofs.fixed_content.front_short_real.Goals as goal
 
-pub returns-in-Some-clause-outcome : goal.returns-in-Some-clause-outcome
-returns-in-Some-clause-outcome c = λ more whole. ap scalar_event_in
-    (c.in-Some.ensures.content _ (λ content. Scalar (Real (Four content))))
-    ∙ ap Some (sym c.hold.ensures)
+pub returns-in-Some : goal.returns-in-Some
+returns-in-Some c = λ first more whole. (
+  Real (Four c.in-Some.bytes),
+  c.in-Some.ensures.content _ (λ content. Scalar (Real (Four content))),
+  ap (λ bytes. Some (Real (Four bytes))) (search rules),
+  tt,
+)

@@ -1,10 +1,9 @@
-use Rattle.std.proofs.Common.{ap, sym, ◌∙◌, Some}
+use Rattle.std.proofs.Common.{◌∷◌, ◌++◌}
 use Rattle.plist_base.specs.Trees.{Integer}
-use Rattle.plist_binread.specs.Decoding.{scalar_event_in}
 use Rattle.plist_format.specs.Object.{Scalar, signed}
 use Rattle.plist_binread.proofs.fixed_content.front_signed.Goals as goal
 
-pub returns-in-Some-clause-outcome : goal.returns-in-Some-clause-outcome
-returns-in-Some-clause-outcome c = λ more. rw c.set_signed.ensures.scalar (λ whole. ap scalar_event_in
-    (c.in-Some.ensures.value _ (λ n. Scalar (Integer (signed 64 n))))
-    ∙ ap Some (sym c.set_signed.ensures.current))
+pub returns-in-Some : goal.returns-in-Some
+returns-in-Some c = λ first more whole.
+    rw (c.in-Some.ensures.value more (λ n. Scalar (Integer (signed 64 n))))
+    (c.signed_number.ensures (first ∷ (c.args.rest.now ++ more)))

@@ -1,19 +1,18 @@
-use Rattle.std.proofs.Common.{◌≡◌, ◌<◌, ◌++◌, pos, ap, sym, ◌∙◌, Some, arith}
+use Rattle.std.proofs.Common.{◌≡◌, ◌<◌, ◌++◌, pos, refl, ◌∙◌, arith}
 use Rattle.plist_base.specs.Trees.{Integer}
-use Rattle.plist_binread.specs.Decoding.{scalar_event_in}
 use Rattle.plist_format.specs.Object.{Scalar, wide_integer, meaning_of_front}
 use Rattle.plist_binread.proofs.Contents.{wide_front, wide_low, wide_high}
 use Rattle.plist_binread.proofs.fixed_content.front_wide.Goals as goal
 
-pub returns-then-high-ne0-clause-outcome : goal.returns-then-high-ne0-clause-outcome
-returns-then-high-ne0-clause-outcome c = λ more whole.
+pub returns-then-high-ne0 : goal.returns-then-high-ne0
+returns-then-high-ne0 c = λ first more whole.
     let some : 0 < c.number_from-high.result = omega arith in
     wide_front _ _ c.if-rest-lt16.false
     ∙ rw (← c.number_from-high.ensures.value, ← c.number_from-low.ensures.value)
     (wide_high _ _ some (omega arith) (omega arith))
 
-pub returns-clause-outcome : goal.returns-clause-outcome
-returns-clause-outcome c = λ more whole.
+pub returns : goal.returns
+returns c = λ first more whole.
     let is : meaning_of_front 16 wide_integer (c.args.rest.now ++ more)
     ≡ Scalar (Integer (pos c.number_from-low.result)) = wide_front _ _
     c.if-rest-lt16.false
@@ -23,4 +22,4 @@ returns-clause-outcome c = λ more whole.
       c.if-high-ne0.false,
     )
     (wide_low c.number_from-low.result (omega arith)) in
-    ap scalar_event_in is ∙ ap Some (sym c.set.ensures)
+    (Integer (pos c.number_from-low.result), is, refl, tt)

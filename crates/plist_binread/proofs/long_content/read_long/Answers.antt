@@ -2,7 +2,14 @@ use Rattle.std.proofs.Common.{arith}
 use Rattle.plist_base.specs.Faults.{fault_of}
 use Rattle.plist_binread.proofs.Contents.{content_read, content_refused, counts_answer}
 use Rattle.plist_binread.proofs.Failing.{err_within, from_within, passed}
+use Rattle.plist_binread.proofs.Decodings.{long_bytes}
 use Rattle.plist_binread.proofs.long_content.read_long.Goals as goal
+
+pub content_event-requires-clause-long : goal.content_event-requires-clause-long
+content_event-requires-clause-long g c =
+    long_bytes c.args.content.kind c.args.content.count _
+    (rw (← c.unit_size.ensures.value) (omega (arith, c.in_ok-bytes.bytes.ok.0, c.in_ok-bytes.ensures.long)))
+    c.requires.long
 
 pub returns-clause-decoded : goal.returns-clause-decoded
 returns-clause-decoded g c =

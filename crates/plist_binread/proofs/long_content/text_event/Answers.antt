@@ -2,14 +2,16 @@ use Rattle.std.proofs.lemmas.Bool.{false≢true}
 use Rattle.std.proofs.lemmas.Str.{IsUtf8-had}
 use Rattle.std.proofs.Common.{ap}
 use Rattle.plist_binread.specs.Decoding.{scalar_event_in}
-use Rattle.plist_binread.proofs.Contents.{grows_text, text-utf8, text-not_utf8, refused_as}
+use Rattle.plist_binread.proofs.Contents.{text-utf8, text-not_utf8, refused_as}
+use Rattle.plist_binread.proofs.Extents.{leb_short}
 use Rattle.plist_binread.proofs.long_content.text_event.Goals as goal
 
 pub returns-in-Ok-clause-decoded : goal.returns-in-Ok-clause-decoded
 returns-in-Ok-clause-decoded c =
-    c.large.ensures.decoded _ _ (grows_text _)
-    (rw (← c.in-Ok.ensures.ok) (ap scalar_event_in
-    (text-utf8 _ (IsUtf8-had _ c.in-Ok.string.ok))))
+    rw (← c.in-Ok.ensures.ok) (ap scalar_event_in (text-utf8 _ (IsUtf8-had _ c.in-Ok.string.ok)))
+
+pub returns-in-Ok-clause-large : goal.returns-in-Ok-clause-large
+returns-in-Ok-clause-large c = leb_short _ 8 (rw c.in-Ok.ensures.ok c.requires)
 
 pub returns-clause-decoded : goal.returns-clause-decoded
 returns-clause-decoded c =
