@@ -17,7 +17,7 @@ use Rattle.plist_base.specs.Trees as trees
 use Rattle.plist_base.proofs.Refusals.{MatchFault-at}
 use Rattle.plist_format.specs.Object.{Object, Scalar, Array, Dictionary, Faulty, date, date_if_any, length_in, object_in, text, text_of_units}
 use Rattle.plist_binread.specs.CountedContent.{content_means, counted_with, unit_size}
-use Rattle.plist_binread.specs.Decoded.{DecodesAfter, DecodesAt, DecodesSeen, FitsBefore, FitsWalk, IsAnswerFor, IsDecodedAs, IsFaultOf, IsLongCount, KeepsFault, SetsContentAt, SetsDecoded, SetsEvent, bytes_at, content_size, event_of_object, kind_of_object_fault, small_count}
+use Rattle.plist_binread.specs.Decoded.{DecodesAfter, DecodesAt, DecodesSeen, FitsBefore, FitsWalk, IsAnswerFor, IsDecodedAs, IsObjectFault, IsLongCount, KeepsFault, SetsContentAt, SetsDecoded, SetsEvent, bytes_at, content_size, event_of_object, kind_of_object_fault, small_count}
 use Rattle.plist_binread.specs.Decoding.{Allocates, IsCollection, IsRefusedAs, scalar_event_in}
 use Rattle.plist_binread.specs.FaultOffsets.{FailsWithin, MatchReader}
 use Rattle.plist_binread.specs.Packed.{MayAllocate, content_bytes, is_small_event, scalar_event, unmarked, unpacked}
@@ -59,7 +59,7 @@ by_kind kind place e is inside reader = (
 -- the error of an object's fault at its place
 pub fault_there : (f : ObjectFault) (kind : FaultKind) (place : ℕ) (e : Error)
     → (f ≡ fault.NoMemory → ⊥) → kind ≡ kind_of_object_fault f → fault_of e ≡ fault_at kind place
-    → ((object : Object) → IsFaultOf object f → IsRefusedAs object place e)
+    → ((object : Object) → IsObjectFault object f → IsRefusedAs object place e)
     × ((end : ℕ) → FailsWithin place end (fault_of e)) × ((count : ℕ) → CountsIo e count count)
 fault_there fault.NoMemory kind place e other same is = absurd (other refl)
 fault_there fault.Overrun kind place e other same is =

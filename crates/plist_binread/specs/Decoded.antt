@@ -38,9 +38,9 @@ kind_of_object_fault fault.NotUtf16 = InvalidUtf16String
 kind_of_object_fault fault.NoMemory = OutOfMemory
 
 -- the object is this fault, or memory for it ran out
-abbrev pub IsFaultOf : Object → ObjectFault → Type 0
-IsFaultOf object fault.NoMemory = Allocates object
-IsFaultOf object other = object ≡ Faulty (kind_of_object_fault other)
+abbrev pub IsObjectFault : Object → ObjectFault → Type 0
+IsObjectFault object fault.NoMemory = Allocates object
+IsObjectFault object other = object ≡ Faulty (kind_of_object_fault other)
 
 -- ---- what is decoded
 
@@ -77,7 +77,7 @@ IsDecodedAs bytes object (decoded.Dictionary count) =
 
 -- the same of an answer
 abbrev pub IsAnswerFor : (bytes : List ℕ) → Object → Result Decoded ObjectFault → Type 0
-IsAnswerFor bytes object answer = MatchResult answer (IsDecodedAs bytes object) (IsFaultOf object)
+IsAnswerFor bytes object answer = MatchResult answer (IsDecodedAs bytes object) (IsObjectFault object)
 
 -- an object is decoded by the bytes that are seen of it, whatever lies after them before the trailer
 abbrev pub DecodesSeen : (extent : ℕ) → (List ℕ → Object) → (seen : List ℕ)
@@ -116,7 +116,7 @@ CountsSmall counts count old new answer = counts → count new ≡ count old + s
 abbrev pub DecodesIfShort : Object → Result (Option Decoded) ObjectFault → Type 0
 DecodesIfShort object answer = MatchResult answer
     (λ found. IfSome found (λ decoded. (bytes : List ℕ) → IsDecodedAs bytes object decoded))
-    (IsFaultOf object)
+    (IsObjectFault object)
 
 -- ---- at a place
 

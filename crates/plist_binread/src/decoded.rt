@@ -4,7 +4,7 @@ ghost use Rattle.std.specs.Prelude.{ℕ, ◌≡◌, ◌<◌, ◌≤◌};
 ghost use Rattle.plist_base.specs.Faults.{fault_of, kind_of};
 ghost use Rattle.plist_base.specs.Sources.{CountsIo};
 ghost use Rattle.plist_format.specs.Object.{Object};
-ghost use Rattle.plist_binread.specs.Decoded.{IsFaultOf, kind_of_object_fault};
+ghost use Rattle.plist_binread.specs.Decoded.{IsObjectFault, kind_of_object_fault};
 ghost use Rattle.plist_binread.specs.Decoding.{IsRefusedAs};
 ghost use Rattle.plist_binread.specs.FaultOffsets.{FailsWithin};
 ghost use Rattle.plist_binread.specs.CountedContent.{unit_size};
@@ -107,7 +107,7 @@ impl ObjectFault {
     #[cold]
     #[inline(never)]
     pub fn at(self, place: u64) -> Error
-        ensures refused { (object : Object) → IsFaultOf object self
+        ensures refused { (object : Object) → IsObjectFault object self
             → IsRefusedAs object place result }
         ensures fault { (end : ℕ) → FailsWithin place end (fault_of result) }
         ensures failures { (count : ℕ) → CountsIo result count count }

@@ -10,7 +10,7 @@ ghost use Rattle.plist_binread.specs.Reading.{data_of_content};
 ghost use Rattle.plist_binread.specs.CountedContent.{AreUnits, content_means, unit_size};
 ghost use Rattle.plist_binread.specs.FaultOffsets.{ErrWithin, FailsWithin};
 ghost use Rattle.plist_binread.specs.Decoding.{IsRefusedAs};
-ghost use Rattle.plist_binread.specs.Decoded.{IsFaultOf, IsLongBytes, KeepsFault, SetsEvent, small_in};
+ghost use Rattle.plist_binread.specs.Decoded.{IsObjectFault, IsLongBytes, KeepsFault, SetsEvent, small_in};
 ghost use Rattle.plist_binread.specs.Packed.{MayAllocate, content_bytes, is_small_event, scalar_event, text_if_any, unpacked};
 ghost use Rattle.plist_binread.specs.Slot.{answer_in, event_in, compact_event_of, is_in_slot};
 
@@ -198,7 +198,7 @@ impl EventSlot {
     #[cold]
     #[inline(never)]
     pub fn refuse_object(&mut self, fault: ObjectFault, place: u64) -> Refused
-        ensures refused { (object : Object) → IsFaultOf object fault
+        ensures refused { (object : Object) → IsObjectFault object fault
             → IsRefusedAs object place self.new.fault }
         ensures fault { (end : ℕ) → FailsWithin place end (fault_of self.new.fault) }
         ensures failures { (count : ℕ) → CountsIo self.new.fault count count }
