@@ -25,7 +25,7 @@ import tempfile
 import time
 
 TOP = pathlib.Path(__file__).resolve().parents[2]
-KEPT = pathlib.Path(os.environ.get("RT_KEPT", "/opt/rattle-kept"))
+KEPT = pathlib.Path(os.environ["RT_KEPT"]) if "RT_KEPT" in os.environ else None
 FROM_NOTHING = {"first", "gate"}
 
 # A line of a function, and another that does the same.
@@ -113,8 +113,10 @@ def gate(clone):
 def main(words):
     words = words or ["first", "function", "user"]
     print(f"{'':40} {'wall':>8} {'processor':>8}  stolen")
-    aside = KEPT.with_name(KEPT.name + ".aside")
-    if KEPT.exists() and FROM_NOTHING & {*words}:
+    if KEPT is None and FROM_NOTHING & {*words}:
+        sys.exit("RT_KEPT has to name the folder where the kit keeps proofs")
+    aside = KEPT.with_name(KEPT.name + ".aside") if KEPT else None
+    if aside and KEPT.exists() and FROM_NOTHING & {*words}:
         KEPT.rename(aside)
     try:
         with tempfile.TemporaryDirectory(prefix="times-") as room:
@@ -131,7 +133,7 @@ def main(words):
                 run(["git", "clone", "-q", str(TOP), str(clean)], room)
                 gate(clean)
     finally:
-        if aside.exists():
+        if aside and aside.exists():
             shutil.rmtree(KEPT, ignore_errors=True)
             aside.rename(KEPT)
 
