@@ -2,9 +2,9 @@ use Rattle.plist_base.specs.Allowances.{iterator_of}
 use Rattle.plist_base.specs.Budgets.{items_within_budget, within_bytes}
 use Rattle.plist_base.specs.Limits.{GivesLimited, items_admitted, limited_items}
 use Rattle.std.proofs.Common.{ap, ◌∙◌, option_map}
-use Rattle.plist_reader.specs.Reader.{Gives, items_of_input, limited_input, reader_source, reader_items}
+use Rattle.plist_reader.specs.Reader.{Gives, items_of_input, limited_input, reader_items}
 use Rattle.plist.specs.Collecting.{built_tree}
-use Rattle.plist.specs.FromReader.{budgeted_input}
+use Rattle.plist.specs.FromReader.{LimitedReader, budgeted_input}
 use Rattle.plist.proofs.ReadFaults.{budgeted-tells}
 use Rattle.plist.proofs.Shown.{joined, of-items, reader-shows}
 use Rattle.plist.proofs.Limiting.{budget-shows, built-within-budget, limited-shows}
@@ -43,7 +43,8 @@ returns-clause-read g c = (
   c.within_bytes.ensures.items,
   (
     ap items_admitted c.within_bytes.ensures.inner ∙ c.new-limited.ensures.items,
-    ap (λ l. (iterator_of l).state) c.within_bytes.ensures.inner
+    ap (λ (l : LimitedReader g.R.Source.known g.R.Source.failures). (iterator_of l).state)
+        c.within_bytes.ensures.inner
         ∙ ap (λ reader. reader.state) c.new-limited.ensures.inner ∙ c.new-reader.ensures.new,
   ),
   c.collect.ensures.value,
