@@ -36,7 +36,7 @@ pub fn value_or<'a>(pairs: &'a Dictionary, key: &str, other: &'a Value) -> &'a V
 /// Replaces the value of a key that is there.
 pub fn replace_at(pairs: &mut Dictionary, key: &str, value: Value) -> Value
     requires { IsSome (lookup (bytes_eq key.now) (pairs_of pairs.old)) }
-    ensures old { lookup (bytes_eq key.now) pairs_of pairs.old ≡ Some result }
+    ensures old { lookup (bytes_eq key.now) (pairs_of pairs.old) ≡ Some result }
     ensures pairs { pairs_of pairs.new ≡ set_value (bytes_eq key.now) (pairs_of pairs.old) value }
 {
     mem::replace(&mut pairs[key], value)
@@ -45,7 +45,8 @@ pub fn replace_at(pairs: &mut Dictionary, key: &str, value: Value) -> Value
 /// Sets the value of a key that is there: that takes no memory.
 pub fn set_where_there(pairs: &mut Dictionary, key: String, value: Value) -> Option<Value>
     ensures old { result ≡ lookup (bytes_eq (string_bytes key)) (pairs_of pairs.old) }
-    ensures pairs { OnSome result (IsSetAt (pairs_of pairs.old) (string_bytes key) value (pairs_of pairs.new)) }
+    ensures pairs { OnSome result (IsSetAt (pairs_of pairs.old) (string_bytes key) value
+        (pairs_of pairs.new)) }
 {
     if !pairs.contains_key(key.as_str()) {
         return None;
@@ -58,7 +59,8 @@ pub fn set_where_there(pairs: &mut Dictionary, key: String, value: Value) -> Opt
 
 /// Sets a key's value. Without memory the pairs are as they were, and that is the fault.
 pub fn set_or_fault(pairs: &mut Dictionary, key: String, value: Value) -> Result<(), Error>
-    ensures done { OnOk result (IsSetAt (pairs_of pairs.old) (string_bytes key) value (pairs_of pairs.new)) }
+    ensures done { OnOk result (IsSetAt (pairs_of pairs.old) (string_bytes key) value
+        (pairs_of pairs.new)) }
     ensures refused { OnErr result (pairs_of pairs.new ≡ pairs_of pairs.old) }
     ensures memory { OnlyMemory result }
 {
