@@ -15,7 +15,10 @@ pub fn event_at(number: u8) -> Option<Event<'static>> {
         3 => Some(Event::Boolean(true)),
         4 => Some(Event::EndCollection),
         5 => Some(Event::Data(CowSlice::Borrowed(b"\x00\xff"))),
-        6 => Date::from_plist_secs(0).map(Event::Date),
+        6 => match Date::from_plist_secs(0) {
+            Some(date) => Some(Event::Date(date)),
+            None => None,
+        },
         7 => Some(Event::Integer(Integer::from(5_i64))),
         8 => Some(Event::Real(RealBits::Four([0x3f, 0xc0, 0, 0]))),
         9 => Some(Event::Uid(Uid::new(4))),
