@@ -1,5 +1,7 @@
 //! Events: their ten kinds, and what is done with one.
 
+ghost use Rattle.std.specs.Iterator.{IsFinite};
+
 use crate::traits::is_debug;
 use plist_base::{Date, Error, Event, EventKind, Integer, OwnedEvent, RealBits, Uid};
 use std::alloc::Global;
@@ -51,7 +53,10 @@ pub fn print_items<W: Write, I: Iterator<Item = Result<OwnedEvent, Error>> + Dro
     out: &mut W,
     name: &str,
     mut items: I,
-) -> Result<(), Error> {
+) -> Result<(), Error>
+    requires can { I.can_next items }
+    requires ends { IsFinite (I.remaining items) }
+{
     write!(out, "{name}:")?;
     for _ in 0..20 {
         let item: Option<Result<OwnedEvent, Error>> = items.next();
