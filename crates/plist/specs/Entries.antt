@@ -105,7 +105,8 @@ abbrev pub entry_lends : Entry → MutBor Value → Fml
 entry_lends e r =
     follows the_row value.the_row (entry_ref e).ghost_name r.ghost_name (dictionary_with e)
 
--- the same if r is a reference, and else the pairs stay
+-- if r is a reference, the pairs have the last value written through it once its borrow ends;
+-- otherwise they stay as they are
 abbrev pub entry_lends_ok : {E : Type 0} → Entry → Result (MutBor Value) E → Fml
 entry_lends_ok e r =
     follows_if the_row value.the_row (entry_ref e).ghost_name (name_if_ok (λ x. x.ghost_name) r)

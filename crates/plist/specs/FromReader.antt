@@ -30,7 +30,7 @@ IsReadInDialect {R} dialect known failed source answer =
     (reader : Reader R (record { known = known; failures = failed }))
     × IsUnread reader source None dialect × Collects event_of (Gives known failed) reader answer
 
--- the same in the lax dialect
+-- the answer comes of the run of a new reader of this very source, in the lax dialect of ASCII
 abbrev pub IsReadByReader : {R : Type 0} (known : R → Option (List ℕ)) (failed : R → ℕ) (source : R)
     → Result Tree Fault → Type 0
 IsReadByReader known failed source answer = IsReadInDialect Lax known failed source answer
@@ -50,14 +50,15 @@ BeginsUnder limits known failed source limited =
     (items_admitted limited ≡ limited_items limits)
     × IsNewReader (inner_of_limited limited) source
 
--- the answer comes of the run of one
+-- the answer comes of the run of a new reader of this very source, under these limits
 abbrev pub IsReadWithin : {R : Type 0} → Limits
     → (known : R → Option (List ℕ)) (failed : R → ℕ) (source : R) → Result Tree Fault → Type 0
 IsReadWithin limits known failed source answer =
     (limited : LimitedReader known failed) × BeginsUnder limits known failed source limited
     × Collects event_of (GivesLimited (Gives known failed)) limited answer
 
--- the same within a budget of bytes
+-- the answer comes of the run of a new reader of this very source, under these limits and within
+-- this budget of bytes
 abbrev pub IsReadWithinBudget : {R : Type 0} → Limits → (bytes : ℕ)
     → (known : R → Option (List ℕ)) (failed : R → ℕ) (source : R) → Result Tree Fault → Type 0
 IsReadWithinBudget limits bytes known failed source answer =

@@ -42,7 +42,8 @@ AreWithinBudget limits bytes events = AreWithin limits events × (total_bytes ev
 abbrev pub IsWithinLimits : Limits → Tree → Type 0
 IsWithinLimits limits tree = NestsWithin tree limits.depth × IfEvents (AreWithin limits) tree
 
--- the same within a budget of bytes
+-- a value's tree nests at most `depth` collections; its events, and those that it came of, are
+-- within these limits and this budget of bytes
 abbrev pub IsWithinBudget : Limits → (bytes : ℕ) → Tree → Type 0
 IsWithinBudget limits bytes tree =
     NestsWithin tree limits.depth × IfEvents (AreWithinBudget limits bytes) tree

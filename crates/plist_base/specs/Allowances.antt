@@ -42,7 +42,8 @@ module _ {A : Type 0} (lets : A → List Item → List Item) (may_reach : Fault 
       (λ error. RefusesEvent lets may_reach old (event_of event) (fault_of error) × (ended ≡ true))
   Passes old (Err error) given new ended = (given ≡ Err error) × (ended ≡ true)
 
-  -- the same, or nothing where nothing comes, and then nothing more
+  -- what comes when the iterator inside is asked for its next item: at its end nothing comes, and
+  -- nothing more comes after it
   abbrev pub PassesNext : (old : A) → (asked given : Option (Result Event Error)) → (new : A)
       → (ended : Bool) → Type 0
   PassesNext old None given new ended = (given ≡ None) × (new ≡ old) × (ended ≡ true)

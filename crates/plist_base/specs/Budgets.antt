@@ -17,8 +17,8 @@ abbrev pub total_bytes : List PlainEvent → ℕ
 total_bytes [] = 0
 total_bytes (event ∷ events) = bytes_in event + total_bytes events
 
--- The items up to their first fault, in which the first string or data that has more bytes than are
--- left is replaced by lack of memory, which ends them.
+-- The items up to their first fault. The first string or data that has more bytes than are left is
+-- replaced by `OutOfMemory`, which ends them.
 abbrev pub within_bytes : (left : ℕ) → List Item → List Item
 within_bytes left [] = []
 within_bytes left (Ok event ∷ items) =

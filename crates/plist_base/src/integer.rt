@@ -301,7 +301,7 @@ fn number_in(text: &str) -> Option<Integer>
     }
 }
 
-/// The same call for `text.parse::<Integer>()`.
+/// Makes `text.parse::<Integer>()` work, which parses as [`Integer::from_str`] does.
 impl FromStr for Integer {
     type Err = InvalidInteger;
 

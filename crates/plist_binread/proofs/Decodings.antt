@@ -270,7 +270,7 @@ grows-small (trees.String text) h = tt
 grows-small (trees.Data bytes) h = tt
 grows-small scalar h = absurd h
 
--- or not, for lack of memory
+-- a small object is refused where allocation fails
 pub small-refused : (all : List ℕ) (object : Object) (place : ℕ) (kind : PackedKind) (content : ℕ)
     (e : Error) → fault_of e ≡ fault_nowhere OutOfMemory → MayAllocate (unpacked kind content)
     → IsDecodedAs all object (decoded.Small kind content) → IsRefusedAs object place e

@@ -54,10 +54,11 @@ IsLongCount content_kind.Data count = 8 < count
 IsLongCount content_kind.Text count = 8 < count
 IsLongCount content_kind.WideText count = ⊤
 
--- the same of a content, and of its bytes
+-- this content isn't small
 abbrev pub IsLong : Content → Type 0
 IsLong content = IsLongCount content.kind content.count
 
+-- a content of this kind that has these bytes isn't small
 abbrev pub IsLongBytes : ContentKind → List ℕ → Type 0
 IsLongBytes kind bytes = IsLongCount kind (length bytes)
 
@@ -75,7 +76,7 @@ IsDecodedAs bytes object (decoded.Array count) = IsCollection object (StartArray
 IsDecodedAs bytes object (decoded.Dictionary count) =
     IsCollection object (StartDictionary (Some count)) (2 * count) × (2 * count ≤ length bytes)
 
--- the same of an answer
+-- the answer is the decoded object, or what is wrong with it
 abbrev pub IsAnswerFor : (bytes : List ℕ) → Object → Result Decoded ObjectFault → Type 0
 IsAnswerFor bytes object answer = MatchResult answer (IsDecodedAs bytes object) (IsObjectFault object)
 
@@ -85,25 +86,25 @@ abbrev pub DecodesSeen : (extent : ℕ) → (List ℕ → Object) → (seen : Li
 DecodesSeen extent object seen answer = (more : List ℕ) → length (seen ++ more) ≡ extent
     → IsAnswerFor (seen ++ more) (object (seen ++ more)) answer
 
--- the same by what is seen after its first byte, whatever this is
+-- an object is decoded by the bytes that are seen after its first byte, whatever that byte is
 abbrev pub DecodesAfter : (extent : ℕ) → (List ℕ → Object) → (rest : List ℕ)
     → Result Decoded ObjectFault → Type 0
 DecodesAfter extent object rest answer = (first : ℕ) (more : List ℕ)
     → length (rest ++ more) ≡ extent
     → IsAnswerFor (first ∷ (rest ++ more)) (object (rest ++ more)) answer
 
--- the same of an object of a fixed size whose content means this
+-- an object of this fixed size, whose content means this, is decoded by the bytes after its first
 abbrev pub DecodesFixed : (extent size : ℕ) → (List ℕ → Object) → (rest : List ℕ)
     → Result Decoded ObjectFault → Type 0
 DecodesFixed extent size meaning rest answer =
     DecodesAfter extent (meaning_of_front size meaning) rest answer
 
--- a small scalar was decoded
+-- 1 where a small scalar was decoded, else 0
 abbrev pub small_count : Decoded → ℕ
 small_count (decoded.Small kind content) = 1
 small_count other = 0
 
--- by which the counter rises
+-- how far an answer raises the counter
 abbrev pub small_in : {E : Type 0} → Result Decoded E → ℕ
 small_in (Ok decoded) = small_count decoded
 small_in (Err error) = 0

@@ -7,7 +7,7 @@ ghost use Rattle.plist_binread.specs.Walking.{IsWalkOf, cached_in, walk_objects}
 ghost use Rattle.plist_binread.specs.FaultOffsets.{ErrWithin};
 ghost use Rattle.plist_binread.specs.Decoded.{FitsWalk, small_count};
 ghost use Rattle.plist_binread.specs.Step.{IsFoundAt, IsLighterEntered, IsUnchanged, CachesDecoded, CachesEntered, EntersObject, IsCollectionStart, OpensCollection, OpensObject, RefusesEntering, RefusesWithoutIo};
-ghost use Rattle.plist_binread.specs.Slot.{AnswersInSlot, answer_in, event_in};
+ghost use Rattle.plist_binread.specs.Slot.{AnswersInSlot, answer_in};
 
 use crate::counter::DecodeCounter;
 use crate::decoded::Decoded;

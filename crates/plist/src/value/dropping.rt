@@ -29,9 +29,9 @@ impl Value {
 
     /// Drops the value without recursion and without memory, however deep it is.
     ///
-    /// A value that goes out of scope is dropped by recursion over the arrays in it: one whose
-    /// arrays nest some 100,000 levels deep ends the program. Call this for a value that may be as
-    /// deep, as one that was read from a stranger's file without [`Limits`].
+    /// When a value goes out of scope, the arrays in it are dropped by recursion, and at some
+    /// 100,000 levels of arrays the call stack overflows. Call this instead for a value that may
+    /// nest that deep, such as one that was read from a stranger's file without [`Limits`].
     pub fn destroy(self) {
         match self.into_children() {
             None => {}
