@@ -1,7 +1,7 @@
 //! The events of a property list.
 
-ghost use Rattle.std.specs.Prelude.{◌≡◌, IfOk};
-ghost use Rattle.plist_base.specs.Events.{event_of, shape_of, text_or_data};
+ghost use Rattle.std.specs.Prelude.{◌≡◌, IfErr, IfOk};
+ghost use Rattle.plist_base.specs.Events.{IsTextOrDataEvent, event_of, shape_of, text_or_data};
 ghost use Rattle.plist_base.specs.Outcomes.{OnlyMemory};
 
 use crate::{Date, Error, Integer, RealBits, Uid};
@@ -62,6 +62,7 @@ impl<'a> Event<'a> {
     pub fn into_owned(self, alloc: Global) -> Result<OwnedEvent, Error>
         ensures event { IfOk result (λ owned. event_of owned ≡ event_of self.entry) }
         ensures memory { OnlyMemory result }
+        ensures copied { IfErr result (λ _. IsTextOrDataEvent (event_of self.entry)) }
     {
         Ok(match self {
             Event::StartArray(length) => Event::StartArray(length),

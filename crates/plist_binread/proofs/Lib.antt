@@ -22,3 +22,4 @@ pub mod Taken
 pub mod ChildTaken
 pub mod Limiting
 pub mod Entering
+pub mod Ending

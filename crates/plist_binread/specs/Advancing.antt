@@ -1,15 +1,16 @@
--- What one call of a reader's `advance` does, and the current event.
-use Rattle.std.specs.Prelude.{ℕ, ◌<◌, Bool, false, List, Option, Result, IfSome}
+-- What one step of a reader does, and the current event.
+use Rattle.std.specs.Prelude.{◌≡◌, ℕ, ◌<◌, Bool, false, List, Option, Result, IfSome, MatchResult}
 use Rattle.plist_base.specs.declared.error.Error.{Error}
 use Rattle.plist_base.specs.declared.source.Source.{Ghosts}
 use Rattle.plist_base.specs.Events.{PlainEvent, Item}
+use Rattle.plist_base.specs.Visits.{PlainItem}
 use Rattle.plist_binread.specs.declared.reader.BinaryReader.{BinaryReader}
 use Rattle.plist_binread.specs.declared.counter.DecodeCounter.{Ghosts as CounterGhosts}
 use Rattle.plist_binread.specs.Slot.{event_in, compact_event_of, item_in}
 use Rattle.plist_binread.specs.declared.event_slot.Refused.{Refused}
 use Rattle.plist_binread.specs.declared.event_slot.CompactEvent.{CompactEvent}
 use Rattle.std.specs.String.{string_bytes}
-use Rattle.plist_binread.specs.BinaryReader.{GivesAs, GivesBinaryBy, has_limits, binary_steps, items_to_come, unlimited_items}
+use Rattle.plist_binread.specs.BinaryReader.{GivesAs, GivesBinaryBy, HasEndedBinary, has_limits, binary_steps, items_to_come, unlimited_items}
 
 module _ {R C : Type 0} {g : Ghosts R} {h : CounterGhosts C} where
   -- the current event
@@ -59,3 +60,24 @@ module _ {R C : Type 0} {g : Ghosts R} {h : CounterGhosts C} (known : R → Opti
   abbrev pub WalksInSlot : {A : Type 0} → Option (Result A Refused) → (new : BinaryReader R C g h)
       → Type 0
   WalksInSlot item new = Walks (item_in item new.slot) new
+
+  -- One step: an event, an error in the place of one, or nothing. Fewer items are to come then.
+  pub record Steps (item : PlainItem) (new : BinaryReader R C g h) : Type 0 where
+    pub gives : GivesBinaryBy known failed counts count old (λ event. event) items_to_come has_limits
+        item new
+    pub falls : IfSome item (λ _. binary_steps new < binary_steps old)
+
+-- the reader has ended, and is otherwise as it was
+pub record EndsThere {R C : Type 0} {g : Ghosts R} {h : CounterGhosts C} (old new : BinaryReader R C g h)
+    : Type 0 where
+  pub ended : HasEndedBinary new
+  pub source : new.source ≡ old.source
+  pub counter : new.counter ≡ old.counter
+  pub bounds : new.bounds ≡ old.bounds
+  pub walk : new.walk ≡ old.walk
+  pub limiter : new.limiter ≡ old.limiter
+
+-- the reader has ended there if this is an error, and else it is as it was
+abbrev pub EndsOnError : {R C A : Type 0} {g : Ghosts R} {h : CounterGhosts C} → Result A Error
+    → (old new : BinaryReader R C g h) → Type 0
+EndsOnError answer old new = MatchResult answer (λ _. new ≡ old) (λ _. EndsThere old new)

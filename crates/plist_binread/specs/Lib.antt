@@ -12,6 +12,7 @@ pub mod Front
 pub mod Packed
 pub mod Step
 pub mod Advancing
+pub mod FirstEvents
 pub mod Slot
 pub mod NextChild
 pub mod Walking

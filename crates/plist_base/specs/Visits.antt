@@ -1,0 +1,49 @@
+-- How a source hands its events to a visitor.
+use Rattle.std.specs.Prelude.{◌≡◌, List, [], ◌∷◌, Option, Some, None, Result, Ok, Err}
+use Rattle.std.specs.declared.ops.ControlFlow.{ControlFlow}
+use Rattle.std.specs.declared.ops.ControlFlow.TheVariants.{Continue, Break}
+use Rattle.plist_base.specs.declared.error.Error.{Error}
+use Rattle.plist_base.specs.declared.visitor.Visited.{Visited}
+use Rattle.plist_base.specs.declared.visitor.Visited.TheVariants.{Ended, Stopped}
+use Rattle.plist_base.specs.Events.{PlainEvent}
+
+-- whether a visitor wants the next event
+abbrev pub Flow : Type 0
+Flow = ControlFlow (Unit {0}) (Unit {0})
+
+-- what a source hands over: an event, an error in the place of one, or nothing
+abbrev pub PlainItem : Type 0
+PlainItem = Option (Result PlainEvent Error)
+
+-- what ended a visit: nothing was left, the visitor wanted no more, or an error came
+abbrev pub last_turn : Result Visited Error → Option (Result Flow Error)
+last_turn (Ok Ended) = None
+last_turn (Ok Stopped) = Some (Ok (Break tt))
+last_turn (Err error) = Some (Err error)
+
+module _ {I V : Type 0} (gives : I → PlainItem → I → Type 0)
+    (step : V → PlainEvent → Flow → V → Type 0) where
+  -- one event is handed over, and this is what the visitor returns
+  pub record HandsOver (old : I × V) (event : PlainEvent) (flow : Flow) (new : I × V) : Type 0 where
+    pub given : gives old.0 (Some (Ok event)) new.0
+    pub taken : step old.1 event flow new.1
+
+  -- One event is handed over; or an error comes in the place of one, or nothing is left, and then
+  -- the visitor stays as it is.
+  abbrev pub TakesTurn : (old : I × V) → Option (Result Flow Error) → (new : I × V) → Type 0
+  TakesTurn old None new = gives old.0 None new.0 × (new.1 ≡ old.1)
+  TakesTurn old (Some (Ok flow)) new = (event : PlainEvent) × HandsOver old event flow new
+  TakesTurn old (Some (Err error)) new = gives old.0 (Some (Err error)) new.0 × (new.1 ≡ old.1)
+
+  -- these events are handed over one by one, and the visitor wants more after each
+  abbrev pub HandsOverAll : (old : I × V) → List PlainEvent → (new : I × V) → Type 0
+  HandsOverAll old [] new = new ≡ old
+  HandsOverAll old (event ∷ events) new =
+      (next : I × V) × HandsOver old event (Continue tt) next × HandsOverAll next events new
+
+  -- events are handed over one by one, and then the visit ends
+  pub record Visits (old : I × V) (answer : Result Visited Error) (new : I × V) : Type 0 where
+    pub events : List PlainEvent
+    pub left : I × V
+    pub handed : HandsOverAll old events left
+    pub ended : TakesTurn left (last_turn answer) new

@@ -1,0 +1,129 @@
+//! Visitors, which take the events of a property list one by one.
+
+use crate::{Date, Error, Event, Integer, RealBits, Uid};
+use std::borrow::{CowSlice, CowStr};
+use std::ops::ControlFlow;
+
+/// Takes the events of a property list one by one, and says after each whether more are wanted.
+///
+/// A visitor doesn't check the order of events: the source that it visits hands them over in the
+/// order of the file. A visitor that can fail keeps its error and returns `Break`.
+///
+/// Only [`EventVisitor::event`] has to be written. Each other call takes the event that it names,
+/// and a visitor for which speed counts writes those that come often.
+pub trait EventVisitor {
+    ghost use Rattle.plist_base.specs.Events.{EndCollection, PlainEvent, StartArray, StartDictionary, event_of};
+    ghost use Rattle.plist_base.specs.Visits.{Flow};
+
+    /// What a call does that takes an event: what it returns, and the visitor before and after it.
+    ghost step: { Self → PlainEvent → Flow → Self → Type 0 };
+
+    /// Takes an event, and returns `Continue` if the next one is wanted.
+    fn event(&mut self, event: Event<'_>) -> ControlFlow<()>
+        ensures { step self.old (event_of event.entry) result self.new };
+
+    /// Takes the start of an array. Its length is a hint.
+    #[inline(always)]
+    fn start_array(&mut self, length: Option<u64>) -> ControlFlow<()>
+        ensures { step self.old (StartArray length) result self.new }
+    {
+        self.event(Event::StartArray(length))
+    }
+
+    /// Takes the start of a dictionary. Its length is a hint, in pairs.
+    #[inline(always)]
+    fn start_dictionary(&mut self, length: Option<u64>) -> ControlFlow<()>
+        ensures { step self.old (StartDictionary length) result self.new }
+    {
+        self.event(Event::StartDictionary(length))
+    }
+
+    /// Takes the end of the innermost array or dictionary.
+    #[inline(always)]
+    fn end_collection(&mut self) -> ControlFlow<()>
+        ensures { step self.old EndCollection result self.new }
+    {
+        self.event(Event::EndCollection)
+    }
+
+    /// Takes a Boolean.
+    #[inline(always)]
+    fn boolean(&mut self, value: bool) -> ControlFlow<()>
+        ensures { step self.old (event_of (Event.Boolean value)) result self.new }
+    {
+        self.event(Event::Boolean(value))
+    }
+
+    /// Takes data.
+    #[inline(always)]
+    fn data(&mut self, bytes: CowSlice<'_, u8>) -> ControlFlow<()>
+        ensures { step self.old (event_of (Event.Data bytes.entry)) result self.new }
+    {
+        self.event(Event::Data(bytes))
+    }
+
+    /// Takes a date.
+    #[inline(always)]
+    fn date(&mut self, date: Date) -> ControlFlow<()>
+        ensures { step self.old (event_of (Event.Date date)) result self.new }
+    {
+        self.event(Event::Date(date))
+    }
+
+    /// Takes an integer.
+    #[inline(always)]
+    fn integer(&mut self, value: Integer) -> ControlFlow<()>
+        ensures { step self.old (event_of (Event.Integer value)) result self.new }
+    {
+        self.event(Event::Integer(value))
+    }
+
+    /// Takes a real.
+    #[inline(always)]
+    fn real(&mut self, bits: RealBits) -> ControlFlow<()>
+        ensures { step self.old (event_of (Event.Real bits)) result self.new }
+    {
+        self.event(Event::Real(bits))
+    }
+
+    /// Takes a text, or a key.
+    #[inline(always)]
+    fn string(&mut self, text: CowStr<'_>) -> ControlFlow<()>
+        ensures { step self.old (event_of (Event.String text.entry)) result self.new }
+    {
+        self.event(Event::String(text))
+    }
+
+    /// Takes the number of an object in a keyed archive.
+    #[inline(always)]
+    fn uid(&mut self, uid: Uid) -> ControlFlow<()>
+        ensures { step self.old (event_of (Event.Uid uid)) result self.new }
+    {
+        self.event(Event::Uid(uid))
+    }
+}
+
+/// Why a source handed over no more events.
+#[derive(Clone, Copy, Debug, PartialEq, Eq)]
+pub enum Visited {
+    /// All events were handed over.
+    Ended,
+    /// The visitor wanted no more of them.
+    Stopped,
+}
+
+/// Hands the events of a property list to a visitor.
+pub trait EventSource {
+    ghost use Rattle.plist_base.specs.Visits.{PlainItem, Visits};
+
+    /// What it does to hand over one item: an event, an error, or nothing.
+    ghost gives: { Self → PlainItem → Self → Type 0 };
+
+    /// Hands the events that are still to come to a visitor, one by one, until none is left, an
+    /// error comes in the place of one, or the visitor wants no more.
+    ///
+    /// # Errors
+    /// The error that comes in the place of an event.
+    fn visit<V: EventVisitor>(&mut self, visitor: &mut V) -> Result<Visited, Error>
+        ensures { Visits gives V.step (self.old, visitor.old) result (self.new, visitor.new) };
+}

@@ -1,0 +1,37 @@
+//! The visitor that keeps one event.
+
+ghost use Rattle.std.specs.Prelude.{◌≡◌};
+
+use plist_base::{Error, ErrorKind, Event, EventVisitor, OwnedEvent};
+use std::alloc::Global;
+use std::ops::ControlFlow;
+
+/// Keeps the first event that it takes, and wants no more.
+#[derive(Drop)]
+pub struct FirstEvent {
+    alloc: Global,
+    /// The event, or `OutOfMemory` if no memory was found for its text or data.
+    pub kept: Result<OwnedEvent, Error>,
+}
+
+impl FirstEvent {
+    /// Creates a visitor that has taken no event.
+    pub fn new(alloc: Global) -> FirstEvent {
+        FirstEvent {
+            alloc,
+            kept: Err(ErrorKind::OutOfMemory.without_position()),
+        }
+    }
+}
+
+impl EventVisitor for FirstEvent {
+    ghost use Rattle.plist_binread.specs.FirstEvents.{KeepsEvent};
+
+    ghost step = { λ _ event flow new. KeepsEvent event flow new };
+
+    #[inline(always)]
+    fn event(&mut self, event: Event<'_>) -> ControlFlow<()> {
+        self.kept = event.into_owned(self.alloc);
+        ControlFlow::Break(())
+    }
+}
