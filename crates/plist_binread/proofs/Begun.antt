@@ -5,6 +5,7 @@ use Rattle.std.specs.List.{slice_get}
 use Rattle.std.proofs.lemmas.Bool.{cases_lt}
 use Rattle.std.proofs.Math.ListN.{length-replicate}
 use Rattle.plist_base.specs.declared.error.Error.{Error}
+use Rattle.plist_base.specs.Visits.{Flow}
 use Rattle.plist_base.specs.Faults.{Fault, OutOfMemory, MatchFault, fault_nowhere, kind_of, error_kind_of, fault_of}
 use Rattle.plist_base.specs.Events.{PlainEvent, Item}
 use Rattle.plist_base.proofs.Refusals.{MatchFault-all, MatchFault-at, MatchFault-weaker}
@@ -15,9 +16,10 @@ use Rattle.plist_format.specs.Object.{Object}
 use Rattle.plist_format.specs.Unfolding.{table_of, items_of, unfolding_of, until_fault, items_with, items_of_file}
 use Rattle.plist_binread.specs.declared.head.Bounds.{Bounds}
 use Rattle.plist_binread.specs.Remaining.{path_of, remaining_items, entries_of, places_with, places_of, CountsObjects, IsHeld, MatchesFile, SomeRemain, AllocatesFirst}
-use Rattle.plist_binread.specs.Beginning.{CountsRoot, RefusesFirst}
-use Rattle.plist_binread.specs.declared.event_slot.EventSlot.{EventSlot}
-use Rattle.plist_binread.specs.declared.event_slot.Refused.{Refused}
+use Rattle.plist_binread.specs.Beginning.{CachesRoot, CountsRoot, RefusesFirst}
+use Rattle.plist_binread.specs.Step.{CachesEntered}
+use Rattle.plist_binread.specs.declared.fault_slot.FaultSlot.{FaultSlot}
+use Rattle.plist_binread.specs.declared.fault_slot.Refused.{Refused}
 use Rattle.plist_binread.specs.DecodeOutcome.{YieldsAnswer}
 use Rattle.plist_binread.specs.Walking.{walk_objects}
 use Rattle.plist_binread.specs.declared.walk.Walk.{Walk}
@@ -98,7 +100,7 @@ module _ (bytes : List ℕ) (head : code.Head) (bounds : Bounds)
           rw (zeros, get_or-zeros n number, there, is) refl
 
 -- the answer to the first call
-abbrev pub Begins : List ℕ → Result (Unit {0}) Error → PlainEvent → List Item → Type 0
+abbrev pub Begins : List ℕ → Result Flow Error → PlainEvent → List Item → Type 0
 Begins bytes answer current after = MatchResult answer
     (λ _. items_of_file bytes ≡ Ok current ∷ until_fault after) (RefusesFirst bytes)
 
@@ -110,7 +112,7 @@ known_unread known e refused = IfSome_then known refused (λ bytes.
     (λ _. remaining_file bytes)
     (λ is. file_refused bytes (fault_of e) is))
 
-begins_with : (bytes : List ℕ) (before after : List Item) (answer : Result (Unit {0}) Error)
+begins_with : (bytes : List ℕ) (before after : List Item) (answer : Result Flow Error)
     (current : PlainEvent) → items_of_file bytes ≡ until_fault before
     → YieldsAnswer before answer current after → Begins bytes answer current after
 begins_with bytes before after (Ok _) current is yields = is ∙ yields
@@ -136,7 +138,7 @@ known_opens known now head bounds tags n fs same value within trailer width zero
     known_first bytes head bounds value trailer width tags n zeros count within))
 
 pub known_begun : (known now : Option (List ℕ)) (head : code.Head) (bounds : Bounds) (tags : List ℕ)
-    (fs gs : List Frame) (answer : Result (Unit {0}) Error) (current : PlainEvent) → now ≡ known
+    (fs gs : List Frame) (answer : Result Flow Error) (current : PlainEvent) → now ≡ known
     → length fs ≡ 0
     → length tags ≡ length head.places.items → bounds.trailer ≡ head.trailer
     → bounds.reference_width ≡ head.reference_width
@@ -160,7 +162,7 @@ known_begun known now head bounds tags fs gs answer current same len count trail
 -- ---- how many objects there are
 
 pub known_counted : (known : Option (List ℕ)) (head : code.Head)
-    (answer : Result (Unit {0}) Refused) (slot : EventSlot) (walk : Walk)
+    (answer : Result Flow Refused) (slot : FaultSlot) (walk : Walk)
     → walk_objects walk ≡ length head.places.items
     → IfSome known (λ bytes. head_of bytes ≡ Ok (head_seen head))
     → IfSome known (CountsRoot answer slot walk)
@@ -174,14 +176,14 @@ known_counted known head (Err refused) slot walk count read = IfSome_then known 
 pub known_uncounted : (known : Option (List ℕ)) (e : Error) (count : ℕ) → count ≡ 0
     → IfSome known (λ bytes. MatchFault (kind_of (error_kind_of e)) ⊤ ⊤
     (head_of bytes ≡ Err (fault_of e)))
-    → IfSome known (λ bytes. CountsObjects {A = Unit {0}} bytes (Err e) count)
+    → IfSome known (λ bytes. CountsObjects {A = Flow} bytes (Err e) count)
 known_uncounted known e count none refused = IfSome_then known refused (λ bytes.
     MatchFault-weaker (kind_of (error_kind_of e)) (λ _. tt) (λ _. tt)
     (λ is. none ∙ sym (ap (λ head. length (places_with head)) is)))
 
 pub known_hidden : (known : Option (List ℕ)) (e : Error) (count : ℕ)
     → fault_of e ≡ fault_nowhere OutOfMemory
-    → IfSome known (λ bytes. CountsObjects {A = Unit {0}} bytes (Err e) count)
+    → IfSome known (λ bytes. CountsObjects {A = Flow} bytes (Err e) count)
 known_hidden known e count memory = IfSome-all known (λ bytes.
     MatchFault-at (kind_of (error_kind_of e)) OutOfMemory _ _ _ (ap (λ (f : Fault). f.kind) memory)
     tt)
@@ -189,3 +191,12 @@ known_hidden known e count memory = IfSome-all known (λ bytes.
 pub known_few : (known : Option (List ℕ)) (tags : List ℕ) → length tags ≡ 0
     → IfSome known (λ bytes. length tags ≤ length (places_of bytes))
 known_few known tags count = IfSome-all known (λ bytes. omega arith)
+
+-- the root is cached if it is small
+pub known_cached : (known now : Option (List ℕ)) (head : code.Head) (number : ℕ)
+    (answer : Result Flow Error) (event : PlainEvent) (walk : Walk) → now ≡ known
+    → head.root ≡ number
+    → IfSome known (λ bytes. head_of bytes ≡ Ok (head_seen head))
+    → CachesEntered now number answer event walk → IfSome known (CachesRoot answer event walk)
+known_cached known now head number answer event walk same root value caches =
+    IfSome-both known value (rw same at caches) (λ bytes is caches. rw (is, root) caches)

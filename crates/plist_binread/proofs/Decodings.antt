@@ -31,8 +31,8 @@ use Rattle.plist_binread.specs.declared.decoded.Decoded.{Decoded}
 use Rattle.plist_binread.specs.declared.decoded.Decoded.TheVariants as decoded
 use Rattle.plist_binread.specs.declared.decoded.ObjectFault.{ObjectFault}
 use Rattle.plist_binread.specs.declared.decoded.ObjectFault.TheVariants as fault
-use Rattle.plist_binread.specs.declared.event_slot.EventSlot.{EventSlot}
-use Rattle.plist_binread.specs.declared.event_slot.Refused.{Refused}
+use Rattle.plist_binread.specs.declared.fault_slot.FaultSlot.{FaultSlot}
+use Rattle.plist_binread.specs.declared.fault_slot.Refused.{Refused}
 use Rattle.plist_binread.specs.declared.head.Bounds.{Bounds}
 use Rattle.plist_binread.specs.declared.packed.PackedKind.{PackedKind}
 use Rattle.plist_binread.specs.declared.packed.PackedKind.TheVariants as kind
@@ -161,7 +161,7 @@ seen_answers known bounds place seen answer buffered is means = IfSome_then know
     (means cut.0 extent))
 
 pub seen_decodes : (known : Option (List ℕ)) (bounds : Bounds) (place : ℕ) (seen : List ℕ)
-    (answer : Result Decoded ObjectFault) (kept : Result Decoded Refused) (slot : EventSlot)
+    (answer : Result Decoded ObjectFault) (kept : Result Decoded Refused) (slot : FaultSlot)
     → place + length seen ≤ bounds.trailer → IfSome known (λ bytes. LiesAt bytes place seen)
     → DecodesSeen (bounds.trailer - place) (object_in bounds.reference_width) seen answer
     → KeepsFault answer place kept slot → DecodesAt known bounds place (answer_in kept slot)
@@ -362,7 +362,7 @@ large_unlike (Err error) d current large = tt
 
 -- an object that was cached, if its event is small
 pub cached_if : {A : Type 0} (known : Option (List ℕ)) (number : ℕ) (answer : Result A Refused)
-    (slot : EventSlot) (current : PlainEvent) (d : Decoded) (tags : List ℕ)
+    (slot : FaultSlot) (current : PlainEvent) (d : Decoded) (tags : List ℕ)
     → OnOk answer (is_small_event current ≡ true → small_count d ≡ 1)
     → (small_count d ≡ 1 → 0 < unmarked (get_or tags number 0))
     → IfSome known (λ _. IsCurrentCached (Some number) (Some (answer_in answer slot)) current tags)
@@ -386,7 +386,7 @@ content_enough size extent rest behind shown within short near few = elim (cases
   | inr more ↦ omega arith
 ]
 
-pub large_on_slot : {A : Type 0} (answer : Result A Refused) (slot : EventSlot) (object : Object)
+pub large_on_slot : {A : Type 0} (answer : Result A Refused) (slot : FaultSlot) (object : Object)
     (place : ℕ) (current : PlainEvent) → SetsEvent object place (answer_in answer slot) current
     → (event_of_object object ≡ Some current → is_small_event current ≡ false)
     → OnOk answer (is_small_event current ≡ false)

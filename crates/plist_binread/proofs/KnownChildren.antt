@@ -2,6 +2,7 @@
 use Rattle.std.proofs.Common.{◌≡◌, ℕ, ◌<◌, List, get_or, Option, Some, Result, Ok, Err, IfSome, MatchResult, ap, ◌∙◌}
 use Rattle.std.specs.List.{slice_get}
 use Rattle.plist_base.specs.declared.error.Error.{Error}
+use Rattle.plist_base.specs.Visits.{Flow}
 use Rattle.plist_base.specs.Events.{PlainEvent}
 use Rattle.plist_base.specs.Faults.{IsIo, kind_of, error_kind_of}
 use Rattle.plist_base.proofs.Refusals.{MatchFault-weaker}
@@ -78,7 +79,7 @@ module _ (known : Option (List ℕ)) (bounds : Bounds) (old mid : Walk) (object 
           let many = as_many bytes bounds mid.tags.items mid.contents.items (open_in mid) k in
           rw (child.1, ← many, place) child.0.0.0)
 
-      pub child_yields : (answer : Result (Unit {0}) Error) (current : PlainEvent) (new : Walk)
+      pub child_yields : (answer : Result Flow Error) (current : PlainEvent) (new : Walk)
           → IfSome now (λ bytes. YieldsAnswer (remaining_entering bytes bounds mid
           (get_or mid.contents.items object 0) number) answer current (remaining_in bytes bounds new))
           → IfSome known (λ bytes. YieldsAnswer (remaining_in bytes bounds old) answer current
@@ -87,7 +88,7 @@ module _ (known : Option (List ℕ)) (bounds : Bounds) (old mid : Walk) (object 
           (λ bytes first yields. rw first yields)
 
       -- and it is cached if it is small
-      pub child_kept : (answer : Result (Unit {0}) Error) (current : PlainEvent) (tags : List ℕ)
+      pub child_kept : (answer : Result Flow Error) (current : PlainEvent) (tags : List ℕ)
           → IfSome now (λ bytes. IsCurrentCached (Some number) (Some answer) current tags)
           → IfSome known (λ bytes. IsCurrentCached
           (next_number (entries_of bytes bounds) (open_in old)) (Some answer) current tags)

@@ -21,5 +21,5 @@ pub mod Steps
 pub mod Taken
 pub mod ChildTaken
 pub mod Limiting
+pub mod Withins
 pub mod Entering
-pub mod Ending

@@ -1,5 +1,5 @@
 -- What limits make of one call.
-use Rattle.std.proofs.Common.{◌≡◌, ℕ, Bool, true, false, List, [], ◌∷◌, length, Option, None, Some, Result, Ok, Err, IfSome, MatchBool, refl, ap, ◌∙◌, arith}
+use Rattle.std.proofs.Common.{◌≡◌, ℕ, Bool, true, false, List, [], ◌∷◌, length, Option, None, Some, Ok, Err, IfSome, MatchBool, refl, ap, ◌∙◌, arith}
 use Rattle.std.specs.Option.{is_some}
 use Rattle.plist_base.specs.declared.error.Error.{Error}
 use Rattle.plist_base.specs.declared.limits.Limit.{Limit}
@@ -9,7 +9,8 @@ use Rattle.plist_base.specs.Trees.{Data, String}
 use Rattle.plist_base.specs.Faults.{FaultKind, Fault, LimitReached, MatchFault, fault_of, fault_nowhere, kind_of, error_kind_of}
 use Rattle.plist_base.specs.Limits.{AdmitsAny, RefusesAny, event_or_limit, limited_by_any}
 use Rattle.plist_base.specs.Sources.{IsOffsetWithin}
-use Rattle.plist_binread.specs.Advancing.{GivesCurrent}
+use Rattle.plist_base.specs.Visits.{PlainItem}
+use Rattle.plist_binread.specs.BinaryReader.{GivesAs}
 use Rattle.plist_binread.specs.Remaining.{SomeRemain, AllocatesFirst}
 use Rattle.plist_binread.specs.FaultOffsets.{HasOffset, IsGivenWithin, MatchGiven}
 use Rattle.plist_base.proofs.Refusals.{MatchFault-weaker}
@@ -115,12 +116,12 @@ either-under false limiter items h =
 -- what a call gives of the items before, and what it gives of them behind limits
 module _ (new : Bool) (current : PlainEvent) (known : Option (List ℕ)) (old now : Option Limiter)
     (before after : List ℕ → List Item) where
-  abbrev Gave : Option (Result (Unit {0}) Error) → Type 0
-  Gave item = IfSome known (λ bytes. GivesCurrent new (before bytes) item current (after bytes))
+  abbrev Gave : PlainItem → Type 0
+  Gave item = IfSome known (λ bytes. GivesAs (λ event. event) new (before bytes) item (after bytes))
 
-  abbrev GivesUnder : Option (Result (Unit {0}) Error) → (List ℕ → List Item) → Type 0
-  GivesUnder item rest = IfSome known (λ bytes. GivesCurrent new
-      (limited_by_any old (before bytes)) item current (limited_by_any now (rest bytes)))
+  abbrev GivesUnder : PlainItem → (List ℕ → List Item) → Type 0
+  GivesUnder item rest = IfSome known (λ bytes. GivesAs (λ event. event) new
+      (limited_by_any old (before bytes)) item (limited_by_any now (rest bytes)))
 
   pub none-current : Gave None → GivesUnder None after
   none-current h = IfSome_then known h (λ bytes h. (cc (none-under old), cc (none-under now)))
@@ -134,12 +135,12 @@ module _ (new : Bool) (current : PlainEvent) (known : Option (List ℕ)) (old no
         (λ b. ap (limited_by_any old) b ∙ fault-under old _) h.1,
   ))
 
-  pub event-current : AdmitsAny old current now → Gave (Some (Ok tt))
-      → GivesUnder (Some (Ok tt)) after
+  pub event-current : AdmitsAny old current now → Gave (Some (Ok current))
+      → GivesUnder (Some (Ok current)) after
   event-current a h = IfSome_then known h (λ bytes h. cc (a (after bytes)))
 
   pub limit-current : (error : Error) → RefusesAny old current (fault_of error)
-      → Gave (Some (Ok tt)) → GivesUnder (Some (Err error)) (λ bytes. [])
+      → Gave (Some (Ok current)) → GivesUnder (Some (Err error)) (λ bytes. [])
   limit-current error r h = IfSome_then known h (λ bytes h.
       let by = by-limit old current (fault_of error) r in (
         none-under now,

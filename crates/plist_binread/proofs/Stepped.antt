@@ -16,9 +16,11 @@ use Rattle.plist_binread.specs.Remaining.{CountsObjects, walk_steps}
 use Rattle.plist_binread.specs.FaultOffsets.{ErrWithin, ItemWithin}
 use Rattle.plist_binread.specs.DecodeOutcome.{YieldsNext}
 use Rattle.plist_binread.specs.Step.{CachesNext, LightensNext}
-use Rattle.plist_binread.specs.Advancing.{WalksInSlot}
-use Rattle.plist_binread.specs.declared.event_slot.Refused.{Refused}
-use Rattle.plist_binread.specs.Slot.{AnswersInSlot, ItemAnswersInSlot, answer_in, event_in, item_in}
+use Rattle.plist_base.specs.Events.{PlainEvent}
+use Rattle.plist_base.specs.Visits.{Flow}
+use Rattle.plist_binread.specs.Advancing.{Walks, plain_item}
+use Rattle.plist_binread.specs.declared.fault_slot.Refused.{Refused}
+use Rattle.plist_binread.specs.Slot.{AnswersInSlot, ItemAnswersInSlot, answer_in, item_in}
 use Rattle.plist_binread.specs.NextChild.{is_fresh, is_walking, state_after}
 use Rattle.plist_binread.specs.Walking.{cached_in, remaining_in, walk_objects, weight_in}
 use Rattle.plist_base.proofs.Refusals.{MatchFault-all}
@@ -31,14 +33,14 @@ use Rattle.std.proofs.lemmas.Option.{IfSome_then}
 -- ---- the state
 
 -- it is never fresh again
-pub not_fresh : {E : Type 0} (item : Option (Result (Unit {0}) E)) (after : WalkState)
+pub not_fresh : {E : Type 0} (item : Option (Result Flow E)) (after : WalkState)
     → after ≡ state_after item → is_fresh after ≡ true → ⊥
 not_fresh None after is fresh = let no = ap is_fresh is in absurd (cc)
 not_fresh (Some (Ok value)) after is fresh = let no = ap is_fresh is in absurd (cc)
 not_fresh (Some (Err error)) after is fresh = let no = ap is_fresh is in absurd (cc)
 
 -- it walks only where an event was given
-pub walks_on_ok : {E : Type 0} (answer : Result (Unit {0}) E) (after : WalkState) (P : Type 0)
+pub walks_on_ok : {E : Type 0} (answer : Result Flow E) (after : WalkState) (P : Type 0)
     → after ≡ state_after (Some answer) → OnOk answer P → is_walking after ≡ true → P
 walks_on_ok (Ok value) after P is known walking = known
 walks_on_ok (Err error) after P is known walking = let no = ap is_walking is in absurd (cc)
@@ -48,7 +50,7 @@ walks_on_ok (Err error) after P is known walking = let no = ap is_walking is in 
 -- where they are told, they are told in the place of an event
 pub tells_fault : (known : Option (List ℕ)) (error : Error) (count : ℕ)
     → IfSome known (λ bytes. count ≡ objects_in_head bytes)
-    → IfSome known (λ bytes. CountsObjects {A = Unit {0}} bytes (Err error) count)
+    → IfSome known (λ bytes. CountsObjects {A = PlainEvent} bytes (Err error) count)
 tells_fault known error count same = IfSome_then known same (λ bytes same.
     MatchFault-all (kind_of (error_kind_of error)) tt tt same)
 
@@ -59,18 +61,18 @@ module _ {R C : Type 0} {g : Ghosts R} {h : CounterGhosts C} (known : R → Opti
     (same : known new.source ≡ known old.source)
     (counted : counts → count new.counter ≡ cached_in new.walk)
     (limiter : new.limiter ≡ old.limiter) where
-  pub first_walks : (noted : Result (Unit {0}) Refused) → old.state ≡ Fresh
+  pub first_walks : (noted : Result Flow Refused) (event : PlainEvent) → old.state ≡ Fresh
       → new.state ≡ state_after (Some noted)
-      → IfSome (known old.source) (GivesRoot noted new.bounds new.slot new.walk)
+      → IfSome (known old.source) (GivesRoot (answer_in noted new.slot) event new.bounds new.walk)
       → ErrWithin 0 (2 ^ 64) (answer_in noted new.slot)
       → IfSome (known old.source) (IsBounded new.walk)
       → IfSome (known old.source) (CountsRoot noted new.slot new.walk)
       → OnOk noted (IsKnownWalk (known old.source) new.bounds new.walk)
-      → IfSome (known old.source) (CachesRoot noted new.slot new.walk)
+      → IfSome (known old.source) (CachesRoot (answer_in noted new.slot) event new.walk)
       → OnOk noted (weight_in new.walk < walk_steps (walk_objects new.walk))
       → AnswersInSlot failed noted new.slot old.source new.source
-      → WalksInSlot known failed counts count old (Some noted) new
-  first_walks (Ok value) fresh is yields within bounded objects held kept falls failures = record {
+      → Walks known failed counts count old (plain_item (item_in (Some noted) new.slot) event) new
+  first_walks (Ok value) event fresh is yields within bounded objects held kept falls failures = record {
     gives = record {
       unchanged = same;
       items = simp (fresh, is) yields;
@@ -90,7 +92,7 @@ module _ {R C : Type 0} {g : Ghosts R} {h : CounterGhosts C} (known : R → Opti
         (omega (arith, new.walk.tags.ok, new.walk.tags.small)) in
         simp (fresh, is) (omega (arith, falls, up));
   }
-  first_walks (Err r) fresh is yields within bounded objects held kept falls failures = record {
+  first_walks (Err r) event fresh is yields within bounded objects held kept falls failures = record {
     gives = record {
       unchanged = same;
       items = simp (fresh, is) (IfSome_then (known old.source) yields (λ bytes h. (refl, h)));
@@ -108,19 +110,19 @@ module _ {R C : Type 0} {g : Ghosts R} {h : CounterGhosts C} (known : R → Opti
     falls = simp (fresh, is) (omega arith);
   }
 
-  pub item_walks : (noted : Option (Result (Unit {0}) Refused)) → old.state ≡ Walking
+  pub item_walks : (noted : Option (Result Flow Refused)) (event : PlainEvent) → old.state ≡ Walking
       → new.state ≡ state_after noted
       → IfSome (known old.source) (λ bytes. YieldsNext (remaining_in bytes old.bounds old.walk)
-      (item_in noted new.slot) (event_in new.slot) (remaining_in bytes new.bounds new.walk))
+      (item_in noted new.slot) event (remaining_in bytes new.bounds new.walk))
       → ItemWithin 0 old.bounds.trailer (item_in noted new.slot)
       → walk_objects new.walk ≡ walk_objects old.walk
       → IfSome (known old.source) (IsBounded old.walk)
       → IsKnownWalk (known old.source) new.bounds new.walk
-      → CachesNext (known old.source) old.bounds old.walk noted new.slot new.walk
+      → CachesNext (known old.source) old.bounds old.walk (item_in noted new.slot) event new.walk
       → LightensNext old.walk noted new.walk
       → ItemAnswersInSlot failed noted new.slot old.source new.source
-      → WalksInSlot known failed counts count old noted new
-  item_walks None walking is yields within size bounded held kept falls failures = record {
+      → Walks known failed counts count old (plain_item (item_in noted new.slot) event) new
+  item_walks None event walking is yields within size bounded held kept falls failures = record {
     gives = record {
       unchanged = same;
       items = simp (walking, is) (IfSome_then (known old.source) yields
@@ -138,7 +140,7 @@ module _ {R C : Type 0} {g : Ghosts R} {h : CounterGhosts C} (known : R → Opti
     };
     falls = tt;
   }
-  item_walks (Some (Ok x)) walking is yields within size bounded held kept falls failures = record {
+  item_walks (Some (Ok x)) event walking is yields within size bounded held kept falls failures = record {
     gives = record {
       unchanged = same;
       items = simp (walking, is) yields;
@@ -155,7 +157,7 @@ module _ {R C : Type 0} {g : Ghosts R} {h : CounterGhosts C} (known : R → Opti
     };
     falls = simp (walking, is, size) falls.1;
   }
-  item_walks (Some (Err r)) walking is yields within size bounded held kept falls failures = record {
+  item_walks (Some (Err r)) event walking is yields within size bounded held kept falls failures = record {
     gives = record {
       unchanged = same;
       items = simp (walking, is) (IfSome_then (known old.source) yields (λ bytes next. (

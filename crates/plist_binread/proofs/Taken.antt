@@ -9,9 +9,8 @@ use Rattle.plist_binread.specs.declared.reader.BinaryReader.{BinaryReader}
 use Rattle.plist_binread.specs.declared.head.Bounds.{Bounds}
 use Rattle.plist_binread.specs.declared.walk.Walk.{Walk}
 use Rattle.plist_format.specs.Container.{head_of}
-use Rattle.plist_binread.specs.Advancing.{GivesCurrent}
 use Rattle.plist_binread.specs.Beginning.{IsBounded, IsKnownWalk}
-use Rattle.plist_binread.specs.BinaryReader.{AreListsWithin, KeepsInvariant}
+use Rattle.plist_binread.specs.BinaryReader.{AreListsWithin, GivesAs, KeepsInvariant}
 use Rattle.plist_binread.specs.Remaining.{AreBoundsOf, places_of}
 use Rattle.plist_binread.specs.Walking.{cached_in, walk_objects}
 use Rattle.plist_binread.proofs.Opened.{IsOpen-length}
@@ -48,6 +47,6 @@ left_behind known counts count old new counted bounded =
     record { nested = within.0; marked = walk.path; counted = counted; lists = within.1 }
 
 -- nothing comes of what has ended
-pub nothing_ended : (known : Option (List ℕ)) (current : PlainEvent)
-    → IfSome known (λ bytes. GivesCurrent {A = Unit {0}} false [] None current [])
-nothing_ended known current = IfSome-all known (λ bytes. (refl, refl))
+pub nothing_ended : (known : Option (List ℕ))
+    → IfSome known (λ bytes. GivesAs {A = PlainEvent} (λ event. event) false [] None [])
+nothing_ended known = IfSome-all known (λ bytes. (refl, refl))

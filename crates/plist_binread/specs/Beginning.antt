@@ -4,13 +4,14 @@ use Rattle.plist_base.specs.declared.error.Error.{Error}
 use Rattle.plist_base.specs.Faults.{MatchFault, kind_of, error_kind_of, fault_of}
 use Rattle.plist_format.specs.Container.{head_of}
 use Rattle.plist_binread.specs.Remaining.{CountsObjects, SomeRemain, places_of}
-use Rattle.plist_binread.specs.declared.event_slot.Refused.{Refused}
-use Rattle.plist_binread.specs.Slot.{answer_in, event_in}
+use Rattle.plist_binread.specs.declared.fault_slot.Refused.{Refused}
+use Rattle.plist_base.specs.Events.{PlainEvent}
+use Rattle.plist_binread.specs.Slot.{answer_in}
 use Rattle.plist_binread.specs.NextChild.{IsCurrentCached, root_with}
 use Rattle.plist_format.specs.Unfolding.{until_fault, items_of_file}
 use Rattle.plist_binread.specs.Walking.{IsWalkOf, walk_objects, remaining_in}
 use Rattle.plist_binread.specs.declared.head.Bounds.{Bounds}
-use Rattle.plist_binread.specs.declared.event_slot.EventSlot.{EventSlot}
+use Rattle.plist_binread.specs.declared.fault_slot.FaultSlot.{FaultSlot}
 use Rattle.plist_binread.specs.declared.walk.Walk.{Walk}
 
 -- the walk has no more objects than the file
@@ -22,12 +23,12 @@ abbrev pub IsKnownWalk : (known : Option (List ℕ)) → Bounds → Walk → Typ
 IsKnownWalk known bounds walk = IfSome known (λ bytes. IsWalkOf bytes bounds walk)
 
 -- the root is cached if it is small
-abbrev pub CachesRoot : {A : Type 0} → Result A Refused → EventSlot → Walk → List ℕ → Type 0
-CachesRoot answer slot walk bytes = IsCurrentCached (root_with (head_of bytes))
-    (Some (answer_in answer slot)) (event_in slot) walk.tags.items
+abbrev pub CachesRoot : {A : Type 0} → Result A Error → (event : PlainEvent) → Walk → List ℕ → Type 0
+CachesRoot answer event walk bytes =
+    IsCurrentCached (root_with (head_of bytes)) (Some answer) event walk.tags.items
 
 -- the walk has as many objects as the head counts
-abbrev pub CountsRoot : {A : Type 0} → Result A Refused → EventSlot → Walk → List ℕ → Type 0
+abbrev pub CountsRoot : {A : Type 0} → Result A Refused → FaultSlot → Walk → List ℕ → Type 0
 CountsRoot answer slot walk bytes =
     CountsObjects bytes (answer_in answer slot) (walk_objects walk)
 
@@ -36,8 +37,9 @@ abbrev pub RefusesFirst : List ℕ → Error → Type 0
 RefusesFirst bytes e = MatchFault (kind_of (error_kind_of e)) (SomeRemain (items_of_file bytes))
     (SomeRemain (items_of_file bytes)) (items_of_file bytes ≡ Err (fault_of e) ∷ [])
 
--- it is the current event, and the others remain
-abbrev pub GivesRoot : {A : Type 0} → Result A Refused → Bounds → EventSlot → Walk → List ℕ → Type 0
-GivesRoot answer bounds slot walk bytes = MatchResult (answer_in answer slot)
-    (λ _. items_of_file bytes ≡ Ok (event_in slot) ∷ until_fault (remaining_in bytes bounds walk))
+-- it is this event, and the others remain
+abbrev pub GivesRoot : {A : Type 0} → Result A Error → (event : PlainEvent) → Bounds → Walk → List ℕ
+    → Type 0
+GivesRoot answer event bounds walk bytes = MatchResult answer
+    (λ _. items_of_file bytes ≡ Ok event ∷ until_fault (remaining_in bytes bounds walk))
     (RefusesFirst bytes)

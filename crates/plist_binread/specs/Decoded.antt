@@ -9,8 +9,8 @@ use Rattle.plist_binread.specs.CountedContent.{content_means, unit_size}
 use Rattle.plist_base.specs.declared.event.Event.{Event}
 use Rattle.plist_binread.specs.Decoding.{Allocates, Decodes, IsCollection, IsRefusedAs}
 use Rattle.plist_binread.specs.Slot.{answer_in}
-use Rattle.plist_binread.specs.declared.event_slot.EventSlot.{EventSlot}
-use Rattle.plist_binread.specs.declared.event_slot.Refused.{Refused}
+use Rattle.plist_binread.specs.declared.fault_slot.FaultSlot.{FaultSlot}
+use Rattle.plist_binread.specs.declared.fault_slot.Refused.{Refused}
 use Rattle.plist_binread.specs.Packed.{FitsContent, content_bytes, is_small_event, unpacked}
 use Rattle.plist_binread.specs.FaultOffsets.{ErrWithin}
 use Rattle.plist_binread.specs.Reading.{object_at}
@@ -148,7 +148,7 @@ FitsWalk (decoded.Dictionary count) = 2 * count < 2 ^ 64
 FitsWalk other = ⊤
 
 -- the error of an object at a place is held
-abbrev pub KeepsFault : Result Decoded ObjectFault → (place : ℕ) → Result Decoded Refused → EventSlot
+abbrev pub KeepsFault : Result Decoded ObjectFault → (place : ℕ) → Result Decoded Refused → FaultSlot
     → Type 0
 KeepsFault answer place kept slot = (bytes : List ℕ) (object : Object) → IsAnswerFor bytes object answer
     → MatchResult (answer_in kept slot) (IsDecodedAs bytes object) (IsRefusedAs object place)

@@ -14,6 +14,7 @@ pub mod Step
 pub mod Advancing
 pub mod FirstEvents
 pub mod Slot
+pub mod Handing
 pub mod NextChild
 pub mod Walking
 pub mod inner

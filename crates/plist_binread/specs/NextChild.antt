@@ -9,7 +9,9 @@ use Rattle.plist_binread.specs.declared.walk.NextChild.{NextChild}
 use Rattle.plist_binread.specs.declared.walk.NextChild.TheVariants as child
 use Rattle.plist_binread.specs.declared.head.Bounds.{Bounds}
 use Rattle.plist_format.specs.Container.{Head, head_of}
-use Rattle.plist_binread.specs.Packed.{is_small_event, unmarked, cached, scalar_event}
+use Rattle.plist_binread.specs.Packed.{is_small_event, unmarked, cached, unpacked}
+use Rattle.plist_binread.specs.declared.enter.Known.{Known}
+use Rattle.plist_binread.specs.declared.enter.Known.TheVariants as looked
 use Rattle.plist_binread.specs.declared.reader.WalkState.{WalkState}
 use Rattle.plist_binread.specs.declared.reader.WalkState.TheVariants.{Fresh, Walking, Ended}
 use Rattle.plist_format.specs.Object.{Object}
@@ -60,12 +62,12 @@ closes (frame ∷ below) = not (nat_lt frame.next frame.count)
 
 -- ---- what is looked up and read
 
--- what was found by a tag and a content: the place of an object that isn't cached, or none, and
--- then a scalar is the current event
-abbrev pub IsFound : (tag content : ℕ) (current : PlainEvent) → Option ℕ → Type 0
-IsFound tag content current found = MatchOption found
-    ((0 < unmarked tag) × (scalar_event (cached tag content) ≡ Some current))
-    (λ place. (unmarked tag ≡ 0) × (place ≡ content))
+-- what is known of an object by its tag and its content: it is a small scalar that is cached, or it
+-- lies there
+abbrev pub IsFound : (tag content : ℕ) → Known → Type 0
+IsFound tag content (looked.Small kind packed) =
+    (0 < unmarked tag) × (cached tag content ≡ unpacked kind packed)
+IsFound tag content (looked.At place) = (unmarked tag ≡ 0) × (place ≡ content)
 
 -- a child's number, where the object has this many
 abbrev pub ReadsChild : Object → (index : ℕ) → Result ℕ Error → Type 0

@@ -8,18 +8,17 @@ use Rattle.plist_binread.specs.Decoding.{IsCollection}
 use Rattle.plist_binread.specs.Decoded.{IsDecodedAs, event_of_object, small_count}
 use Rattle.plist_binread.specs.DecodeOutcome.{YieldsAnswer, YieldsNext, YieldsCurrent}
 use Rattle.plist_binread.specs.Packed.{unmarked}
-use Rattle.plist_binread.specs.declared.event_slot.Refused.{Refused}
-use Rattle.plist_base.specs.Faults.{MatchFault, kind_of, error_kind_of, fault_of}
-use Rattle.plist_base.specs.Limits.{RefusesAny}
-use Rattle.plist_base.specs.declared.limits.Limiter.{Limiter}
-use Rattle.plist_binread.specs.Slot.{answer_in, event_in, item_in}
+use Rattle.plist_binread.specs.declared.fault_slot.Refused.{Refused}
+use Rattle.plist_base.specs.Faults.{MatchFault, kind_of, error_kind_of}
+use Rattle.plist_base.specs.declared.error.Error.{Error}
+use Rattle.plist_binread.specs.declared.enter.Known.{Known}
 use Rattle.plist_binread.specs.NextChild.{IsFound, IsCurrentCached, WeightFalls, TakesNextChild}
 use Rattle.plist_format.specs.Unfolding.{TableEntry, until_fault}
 use Rattle.plist_binread.specs.Walking.{IsWalkOf, walk_objects, open_in, remaining_entering, remaining_in, weight_entering, weight_in}
 use Rattle.plist_binread.specs.declared.decoded.Decoded.{Decoded}
 use Rattle.plist_binread.specs.declared.decoded.Decoded.TheVariants as decoded
 use Rattle.plist_binread.specs.declared.head.Bounds.{Bounds}
-use Rattle.plist_binread.specs.declared.event_slot.EventSlot.{EventSlot}
+use Rattle.plist_binread.specs.declared.fault_slot.FaultSlot.{FaultSlot}
 use Rattle.plist_binread.specs.declared.walk.NextChild.{NextChild}
 use Rattle.plist_binread.specs.declared.walk.Walk.{Walk}
 
@@ -55,23 +54,23 @@ WalkWeightFalls old child new = (count : ℕ) → WeightFalls count (open_in old
 
 -- ---- what is looked up
 
-abbrev pub IsFoundAt : (number : ℕ) → Walk → EventSlot → Option ℕ → Type 0
-IsFoundAt number walk slot found = IsFound (get_or walk.tags.items number 0)
-    (get_or walk.contents.items number 0) (event_in slot) found
+abbrev pub IsFoundAt : (number : ℕ) → Walk → Known → Type 0
+IsFoundAt number walk found = IsFound (get_or walk.tags.items number 0)
+    (get_or walk.contents.items number 0) found
 
 -- the error of each child of a collection that isn't found is held
-abbrev pub RefusesEach : (known : Option (List ℕ)) → Bounds → (place : ℕ) → EventSlot → Refused
+abbrev pub RefusesEach : (known : Option (List ℕ)) → Bounds → (place : ℕ) → FaultSlot → Refused
     → Type 0
 RefusesEach known bounds place slot refused =
     (index : ℕ) → ReadsChildAt (Err slot.fault) known bounds place index
 
 -- the error of a number that isn't entered is held, and no device failed
-abbrev pub RefusesEntering : Walk → (at number : ℕ) → EventSlot → Refused → Type 0
+abbrev pub RefusesEntering : Walk → (at number : ℕ) → FaultSlot → Refused → Type 0
 RefusesEntering walk at number slot refused =
     (bytes : List ℕ) (bounds : Bounds) → IsWalkOf bytes bounds walk →
     Explains (until_fault (remaining_entering bytes bounds walk at number)) slot.fault
 
-abbrev pub RefusesWithoutIo : EventSlot → Refused → Type 0
+abbrev pub RefusesWithoutIo : FaultSlot → Refused → Type 0
 RefusesWithoutIo slot refused = MatchFault (kind_of (error_kind_of slot.fault)) ⊥ ⊤ ⊤
 
 -- ---- an object that is opened
@@ -111,33 +110,24 @@ IsCollectionStart other = ⊥
 
 -- an object that was entered is cached if it is small
 abbrev pub CachesEntered : {A : Type 0} → (known : Option (List ℕ)) → (number : ℕ)
-    → Result A Refused → EventSlot → Walk → Type 0
-CachesEntered known number answer slot walk = IfSome known (λ _.
-    IsCurrentCached (Some number) (Some (answer_in answer slot)) (event_in slot) walk.tags.items)
+    → Result A Error → (event : PlainEvent) → Walk → Type 0
+CachesEntered known number answer event walk = IfSome known (λ _.
+    IsCurrentCached (Some number) (Some answer) event walk.tags.items)
 
 -- its first item comes, where it is referred to from `at`
-abbrev pub EntersObject : {A S : Type 0} → (S → Option (List ℕ)) → S → Bounds → (old : Walk)
-    → (at number : ℕ) → Result A Refused → EventSlot → (new : Walk) → Type 0
-EntersObject known source bounds old at number answer slot new = IfSome (known source) (λ bytes.
-    YieldsAnswer (remaining_entering bytes bounds old at number) (answer_in answer slot)
-    (event_in slot)
+abbrev pub EntersObject : {A : Type 0} → (known : Option (List ℕ)) → Bounds → (old : Walk)
+    → (at number : ℕ) → Result A Error → (event : PlainEvent) → (new : Walk) → Type 0
+EntersObject known bounds old at number answer event new = IfSome known (λ bytes.
+    YieldsAnswer (remaining_entering bytes bounds old at number) answer event
     (remaining_in bytes bounds new))
 
 -- the next item is the first that remained, and cached if it is small
 abbrev pub YieldsItem : {A : Type 0} → (known : Option (List ℕ)) → Bounds → (old : Walk)
-    → Option (Result A Refused) → EventSlot → (new : Walk) → Type 0
-YieldsItem known bounds old item slot new = IfSome known (λ bytes.
-    YieldsNext (remaining_in bytes bounds old) (item_in item slot) (event_in slot)
-    (remaining_in bytes bounds new))
+    → Option (Result A Error) → (event : PlainEvent) → (new : Walk) → Type 0
+YieldsItem known bounds old item event new = IfSome known (λ bytes.
+    YieldsNext (remaining_in bytes bounds old) item event (remaining_in bytes bounds new))
 
 abbrev pub CachesNext : {A : Type 0} → (known : Option (List ℕ)) → Bounds → (old : Walk)
-    → Option (Result A Refused) → EventSlot → (new : Walk) → Type 0
-CachesNext known bounds old item slot new = IfSome known (λ bytes.
-    IsCurrentCached (next_number (entries_of bytes bounds) (open_in old)) (item_in item slot)
-    (event_in slot) new.tags.items)
-
--- ---- limits
-
--- the error of an event that may not come is held
-abbrev pub RefusesCurrent : Option Limiter → (current : PlainEvent) → EventSlot → Refused → Type 0
-RefusesCurrent limiter current slot refused = RefusesAny limiter current (fault_of slot.fault)
+    → Option (Result A Error) → (event : PlainEvent) → (new : Walk) → Type 0
+CachesNext known bounds old item event new = IfSome known (λ bytes.
+    IsCurrentCached (next_number (entries_of bytes bounds) (open_in old)) item event new.tags.items)

@@ -4,17 +4,19 @@ ghost use Rattle.std.specs.Prelude.{◌≡◌, ◌^◌, ◌<◌, Ok, replicate, 
 ghost use Rattle.plist_base.specs.Outcomes.{OnlyMemory};
 ghost use Rattle.plist_binread.specs.Remaining.{walk_steps};
 ghost use Rattle.plist_binread.specs.FaultOffsets.{ErrWithin};
+ghost use Rattle.plist_binread.specs.Handing.{Hands};
 ghost use Rattle.plist_binread.specs.Slot.{AnswersInSlot, answer_in};
 ghost use Rattle.plist_binread.specs.Walking.{IsEmptyWalk, cached_in, walk_objects, weight_in};
 ghost use Rattle.plist_binread.specs.Beginning.{CountsRoot, GivesRoot, IsBounded, IsKnownWalk, CachesRoot};
 
 use crate::counter::DecodeCounter;
 use crate::enter::enter;
-use crate::event_slot::{EventSlot, Refused};
+use crate::fault_slot::{FaultSlot, Refused};
 use crate::head::{Bounds, Head};
 use crate::walk::Walk;
-use plist_base::{Error, Source};
+use plist_base::{Error, EventVisitor, Source};
 use std::alloc::Global;
+use std::ops::ControlFlow;
 
 // As many tags as there are objects, none of which is cached or open.
 fn no_tags(alloc: Global, count: usize) -> Result<Vec<u8>, Error>
@@ -25,21 +27,25 @@ fn no_tags(alloc: Global, count: usize) -> Result<Vec<u8>, Error>
     Ok(tags)
 }
 
-/// Sets the first item of all.
+/// Hands the first event of a file over.
 #[cold]
 #[inline(never)]
-pub fn begin<S: Source, C: DecodeCounter>(
+pub fn begin<S: Source, C: DecodeCounter, V: EventVisitor>(
     alloc: Global,
     source: &mut S,
     counter: &mut C,
     bounds: &mut Bounds,
     walk: &mut Walk,
-    slot: &mut EventSlot,
-) -> Result<(), Refused>
+    slot: &mut FaultSlot,
+    visitor: &mut V,
+) -> Result<ControlFlow<()>, Refused>
     requires empty { IsEmptyWalk walk.old }
     requires counted { C.counts → C.count counter.old ≡ cached_in walk.old }
     // The answer.
-    ensures yields { IfSome (S.known source.old) (GivesRoot result bounds.new slot.new walk.new) }
+    ensures handed { Hands V.step visitor.old visitor.new result (λ event.
+        IfSome (S.known source.old) (GivesRoot (answer_in result slot.new) event bounds.new
+        walk.new)
+        × IfSome (S.known source.old) (CachesRoot (answer_in result slot.new) event walk.new)) }
     // A refusal.
     ensures fault { ErrWithin 0 (2 ^ 64) (answer_in result slot.new) }
     // The state after it.
@@ -47,7 +53,6 @@ pub fn begin<S: Source, C: DecodeCounter>(
     ensures bounded { IfSome (S.known source.old) (IsBounded walk.new) }
     ensures objects { IfSome (S.known source.old) (CountsRoot result slot.new walk.new) }
     ensures known { OnOk result (IsKnownWalk (S.known source.old) bounds.new walk.new) }
-    ensures cached { IfSome (S.known source.old) (CachesRoot result slot.new walk.new) }
     ensures falls { OnOk result (weight_in walk.new < walk_steps (walk_objects walk.new)) }
     ensures unchanged { S.known source.new ≡ S.known source.old }
     ensures failures { AnswersInSlot S.failures result slot.new source.old source.new }
@@ -66,5 +71,5 @@ pub fn begin<S: Source, C: DecodeCounter>(
     };
     walk.tags = none;
     walk.contents = places;
-    enter(source, counter, bounds, walk, slot, trailer, root)
+    enter(source, counter, bounds, walk, slot, trailer, root, visitor)
 }

@@ -7,21 +7,24 @@ ghost use Rattle.plist_binread.specs.Walking.{IsWalkOf, cached_in, walk_objects}
 ghost use Rattle.plist_binread.specs.FaultOffsets.{ErrWithin};
 ghost use Rattle.plist_binread.specs.Decoded.{FitsWalk, small_count};
 ghost use Rattle.plist_binread.specs.Step.{IsFoundAt, IsLighterEntered, IsUnchanged, CachesDecoded, CachesEntered, EntersObject, IsCollectionStart, OpensCollection, OpensObject, RefusesEntering, RefusesWithoutIo};
+ghost use Rattle.plist_binread.specs.Handing.{Hands};
 ghost use Rattle.plist_binread.specs.Slot.{AnswersInSlot, answer_in};
 
 use crate::counter::DecodeCounter;
 use crate::decoded::Decoded;
-use crate::event_slot::{EventSlot, Refused};
+use crate::fault_slot::{FaultSlot, Refused};
+use crate::hand::{hand_decoded, hand_small};
 use crate::head::Bounds;
-use crate::object::{decode, set_decoded};
+use crate::object::decode;
 use crate::packed::{PackedKind, cache, is_open, mark_open};
 use crate::walk::Walk;
-use plist_base::{ErrorKind, Source};
+use plist_base::{ErrorKind, EventVisitor, Source};
+use std::ops::ControlFlow;
 
 // Holds the fault that no object has the number of the reference at `at`.
 #[cold]
 #[inline(never)]
-fn refuse_number(slot: &mut EventSlot, at: u64) -> Refused
+fn refuse_number(slot: &mut FaultSlot, at: u64) -> Refused
     ensures { fault_of slot.new.fault ≡ fault_at ObjectReferenceTooLarge at }
 {
     slot.refuse(ErrorKind::ObjectReferenceTooLarge.with_byte_offset(at))
@@ -30,18 +33,26 @@ fn refuse_number(slot: &mut EventSlot, at: u64) -> Refused
 // Holds the fault that the object at a place is open already.
 #[cold]
 #[inline(never)]
-fn refuse_open(slot: &mut EventSlot, place: u64) -> Refused
+fn refuse_open(slot: &mut FaultSlot, place: u64) -> Refused
     ensures { fault_of slot.new.fault ≡ fault_at RecursiveObject place }
 {
     slot.refuse(ErrorKind::RecursiveObject.with_byte_offset(place))
 }
 
-// The place of an object that is about to be entered, referred to from `at`. There is none where it
-// is cached: then it is the current event.
+// What is known of an object that is about to be entered.
+#[derive(Clone, Copy)]
+enum Known {
+    // Its offset.
+    At(u64),
+    // It is a small scalar, which is cached.
+    Small(PackedKind, u64),
+}
+
+// What is known of an object that is about to be entered, referred to from `at`.
 #[inline(always)]
-fn look_up(walk: &Walk, slot: &mut EventSlot, at: u64, number: u64) -> Result<Option<u64>, Refused>
+fn look_up(walk: &Walk, slot: &mut FaultSlot, at: u64, number: u64) -> Result<Known, Refused>
     // The answer.
-    ensures found { IfOk result (IsFoundAt number walk.now slot.new) }
+    ensures found { IfOk result (IsFoundAt number walk.now) }
     // A refusal.
     ensures refused { IfErr result (RefusesEntering walk.now at number slot.new) }
     ensures kinds { IfErr result (RefusesWithoutIo slot.new) }
@@ -56,19 +67,14 @@ fn look_up(walk: &Walk, slot: &mut EventSlot, at: u64, number: u64) -> Result<Op
     let tag = walk.tags[number as usize];
     let content = walk.contents[number as usize];
     if tag == 0 {
-        return Ok(Some(content));
+        return Ok(Known::At(content));
     }
     if is_open(tag) {
         return Err(refuse_open(slot, content));
     }
     match PackedKind::of_tag(tag) {
-        None => Ok(Some(content)),
-        Some(kind) => {
-            if slot.unpack(kind, content) {
-                return Ok(None);
-            }
-            Err(slot.refuse_memory())
-        }
+        None => Ok(Known::At(content)),
+        Some(kind) => Ok(Known::Small(kind, content)),
     }
 }
 
@@ -129,39 +135,44 @@ fn cache_or_open(walk: &mut Walk, number: u64, decoded: Decoded) -> bool
     }
 }
 
-/// Sets the first item of an object, referred to from `at`. A collection is then open.
+/// Hands the first event of an object over, referred to from `at`. A collection is then open.
 #[inline(always)]
-pub fn enter<S: Source, C: DecodeCounter>(
+pub fn enter<S: Source, C: DecodeCounter, V: EventVisitor>(
     source: &mut S,
     counter: &mut C,
     bounds: &Bounds,
     walk: &mut Walk,
-    slot: &mut EventSlot,
+    slot: &mut FaultSlot,
     at: u64,
     number: u64,
-) -> Result<(), Refused>
+    visitor: &mut V,
+) -> Result<ControlFlow<()>, Refused>
     requires known { IfSome (S.known source.old) (λ bytes. IsWalkOf bytes bounds.now walk.old) }
     requires counted { C.counts → C.count counter.old ≡ cached_in walk.old }
     // The answer.
-    ensures yields { EntersObject S.known source.old bounds.now walk.old at number result slot.new
-        walk.new }
+    ensures handed { Hands V.step visitor.old visitor.new result (λ event.
+        EntersObject (S.known source.old) bounds.now walk.old at number
+        (answer_in result slot.new) event walk.new
+        × CachesEntered (S.known source.old) number (answer_in result slot.new) event walk.new) }
     // A refusal.
     ensures fault { ErrWithin 0 bounds.now.trailer (answer_in result slot.new) }
     // The state after it.
     ensures size { walk_objects walk.new ≡ walk_objects walk.old }
     ensures known { IfSome (S.known source.old) (λ bytes. IsWalkOf bytes bounds.now walk.new) }
     ensures counted { C.counts → C.count counter.new ≡ cached_in walk.new }
-    ensures cached { CachesEntered (S.known source.old) number result slot.new walk.new }
     ensures falls { OnOk result (IsLighterEntered walk.old walk.new) }
     ensures unchanged { S.known source.new ≡ S.known source.old }
     ensures failures { AnswersInSlot S.failures result slot.new source.old source.new }
 {
     match look_up(walk, slot, at, number)? {
-        None => Ok(()),
-        Some(place) => {
+        Known::Small(kind, content) => match hand_small(kind, content, visitor) {
+            Some(flow) => Ok(flow),
+            None => Err(slot.refuse_memory()),
+        },
+        Known::At(place) => {
             let decoded = decode(source, counter, bounds, place, slot)?;
             if cache_or_open(walk, number, decoded) {
-                return set_decoded(source, bounds, place, decoded, slot);
+                return hand_decoded(source, bounds, place, decoded, slot, visitor);
             }
             Err(slot.refuse_memory())
         }

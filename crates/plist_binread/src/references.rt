@@ -9,7 +9,7 @@ ghost use Rattle.plist_base.specs.Sources.{AnswersIo};
 ghost use Rattle.plist_binread.specs.Slot.{AnswersInSlot, answer_in, found_in};
 
 use crate::counted_content::front_length;
-use crate::event_slot::{EventSlot, Refused};
+use crate::fault_slot::{FaultSlot, Refused};
 use crate::head::Bounds;
 use crate::numbers::{buffered_number, read_far_number};
 use plist_base::{Source, read_exact_at};
@@ -87,7 +87,7 @@ fn read_references<S: Source>(
     bounds: &Bounds,
     place: u64,
     extent: u64,
-    slot: &mut EventSlot,
+    slot: &mut FaultSlot,
 ) -> Result<References, Refused>
     requires place { place < bounds.now.trailer }
     requires extent { extent ≡ bounds.now.trailer - place }
@@ -120,7 +120,7 @@ fn find_references<S: Source>(
     bounds: &Bounds,
     references: &mut References,
     place: u64,
-    slot: &mut EventSlot,
+    slot: &mut FaultSlot,
 ) -> Result<(), Refused>
     requires references { AreReferencesOf (S.known source.old) bounds.now references.old }
     // The answer.
@@ -186,7 +186,7 @@ fn refer_to<S: Source>(
     bounds: &Bounds,
     references: &mut References,
     place: u64,
-    slot: &mut EventSlot,
+    slot: &mut FaultSlot,
 ) -> Result<(), Refused>
     requires references { AreReferencesOf (S.known source.old) bounds.now references.old }
     // The answer.
@@ -212,7 +212,7 @@ fn read_reference<S: Source>(
     source: &mut S,
     place: u64,
     width: usize,
-    slot: &mut EventSlot,
+    slot: &mut FaultSlot,
 ) -> Option<u64>
     requires width { width ≤ 8 }
     requires fits { place + width < 2 ^ 64 }
@@ -243,7 +243,7 @@ pub fn read_child<S: Source>(
     references: &mut References,
     place: u64,
     index: u64,
-    slot: &mut EventSlot,
+    slot: &mut FaultSlot,
 ) -> Result<u64, Refused>
     requires references { AreReferencesOf (S.known source.old) bounds.now references.old }
     // The answer.

@@ -2,7 +2,9 @@ use Rattle.std.proofs.Common.{◌≡◌, arith, ◌<◌, get_or, length, ◌-◌
 use Rattle.std.proofs.lemmas.List.{get_or_read_under}
 use Rattle.std.proofs.lemmas.Result.{on_ok_weaker}
 use Rattle.plist_binread.specs.declared.walk.NextChild.TheVariants.{Child}
-use Rattle.plist_binread.specs.Slot.{answer_in, event_in}
+use Rattle.plist_base.specs.Events.{EndCollection}
+use Rattle.plist_binread.specs.Slot.{answer_in}
+use Rattle.plist_binread.proofs.OverKnown.{IfSome-all}
 use Rattle.plist_binread.specs.Walking.{weight_in}
 use Rattle.plist_binread.proofs.Steps.{steps_positive}
 use Rattle.plist_binread.proofs.KnownChildren.{ChildTaken, known_child_taken, child_failed, child_kept, child_yields}
@@ -38,12 +40,20 @@ pub returns-in-Err-clause-falls : goal.returns-in-Err-clause-falls
 returns-in-Err-clause-falls g c =
     (some g (goal.at.returns-in-Err-clause-falls g c).In-Child, tt)
 
-pub returns-in-Err-clause-yields : goal.returns-in-Err-clause-yields
-returns-in-Err-clause-yields g c =
-    let t = goal.at.returns-in-Err-clause-yields g c in
-    child_failed _ _ c.args.walk.now c.next_child.new.self _ _ c.in-Child.ensures.within.0
-    c.in-Child.ensures.within.1 (taken g t.In-Child) _
-    (rw (place g t.After-read_child) at c.in-Err.ensures.child)
+pub returns-in-Err-clause-handed : goal.returns-in-Err-clause-handed
+returns-in-Err-clause-handed g c =
+    let t = goal.at.returns-in-Err-clause-handed g c in
+    record {
+      event = EndCollection;
+      is = (
+        child_failed _ _ c.args.walk.now c.next_child.new.self _ _ c.in-Child.ensures.within.0
+            c.in-Child.ensures.within.1 (taken g t.In-Child) _
+            (rw (place g t.After-read_child) at c.in-Err.ensures.child),
+        IfSome-all _ (λ _. tt),
+        λ closes. (let no = c.next_child.ensures.closes closes in absurd (cc)),
+      );
+      taken = refl;
+    }
 
 -- ---- a child that is entered
 
@@ -55,20 +65,24 @@ returns-in-Ok-clause-falls g c =
           c.enter.ensures.falls,
     )
 
-pub returns-in-Ok-clause-yields : goal.returns-in-Ok-clause-yields
-returns-in-Ok-clause-yields g c =
-    let t = goal.at.returns-in-Ok-clause-yields g c in
+pub returns-in-Ok-clause-handed : goal.returns-in-Ok-clause-handed
+returns-in-Ok-clause-handed g c =
+    let t = goal.at.returns-in-Ok-clause-handed g c in
     let at = place g t.After-read_child in
-    child_yields _ _ c.args.walk.now c.next_child.new.self _ _ c.in-Child.ensures.within.0
-    c.in-Child.ensures.within.1 (taken g t.In-Child) _ c.in-Ok.ensures.unchanged c.in-Ok.number
-    (rw at at c.in-Ok.ensures.child) _ _ c.enter.new.walk (rw at at c.enter.ensures.yields)
-
-pub returns-in-Ok-clause-cached : goal.returns-in-Ok-clause-cached
-returns-in-Ok-clause-cached g c =
-    let t = goal.at.returns-in-Ok-clause-cached g c in
-    child_kept _ c.args.bounds.now c.args.walk.now c.next_child.new.self _ _
-    c.in-Child.ensures.within.0 c.in-Child.ensures.within.1 (taken g t.In-Child) _
-    c.in-Ok.ensures.unchanged c.in-Ok.number
-    (rw (place g t.After-read_child) at c.in-Ok.ensures.child)
-    (answer_in c.enter.result c.enter.new.slot) (event_in c.enter.new.slot)
-    c.enter.new.walk.tags.items c.enter.ensures.cached
+    let h = c.enter.ensures.handed in
+    let answer = answer_in c.enter.result c.enter.new.slot in
+    record {
+      event = h.event;
+      is = (
+        child_yields _ _ c.args.walk.now c.next_child.new.self _ _ c.in-Child.ensures.within.0
+            c.in-Child.ensures.within.1 (taken g t.In-Child) _ c.in-Ok.ensures.unchanged
+            c.in-Ok.number (rw at at c.in-Ok.ensures.child) answer h.event c.enter.new.walk
+            (rw at at h.is.0),
+        child_kept _ c.args.bounds.now c.args.walk.now c.next_child.new.self _ _
+            c.in-Child.ensures.within.0 c.in-Child.ensures.within.1 (taken g t.In-Child) _
+            c.in-Ok.ensures.unchanged c.in-Ok.number (rw at at c.in-Ok.ensures.child) answer h.event
+            c.enter.new.walk.tags.items h.is.1,
+        λ closes. (let no = c.next_child.ensures.closes closes in absurd (cc)),
+      );
+      taken = h.taken;
+    }

@@ -2,23 +2,37 @@ use Rattle.std.proofs.Common.{◌≡◌, arith, ◌∙◌, sym, ap, refl, length
 use Rattle.std.proofs.Math.ListN.{length-replicate}
 use Rattle.plist_binread.proofs.Failing.{passed}
 use Rattle.plist_binread.specs.declared.head.Bounds.{Bounds}
+use Rattle.plist_base.specs.Events.{EndCollection}
 use Rattle.plist_binread.specs.Slot.{answer_in}
+use Rattle.plist_binread.proofs.OverKnown.{IfSome-all}
 use Rattle.plist_binread.proofs.Opened.{IsOpen-none, cached_count-none, cached_count-empty}
-use Rattle.plist_binread.proofs.Begun.{known_unread, known_wanted, known_opens, known_begun, known_counted, known_hidden, known_uncounted}
+use Rattle.plist_binread.proofs.Begun.{known_unread, known_wanted, known_opens, known_begun, known_cached, known_counted, known_hidden, known_uncounted}
 use Rattle.plist_binread.proofs.begin.begin.Goals as goal
 use Rattle.plist_binread.proofs.begin.begin.Goals.{In_ok-none}
 
-pub returns-in_err-head-clause-yields : goal.returns-in_err-head-clause-yields
-returns-in_err-head-clause-yields g c =
+pub returns-in_err-head-clause-handed : goal.returns-in_err-head-clause-handed
+returns-in_err-head-clause-handed g c =
     let refused = rw (← c.in_err-head.ensures.answer) at c.read.ensures.refused in
-    rw (passed _ c.from_residual.ensures.1)
-    (known_unread (g.S.Source.known c.args.source.now) c.keep_error.new.self.fault refused)
+    rw (passed _ c.from_residual.ensures.1) (record {
+      event = EndCollection;
+      is = (
+        known_unread (g.S.Source.known c.args.source.now) c.keep_error.new.self.fault refused,
+        IfSome-all _ (λ _. tt),
+      );
+      taken = refl;
+    })
 
-pub returns-in_err-none-clause-yields : goal.returns-in_err-none-clause-yields
-returns-in_err-none-clause-yields g c =
+pub returns-in_err-none-clause-handed : goal.returns-in_err-none-clause-handed
+returns-in_err-none-clause-handed g c =
     let memory = rw (← c.in_err-none.ensures.answer) at c.no_tags.ensures.memory in
-    rw (passed _ c.from_residual-in_err-none.ensures.1)
-    (known_wanted (g.S.Source.known c.args.source.now) c.keep_error-2.new.self.fault memory)
+    rw (passed _ c.from_residual-in_err-none.ensures.1) (record {
+      event = EndCollection;
+      is = (
+        known_wanted (g.S.Source.known c.args.source.now) c.keep_error-2.new.self.fault memory,
+        IfSome-all _ (λ _. tt),
+      );
+      taken = refl;
+    })
 
 pub returns-in_err-head-clause-objects : goal.returns-in_err-head-clause-objects
 returns-in_err-head-clause-objects g c =
@@ -86,11 +100,22 @@ bounds g c = record {
   small = omega arith;
 }
 
-pub returns-clause-yields : goal.returns-clause-yields
-returns-clause-yields g c =
-    let there = (goal.at.returns-clause-yields g c).In_ok-none in
-    known_begun (g.S.Source.known c.args.source.now) (g.S.Source.known c.read.new.source)
-    c.in_ok-head.head (bounds g there) c.in_ok-none.none.items c.args.walk.now.frames
-    c.enter.new.walk.frames (answer_in c.enter.result c.enter.new.slot) _ c.read.ensures.unchanged
-    c.requires.empty.1 (count g there) refl refl
-    (rw (← c.in_ok-head.ensures.answer) at c.read.ensures.value) c.enter.ensures.yields
+pub returns-clause-handed : goal.returns-clause-handed
+returns-clause-handed g c =
+    let there = (goal.at.returns-clause-handed g c).In_ok-none in
+    let h = c.enter.ensures.handed in
+    record {
+      event = h.event;
+      is = (
+        known_begun (g.S.Source.known c.args.source.now) (g.S.Source.known c.read.new.source)
+            c.in_ok-head.head (bounds g there) c.in_ok-none.none.items c.args.walk.now.frames
+            c.enter.new.walk.frames (answer_in c.enter.result c.enter.new.slot) h.event
+            c.read.ensures.unchanged c.requires.empty.1 (count g there) refl refl
+            (rw (← c.in_ok-head.ensures.answer) at c.read.ensures.value) h.is.0,
+        known_cached (g.S.Source.known c.args.source.now) (g.S.Source.known c.read.new.source)
+            c.in_ok-head.head _ (answer_in c.enter.result c.enter.new.slot) h.event
+            c.enter.new.walk c.read.ensures.unchanged refl
+            (rw (← c.in_ok-head.ensures.answer) at c.read.ensures.value) h.is.1,
+      );
+      taken = h.taken;
+    }

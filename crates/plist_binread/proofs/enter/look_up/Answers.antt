@@ -1,8 +1,7 @@
 use Rattle.std.proofs.Common.{arith, ◌<◌, length, ap, sym, ◌∙◌}
 use Rattle.std.proofs.lemmas.List.{get_or_read}
-use Rattle.plist_binread.specs.Packed.{is_marked, packed_kind}
-use Rattle.plist_binread.proofs.Known.{unfound_beyond, unfound_open, unfound_memory}
-use Rattle.plist_binread.proofs.Packing.{kind_of_tag-some}
+use Rattle.plist_binread.specs.Packed.{is_marked}
+use Rattle.plist_binread.proofs.Known.{unfound_beyond, unfound_open}
 use Rattle.plist_binread.proofs.enter.look_up.Goals as goal
 
 pub returns-then-number-len-clause-refused : goal.returns-then-number-len-clause-refused
@@ -18,14 +17,3 @@ returns-then-is_open-clause-refused c = λ bytes bounds k.
     unfound_open bytes bounds _ _ _ k c.args.walk.now.path _ _
     c.refuse_open.new.slot.fault below (ap is_marked (sym tag) ∙ sym c.if-is_open.ensures)
     (rw place at c.refuse_open.ensures)
-
-pub returns-else-unpack-clause-refused : goal.returns-else-unpack-clause-refused
-returns-else-unpack-clause-refused c = λ bytes bounds k.
-    let below : c.args.number < length c.args.walk.now.tags.items = omega arith in
-    let tag = get_or_read _ _ _ below c.index-tag.ensures 0 in
-    let place = get_or_read c.args.walk.now.contents.items _ _ (rw c.args.walk.now.same below) c.index-content.ensures 0 in
-    let kind = ap packed_kind (sym tag) ∙ sym c.in-Some.ensures in
-    unfound_memory bytes bounds _ _ _ k c.args.walk.now.path c.args.at c.args.number below
-    (ap is_marked (sym tag) ∙ sym c.if-is_open.ensures) c.refuse_memory.new.self.fault
-    (kind_of_tag-some _ _ kind) c.refuse_memory.ensures.fault
-    (rw (kind, ← place) (c.unpack.ensures.wanted c.if-unpack.false))

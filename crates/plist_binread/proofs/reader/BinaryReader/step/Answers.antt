@@ -1,5 +1,5 @@
 use Rattle.std.proofs.Common.{refl, Some}
-use Rattle.plist_binread.specs.Slot.{event_in}
+use Rattle.plist_base.specs.Events.{EndCollection}
 use Rattle.plist_binread.proofs.Taken.{left_behind, nothing_ended}
 use Rattle.plist_binread.proofs.Children.{known_no_references}
 use Rattle.plist_binread.proofs.OverKnown.{IfSome-all, IfSome-never}
@@ -8,37 +8,51 @@ use Rattle.plist_binread.proofs.reader.BinaryReader.step.Goals as goal
 
 pub returns-in-Ended-clause-walks : goal.returns-in-Ended-clause-walks
 returns-in-Ended-clause-walks g c = record {
-  gives = record {
-    unchanged = refl;
-    items = rw c.in-Ended.is (nothing_ended _ (event_in c.args.self.now.slot));
-    failures = refl;
-    ended = λ _. refl;
-    ends = c.in-Ended.is;
-    begun = rw c.in-Ended.is refl;
-    faults = tt;
-    head = rw c.in-Ended.is (IfSome-never _ _ (λ w. absurd (cc)));
-    cached = IfSome-all _ (λ bytes. tt);
-    leaves = left_behind _ _ _ _ _ c.args.self.now.counted c.args.self.now.bounded;
-    objects = IfSome-all _ (λ bytes. tt);
-    kept = (refl, λ _. refl);
+  event = EndCollection;
+  is = record {
+    gives = record {
+      unchanged = refl;
+      items = rw c.in-Ended.is (nothing_ended _);
+      failures = refl;
+      ended = λ _. refl;
+      ends = c.in-Ended.is;
+      begun = rw c.in-Ended.is refl;
+      faults = tt;
+      head = rw c.in-Ended.is (IfSome-never _ _ (λ w. absurd (cc)));
+      cached = IfSome-all _ (λ bytes. tt);
+      leaves = left_behind _ _ _ _ _ c.args.self.now.counted c.args.self.now.bounded;
+      objects = IfSome-all _ (λ bytes. tt);
+      kept = (refl, λ _. refl);
+    };
+    falls = tt;
   };
-  falls = tt;
+  taken = refl;
 }
 
 pub returns-in-Fresh-clause-walks : goal.returns-in-Fresh-clause-walks
 returns-in-Fresh-clause-walks g c =
-    first_walks _ _ _ _ c.args.self.now _ c.begin.ensures.unchanged c.begin.ensures.counted refl
-    c.begin.result c.in-Fresh.is c.state_after-self.ensures c.begin.ensures.yields
-    c.begin.ensures.fault c.begin.ensures.bounded c.begin.ensures.objects c.begin.ensures.known
-    c.begin.ensures.cached c.begin.ensures.falls c.begin.ensures.failures
+    let h = c.begin.ensures.handed in
+    record {
+      event = h.event;
+      is = first_walks _ _ _ _ c.args.self.now _ c.begin.ensures.unchanged c.begin.ensures.counted
+          refl c.begin.result h.event c.in-Fresh.is c.state_after-self.ensures h.is.0
+          c.begin.ensures.fault c.begin.ensures.bounded c.begin.ensures.objects c.begin.ensures.known
+          h.is.1 c.begin.ensures.falls c.begin.ensures.failures;
+      taken = h.taken;
+    }
 
 pub returns-in-Walking-clause-walks : goal.returns-in-Walking-clause-walks
 returns-in-Walking-clause-walks g c =
-    item_walks _ _ _ _ c.args.self.now _ c.advance-item.ensures.unchanged
-    c.advance-item.ensures.counted refl c.advance-item.result c.in-Walking.is
-    c.state_after-self-in-Walking.ensures c.advance-item.ensures.yields c.advance-item.ensures.fault
-    c.advance-item.ensures.size c.args.self.now.bounded c.advance-item.ensures.known
-    c.advance-item.ensures.cached c.advance-item.ensures.falls c.advance-item.ensures.failures
+    let h = c.advance-item.ensures.handed in
+    record {
+      event = h.event;
+      is = item_walks _ _ _ _ c.args.self.now _ c.advance-item.ensures.unchanged
+          c.advance-item.ensures.counted refl c.advance-item.result h.event c.in-Walking.is
+          c.state_after-self-in-Walking.ensures h.is.0 c.advance-item.ensures.fault
+          c.advance-item.ensures.size c.args.self.now.bounded c.advance-item.ensures.known h.is.1
+          c.advance-item.ensures.falls c.advance-item.ensures.failures;
+      taken = h.taken;
+    }
 
 pub invariant_of-self : goal.invariant_of-self
 invariant_of-self g c = record {

@@ -1,4 +1,4 @@
-use Rattle.plist_binread.proofs.event_slot.EventSlot.refuse_object.Goals as goal
+use Rattle.plist_binread.proofs.fault_slot.FaultSlot.refuse_object.Goals as goal
 
 pub returns : goal.returns
 returns c = rw c.refuse.ensures.fault (record {

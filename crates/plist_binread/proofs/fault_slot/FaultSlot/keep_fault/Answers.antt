@@ -1,5 +1,5 @@
 use Rattle.std.proofs.Common.{refl}
-use Rattle.plist_binread.proofs.event_slot.EventSlot.keep_fault.Goals as goal
+use Rattle.plist_binread.proofs.fault_slot.FaultSlot.keep_fault.Goals as goal
 
 pub returns-in-Err-clause-decoded : goal.returns-in-Err-clause-decoded
 returns-in-Err-clause-decoded c = λ bytes object h.

@@ -1,0 +1,17 @@
+use Rattle.plist_binread.specs.Slot.{answer_in}
+use Rattle.plist_binread.proofs.Decodings.{large_unlike, long_sets}
+use Rattle.plist_binread.proofs.hand.hand_decoded.Goals as goal
+
+pub returns-in-Long-clause-handed : goal.returns-in-Long-clause-handed
+returns-in-Long-clause-handed g c =
+    let h = c.hand_content.ensures.handed in
+    let fits = rw c.in-Long.is at c.requires in
+    record {
+      event = h.event;
+      is = (
+        rw c.in-Long.is (long_sets _ c.args.bounds.now c.args.place c.in-Long.content
+            (answer_in c.hand_content.result c.hand_content.new.slot) h.event fits.0 h.is.0),
+        large_unlike c.hand_content.result c.args.decoded h.event h.is.1,
+      );
+      taken = h.taken;
+    }

@@ -1,0 +1,27 @@
+use Rattle.std.proofs.Common.{ap, sym, refl, ◌∙◌, Some}
+use Rattle.plist_base.specs.Events.{EndCollection, ScalarEvent}
+use Rattle.plist_base.specs.Trees.{String}
+use Rattle.plist_binread.specs.Decoded.{event_of_object}
+use Rattle.plist_binread.proofs.Contents.{text-utf8, text-not_utf8}
+use Rattle.plist_binread.proofs.Decodings.{large_text}
+use Rattle.plist_binread.proofs.hand.hand_text.Goals as goal
+
+pub returns-in-Some-clause-handed : goal.returns-in-Some-clause-handed
+returns-in-Some-clause-handed g c =
+    let is = ap event_of_object (text-utf8 c.args.bytes.now c.in-Some.ensures.1)
+    ∙ ap (λ bytes. Some (ScalarEvent (String bytes))) (sym c.in-Some.ensures.0) in
+    record {
+      event = ScalarEvent (String c.in-Some.text.now);
+      is = (is, large_text c.args.bytes.now _ c.requires is);
+      taken = c.string.ensures;
+    }
+
+pub returns-in-None-clause-handed : goal.returns-in-None-clause-handed
+returns-in-None-clause-handed g c = record {
+  event = EndCollection;
+  is = (
+    c.refuse_object.ensures.refused _ (text-not_utf8 c.args.bytes.now c.in-None.ensures),
+    tt,
+  );
+  taken = refl;
+}

@@ -1,0 +1,41 @@
+-- What is handed over to a visitor.
+use Rattle.std.specs.Prelude.{◌≡◌, Option, None, Some, Result, Ok, Err, MatchOption, MatchResult}
+use Rattle.plist_base.specs.declared.error.Error.{Error}
+use Rattle.plist_base.specs.declared.event.Event.{Event}
+use Rattle.plist_base.specs.Events.{PlainEvent, event_of}
+use Rattle.plist_base.specs.Trees as trees
+use Rattle.plist_base.specs.Visits.{Flow}
+use Rattle.plist_binread.specs.Packed.{MayAllocate, scalar_event}
+use Rattle.plist_binread.specs.declared.fault_slot.Refused.{Refused}
+
+-- the event and the answer that were read, or the error
+abbrev pub HandsRead : {A : Type 0} → Result Event Error → (answer : Result A Error) → PlainEvent
+    → Type 0
+HandsRead (Ok read) answer event = MatchResult answer (λ _. event ≡ event_of read) (λ _. ⊥)
+HandsRead (Err error) answer event = answer ≡ Err error
+
+module _ {V : Type 0} (step : V → PlainEvent → Flow → V → Type 0) (old new : V) where
+  -- the visitor took this event, or it is as it was
+  abbrev pub Takes : Result Flow Refused → PlainEvent → Type 0
+  Takes (Ok flow) event = step old event flow new
+  Takes (Err refused) event = new ≡ old
+
+  abbrev pub TakesItem : Option (Result Flow Refused) → PlainEvent → Type 0
+  TakesItem None event = new ≡ old
+  TakesItem (Some answer) event = Takes answer event
+
+  -- the visitor took an event of which this is so; where it took none, any event will do
+  pub record Hands (answer : Result Flow Refused) (P : PlainEvent → Type 0) : Type 0 where
+    pub event : PlainEvent
+    pub is : P event
+    pub taken : Takes answer event
+
+  pub record HandsItem (item : Option (Result Flow Refused)) (P : PlainEvent → Type 0) : Type 0 where
+    pub event : PlainEvent
+    pub is : P event
+    pub taken : TakesItem item event
+
+  -- the visitor took the event of a scalar; or there is none, or it is one that may need memory
+  abbrev pub HandsSmall : Option trees.Scalar → Option Flow → Type 0
+  HandsSmall scalar answer = MatchOption answer (MayAllocate scalar × (new ≡ old))
+      (λ flow. (event : PlainEvent) × (scalar_event scalar ≡ Some event) × step old event flow new)

@@ -1,0 +1,107 @@
+//! The error of a step that was refused, kept apart so that the results of steps stay small.
+
+ghost use Rattle.std.specs.Prelude.{◌≡◌, ℕ, Ok, IfOk};
+ghost use Rattle.plist_base.specs.Faults.{ObjectOffsetTooLarge, OutOfMemory, fault_at, fault_nowhere, fault_of};
+ghost use Rattle.plist_base.specs.Sources.{AnswersIo, CountsIo};
+ghost use Rattle.plist_format.specs.Object.{Object};
+ghost use Rattle.plist_binread.specs.FaultOffsets.{ErrWithin, FailsWithin};
+ghost use Rattle.plist_binread.specs.Decoding.{IsRefusedAs};
+ghost use Rattle.plist_binread.specs.Decoded.{IsObjectFault, KeepsFault, small_in};
+ghost use Rattle.plist_binread.specs.Slot.{answer_in};
+
+use crate::decoded::{Decoded, ObjectFault};
+use plist_base::{Error, ErrorKind};
+use std::alloc::Global;
+
+/// Says that a step was refused: its error is in the [`FaultSlot`].
+///
+/// It is small, as an error isn't: the memory for a result is cleared at each call.
+#[derive(Clone, Copy)]
+pub struct Refused;
+
+/// Keeps the error of a step that was refused.
+#[derive(Drop)]
+pub struct FaultSlot {
+    /// The error. It is of use only after a step was refused.
+    pub fault: Error,
+    /// Where memory for texts and data comes from.
+    pub alloc: Global,
+}
+
+impl FaultSlot {
+    /// Creates a slot for the first error.
+    pub fn new(alloc: Global) -> Self {
+        FaultSlot {
+            fault: ErrorKind::OutOfMemory.without_position(),
+            alloc,
+        }
+    }
+
+    /// Keeps this error.
+    #[cold]
+    pub fn refuse(&mut self, error: Error) -> Refused
+        ensures fault { self.new.fault ≡ error }
+    {
+        self.fault = error;
+        Refused
+    }
+
+    /// Keeps `OutOfMemory`.
+    #[cold]
+    #[inline(never)]
+    pub fn refuse_memory(&mut self) -> Refused
+        ensures fault { fault_of self.new.fault ≡ fault_nowhere OutOfMemory }
+    {
+        self.refuse(ErrorKind::OutOfMemory.without_position())
+    }
+
+    /// Keeps the error that the object at an offset doesn't end before the trailer.
+    #[cold]
+    #[inline(never)]
+    pub fn refuse_overrun(&mut self, place: u64) -> Refused
+        ensures fault { fault_of self.new.fault ≡ fault_at ObjectOffsetTooLarge place }
+    {
+        self.refuse(ErrorKind::ObjectOffsetTooLarge.with_byte_offset(place))
+    }
+
+    /// Returns the same result, and keeps its error if it is one.
+    pub fn keep_error<T>(&mut self, answer: Result<T, Error>) -> Result<T, Refused>
+        ensures answer { answer_in result self.new ≡ answer }
+    {
+        match answer {
+            Ok(value) => Ok(value),
+            Err(error) => Err(self.refuse(error)),
+        }
+    }
+
+    /// Keeps the error of the object at an offset.
+    #[cold]
+    #[inline(never)]
+    pub fn refuse_object(&mut self, fault: ObjectFault, place: u64) -> Refused
+        ensures refused { (object : Object) → IsObjectFault object fault
+            → IsRefusedAs object place self.new.fault }
+        ensures fault { (end : ℕ) → FailsWithin place end (fault_of self.new.fault) }
+        ensures failures { (count : ℕ) → CountsIo self.new.fault count count }
+    {
+        self.refuse(fault.at(place))
+    }
+
+    /// Returns the same decoded object, or keeps the error of the object at an offset.
+    #[inline(always)]
+    pub fn keep_fault(
+        &mut self,
+        answer: Result<Decoded, ObjectFault>,
+        place: u64,
+    ) -> Result<Decoded, Refused>
+        ensures decoded { KeepsFault answer place result self.new }
+        ensures same { IfOk result (λ decoded. answer ≡ Ok decoded) }
+        ensures small { small_in result ≡ small_in answer }
+        ensures fault { (end : ℕ) → ErrWithin place end (answer_in result self.new) }
+        ensures failures { (count : ℕ) → AnswersIo (answer_in result self.new) count count }
+    {
+        match answer {
+            Ok(decoded) => Ok(decoded),
+            Err(fault) => Err(self.refuse_object(fault, place)),
+        }
+    }
+}

@@ -1,0 +1,244 @@
+//! Handing an object that was decoded over to a visitor.
+
+ghost use Rattle.std.specs.Prelude.{◌≡◌, ℕ, false, OnOk};
+ghost use Rattle.plist_base.specs.Sources.{AnswersIo};
+ghost use Rattle.plist_format.specs.Object.{date, text};
+ghost use Rattle.plist_binread.specs.CountedContent.{AreUnits, content_means, unit_size};
+ghost use Rattle.plist_binread.specs.Decoded.{EndsIn64Bits, FailsInContent, FitsBefore, IsLong, IsLongBytes, SetsAsSmall, SetsContentAt, SetsDecoded, SetsEvent};
+ghost use Rattle.plist_binread.specs.FaultOffsets.{ErrWithin};
+ghost use Rattle.plist_binread.specs.Handing.{Hands, HandsRead, HandsSmall};
+ghost use Rattle.plist_binread.specs.Packed.{content_bytes, is_small_event, text_if_any, unpacked};
+ghost use Rattle.plist_binread.specs.Slot.{AnswersInSlot, answer_in};
+ghost use Rattle.plist_binread.specs.declared.decoded.ContentKind.TheVariants.{Text as KindText};
+
+use crate::decoded::{Content, ContentKind, Decoded, ObjectFault};
+use crate::fault_slot::{FaultSlot, Refused};
+use crate::head::Bounds;
+use crate::long_content::{read_long, wide_text_event};
+use crate::packed::PackedKind;
+use crate::utf8::text_in;
+use plist_base::{Date, Error, EventVisitor, Integer, OwnedEvent, RealBits, Source, Uid};
+use std::borrow::{CowSlice, CowStr};
+use std::ops::ControlFlow;
+
+// Hands a text of at most eight bytes over, if they are one.
+#[inline(always)]
+fn hand_short_text<V: EventVisitor>(bytes: &[u8], visitor: &mut V) -> Option<ControlFlow<()>>
+    ensures { HandsSmall V.step visitor.old visitor.new (text_if_any bytes.now) result }
+{
+    match text_in(bytes) {
+        Some(text) => Some(visitor.string(CowStr::Borrowed(text))),
+        None => None,
+    }
+}
+
+/// Hands the scalar of a kind and a content over, if they are one.
+#[inline(always)]
+pub fn hand_small<V: EventVisitor>(
+    kind: PackedKind,
+    content: u64,
+    visitor: &mut V,
+) -> Option<ControlFlow<()>>
+    ensures { HandsSmall V.step visitor.old visitor.new (unpacked kind content) result }
+{
+    let bytes = content.to_be_bytes();
+    match kind {
+        PackedKind::Boolean(value) => Some(visitor.boolean(value)),
+        PackedKind::Unsigned => Some(visitor.integer(Integer::from(content))),
+        PackedKind::Negative => Some(visitor.integer(Integer::from(content.cast_signed()))),
+        PackedKind::Real => Some(visitor.real(RealBits::Eight(bytes))),
+        PackedKind::ShortReal => {
+            let mut four = [0; 4];
+            four.copy_from_slice(&bytes[..4]);
+            Some(visitor.real(RealBits::Four(four)))
+        }
+        PackedKind::Uid => Some(visitor.uid(Uid::new(content))),
+        PackedKind::Data(size) => {
+            if size > 8 {
+                return None;
+            }
+            Some(visitor.data(CowSlice::Borrowed(&bytes[..usize::from(size)])))
+        }
+        PackedKind::Text(size) => {
+            if size > 8 {
+                return None;
+            }
+            hand_short_text(&bytes[..usize::from(size)], visitor)
+        }
+    }
+}
+
+// Hands the date in these eight bytes over, of the object at an offset.
+#[inline(never)]
+fn hand_date<V: EventVisitor>(
+    content: u64,
+    place: u64,
+    slot: &mut FaultSlot,
+    visitor: &mut V,
+) -> Result<ControlFlow<()>, Refused>
+    ensures handed { Hands V.step visitor.old visitor.new result (λ event.
+        SetsEvent (date (content_bytes content)) place (answer_in result slot.new) event
+        × OnOk result (is_small_event event ≡ false)) }
+    ensures fault { (end : ℕ) → ErrWithin place end (answer_in result slot.new) }
+    ensures failures { (count : ℕ) → AnswersIo (answer_in result slot.new) count count }
+{
+    match Date::from_plist_real(content.to_be_bytes()) {
+        Ok(date) => Ok(visitor.date(date)),
+        Err(_) => Err(slot.refuse_object(ObjectFault::NoDate, place)),
+    }
+}
+
+// Hands an event over that was read, or keeps the error. It is a function of its own, since the
+// memory for an event is cleared at each call.
+#[inline(never)]
+fn hand_read<V: EventVisitor>(
+    read: Result<OwnedEvent, Error>,
+    slot: &mut FaultSlot,
+    visitor: &mut V,
+) -> Result<ControlFlow<()>, Refused>
+    ensures { Hands V.step visitor.old visitor.new result
+        (HandsRead read.entry (answer_in result slot.new)) }
+{
+    match read {
+        Ok(event) => Ok(visitor.event(event)),
+        Err(error) => Err(slot.refuse(error)),
+    }
+}
+
+// Hands a text over that isn't small, of the object at an offset.
+#[inline(always)]
+fn hand_text<V: EventVisitor>(
+    bytes: &[u8],
+    place: u64,
+    slot: &mut FaultSlot,
+    visitor: &mut V,
+) -> Result<ControlFlow<()>, Refused>
+    requires { IsLongBytes KindText bytes.now }
+    ensures handed { Hands V.step visitor.old visitor.new result (λ event.
+        SetsEvent (text bytes.now) place (answer_in result slot.new) event
+        × OnOk result (is_small_event event ≡ false)) }
+    ensures fault { (end : ℕ) → ErrWithin place end (answer_in result slot.new) }
+    ensures failures { (count : ℕ) → AnswersIo (answer_in result slot.new) count count }
+{
+    match text_in(bytes) {
+        Some(text) => Ok(visitor.string(CowStr::Borrowed(text))),
+        None => Err(slot.refuse_object(ObjectFault::NotUtf8, place)),
+    }
+}
+
+// Hands the text or data in these bytes over, of the object at an offset.
+#[inline(always)]
+fn hand_bytes<V: EventVisitor>(
+    kind: ContentKind,
+    bytes: &[u8],
+    place: u64,
+    slot: &mut FaultSlot,
+    visitor: &mut V,
+) -> Result<ControlFlow<()>, Refused>
+    requires units { AreUnits (unit_size kind) bytes.now }
+    requires long { IsLongBytes kind bytes.now }
+    ensures handed { Hands V.step visitor.old visitor.new result (λ event.
+        SetsEvent (content_means kind bytes.now) place (answer_in result slot.new) event
+        × OnOk result (is_small_event event ≡ false)) }
+    ensures fault { (end : ℕ) → ErrWithin place end (answer_in result slot.new) }
+    ensures failures { (count : ℕ) → AnswersIo (answer_in result slot.new) count count }
+{
+    match kind {
+        ContentKind::Data => Ok(visitor.data(CowSlice::Borrowed(bytes))),
+        ContentKind::Text => hand_text(bytes, place, slot, visitor),
+        ContentKind::WideText => {
+            let read = wide_text_event(slot.alloc, bytes, place);
+            hand_read(read, slot, visitor)
+        }
+    }
+}
+
+// Reads the text or data of a content, of the object at an offset, and hands it over.
+#[cold]
+#[inline(never)]
+fn hand_far<S: Source, V: EventVisitor>(
+    source: &mut S,
+    place: u64,
+    content: Content,
+    slot: &mut FaultSlot,
+    visitor: &mut V,
+) -> Result<ControlFlow<()>, Refused>
+    requires fits { EndsIn64Bits place content }
+    requires long { IsLong content }
+    // The answer.
+    ensures handed { Hands V.step visitor.old visitor.new result (λ event.
+        SetsContentAt (S.known source.old) place content (answer_in result slot.new) event
+        × OnOk result (is_small_event event ≡ false)) }
+    // A refusal.
+    ensures fault { FailsInContent place content (answer_in result slot.new) }
+    // The state after it.
+    ensures unchanged { S.known source.new ≡ S.known source.old }
+    ensures failures { AnswersInSlot S.failures result slot.new source.old source.new }
+{
+    let read = read_long(slot.alloc, source, place, content);
+    hand_read(read, slot, visitor)
+}
+
+// Hands the text or data of a content over, of the object at an offset: from the bytes that are
+// buffered if all of it is, and else from memory of its own.
+#[inline(always)]
+fn hand_content<S: Source, V: EventVisitor>(
+    source: &mut S,
+    place: u64,
+    content: Content,
+    slot: &mut FaultSlot,
+    visitor: &mut V,
+) -> Result<ControlFlow<()>, Refused>
+    requires fits { EndsIn64Bits place content }
+    requires long { IsLong content }
+    // The answer.
+    ensures handed { Hands V.step visitor.old visitor.new result (λ event.
+        SetsContentAt (S.known source.old) place content (answer_in result slot.new) event
+        × OnOk result (is_small_event event ≡ false)) }
+    // A refusal.
+    ensures fault { FailsInContent place content (answer_in result slot.new) }
+    // The state after it.
+    ensures unchanged { S.known source.new ≡ S.known source.old }
+    ensures failures { AnswersInSlot S.failures result slot.new source.old source.new }
+{
+    let size = content.count * content.kind.unit_size();
+    let buffered = source.buffered(place + content.start);
+    if size <= buffered.len() as u64 {
+        let bytes = &buffered[..size as usize];
+        return hand_bytes(content.kind, bytes, place, slot, visitor);
+    }
+    hand_far(source, place, content, slot, visitor)
+}
+
+/// Hands the event of the object at an offset over, which was decoded.
+#[inline(always)]
+pub fn hand_decoded<S: Source, V: EventVisitor>(
+    source: &mut S,
+    bounds: &Bounds,
+    place: u64,
+    decoded: Decoded,
+    slot: &mut FaultSlot,
+    visitor: &mut V,
+) -> Result<ControlFlow<()>, Refused>
+    requires { FitsBefore bounds.now.trailer place decoded }
+    // The answer.
+    ensures handed { Hands V.step visitor.old visitor.new result (λ event.
+        SetsDecoded (S.known source.old) bounds.now place decoded (answer_in result slot.new) event
+        × SetsAsSmall decoded result event) }
+    // A refusal.
+    ensures fault { ErrWithin place bounds.now.trailer (answer_in result slot.new) }
+    // The state after it.
+    ensures unchanged { S.known source.new ≡ S.known source.old }
+    ensures failures { AnswersInSlot S.failures result slot.new source.old source.new }
+{
+    match decoded {
+        Decoded::Small(kind, content) => match hand_small(kind, content, visitor) {
+            Some(flow) => Ok(flow),
+            None => Err(slot.refuse_memory()),
+        },
+        Decoded::Date(content) => hand_date(content, place, slot, visitor),
+        Decoded::Long(content) => hand_content(source, place, content, slot, visitor),
+        Decoded::Array(count) => Ok(visitor.start_array(Some(count))),
+        Decoded::Dictionary(count) => Ok(visitor.start_dictionary(Some(count))),
+    }
+}

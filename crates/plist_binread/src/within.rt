@@ -1,0 +1,56 @@
+//! A visitor within limits.
+
+ghost use Rattle.std.specs.Prelude.{◌≡◌};
+
+use plist_base::{Allowance, Error, Event, EventVisitor, Limiter};
+use std::ops::ControlFlow;
+
+/// Passes events on to another visitor, as many as limits admit.
+///
+/// The first event that isn't admitted is the last one that it takes.
+#[derive(Drop)]
+pub struct Within<'v, V> {
+    limiter: &'v mut Limiter,
+    // The error of the event that wasn't admitted.
+    reached: &'v mut Result<(), Error>,
+    visitor: &'v mut V,
+}
+
+impl<'v, V: EventVisitor> Within<'v, V> {
+    /// Creates a visitor that passes events on. The error of one that isn't admitted goes into
+    /// `reached`.
+    pub fn new(
+        limiter: &'v mut Limiter,
+        reached: &'v mut Result<(), Error>,
+        visitor: &'v mut V,
+    ) -> Within<'v, V>
+        ensures limiter { result.limiter.ghost_name ≡ limiter.entry.ghost_name }
+        ensures slot { result.reached.ghost_name ≡ reached.entry.ghost_name }
+        ensures visitor { result.visitor.ghost_name ≡ visitor.entry.ghost_name }
+        ensures limits { result.limiter.now ≡ limiter.old }
+        ensures unreached { result.reached.now ≡ reached.old }
+        ensures unvisited { result.visitor.now ≡ visitor.old }
+    {
+        Within {
+            limiter,
+            reached,
+            visitor,
+        }
+    }
+}
+
+impl<'v, V: EventVisitor> EventVisitor for Within<'v, V> {
+    ghost use Rattle.plist_binread.specs.Advancing.{TakesWithin};
+
+    ghost step = { TakesWithin V.step };
+
+    fn event(&mut self, event: Event<'_>) -> ControlFlow<()> {
+        match self.limiter.admit(&event) {
+            Ok(()) => self.visitor.event(event),
+            Err(error) => {
+                *self.reached = Err(error);
+                ControlFlow::Break(())
+            }
+        }
+    }
+}
