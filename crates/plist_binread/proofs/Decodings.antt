@@ -1,5 +1,5 @@
 -- What is decoded of an object, and what is wrong with one.
-use Rattle.std.proofs.Common.{◌≡◌, ℕ, suc, inl, inr, ◌+◌, ◌-◌, ◌*◌, ◌<◌, ◌≤◌, Bool, true, false, List, ◌∷◌, ◌++◌, length, take, drop, get_or, replicate, Option, None, Some, Result, Ok, Err, IfOk, IfSome, refl, ap, sym, subst, ◌∙◌, arith}
+use Rattle.std.proofs.Common.{◌≡◌, ℕ, suc, inl, inr, ◌+◌, ◌-◌, ◌*◌, ◌<◌, ◌≤◌, Bool, true, false, List, ◌∷◌, ◌++◌, length, take, drop, get_or, replicate, Option, None, Some, Result, Ok, Err, IfSome, refl, ap, sym, subst, ◌∙◌, arith}
 use Rattle.std.specs.Prelude.{⊤, OnOk, if◌then◌else◌}
 use Rattle.std.proofs.lemmas.Bool.{cases_lt, false≢true, le-leb}
 use Rattle.std.proofs.lemmas.List.{length-append, length-drop, length-take-le, drop-append-le, drop-drop, take-take}
@@ -17,7 +17,7 @@ use Rattle.plist_base.specs.Trees as trees
 use Rattle.plist_base.proofs.Refusals.{MatchFault-at}
 use Rattle.plist_format.specs.Object.{Object, Scalar, Array, Dictionary, Faulty, date, date_if_any, length_in, object_in, text, text_of_units}
 use Rattle.plist_binread.specs.CountedContent.{content_means, counted_with, unit_size}
-use Rattle.plist_binread.specs.Decoded.{DecodesAfter, DecodesAt, DecodesSeen, FitsBefore, FitsWalk, IsAnswerFor, IsDecodedAs, IsObjectFault, IsLongCount, KeepsFault, SetsContentAt, SetsDecoded, SetsEvent, bytes_at, content_size, event_of_object, kind_of_object_fault, small_count}
+use Rattle.plist_binread.specs.Decoded.{DecodesAfter, DecodesAt, DecodesSeen, CountsUnread, FailsUnread, FitsBefore, FitsWalk, IsDecodedAs, IsObjectFault, IsLongCount, IsReadAs, SetsContentAt, SetsDecoded, SetsEvent, bytes_at, content_size, event_of_object, is_unread, kind_of_object_fault, small_count}
 use Rattle.plist_binread.specs.Decoding.{Allocates, IsCollection, IsRefusedAs, scalar_event_in}
 use Rattle.plist_binread.specs.FaultOffsets.{FailsWithin, MatchReader}
 use Rattle.plist_binread.specs.Packed.{MayAllocate, content_bytes, is_small_event, scalar_event, unmarked, unpacked}
@@ -87,7 +87,7 @@ pub long_decoded : (kind : ContentKind) (low count first : ℕ) (rest behind mor
     → count * unit_size kind ≤ length (behind ++ more) → length behind ≤ length rest
     → drop (length rest - length behind) rest ≡ behind → IsLongCount kind count
     → IsDecodedAs (first ∷ (rest ++ more)) (counted_with kind low (rest ++ more))
-    (decoded.Long (record { kind = kind; start = 1 + (length rest - length behind); count = count }))
+    (decoded.Long kind (1 + (length rest - length behind)) count)
 long_decoded kind low count first rest behind more is fits short lies long =
     let k = length rest - length behind in
     let next : 1 + k ≡ suc k = omega arith in
@@ -117,23 +117,23 @@ small_data low count content first rest behind bytes more is seen small cut pack
 
 -- few bytes of a text, whatever they mean
 pub few_bytes : (kind : ContentKind) (low count size first : ℕ) (rest behind bytes more : List ℕ)
-    (answer : Result Decoded ObjectFault)
+    (answer : Decoded)
     → length_in low (rest ++ more) ≡ Some (count, behind ++ more) → size ≡ count * unit_size kind
     → size ≤ length behind → bytes ≡ take size behind
-    → ((all : List ℕ) → IsAnswerFor all (content_means kind bytes) answer)
-    → IsAnswerFor (first ∷ (rest ++ more)) (counted_with kind low (rest ++ more)) answer
+    → ((all : List ℕ) → IsDecodedAs all (content_means kind bytes) answer)
+    → IsDecodedAs (first ∷ (rest ++ more)) (counted_with kind low (rest ++ more)) answer
 few_bytes kind low count size first rest behind bytes more answer is same seen cut means =
     let e : counted_with kind low (rest ++ more) ≡ content_means kind bytes =
     content_seen low (unit_size kind) count rest behind more is (rw same at seen)
     (content_means kind)
     ∙ ap (content_means kind) (ap (λ k. take k behind) (sym same) ∙ sym cut) in
-    subst (λ object. IsAnswerFor (first ∷ (rest ++ more)) object answer) (sym e)
+    subst (λ object. IsDecodedAs (first ∷ (rest ++ more)) object answer) (sym e)
     (means (first ∷ (rest ++ more)))
 
 -- ---- what is seen of an object
 
 -- its marker and what lies after it
-pub seen_after : (w m extent : ℕ) (seen rest : List ℕ) (answer : Result Decoded ObjectFault)
+pub seen_after : (w m extent : ℕ) (seen rest : List ℕ) (answer : Decoded)
     → seen ≡ m ∷ rest → DecodesAfter (extent - 1) (object_with w m) rest answer
     → DecodesSeen extent (object_in w) seen answer
 seen_after w m extent seen rest answer is means = λ more whole.
@@ -141,62 +141,117 @@ seen_after w m extent seen rest answer is means = λ more whole.
     let n : length (rest ++ more) ≡ extent - 1 = omega (arith, ap length e, whole) in
     let o : object_in w (seen ++ more) ≡ object_with w m (rest ++ more) =
     object_front w m (seen ++ more) (rest ++ more) e in
-    subst (λ object. IsAnswerFor (seen ++ more) object answer) (sym o)
-    (subst (λ all. IsAnswerFor all (object_with w m (rest ++ more)) answer) (sym e)
+    subst (λ object. IsDecodedAs (seen ++ more) object answer) (sym o)
+    (subst (λ all. IsDecodedAs all (object_with w m (rest ++ more)) answer) (sym e)
     (means m more n))
 
 -- over known bytes
 seen_answers : (known : Option (List ℕ)) (bounds : Bounds) (place : ℕ) (seen : List ℕ)
-    (answer : Result Decoded ObjectFault)
+    (answer : Decoded)
     → place + length seen ≤ bounds.trailer → IfSome known (λ bytes. LiesAt bytes place seen)
     → DecodesSeen (bounds.trailer - place) (object_in bounds.reference_width) seen answer
     → IfSome known (λ bytes. bounds.trailer ≤ length bytes
-    → IsAnswerFor (bytes_at bounds place bytes) (object_at bounds place bytes) answer)
+    → IsDecodedAs (bytes_at bounds place bytes) (object_at bounds place bytes) answer)
 seen_answers known bounds place seen answer buffered is means = IfSome_then known is (λ bytes is fits.
     let cut = known_front (Some bytes) seen seen bounds.trailer place _ buffered (omega arith)
     (sym (take-length _)) is fits in
     let extent = ap length (sym cut.1) ∙ length-drop place (take bounds.trailer bytes)
     ∙ ap (λ m. m - place) (length-take-le bounds.trailer bytes fits) in
-    subst (λ all. IsAnswerFor all (object_in bounds.reference_width all) answer) (sym cut.1)
+    subst (λ all. IsDecodedAs all (object_in bounds.reference_width all) answer) (sym cut.1)
     (means cut.0 extent))
 
+-- it was read
+read_as : (all : List ℕ) (object : Object) (place : ℕ) (d : Decoded) (slot : FaultSlot)
+    → IsDecodedAs all object d → IsReadAs all object place d slot
+read_as all object place (decoded.Small kind content) slot is = is
+read_as all object place (decoded.Date content) slot is = is
+read_as all object place (decoded.Long kind start count) slot is = is
+read_as all object place (decoded.Array count) slot is = is
+read_as all object place (decoded.Dictionary count) slot is = is
+read_as all object place (decoded.Faulty fault) slot is = is
+read_as all object place decoded.Unread slot is = absurd is
+
 pub seen_decodes : (known : Option (List ℕ)) (bounds : Bounds) (place : ℕ) (seen : List ℕ)
-    (answer : Result Decoded ObjectFault) (kept : Result Decoded Refused) (slot : FaultSlot)
+    (answer : Decoded) (slot : FaultSlot)
     → place + length seen ≤ bounds.trailer → IfSome known (λ bytes. LiesAt bytes place seen)
     → DecodesSeen (bounds.trailer - place) (object_in bounds.reference_width) seen answer
-    → KeepsFault answer place kept slot → DecodesAt known bounds place (answer_in kept slot)
-seen_decodes known bounds place seen answer kept slot buffered is means keeps =
+    → DecodesAt known bounds place answer slot
+seen_decodes known bounds place seen answer slot buffered is means =
     IfSome_then known (seen_answers known bounds place seen answer buffered is means)
-    (λ bytes there fits. keeps _ _ (there fits))
+    (λ bytes there fits. read_as _ _ place answer slot (there fits))
 
 -- whatever the bytes are
 decoded_fits : (trailer place : ℕ) (all : List ℕ) (object : Object) (d : Decoded)
     → place + length all ≤ trailer → IsDecodedAs all object d → FitsBefore trailer place d
 decoded_fits trailer place all object (decoded.Small kind content) h is = is.3
 decoded_fits trailer place all object (decoded.Date content) h is = tt
-decoded_fits trailer place all object (decoded.Long content) h is = (omega (arith, h, is.0), is.2)
+decoded_fits trailer place all object (decoded.Long kind start count) h is =
+    (omega (arith, h, is.0), is.2)
 decoded_fits trailer place all object (decoded.Array count) h is = tt
 decoded_fits trailer place all object (decoded.Dictionary count) h is = omega (arith, h, is.1)
+decoded_fits trailer place all object (decoded.Faulty fault) h is = tt
+decoded_fits trailer place all object decoded.Unread h is = is
 
-pub seen_fits : (bounds : Bounds) (place : ℕ) (seen : List ℕ) (answer : Result Decoded ObjectFault)
-    (kept : Result Decoded Refused) → place + length seen ≤ bounds.trailer
+-- an answer for bytes that are seen
+pub seen_as : (bounds : Bounds) (place : ℕ) (seen : List ℕ) (answer : Decoded)
+    → place + length seen ≤ bounds.trailer
     → DecodesSeen (bounds.trailer - place) (object_in bounds.reference_width) seen answer
-    → IfOk kept (λ d. answer ≡ Ok d) → IfOk kept (FitsBefore bounds.trailer place)
-seen_fits bounds place seen answer (Ok d) h means same =
+    → (all : List ℕ) × (place + length all ≤ bounds.trailer)
+    × IsDecodedAs all (object_in bounds.reference_width all) answer
+seen_as bounds place seen answer h means =
     let k = bounds.trailer - place - length seen in
     let more = replicate k 0 in
     let n : length (seen ++ more) ≡ bounds.trailer - place =
     omega (arith, length-append seen more, length-replicate {A = ℕ} k 0, h) in
-    decoded_fits bounds.trailer place (seen ++ more) _ d (omega (arith, n, h))
-    (subst (λ a. IsAnswerFor (seen ++ more) (object_in bounds.reference_width (seen ++ more)) a) same
-    (means more n))
-seen_fits bounds place seen answer (Err refused) h means same = tt
+    (seen ++ more, omega (arith, n, h), means more n)
+
+pub seen_fits : (bounds : Bounds) (place : ℕ) (seen : List ℕ) (answer : Decoded)
+    → place + length seen ≤ bounds.trailer
+    → DecodesSeen (bounds.trailer - place) (object_in bounds.reference_width) seen answer
+    → FitsBefore bounds.trailer place answer
+seen_fits bounds place seen answer h means =
+    let a = seen_as bounds place seen answer h means in
+    decoded_fits bounds.trailer place a.0 _ answer a.1 a.2
+
+-- and they were read
+read_all : (all : List ℕ) (object : Object) (d : Decoded) → IsDecodedAs all object d
+    → is_unread d ≡ false
+read_all all object (decoded.Small kind content) is = refl
+read_all all object (decoded.Date content) is = refl
+read_all all object (decoded.Long kind start count) is = refl
+read_all all object (decoded.Array count) is = refl
+read_all all object (decoded.Dictionary count) is = refl
+read_all all object (decoded.Faulty fault) is = refl
+read_all all object decoded.Unread is = absurd is
+
+pub seen_read : (bounds : Bounds) (place : ℕ) (seen : List ℕ) (answer : Decoded)
+    → place + length seen ≤ bounds.trailer
+    → DecodesSeen (bounds.trailer - place) (object_in bounds.reference_width) seen answer
+    → is_unread answer ≡ false
+seen_read bounds place seen answer h means =
+    let a = seen_as bounds place seen answer h means in read_all a.0 _ answer a.2
+
+pub fails_none : (start end : ℕ) (d : Decoded) (slot : FaultSlot) → is_unread d ≡ false
+    → FailsUnread start end d slot
+fails_none start end d slot read unread = absurd (false≢true (sym read ∙ unread))
+
+pub counts_none : (d : Decoded) (slot : FaultSlot) (old new : ℕ) → is_unread d ≡ false
+    → new ≡ old → CountsUnread d slot old new
+counts_none (decoded.Small kind content) slot old new read same = same
+counts_none (decoded.Date content) slot old new read same = same
+counts_none (decoded.Long kind start count) slot old new read same = same
+counts_none (decoded.Array count) slot old new read same = same
+counts_none (decoded.Dictionary count) slot old new read same = same
+counts_none (decoded.Faulty fault) slot old new read same = same
+counts_none decoded.Unread slot old new read same = absurd (false≢true (sym read))
 
 pub fits_walk : (bounds : Bounds) (place : ℕ) (d : Decoded) → FitsBefore bounds.trailer place d
     → FitsWalk d
 fits_walk bounds place (decoded.Small kind content) h = h
 fits_walk bounds place (decoded.Date content) h = tt
-fits_walk bounds place (decoded.Long content) h = tt
+fits_walk bounds place (decoded.Long kind start count) h = tt
+fits_walk bounds place (decoded.Faulty fault) h = tt
+fits_walk bounds place decoded.Unread h = tt
 fits_walk bounds place (decoded.Array count) h = tt
 fits_walk bounds place (decoded.Dictionary count) h =
     let small = bounds.small in omega (arith, h, small)
@@ -315,7 +370,8 @@ pub long_sets : {A : Type 0} (known : Option (List ℕ)) (bounds : Bounds) (plac
     (content : Content) (answer : Result A Error) (current : PlainEvent)
     → place + content.start + content_size content ≤ bounds.trailer
     → SetsContentAt known place content answer current
-    → SetsDecoded known bounds place (decoded.Long content) answer current
+    → SetsDecoded known bounds place (decoded.Long content.kind content.start content.count) answer
+    current
 long_sets known bounds place content answer current lies sets =
     IfSome_then known sets (λ bytes sets fits is.
     let n = content_size content in

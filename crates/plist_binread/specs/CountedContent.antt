@@ -6,8 +6,6 @@ use Rattle.plist_format.specs.Object.{Object, Faulty, length_in, meaning_counted
 use Rattle.plist_binread.specs.Reading.{data_of_content}
 use Rattle.plist_binread.specs.declared.decoded.ContentKind.{ContentKind}
 use Rattle.plist_binread.specs.declared.decoded.ContentKind.TheVariants as kind
-use Rattle.plist_binread.specs.declared.decoded.ObjectFault.{ObjectFault}
-use Rattle.plist_binread.specs.declared.decoded.ObjectFault.TheVariants as fault
 
 -- ---- what the content is
 
@@ -57,8 +55,7 @@ counted_with kind low rest =
     meaning_counted (unit_size kind) (λ _. content_means kind) (length_in low rest)
 
 -- a collection whose length isn't all there, or which doesn't end before the trailer
-abbrev pub RefusesCounted : (low size extent : ℕ) (rest : List ℕ) → ObjectFault → Type 0
-RefusesCounted low size extent rest refusal =
-    (refusal ≡ fault.Overrun) × ((meaning : ℕ → List ℕ → Object) (more : List ℕ)
+abbrev pub RefusesCounted : (low size extent : ℕ) (rest : List ℕ) → Type 0
+RefusesCounted low size extent rest = (meaning : ℕ → List ℕ → Object) (more : List ℕ)
     → length (rest ++ more) ≡ extent
-    → meaning_counted size meaning (length_in low (rest ++ more)) ≡ Faulty ObjectOffsetTooLarge)
+    → meaning_counted size meaning (length_in low (rest ++ more)) ≡ Faulty ObjectOffsetTooLarge

@@ -1,18 +1,17 @@
 -- What is decoded of an object by the bytes at its front, whatever lies after them.
-use Rattle.std.specs.Prelude.{◌≡◌, ℕ, ◌+◌, ◌*◌, ◌^◌, ◌<◌, ◌≤◌, true, List, ◌∷◌, ◌++◌, length, take, drop, Option, None, Some, Result, Ok, Err, IfSome, MatchResult, OnOk, ⊤}
+use Rattle.std.specs.Prelude.{◌≡◌, ℕ, ◌+◌, ◌*◌, ◌^◌, ◌<◌, ◌≤◌, Bool, true, false, List, ◌∷◌, ◌++◌, length, take, drop, Option, None, Some, Result, IfSome, MatchResult, OnOk, ⊤}
 use Rattle.plist_base.specs.declared.error.Error.{Error}
 use Rattle.plist_base.specs.Events.{PlainEvent, StartArray, StartDictionary, ScalarEvent}
-use Rattle.plist_base.specs.Faults.{FaultKind, ObjectOffsetTooLarge, NullObjectUnimplemented, FillObjectUnimplemented, UnknownObjectType, IntegerOutOfRange, OverflowOrNanDate, InvalidUtf8String, InvalidUtf16String, OutOfMemory}
+use Rattle.plist_base.specs.Faults.{FaultKind, ObjectOffsetTooLarge, NullObjectUnimplemented, FillObjectUnimplemented, UnknownObjectType, IntegerOutOfRange, OverflowOrNanDate, InvalidUtf8String, InvalidUtf16String, OutOfMemory, fault_of}
 use Rattle.plist_base.specs.Trees as trees
 use Rattle.plist_format.specs.Object.{Object, Scalar, Array, Dictionary, Faulty, date, meaning_of_front}
 use Rattle.plist_binread.specs.CountedContent.{content_means, unit_size}
 use Rattle.plist_base.specs.declared.event.Event.{Event}
 use Rattle.plist_binread.specs.Decoding.{Allocates, Decodes, IsCollection, IsRefusedAs}
-use Rattle.plist_binread.specs.Slot.{answer_in}
 use Rattle.plist_binread.specs.declared.fault_slot.FaultSlot.{FaultSlot}
-use Rattle.plist_binread.specs.declared.fault_slot.Refused.{Refused}
 use Rattle.plist_binread.specs.Packed.{FitsContent, content_bytes, is_small_event, unpacked}
-use Rattle.plist_binread.specs.FaultOffsets.{ErrWithin}
+use Rattle.plist_binread.specs.FaultOffsets.{ErrWithin, FailsWithin}
+use Rattle.plist_base.specs.Sources.{CountsIo}
 use Rattle.plist_binread.specs.Reading.{object_at}
 use Rattle.plist_binread.specs.declared.decoded.Content.{Content}
 use Rattle.plist_binread.specs.declared.decoded.ContentKind.{ContentKind}
@@ -68,56 +67,60 @@ IsDecodedAs bytes object (decoded.Small kind content) =
     (scalar : trees.Scalar) × (object ≡ Scalar scalar) × (unpacked kind content ≡ Some scalar)
     × FitsContent kind
 IsDecodedAs bytes object (decoded.Date content) = object ≡ date (content_bytes content)
-IsDecodedAs bytes object (decoded.Long content) =
-    (content.start + content_size content ≤ length bytes) × (object
-    ≡ content_means content.kind (take (content_size content) (drop content.start bytes)))
-    × IsLong content
+IsDecodedAs bytes object (decoded.Long kind start count) =
+    (start + count * unit_size kind ≤ length bytes) × (object
+    ≡ content_means kind (take (count * unit_size kind) (drop start bytes)))
+    × IsLongCount kind count
 IsDecodedAs bytes object (decoded.Array count) = IsCollection object (StartArray (Some count)) count
 IsDecodedAs bytes object (decoded.Dictionary count) =
     IsCollection object (StartDictionary (Some count)) (2 * count) × (2 * count ≤ length bytes)
+IsDecodedAs bytes object (decoded.Faulty fault) = IsObjectFault object fault
+IsDecodedAs bytes object decoded.Unread = ⊥
 
--- the answer is the decoded object, or what is wrong with it
-abbrev pub IsAnswerFor : (bytes : List ℕ) → Object → Result Decoded ObjectFault → Type 0
-IsAnswerFor bytes object answer = MatchResult answer (IsDecodedAs bytes object) (IsObjectFault object)
+-- its bytes weren't read
+abbrev pub is_unread : Decoded → Bool
+is_unread decoded.Unread = true
+is_unread other = false
+
+-- it has no event: it is faulty, or its bytes weren't read
+abbrev pub is_refused : Decoded → Bool
+is_refused (decoded.Faulty fault) = true
+is_refused decoded.Unread = true
+is_refused other = false
 
 -- an object is decoded by the bytes that are seen of it, whatever lies after them before the trailer
 abbrev pub DecodesSeen : (extent : ℕ) → (List ℕ → Object) → (seen : List ℕ)
-    → Result Decoded ObjectFault → Type 0
-DecodesSeen extent object seen answer = (more : List ℕ) → length (seen ++ more) ≡ extent
-    → IsAnswerFor (seen ++ more) (object (seen ++ more)) answer
+    → Decoded → Type 0
+DecodesSeen extent object seen decoded = (more : List ℕ) → length (seen ++ more) ≡ extent
+    → IsDecodedAs (seen ++ more) (object (seen ++ more)) decoded
 
 -- an object is decoded by the bytes that are seen after its first byte, whatever that byte is
 abbrev pub DecodesAfter : (extent : ℕ) → (List ℕ → Object) → (rest : List ℕ)
-    → Result Decoded ObjectFault → Type 0
-DecodesAfter extent object rest answer = (first : ℕ) (more : List ℕ)
+    → Decoded → Type 0
+DecodesAfter extent object rest decoded = (first : ℕ) (more : List ℕ)
     → length (rest ++ more) ≡ extent
-    → IsAnswerFor (first ∷ (rest ++ more)) (object (rest ++ more)) answer
+    → IsDecodedAs (first ∷ (rest ++ more)) (object (rest ++ more)) decoded
 
 -- an object of this fixed size, whose content means this, is decoded by the bytes after its first
 abbrev pub DecodesFixed : (extent size : ℕ) → (List ℕ → Object) → (rest : List ℕ)
-    → Result Decoded ObjectFault → Type 0
-DecodesFixed extent size meaning rest answer =
-    DecodesAfter extent (meaning_of_front size meaning) rest answer
+    → Decoded → Type 0
+DecodesFixed extent size meaning rest decoded =
+    DecodesAfter extent (meaning_of_front size meaning) rest decoded
 
 -- 1 where a small scalar was decoded, else 0
 abbrev pub small_count : Decoded → ℕ
 small_count (decoded.Small kind content) = 1
 small_count other = 0
 
--- how far an answer raises the counter
-abbrev pub small_in : {E : Type 0} → Result Decoded E → ℕ
-small_in (Ok decoded) = small_count decoded
-small_in (Err error) = 0
+-- the counter rises by what was decoded
+abbrev pub CountsSmall : {C : Type 0} → (counts : Type 0) → (count : C → ℕ) → (old new : C)
+    → Decoded → Type 0
+CountsSmall counts count old new decoded = counts → count new ≡ count old + small_count decoded
 
-abbrev pub CountsSmall : {C E : Type 0} → (counts : Type 0) → (count : C → ℕ) → (old new : C)
-    → Result Decoded E → Type 0
-CountsSmall counts count old new answer = counts → count new ≡ count old + small_in answer
-
--- a text of units is decoded if it is small, or has more than eight bytes
-abbrev pub DecodesIfShort : Object → Result (Option Decoded) ObjectFault → Type 0
-DecodesIfShort object answer = MatchResult answer
-    (λ found. IfSome found (λ decoded. (bytes : List ℕ) → IsDecodedAs bytes object decoded))
-    (IsObjectFault object)
+-- a text of units is decoded, unless it has more than eight bytes
+abbrev pub DecodesIfShort : Object → Option Decoded → Type 0
+DecodesIfShort object answer =
+    IfSome answer (λ decoded. (bytes : List ℕ) → IsDecodedAs bytes object decoded)
 
 -- ---- at a place
 
@@ -125,33 +128,43 @@ DecodesIfShort object answer = MatchResult answer
 abbrev pub bytes_at : Bounds → (place : ℕ) → List ℕ → List ℕ
 bytes_at bounds place bytes = drop place (take bounds.trailer bytes)
 
+-- the object is decoded, or the error is kept of bytes that weren't read
+abbrev pub IsReadAs : (bytes : List ℕ) → Object → (place : ℕ) → Decoded → FaultSlot → Type 0
+IsReadAs bytes object place decoded.Unread slot = IsRefusedAs object place slot.fault
+IsReadAs bytes object place decoded slot = IsDecodedAs bytes object decoded
+
 -- the object at a place is decoded, or refused
-abbrev pub DecodesAt : (known : Option (List ℕ)) → Bounds → (place : ℕ) → Result Decoded Error
+abbrev pub DecodesAt : (known : Option (List ℕ)) → Bounds → (place : ℕ) → Decoded → FaultSlot
     → Type 0
-DecodesAt known bounds place answer = IfSome known (λ bytes. bounds.trailer ≤ length bytes
-    → MatchResult answer (IsDecodedAs (bytes_at bounds place bytes) (object_at bounds place bytes))
-    (IsRefusedAs (object_at bounds place bytes) place))
+DecodesAt known bounds place decoded slot = IfSome known (λ bytes. bounds.trailer ≤ length bytes
+    → IsReadAs (bytes_at bounds place bytes) (object_at bounds place bytes) place decoded slot)
+
+-- the error of bytes that weren't read is within the object
+abbrev pub FailsUnread : (start end : ℕ) → Decoded → FaultSlot → Type 0
+FailsUnread start end decoded slot =
+    is_unread decoded ≡ true → FailsWithin start end (fault_of slot.fault)
+
+-- only bytes that weren't read raise the count of failures
+abbrev pub CountsUnread : Decoded → FaultSlot → (old new : ℕ) → Type 0
+CountsUnread decoded.Unread slot old new = CountsIo slot.fault old new
+CountsUnread decoded slot old new = new ≡ old
 
 -- what was decoded at a place lies before the trailer, and a text or data isn't small
 abbrev pub FitsBefore : (trailer place : ℕ) → Decoded → Type 0
 FitsBefore trailer place (decoded.Small kind content) = FitsContent kind
 FitsBefore trailer place (decoded.Date content) = ⊤
-FitsBefore trailer place (decoded.Long content) =
-    (place + content.start + content_size content ≤ trailer) × IsLong content
+FitsBefore trailer place (decoded.Long kind start count) =
+    (place + start + count * unit_size kind ≤ trailer) × IsLongCount kind count
 FitsBefore trailer place (decoded.Array count) = ⊤
 FitsBefore trailer place (decoded.Dictionary count) = 2 * count ≤ trailer
+FitsBefore trailer place (decoded.Faulty fault) = ⊤
+FitsBefore trailer place decoded.Unread = ⊥
 
 -- a walk can take it: its tag and its number of children have their widths
 abbrev pub FitsWalk : Decoded → Type 0
 FitsWalk (decoded.Small kind content) = FitsContent kind
 FitsWalk (decoded.Dictionary count) = 2 * count < 2 ^ 64
 FitsWalk other = ⊤
-
--- the error of an object at a place is held
-abbrev pub KeepsFault : Result Decoded ObjectFault → (place : ℕ) → Result Decoded Refused → FaultSlot
-    → Type 0
-KeepsFault answer place kept slot = (bytes : List ℕ) (object : Object) → IsAnswerFor bytes object answer
-    → MatchResult (answer_in kept slot) (IsDecodedAs bytes object) (IsRefusedAs object place)
 
 -- ---- the event of an object
 

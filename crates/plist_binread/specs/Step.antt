@@ -1,11 +1,11 @@
 -- Words for what a step does to the walk, to the current event and to the remaining items.
-use Rattle.std.specs.Prelude.{◌≡◌, ℕ, ◌<◌, List, get_or, Option, Some, Result, Err, IfSome, OnOk, ⊤}
+use Rattle.std.specs.Prelude.{◌≡◌, ℕ, ◌<◌, List, false, get_or, Option, Some, Result, Err, IfSome, OnOk, ⊤}
 use Rattle.std.specs.List.{slice_get}
 use Rattle.plist_base.specs.Events.{PlainEvent}
 use Rattle.plist_binread.specs.Reading.{ReadsChildAt}
 use Rattle.plist_binread.specs.Remaining.{Explains, entries_of, next_number, walk_weight}
 use Rattle.plist_binread.specs.Decoding.{IsCollection}
-use Rattle.plist_binread.specs.Decoded.{IsDecodedAs, event_of_object, small_count}
+use Rattle.plist_binread.specs.Decoded.{IsDecodedAs, event_of_object, is_refused, small_count}
 use Rattle.plist_binread.specs.DecodeOutcome.{YieldsAnswer, YieldsNext, YieldsCurrent}
 use Rattle.plist_binread.specs.Packed.{unmarked}
 use Rattle.plist_binread.specs.declared.fault_slot.Refused.{Refused}
@@ -85,7 +85,8 @@ abbrev pub OpensObject : (number : ℕ) → Decoded → (old new : Walk) → Typ
 OpensObject number decoded old new = (bytes : List ℕ) (bounds : Bounds) (entry : TableEntry)
     (all : List ℕ) → IsWalkOf bytes bounds old
     → slice_get (entries_of bytes bounds) number ≡ Some entry → IsDecodedAs all entry.object decoded
-    → ((at : ℕ) (event : PlainEvent) → event_of_object entry.object ≡ Some event
+    → ((at : ℕ) (event : PlainEvent) → is_refused decoded ≡ false
+    → event_of_object entry.object ≡ Some event
     → YieldsCurrent (remaining_entering bytes bounds old at number) event
     (remaining_in bytes bounds new))
     × IsWalkOf bytes bounds new

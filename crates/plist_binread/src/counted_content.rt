@@ -1,18 +1,18 @@
 //! Objects that have a length, decoded by the bytes after their marker: all up to the trailer, or
 //! at least as many as tell what isn't a long text or data.
 
-ghost use Rattle.std.specs.Prelude.{ℕ, ◌≡◌, ◌+◌, ◌-◌, ◌*◌, ◌%◌, ◌^◌, ◌<◌, ◌≤◌, List, length, IfErr, IfNone, IfOk, IfSome};
+ghost use Rattle.std.specs.Prelude.{ℕ, ◌≡◌, ◌+◌, ◌-◌, ◌*◌, ◌%◌, ◌^◌, ◌<◌, ◌≤◌, List, length, IfNone, IfSome};
 ghost use Rattle.plist_format.specs.declared.marker.CountedKind.TheVariants.{Array as ArrayKind, Dictionary as DictionaryKind};
 ghost use Rattle.plist_base.specs.Trees.{String};
 ghost use Rattle.plist_format.specs.Object.{Scalar, text, wide_text};
 ghost use Rattle.plist_binread.specs.CountedContent.{AreUnits, EndsBefore, IsCount, IsLength, IsLengthCut, LiesAfter, RefusesCounted, counted_with};
-ghost use Rattle.plist_binread.specs.Decoded.{DecodesAfter, DecodesIfShort, IsAnswerFor, IsDecodedAs};
+ghost use Rattle.plist_binread.specs.Decoded.{DecodesAfter, DecodesIfShort, IsDecodedAs};
 ghost use Rattle.plist_binread.specs.Front.{ShowsContent};
 ghost use Rattle.plist_binread.specs.Reading.{object_counted};
 ghost use Rattle.plist_binread.specs.declared.decoded.ContentKind.TheVariants.{Data as KindData, Text as KindText, WideText as KindWideText};
 ghost use Rattle.plist_binread.specs.declared.decoded.Decoded.TheVariants.{Long as LongContent};
 
-use crate::decoded::{Content, ContentKind, Decoded, ObjectFault};
+use crate::decoded::{ContentKind, Decoded, ObjectFault};
 use crate::numbers::{number_from, write_units};
 use crate::packed::{PackedKind, content_from};
 use crate::utf8::text_in;
@@ -56,64 +56,49 @@ pub fn front_length(low: LowHalf, rest: &[u8]) -> Option<(u64, &[u8])>
 // How many elements of this size an object has that lies before the trailer, which is so far away,
 // and what is seen after its length.
 #[inline(always)]
-fn front_count(
-    low: LowHalf,
-    rest: &[u8],
-    extent: u64,
-    size: u64,
-) -> Result<(u64, &[u8]), ObjectFault>
+fn front_count(low: LowHalf, rest: &[u8], extent: u64, size: u64) -> Option<(u64, &[u8])>
     requires extent { length rest.now ≤ extent }
     requires shown { ShowsContent extent rest.now }
-    ensures count { IfOk result (IsCount low size extent rest.now) }
-    ensures small { IfOk result (λ found. found.0 * size ≤ extent) }
-    ensures within { IfOk result (EndsBefore size extent rest.now) }
-    ensures short { IfOk result (λ found. length found.1.now ≤ length rest.now) }
-    ensures near { IfOk result (λ found. length rest.now ≤ length found.1.now + 9) }
-    ensures after { IfOk result (LiesAfter rest.now) }
-    ensures refused { IfErr result (RefusesCounted low size extent rest.now) }
+    ensures count { IfSome result (IsCount low size extent rest.now) }
+    ensures small { IfSome result (λ found. found.0 * size ≤ extent) }
+    ensures within { IfSome result (EndsBefore size extent rest.now) }
+    ensures short { IfSome result (λ found. length found.1.now ≤ length rest.now) }
+    ensures near { IfSome result (λ found. length rest.now ≤ length found.1.now + 9) }
+    ensures after { IfSome result (LiesAfter rest.now) }
+    ensures refused { IfNone result (RefusesCounted low size extent rest.now) }
 {
-    match front_length(low, rest) {
-        Some((count, behind)) => {
-            let left = extent - (rest.len() - behind.len()) as u64;
-            match count.checked_mul(size) {
-                Some(all) if all <= left => Ok((count, behind)),
-                _ => Err(ObjectFault::Overrun),
-            }
-        }
-        None => Err(ObjectFault::Overrun),
+    let (count, behind) = front_length(low, rest)?;
+    let left = extent - (rest.len() - behind.len()) as u64;
+    match count.checked_mul(size) {
+        Some(all) if all <= left => Some((count, behind)),
+        _ => None,
     }
 }
 
 // The content of a text or data, of which only the length was looked at.
 #[inline(always)]
 fn long_content(kind: ContentKind, rest: &[u8], behind: &[u8], count: u64) -> Decoded
-    requires { length behind.now ≤ length rest.now }
-    ensures { result ≡ LongContent (record {
-      kind = kind;
-      start = 1 + (length rest.now
-          - length behind.now);
-      count = count;
-    }) }
+    requires within { length behind.now ≤ length rest.now }
+    requires near { length rest.now ≤ length behind.now + 9 }
+    ensures { result ≡ LongContent kind (1 + (length rest.now - length behind.now)) count }
 {
-    Decoded::Long(Content {
-        kind,
-        start: 1 + (rest.len() - behind.len()) as u64,
-        count,
-    })
+    Decoded::Long(kind, 1 + (rest.len() - behind.len()) as u8, count)
 }
 
 /// Data.
-pub fn front_data(low: LowHalf, rest: &[u8], extent: u64) -> Result<Decoded, ObjectFault>
+pub fn front_data(low: LowHalf, rest: &[u8], extent: u64) -> Decoded
     requires extent { length rest.now ≤ extent }
     requires shown { ShowsContent extent rest.now }
     ensures { DecodesAfter extent (counted_with KindData low) rest.now result }
 {
-    let (count, behind) = front_count(low, rest, extent, 1)?;
+    let Some((count, behind)) = front_count(low, rest, extent, 1) else {
+        return Decoded::Faulty(ObjectFault::Overrun);
+    };
     if count > 8 {
-        return Ok(long_content(ContentKind::Data, rest, behind, count));
+        return long_content(ContentKind::Data, rest, behind, count);
     }
     let bytes = &behind[..count as usize];
-    Ok(Decoded::Small(PackedKind::Data(count as u8), content_from(bytes)))
+    Decoded::Small(PackedKind::Data(count as u8), content_from(bytes))
 }
 
 // A text of at most eight bytes.
@@ -128,32 +113,34 @@ fn small_text(text: &str) -> Decoded
 }
 
 // The text in at most eight bytes.
-fn short_text(bytes: &[u8]) -> Result<Decoded, ObjectFault>
+fn short_text(bytes: &[u8]) -> Decoded
     requires { length bytes.now ≤ 8 }
-    ensures { (all : List ℕ) → IsAnswerFor all (text bytes.now) result }
+    ensures { (all : List ℕ) → IsDecodedAs all (text bytes.now) result }
 {
     match text_in(bytes) {
-        Some(text) => Ok(small_text(text)),
-        None => Err(ObjectFault::NotUtf8),
+        Some(text) => small_text(text),
+        None => Decoded::Faulty(ObjectFault::NotUtf8),
     }
 }
 
 /// A text in UTF-8.
 #[inline(always)]
-pub fn front_text(low: LowHalf, rest: &[u8], extent: u64) -> Result<Decoded, ObjectFault>
+pub fn front_text(low: LowHalf, rest: &[u8], extent: u64) -> Decoded
     requires extent { length rest.now ≤ extent }
     requires shown { ShowsContent extent rest.now }
     ensures { DecodesAfter extent (counted_with KindText low) rest.now result }
 {
-    let (count, behind) = front_count(low, rest, extent, 1)?;
+    let Some((count, behind)) = front_count(low, rest, extent, 1) else {
+        return Decoded::Faulty(ObjectFault::Overrun);
+    };
     if count > 8 {
-        return Ok(long_content(ContentKind::Text, rest, behind, count));
+        return long_content(ContentKind::Text, rest, behind, count);
     }
     short_text(&behind[..count as usize])
 }
 
 // A text of at most eight units, if it has at most eight bytes.
-fn short_wide_text(alloc: Global, bytes: &[u8]) -> Result<Option<Decoded>, ObjectFault>
+fn short_wide_text(alloc: Global, bytes: &[u8]) -> Option<Decoded>
     requires few { length bytes.now ≤ 16 }
     requires units { AreUnits 2 bytes.now }
     ensures { DecodesIfShort (wide_text bytes.now) result }
@@ -165,72 +152,58 @@ fn short_wide_text(alloc: Global, bytes: &[u8]) -> Result<Option<Decoded>, Objec
     match made {
         Ok(Ok(text)) => {
             if text.len() > 8 {
-                return Ok(None);
+                return None;
             }
-            Ok(Some(small_text(text.as_str())))
+            Some(small_text(text.as_str()))
         }
-        Ok(Err(_)) => Err(ObjectFault::NotUtf16),
-        Err(_) => Err(ObjectFault::NoMemory),
+        Ok(Err(_)) => Some(Decoded::Faulty(ObjectFault::NotUtf16)),
+        Err(_) => Some(Decoded::Faulty(ObjectFault::NoMemory)),
     }
 }
 
 /// A text in UTF-16.
-pub fn front_wide_text(
-    alloc: Global,
-    low: LowHalf,
-    rest: &[u8],
-    extent: u64,
-) -> Result<Decoded, ObjectFault>
+pub fn front_wide_text(alloc: Global, low: LowHalf, rest: &[u8], extent: u64) -> Decoded
     requires extent { length rest.now ≤ extent }
     requires shown { ShowsContent extent rest.now }
     ensures { DecodesAfter extent (counted_with KindWideText low) rest.now result }
 {
-    let (count, behind) = front_count(low, rest, extent, 2)?;
+    let Some((count, behind)) = front_count(low, rest, extent, 2) else {
+        return Decoded::Faulty(ObjectFault::Overrun);
+    };
     let long = long_content(ContentKind::WideText, rest, behind, count);
     if count > 8 {
-        return Ok(long);
+        return long;
     }
     match short_wide_text(alloc, &behind[..2 * count as usize]) {
-        Ok(Some(short)) => Ok(short),
-        Ok(None) => Ok(long),
-        Err(fault) => Err(fault),
+        Some(short) => short,
+        None => long,
     }
 }
 
 /// The start of an array, whose references lie before the trailer.
 #[inline(always)]
-pub fn front_array(
-    low: LowHalf,
-    rest: &[u8],
-    extent: u64,
-    width: usize,
-) -> Result<Decoded, ObjectFault>
+pub fn front_array(low: LowHalf, rest: &[u8], extent: u64, width: usize) -> Decoded
     requires extent { length rest.now ≤ extent }
     requires shown { ShowsContent extent rest.now }
     requires width { 0 < width }
     ensures { DecodesAfter extent (object_counted width ArrayKind low) rest.now result }
 {
     match front_count(low, rest, extent, width as u64) {
-        Ok((count, _)) => Ok(Decoded::Array(count)),
-        Err(fault) => Err(fault),
+        Some((count, _)) => Decoded::Array(count),
+        None => Decoded::Faulty(ObjectFault::Overrun),
     }
 }
 
 /// The start of a dictionary, whose references lie before the trailer.
 #[inline(always)]
-pub fn front_dictionary(
-    low: LowHalf,
-    rest: &[u8],
-    extent: u64,
-    width: usize,
-) -> Result<Decoded, ObjectFault>
+pub fn front_dictionary(low: LowHalf, rest: &[u8], extent: u64, width: usize) -> Decoded
     requires extent { length rest.now ≤ extent }
     requires shown { ShowsContent extent rest.now }
     requires width { (0 < width) × (width ≤ 8) }
     ensures { DecodesAfter extent (object_counted width DictionaryKind low) rest.now result }
 {
     match front_count(low, rest, extent, 2 * width as u64) {
-        Ok((count, _)) => Ok(Decoded::Dictionary(count)),
-        Err(fault) => Err(fault),
+        Some((count, _)) => Decoded::Dictionary(count),
+        None => Decoded::Faulty(ObjectFault::Overrun),
     }
 }

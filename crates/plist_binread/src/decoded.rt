@@ -4,7 +4,7 @@ ghost use Rattle.std.specs.Prelude.{ℕ, ◌≡◌, ◌<◌, ◌≤◌};
 ghost use Rattle.plist_base.specs.Faults.{fault_of, kind_of};
 ghost use Rattle.plist_base.specs.Sources.{CountsIo};
 ghost use Rattle.plist_format.specs.Object.{Object};
-ghost use Rattle.plist_binread.specs.Decoded.{IsObjectFault, kind_of_object_fault};
+ghost use Rattle.plist_binread.specs.Decoded.{IsObjectFault, is_unread, kind_of_object_fault};
 ghost use Rattle.plist_binread.specs.Decoding.{IsRefusedAs};
 ghost use Rattle.plist_binread.specs.FaultOffsets.{FailsWithin};
 ghost use Rattle.plist_binread.specs.CountedContent.{unit_size};
@@ -41,28 +41,54 @@ impl ContentKind {
 pub struct Content {
     /// What it means.
     pub kind: ContentKind,
-    /// How far after the object's place it begins.
-    pub start: u64,
+    /// How far after the object's offset it begins.
+    pub start: u8,
     /// How many elements it has.
     pub count: u64,
 }
 
-/// An object, decoded by the bytes at its front.
+/// An object, decoded by the bytes at its front, or why it isn't.
+///
+/// Each variant has a few small fields and then at most one `u64`, so that it is passed in two
+/// registers.
 #[derive(Clone, Copy)]
 pub enum Decoded {
     /// A scalar that can be cached.
     Small(PackedKind, u64),
     /// The eight bytes of a date, if they are one.
     Date(u64),
-    /// A text or data that can't be cached, of which only the length was looked at.
-    Long(Content),
+    /// A text or data that can't be cached, of which only the length was looked at. The fields are
+    /// those of [`Content`].
+    Long(ContentKind, u8, u64),
     /// An array of this many items.
     Array(u64),
     /// A dictionary of this many pairs.
     Dictionary(u64),
+    /// An object that can't be decoded.
+    Faulty(ObjectFault),
+    /// An object whose bytes weren't read. The error is in the [`FaultSlot`](crate::fault_slot::FaultSlot).
+    Unread,
 }
 
-/// Why an object isn't decoded.
+impl Decoded {
+    /// Returns whether the bytes of the object weren't read.
+    #[inline(always)]
+    pub fn is_unread(self) -> bool
+        ensures { result ≡ is_unread self }
+    {
+        match self {
+            Decoded::Unread => true,
+            Decoded::Small(..)
+            | Decoded::Date(_)
+            | Decoded::Long(..)
+            | Decoded::Array(_)
+            | Decoded::Dictionary(_)
+            | Decoded::Faulty(_) => false,
+        }
+    }
+}
+
+/// Why an object can't be decoded.
 #[derive(Clone, Copy)]
 pub enum ObjectFault {
     /// It doesn't end before the trailer.

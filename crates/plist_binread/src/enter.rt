@@ -100,8 +100,8 @@ fn open(walk: &mut Walk, number: u64, count: u64) -> bool
     }
 }
 
-// Caches a small scalar that was decoded, or opens a collection. Where there is no memory for the
-// collection it answers `false` and changes nothing.
+// Caches a small scalar that was decoded, or opens a collection. If no memory is found for the
+// collection, it returns `false` and changes nothing.
 #[inline(always)]
 fn cache_or_open(walk: &mut Walk, number: u64, decoded: Decoded) -> bool
     requires below { number < walk_objects walk.old }
@@ -128,10 +128,12 @@ fn cache_or_open(walk: &mut Walk, number: u64, decoded: Decoded) -> bool
             );
             true
         }
-        Decoded::Date(_) => true,
-        Decoded::Long(_) => true,
         Decoded::Array(count) => open(walk, number, count),
         Decoded::Dictionary(count) => open(walk, number, 2 * count),
+        Decoded::Date(_) => true,
+        Decoded::Long(..) => true,
+        Decoded::Faulty(_) => true,
+        Decoded::Unread => true,
     }
 }
 
@@ -170,7 +172,10 @@ pub fn enter<S: Source, C: DecodeCounter, V: EventVisitor>(
             None => Err(slot.refuse_memory()),
         },
         Known::At(place) => {
-            let decoded = decode(source, counter, bounds, place, slot)?;
+            let decoded = decode(source, counter, bounds, place, slot);
+            if decoded.is_unread() {
+                return Err(Refused);
+            }
             if cache_or_open(walk, number, decoded) {
                 return hand_decoded(source, bounds, place, decoded, slot, visitor);
             }

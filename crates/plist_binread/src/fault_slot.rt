@@ -1,15 +1,15 @@
 //! The error of a step that was refused, kept apart so that the results of steps stay small.
 
-ghost use Rattle.std.specs.Prelude.{◌≡◌, ℕ, Ok, IfOk};
+ghost use Rattle.std.specs.Prelude.{◌≡◌, ℕ};
 ghost use Rattle.plist_base.specs.Faults.{ObjectOffsetTooLarge, OutOfMemory, fault_at, fault_nowhere, fault_of};
-ghost use Rattle.plist_base.specs.Sources.{AnswersIo, CountsIo};
+ghost use Rattle.plist_base.specs.Sources.{CountsIo};
 ghost use Rattle.plist_format.specs.Object.{Object};
-ghost use Rattle.plist_binread.specs.FaultOffsets.{ErrWithin, FailsWithin};
+ghost use Rattle.plist_binread.specs.FaultOffsets.{FailsWithin};
 ghost use Rattle.plist_binread.specs.Decoding.{IsRefusedAs};
-ghost use Rattle.plist_binread.specs.Decoded.{IsObjectFault, KeepsFault, small_in};
+ghost use Rattle.plist_binread.specs.Decoded.{IsObjectFault};
 ghost use Rattle.plist_binread.specs.Slot.{answer_in};
 
-use crate::decoded::{Decoded, ObjectFault};
+use crate::decoded::ObjectFault;
 use plist_base::{Error, ErrorKind};
 use std::alloc::Global;
 
@@ -84,24 +84,5 @@ impl FaultSlot {
         ensures failures { (count : ℕ) → CountsIo self.new.fault count count }
     {
         self.refuse(fault.at(place))
-    }
-
-    /// Returns the same decoded object, or keeps the error of the object at an offset.
-    #[inline(always)]
-    pub fn keep_fault(
-        &mut self,
-        answer: Result<Decoded, ObjectFault>,
-        place: u64,
-    ) -> Result<Decoded, Refused>
-        ensures decoded { KeepsFault answer place result self.new }
-        ensures same { IfOk result (λ decoded. answer ≡ Ok decoded) }
-        ensures small { small_in result ≡ small_in answer }
-        ensures fault { (end : ℕ) → ErrWithin place end (answer_in result self.new) }
-        ensures failures { (count : ℕ) → AnswersIo (answer_in result self.new) count count }
-    {
-        match answer {
-            Ok(decoded) => Ok(decoded),
-            Err(fault) => Err(self.refuse_object(fault, place)),
-        }
     }
 }

@@ -40,14 +40,14 @@ fn front_content<const N: usize>(rest: &[u8]) -> Option<[u8; N]>
 
 /// A number without sign.
 #[inline(always)]
-pub fn front_unsigned(rest: &[u8], extent: u64, width: usize) -> Result<Decoded, ObjectFault>
+pub fn front_unsigned(rest: &[u8], extent: u64, width: usize) -> Decoded
     requires width { width ≤ 8 }
     requires shown { ShowsContent extent rest.now }
     ensures { DecodesFixed extent width unsigned_integer rest.now result }
 {
     match front_number(rest, width) {
-        Some(number) => Ok(Decoded::Small(PackedKind::Unsigned, number)),
-        None => Err(ObjectFault::Overrun),
+        Some(number) => Decoded::Small(PackedKind::Unsigned, number),
+        None => Decoded::Faulty(ObjectFault::Overrun),
     }
 }
 
@@ -64,72 +64,72 @@ fn signed_number(bits: u64) -> Decoded
 
 /// A number of eight bytes with a sign.
 #[inline(always)]
-pub fn front_signed(rest: &[u8], extent: u64) -> Result<Decoded, ObjectFault>
+pub fn front_signed(rest: &[u8], extent: u64) -> Decoded
     requires { ShowsContent extent rest.now }
     ensures { DecodesFixed extent 8 signed_integer rest.now result }
 {
     match front_number(rest, 8) {
-        Some(number) => Ok(signed_number(number)),
-        None => Err(ObjectFault::Overrun),
+        Some(number) => signed_number(number),
+        None => Decoded::Faulty(ObjectFault::Overrun),
     }
 }
 
 /// A whole number of sixteen bytes, of which the first eight have to be zero.
-pub fn front_wide(rest: &[u8], extent: u64) -> Result<Decoded, ObjectFault>
+pub fn front_wide(rest: &[u8], extent: u64) -> Decoded
     requires { ShowsContent extent rest.now }
     ensures { DecodesFixed extent 16 wide_integer rest.now result }
 {
     if rest.len() < 16 {
-        return Err(ObjectFault::Overrun);
+        return Decoded::Faulty(ObjectFault::Overrun);
     }
     let high = number_from(&rest[..8]);
     let low = number_from(&rest[8..16]);
     if high != 0 {
-        return Err(ObjectFault::OutOfRange);
+        return Decoded::Faulty(ObjectFault::OutOfRange);
     }
-    Ok(Decoded::Small(PackedKind::Unsigned, low))
+    Decoded::Small(PackedKind::Unsigned, low)
 }
 
 /// A Uid.
-pub fn front_uid(rest: &[u8], extent: u64, width: UidWidth) -> Result<Decoded, ObjectFault>
+pub fn front_uid(rest: &[u8], extent: u64, width: UidWidth) -> Decoded
     requires { ShowsContent extent rest.now }
     ensures { DecodesFixed extent width uid_of_content rest.now result }
 {
     match front_number(rest, width.get()) {
-        Some(number) => Ok(Decoded::Small(PackedKind::Uid, number)),
-        None => Err(ObjectFault::Overrun),
+        Some(number) => Decoded::Small(PackedKind::Uid, number),
+        None => Decoded::Faulty(ObjectFault::Overrun),
     }
 }
 
 /// A real of eight bytes.
-pub fn front_real(rest: &[u8], extent: u64) -> Result<Decoded, ObjectFault>
+pub fn front_real(rest: &[u8], extent: u64) -> Decoded
     requires { ShowsContent extent rest.now }
     ensures { DecodesFixed extent 8 long_real rest.now result }
 {
     match front_content(rest) {
-        Some(bytes) => Ok(Decoded::Small(PackedKind::Real, content_of(bytes))),
-        None => Err(ObjectFault::Overrun),
+        Some(bytes) => Decoded::Small(PackedKind::Real, content_of(bytes)),
+        None => Decoded::Faulty(ObjectFault::Overrun),
     }
 }
 
 /// A real of four bytes.
-pub fn front_short_real(rest: &[u8], extent: u64) -> Result<Decoded, ObjectFault>
+pub fn front_short_real(rest: &[u8], extent: u64) -> Decoded
     requires { ShowsContent extent rest.now }
     ensures { DecodesFixed extent 4 short_real rest.now result }
 {
     match front_content::<4>(rest) {
-        Some(bytes) => Ok(Decoded::Small(PackedKind::ShortReal, content_from(&bytes))),
-        None => Err(ObjectFault::Overrun),
+        Some(bytes) => Decoded::Small(PackedKind::ShortReal, content_from(&bytes)),
+        None => Decoded::Faulty(ObjectFault::Overrun),
     }
 }
 
 /// The bytes of a date, which may be none.
-pub fn front_date(rest: &[u8], extent: u64) -> Result<Decoded, ObjectFault>
+pub fn front_date(rest: &[u8], extent: u64) -> Decoded
     requires { ShowsContent extent rest.now }
     ensures { DecodesFixed extent 8 date rest.now result }
 {
     match front_content(rest) {
-        Some(bytes) => Ok(Decoded::Date(content_of(bytes))),
-        None => Err(ObjectFault::Overrun),
+        Some(bytes) => Decoded::Date(content_of(bytes)),
+        None => Decoded::Faulty(ObjectFault::Overrun),
     }
 }

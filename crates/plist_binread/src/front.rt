@@ -24,22 +24,16 @@ use std::alloc::Global;
 
 // The object after a marker.
 #[inline(always)]
-fn decode_after_marker(
-    alloc: Global,
-    marker: u8,
-    rest: &[u8],
-    extent: u64,
-    width: usize,
-) -> Result<Decoded, ObjectFault>
+fn decode_after_marker(alloc: Global, marker: u8, rest: &[u8], extent: u64, width: usize) -> Decoded
     requires extent { length rest.now ≤ extent }
     requires shown { ShowsContent extent rest.now }
     requires width { (0 < width) × (width ≤ 8) }
     ensures { DecodesAfter extent (object_with width marker) rest.now result }
 {
     match Marker::decode(marker) {
-        Marker::Null => Err(ObjectFault::Null),
-        Marker::Boolean(value) => Ok(Decoded::Small(PackedKind::Boolean(value), 0)),
-        Marker::Fill => Err(ObjectFault::Fill),
+        Marker::Null => Decoded::Faulty(ObjectFault::Null),
+        Marker::Boolean(value) => Decoded::Small(PackedKind::Boolean(value), 0),
+        Marker::Fill => Decoded::Faulty(ObjectFault::Fill),
         Marker::Integer1 => front_unsigned(rest, extent, 1),
         Marker::Integer2 => front_unsigned(rest, extent, 2),
         Marker::Integer4 => front_unsigned(rest, extent, 4),
@@ -56,7 +50,7 @@ fn decode_after_marker(
             CountedKind::Dictionary => front_dictionary(low, rest, extent, width),
         },
         Marker::Uid(size) => front_uid(rest, extent, size),
-        Marker::Unknown(byte) => Err(ObjectFault::Unknown(byte)),
+        Marker::Unknown(byte) => Decoded::Faulty(ObjectFault::Unknown(byte)),
     }
 }
 
@@ -67,19 +61,22 @@ fn is_small(decoded: Decoded) -> bool
 {
     match decoded {
         Decoded::Small(_, _) => true,
-        Decoded::Date(_) | Decoded::Long(_) | Decoded::Array(_) | Decoded::Dictionary(_) => false,
+        Decoded::Date(_)
+        | Decoded::Long(..)
+        | Decoded::Array(_)
+        | Decoded::Dictionary(_)
+        | Decoded::Faulty(_)
+        | Decoded::Unread => false,
     }
 }
 
 // Counts what was decoded, if it is small.
 #[inline(always)]
-fn count_small<C: DecodeCounter>(answer: &Result<Decoded, ObjectFault>, counter: &mut C)
-    ensures { CountsSmall C.counts C.count counter.old counter.new answer.now }
+fn count_small<C: DecodeCounter>(decoded: Decoded, counter: &mut C)
+    ensures { CountsSmall C.counts C.count counter.old counter.new decoded }
 {
-    if let Ok(decoded) = answer {
-        if is_small(*decoded) {
-            counter.raise();
-        }
+    if is_small(decoded) {
+        counter.raise();
     }
 }
 
@@ -92,7 +89,7 @@ pub fn decode_seen<C: DecodeCounter>(
     extent: u64,
     width: usize,
     counter: &mut C,
-) -> Result<Decoded, ObjectFault>
+) -> Decoded
     requires extent { length seen.now ≤ extent }
     requires some { 0 < extent }
     requires shown { ShowsFront extent seen.now }
@@ -102,10 +99,10 @@ pub fn decode_seen<C: DecodeCounter>(
 {
     match seen.split_first() {
         Some((marker, rest)) => {
-            let answer = decode_after_marker(alloc, *marker, rest, extent - 1, width);
-            count_small(&answer, counter);
-            answer
+            let decoded = decode_after_marker(alloc, *marker, rest, extent - 1, width);
+            count_small(decoded, counter);
+            decoded
         }
-        None => Err(ObjectFault::Overrun),
+        None => Decoded::Faulty(ObjectFault::Overrun),
     }
 }

@@ -2,9 +2,9 @@
 
 ghost use Rattle.std.specs.Prelude.{◌≡◌, ℕ, false, OnOk};
 ghost use Rattle.plist_base.specs.Sources.{AnswersIo};
-ghost use Rattle.plist_format.specs.Object.{date, text};
+ghost use Rattle.plist_format.specs.Object.{date, text, wide_text};
 ghost use Rattle.plist_binread.specs.CountedContent.{AreUnits, content_means, unit_size};
-ghost use Rattle.plist_binread.specs.Decoded.{EndsIn64Bits, FailsInContent, FitsBefore, IsLong, IsLongBytes, SetsAsSmall, SetsContentAt, SetsDecoded, SetsEvent};
+ghost use Rattle.plist_binread.specs.Decoded.{EndsIn64Bits, FailsInContent, FitsBefore, IsLong, IsLongBytes, SetsAsSmall, SetsContentAt, SetsDecoded, SetsEvent, is_refused};
 ghost use Rattle.plist_binread.specs.FaultOffsets.{ErrWithin};
 ghost use Rattle.plist_binread.specs.Handing.{Hands, HandsRead, HandsSmall};
 ghost use Rattle.plist_binread.specs.Packed.{content_bytes, is_small_event, text_if_any, unpacked};
@@ -88,9 +88,7 @@ fn hand_date<V: EventVisitor>(
     }
 }
 
-// Hands an event over that was read, or keeps the error. It is a function of its own, since the
-// memory for an event is cleared at each call.
-#[inline(never)]
+// Hands an event over that was read, or keeps the error.
 fn hand_read<V: EventVisitor>(
     read: Result<OwnedEvent, Error>,
     slot: &mut FaultSlot,
@@ -126,6 +124,26 @@ fn hand_text<V: EventVisitor>(
     }
 }
 
+// Hands a text over that is given by its units, of the object at an offset. It is a function of its
+// own, since the memory for an event is cleared at each call.
+#[inline(never)]
+fn hand_wide_text<V: EventVisitor>(
+    bytes: &[u8],
+    place: u64,
+    slot: &mut FaultSlot,
+    visitor: &mut V,
+) -> Result<ControlFlow<()>, Refused>
+    requires { AreUnits 2 bytes.now }
+    ensures handed { Hands V.step visitor.old visitor.new result (λ event.
+        SetsEvent (wide_text bytes.now) place (answer_in result slot.new) event
+        × OnOk result (is_small_event event ≡ false)) }
+    ensures fault { (end : ℕ) → ErrWithin place end (answer_in result slot.new) }
+    ensures failures { (count : ℕ) → AnswersIo (answer_in result slot.new) count count }
+{
+    let read = wide_text_event(slot.alloc, bytes, place);
+    hand_read(read, slot, visitor)
+}
+
 // Hands the text or data in these bytes over, of the object at an offset.
 #[inline(always)]
 fn hand_bytes<V: EventVisitor>(
@@ -146,10 +164,7 @@ fn hand_bytes<V: EventVisitor>(
     match kind {
         ContentKind::Data => Ok(visitor.data(CowSlice::Borrowed(bytes))),
         ContentKind::Text => hand_text(bytes, place, slot, visitor),
-        ContentKind::WideText => {
-            let read = wide_text_event(slot.alloc, bytes, place);
-            hand_read(read, slot, visitor)
-        }
+        ContentKind::WideText => hand_wide_text(bytes, place, slot, visitor),
     }
 }
 
@@ -202,7 +217,7 @@ fn hand_content<S: Source, V: EventVisitor>(
     ensures failures { AnswersInSlot S.failures result slot.new source.old source.new }
 {
     let size = content.count * content.kind.unit_size();
-    let buffered = source.buffered(place + content.start);
+    let buffered = source.buffered(place + u64::from(content.start));
     if size <= buffered.len() as u64 {
         let bytes = &buffered[..size as usize];
         return hand_bytes(content.kind, bytes, place, slot, visitor);
@@ -210,7 +225,7 @@ fn hand_content<S: Source, V: EventVisitor>(
     hand_far(source, place, content, slot, visitor)
 }
 
-/// Hands the event of the object at an offset over, which was decoded.
+/// Hands the event of the object at an offset over, or keeps the error of one that is faulty.
 #[inline(always)]
 pub fn hand_decoded<S: Source, V: EventVisitor>(
     source: &mut S,
@@ -225,6 +240,7 @@ pub fn hand_decoded<S: Source, V: EventVisitor>(
     ensures handed { Hands V.step visitor.old visitor.new result (λ event.
         SetsDecoded (S.known source.old) bounds.now place decoded (answer_in result slot.new) event
         × SetsAsSmall decoded result event) }
+    ensures found { OnOk result (is_refused decoded ≡ false) }
     // A refusal.
     ensures fault { ErrWithin place bounds.now.trailer (answer_in result slot.new) }
     // The state after it.
@@ -237,8 +253,13 @@ pub fn hand_decoded<S: Source, V: EventVisitor>(
             None => Err(slot.refuse_memory()),
         },
         Decoded::Date(content) => hand_date(content, place, slot, visitor),
-        Decoded::Long(content) => hand_content(source, place, content, slot, visitor),
+        Decoded::Long(kind, start, count) => {
+            let content = Content { kind, start, count };
+            hand_content(source, place, content, slot, visitor)
+        }
         Decoded::Array(count) => Ok(visitor.start_array(Some(count))),
         Decoded::Dictionary(count) => Ok(visitor.start_dictionary(Some(count))),
+        Decoded::Faulty(fault) => Err(slot.refuse_object(fault, place)),
+        Decoded::Unread => unreachable!(),
     }
 }

@@ -118,7 +118,7 @@ pub fn read_long<S: Source>(
     ensures unchanged { S.known source.new ≡ S.known source.old }
     ensures failures { AnswersIo result (S.failures source.old) (S.failures source.new) }
 {
-    let start = place + content.start;
+    let start = place + u64::from(content.start);
     let size = content.count * content.kind.unit_size();
     let bytes = read_bytes(alloc, source, start, size as usize)?;
     content_event(alloc, content.kind, bytes, place)

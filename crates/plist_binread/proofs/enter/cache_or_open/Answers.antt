@@ -1,4 +1,5 @@
-use Rattle.std.proofs.Common.{◌≡◌, arith, ap, subst, ◌∙◌, Some}
+use Rattle.std.proofs.Common.{◌≡◌, arith, ap, subst, sym, ◌∙◌, Some}
+use Rattle.std.proofs.lemmas.Bool.{false≢true}
 use Rattle.plist_base.specs.Events.{PlainEvent, ScalarEvent, StartArray, StartDictionary}
 use Rattle.plist_binread.specs.Decoding.{scalar_event_in}
 use Rattle.plist_binread.specs.DecodeOutcome.{YieldsCurrent}
@@ -26,7 +27,7 @@ returns-in-Small-clause-falls c = λ _. omega (arith, steps_positive, c.cache.en
 pub returns-in-Small-clause-yields : goal.returns-in-Small-clause-yields
 returns-in-Small-clause-yields c = λ _ bytes bounds entry all k is found.
     let d = rw c.in-Small.is at found in (
-      (λ at event named. yields_scalar _ _ (as_many bytes bounds _ _ _ k) _ at _ entry
+      (λ at event _ named. yields_scalar _ _ (as_many bytes bounds _ _ _ k) _ at _ entry
           c.args.walk.now.path c.requires.below is
           (not_open c.args.walk.now.path c.requires.below c.requires.new) event
           (named-scalar entry.object d.0 event d.1 named)),
@@ -42,7 +43,7 @@ returns-in-Date-clause-falls c = λ _. omega (arith, steps_positive)
 pub returns-in-Date-clause-yields : goal.returns-in-Date-clause-yields
 returns-in-Date-clause-yields c = λ _ bytes bounds entry all k is found.
     let d = rw c.in-Date.is at found in (
-      (λ at event named. yields_scalar _ _ (as_many _ _ _ _ _ k) _ at _ _
+      (λ at event _ named. yields_scalar _ _ (as_many _ _ _ _ _ k) _ at _ _
           c.args.walk.now.path c.requires.below is
           (not_open c.args.walk.now.path c.requires.below c.requires.new) event
           (named-date entry.object (content_bytes c.in-Date.field-0) event d named)),
@@ -55,7 +56,7 @@ returns-in-Long-clause-falls c = λ _. omega (arith, steps_positive)
 pub returns-in-Long-clause-yields : goal.returns-in-Long-clause-yields
 returns-in-Long-clause-yields c = λ _ bytes bounds entry all k is found.
     let d = rw c.in-Long.is at found in (
-      (λ at event named. yields_scalar _ _ (as_many _ _ _ _ _ k) _ at _ _
+      (λ at event _ named. yields_scalar _ _ (as_many _ _ _ _ _ k) _ at _ _
           c.args.walk.now.path c.requires.below is
           (not_open c.args.walk.now.path c.requires.below c.requires.new) event
           (named-long entry.object _ _ event d.1 named)),
@@ -67,7 +68,7 @@ returns-in-Array-clause-yields c = λ done bytes bounds entry all k is found.
     let d = rw c.in-Array.is at found in
     let start = StartArray (Some c.in-Array.count) in
     let o = c.open.ensures.yields done bytes bounds entry start k is d in (
-      (λ at event named.
+      (λ at event _ named.
           let n = collection-named entry.object start _ d in
           let same : start ≡ event = cc in
           subst (λ (e : PlainEvent).
@@ -81,7 +82,7 @@ returns-in-Dictionary-clause-yields c = λ done bytes bounds entry all k is foun
     let d = rw c.in-Dictionary.is at found in
     let start = StartDictionary (Some c.in-Dictionary.count) in
     let o = c.open-in-Dictionary.ensures.yields done bytes bounds entry start k is d.0 in (
-      (λ at event named.
+      (λ at event _ named.
           let n = collection-named entry.object start _ d.0 in
           let same : start ≡ event = cc in
           subst (λ (e : PlainEvent).
@@ -89,3 +90,19 @@ returns-in-Dictionary-clause-yields c = λ done bytes bounds entry all k is foun
           (remaining_in bytes bounds c.open-in-Dictionary.new.walk)) same (o.0 at)),
       o.1,
     )
+
+pub returns-in-Faulty-clause-falls : goal.returns-in-Faulty-clause-falls
+returns-in-Faulty-clause-falls c = λ _. omega (arith, steps_positive)
+
+pub returns-in-Faulty-clause-yields : goal.returns-in-Faulty-clause-yields
+returns-in-Faulty-clause-yields c = λ _ bytes bounds entry all k is found. (
+  (λ at event fine named. absurd (false≢true (sym (rw c.in-Faulty.is at fine)))),
+  k,
+)
+
+pub returns-in-Unread-clause-falls : goal.returns-in-Unread-clause-falls
+returns-in-Unread-clause-falls c = λ _. omega (arith, steps_positive)
+
+pub returns-in-Unread-clause-yields : goal.returns-in-Unread-clause-yields
+returns-in-Unread-clause-yields c = λ _ bytes bounds entry all k is found.
+    absurd (rw c.in-Unread.is at found)

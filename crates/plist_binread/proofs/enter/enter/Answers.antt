@@ -1,8 +1,7 @@
-use Rattle.std.proofs.Common.{◌≡◌, ◌<◌, true, arith, get_or, IfSome, ap, refl, ◌∙◌}
+use Rattle.std.proofs.Common.{◌≡◌, ◌<◌, true, arith, get_or, IfSome, ap, refl, rules, ◌∙◌}
 use Rattle.plist_base.specs.Events.{EndCollection}
 use Rattle.plist_binread.proofs.Decodings.{cached_if, fits_walk}
-use Rattle.plist_binread.proofs.Entering.{IsDecodedAt, known_decoded, known_opens, known_refused, known_set, known_unpacked}
-use Rattle.plist_binread.proofs.Failing.{passed}
+use Rattle.plist_binread.proofs.Entering.{IsDecodedAt, known_decoded, on_answer, known_opens, known_read, known_refused, known_set, known_unpacked, known_unread}
 use Rattle.std.proofs.lemmas.Option.{IfSome_then}
 use Rattle.plist_binread.proofs.Known.{known_full, unfound_memory}
 use Rattle.plist_binread.proofs.OverKnown.{IfSome-all}
@@ -48,30 +47,32 @@ returns-in-None-clause-handed g c =
       taken = c.in-None.ensures.1;
     }
 
-pub returns-in_err-decoded-in-At-clause-handed : goal.returns-in_err-decoded-in-At-clause-handed
-returns-in_err-decoded-in-At-clause-handed g c = record {
+pub returns-then-is_unread-clause-handed : goal.returns-then-is_unread-clause-handed
+returns-then-is_unread-clause-handed g c = record {
   event = EndCollection;
   is = (
-    rw (passed _ c.from_residual-in_err-decoded-in-At.ensures.1) (known_refused _ _
-        c.args.walk.now c.args.number c.requires.known c.in_ok-kind.ensures.below c.args.at
-        c.in-At.place _ c.in_ok-kind.ensures.new
-        (rw c.in-At.is at c.in_ok-kind.ensures.found) c.in_err-decoded-in-At.ensures.decoded),
-    rw (passed _ c.from_residual-in_err-decoded-in-At.ensures.1) (IfSome-all _ (λ _. tt)),
+    known_refused _ _ c.args.walk.now c.args.number c.requires.known c.in_ok-kind.ensures.below
+        c.args.at c.in-At.place c.decode-decoded.new.slot.fault c.in_ok-kind.ensures.new
+        (rw c.in-At.is at c.in_ok-kind.ensures.found)
+        (known_unread _ c.args.bounds.now c.in-At.place _ c.decode-decoded.new.slot
+        (search rules) c.decode-decoded.ensures.decoded),
+    IfSome-all _ (λ _. tt),
   );
-  taken = rw (passed _ c.from_residual-in_err-decoded-in-At.ensures.1) refl;
+  taken = refl;
 }
 
 pub cache_or_open-requires-clause-fits : goal.cache_or_open-requires-clause-fits
 cache_or_open-requires-clause-fits g c =
-    fits_walk c.args.bounds.now c.in-At.place _ c.in_ok-decoded-in-At.ensures.fits
+    fits_walk c.args.bounds.now c.in-At.place _ (c.decode-decoded.ensures.fits (search rules))
 
 -- the object is what was decoded
 there : (g : _) (c : After-cache_or_open g)
     → IfSome (g.S.Source.known c.args.source.now) (λ bytes. IsDecodedAt bytes c.args.bounds.now
-    c.args.number c.in-At.place c.in_ok-decoded-in-At.decoded)
+    c.args.number c.in-At.place c.decode-decoded.result)
 there g c =
     known_decoded _ _ c.args.walk.now _ c.requires.known c.in_ok-kind.ensures.below _ _
-    (rw c.in-At.is at c.in_ok-kind.ensures.found) c.in_ok-decoded-in-At.ensures.decoded
+    c.decode-decoded.new.slot (rw c.in-At.is at c.in_ok-kind.ensures.found) (search rules)
+    c.decode-decoded.ensures.decoded
 
 pub returns-else-cache_or_open-clause-handed : goal.returns-else-cache_or_open-clause-handed
 returns-else-cache_or_open-clause-handed g c = record {
@@ -81,9 +82,10 @@ returns-else-cache_or_open-clause-handed g c = record {
         c.in_ok-kind.ensures.below c.args.at c.in-At.place _ c.in_ok-kind.ensures.new
         (rw c.in-At.is at c.in_ok-kind.ensures.found)
         (known_full _ c.args.bounds.now c.in-At.place
-        c.in_ok-decoded-in-At.decoded c.refuse_memory-in-At.new.self.fault c.refuse_memory-in-At.ensures.fault
+        c.decode-decoded.result c.refuse_memory-in-At.new.self.fault c.refuse_memory-in-At.ensures.fault
         (c.cache_or_open.ensures.wanted c.if-cache_or_open.false)
-        c.in_ok-decoded-in-At.ensures.decoded),
+        (known_read _ c.args.bounds.now c.in-At.place _ c.decode-decoded.new.slot (search rules)
+        c.decode-decoded.ensures.decoded)),
     IfSome-all _ (λ _. tt),
   );
   taken = refl;
@@ -105,15 +107,16 @@ returns-then-cache_or_open-clause-handed g c =
         known_set _ _ c.args.walk.now c.args.number c.requires.known c.in_ok-kind.ensures.below
             c.args.at c.in-At.place _ c.cache_or_open.new.walk _
             (answer_in c.hand_decoded.result c.hand_decoded.new.slot) h.event
-            c.in_ok-decoded-in-At.ensures.unchanged c.in_ok-kind.ensures.new
+            c.decode-decoded.ensures.unchanged c.in_ok-kind.ensures.new
             (there g (goal.at.returns-then-cache_or_open-clause-handed g c).After-cache_or_open)
-            (c.cache_or_open.ensures.yields c.if-cache_or_open.true) h.is.0,
+            (c.cache_or_open.ensures.yields c.if-cache_or_open.true) h.is.0
+            (on_answer _ c.hand_decoded.result c.hand_decoded.new.slot c.hand_decoded.ensures.found),
         cached_if _ c.args.number c.hand_decoded.result c.hand_decoded.new.slot h.event
-            c.in_ok-decoded-in-At.decoded c.cache_or_open.new.walk.tags.items h.is.1
+            c.decode-decoded.result c.cache_or_open.new.walk.tags.items h.is.1
             c.cache_or_open.ensures.cached,
       );
       taken = h.taken;
     }
 
 pub hand_decoded-requires : goal.hand_decoded-requires
-hand_decoded-requires g c = c.in_ok-decoded-in-At.ensures.fits
+hand_decoded-requires g c = c.decode-decoded.ensures.fits (search rules)

@@ -9,7 +9,11 @@ returns-in-Long-clause-handed g c =
     record {
       event = h.event;
       is = (
-        rw c.in-Long.is (long_sets _ c.args.bounds.now c.args.place c.in-Long.content
+        rw c.in-Long.is (long_sets _ c.args.bounds.now c.args.place (record {
+          kind = c.in-Long.kind;
+          start = c.in-Long.start;
+          count = c.in-Long.count;
+        })
             (answer_in c.hand_content.result c.hand_content.new.slot) h.event fits.0 h.is.0),
         large_unlike c.hand_content.result c.args.decoded h.event h.is.1,
       );

@@ -14,13 +14,13 @@ content_event-requires-clause-long g c =
 pub returns-clause-decoded : goal.returns-clause-decoded
 returns-clause-decoded g c =
     content_read (g.S.Source.known c.args.source.now) c.args.content.kind c.args.place _ _ _
-    c.content_event.result (rw c.unit_size.ensures.value at c.in_ok-bytes.ensures.items)
+    c.content_event.result (rw (c.unit_size.ensures.value, c.from.ensures) at c.in_ok-bytes.ensures.items)
     c.content_event.ensures.decoded
 
 pub returns-in_err-bytes-clause-decoded : goal.returns-in_err-bytes-clause-decoded
 returns-in_err-bytes-clause-decoded g c =
     rw (passed _ c.from_residual.ensures.1) (content_refused (g.S.Source.known c.args.source.now)
-    c.args.content.kind c.args.place _ _ c.in_err-bytes.field-0.0 (rw c.unit_size.ensures.value at
+    c.args.content.kind c.args.place _ _ c.in_err-bytes.field-0.0 (rw (c.unit_size.ensures.value, c.from.ensures) at
     c.in_err-bytes.ensures.refused))
 
 pub returns-clause-fault : goal.returns-clause-fault
@@ -32,7 +32,7 @@ pub returns-in_err-bytes-clause-fault : goal.returns-in_err-bytes-clause-fault
 returns-in_err-bytes-clause-fault g c =
     rw (passed _ c.from_residual.ensures.1) (from_within (fault_of c.in_err-bytes.field-0.0) _ _
     c.args.place _
-    (rw c.unit_size.ensures.value at c.in_err-bytes.ensures.fault) (omega arith) (omega arith))
+    (rw (c.unit_size.ensures.value, c.from.ensures) at c.in_err-bytes.ensures.fault) (omega arith) (omega arith))
 
 pub returns-clause-failures : goal.returns-clause-failures
 returns-clause-failures g c =
