@@ -89,7 +89,7 @@ impl Dictionary {
         self.pairs.contains_key(key)
     }
 
-    /// Returns the value of the key, to be changed, or `None` if the key isn't there.
+    /// Returns a mutable reference to the key's value, or `None` if the key isn't there.
     pub fn get_mut(&mut self, key: &str) -> Option<&mut Value>
         ensures value { option_copied_mut result ≡ lookup (bytes_eq key.now) (pairs_of self.old) }
         ensures member { IfSome result (λ lent. IsAmong (values_of (pairs_of self.old)) lent.now) }
@@ -234,7 +234,7 @@ impl Dictionary {
         self.pairs.key_at(index)
     }
 
-    // Returns the value at an index, to be changed.
+    // Returns a mutable reference to the value at an index.
     fn value_at(&mut self, index: usize) -> &mut Value
         requires { index < length (pairs_of self.old) }
         ensures value { slice_get (values_of (pairs_of self.old)) index ≡ Some result.now }

@@ -68,7 +68,7 @@ fn is_without_store<F: OpenFile>(file: &F, kind: io::ErrorKind) -> bool {
 }
 
 impl<'a, R: Files> Output<'a, R> {
-    /// Makes an output for the file of this name, which is left alone for now.
+    /// Makes an output for the file of this name, without opening it.
     pub fn new(rt: &'a R, path: &'a str) -> Self
         ensures fresh { IsNone result.file }
     {

@@ -321,7 +321,7 @@ impl Value {
         Ok(copy(alloc, self)?)
     }
 
-    /// Makes a value of a string.
+    /// Makes a value from a string.
     ///
     /// # Errors
     ///

@@ -38,7 +38,7 @@ token_by stops lead.Bare c rest = bare stops c rest
 unfoldable pub token : (stops : ℕ → Bool) → ℕ → List ℕ → Token
 token stops c rest = past_one (token_by stops (lead_of c) c rest)
 
--- A token is the same whatever ends a bare string, or it is a bare string whatever ends one.
+-- A token doesn't depend on what ends a bare string, or else it is a bare string.
 abbrev pub OnlyBareTextsDiffer : Type 0
 OnlyBareTextsDiffer =
     (c : ℕ) (rest : List ℕ) → ((stops : ℕ → Bool) → token stops c rest ≡ token lax_stops c rest)

@@ -21,7 +21,7 @@ past_one t = record { bytes = suc t.bytes; gives = t.gives }
 abbrev pub past : {A : Type 0} → ℕ → Taken A → Taken A
 past n t = record { bytes = n + t.bytes; gives = t.gives }
 
--- after n bytes follows what depends on their meaning; a fault is the end
+-- after n bytes, the rest depends on their meaning; a fault is the end
 abbrev pub past_outcome : {A B : Type 0} → List ℕ → ℕ → Result A FaultKind → (A → List ℕ → Taken B)
     → Taken B
 past_outcome bytes n (Ok a) next = past n (next a (drop n bytes))

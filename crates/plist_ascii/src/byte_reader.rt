@@ -1,4 +1,4 @@
-//! The readers that bytes are taken from.
+//! The readers from which bytes are taken.
 
 ghost use Rattle.std.specs.Prelude.{◌≡◌, ◌≤◌, ℕ, List, [], length, Option, None, IfOk};
 ghost use Rattle.plist_ascii.specs.Incoming.{GivesByte, CountsFailureIfCounted, LosesFirst};
@@ -6,7 +6,7 @@ ghost use Rattle.plist_ascii.specs.Incoming.{GivesByte, CountsFailureIfCounted, 
 use std::io;
 use std::io::Read;
 
-/// A reader of bytes, one by one, or several together if they are buffered.
+/// A reader from which bytes are taken one by one, or several together if they are buffered.
 ///
 /// Every `Read` is a `ByteReader` that counts no failures and buffers nothing. A reader that counts
 /// its failures may implement it, too.
@@ -22,7 +22,7 @@ pub trait ByteReader {
     /// `Interrupted`.
     ///
     /// # Errors
-    /// The I/O error.
+    /// Any I/O error.
     fn next_byte(&mut self) -> Result<Option<u8>, io::Error>
         ensures byte { IfOk result (λ b. GivesByte (remaining self.old) b (remaining self.new)) }
         ensures failures { CountsFailureIfCounted result (failures self.old) (failures self.new) };

@@ -79,7 +79,7 @@ pub struct Input<R> {
 }
 
 impl<R> Input<R> {
-    /// Makes an input of a reader's bytes.
+    /// Makes an input from a reader.
     pub fn new(inner: R) -> Self
         ensures inner { result.inner ≡ inner }
         ensures fresh { (result.peeked ≡ None) × (result.taken ≡ 0) × (result.ended ≡ false) }

@@ -80,10 +80,9 @@ impl<R: ByteReader> Input<R> {
 ///
 /// # Errors
 /// `UnclosedString`, `IncompleteComment`, `InvalidUtf8AsciiStream`, `InvalidOctalString` and
-/// `InvalidUtf16String` are errors in the bytes: the reader goes on at the next byte. After `Io`,
-/// if a read fails, and `OutOfMemory`, which occurs only in a string, the reader has ended. Then,
-/// and after its last item, it returns `None` for good.
-/// item, it answers `None` for good.
+/// `InvalidUtf16String` are errors in the bytes: the reader continues at the next byte. `Io`, if a
+/// read fails, and `OutOfMemory`, which occurs only in a string, end the reader. Then, and after
+/// its last item, it returns `None` for good.
 #[derive(Drop)]
 pub struct AsciiReader<R> {
     input: Input<R>,

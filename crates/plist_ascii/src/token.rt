@@ -72,7 +72,8 @@ impl<R: ByteReader> Input<R> {
         }
     }
 
-    /// Takes the token that a byte begins, which has been taken. A token need not have an event.
+    /// Takes the rest of the token that a byte begins. That byte has been taken. Some tokens have
+    /// no event.
     pub fn token_by(
         &mut self,
         alloc: Global,

@@ -46,7 +46,7 @@ pub enum InvalidXmlData {
 }
 
 impl Data {
-    /// Makes data of bytes.
+    /// Makes data from bytes.
     pub fn new(bytes: Vec<u8>) -> Data
         ensures { result ≡ bytes.items }
     {
@@ -92,7 +92,7 @@ impl Data {
         &self.bytes
     }
 
-    /// Returns the bytes, to be changed.
+    /// Returns the bytes as a mutable slice.
     pub fn as_mut(&mut self) -> &mut [u8]
         ensures value { result.now ≡ self.old }
         ensures new_bytes { (new : List ℕ) → length new ≡ length self.old → IsAllNew self.old new }
@@ -167,7 +167,7 @@ fn text_of(alloc: Global, bytes: &[u8]) -> Result<String, Error>
     Ok(text)
 }
 
-/// Makes data of bytes.
+/// Makes data from bytes.
 impl From<Vec<u8>> for Data {
     ghost from_gives = { λ bytes made. made ≡ bytes.items };
 

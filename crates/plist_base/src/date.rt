@@ -34,7 +34,7 @@ impl Model for Date {
 }
 
 impl Date {
-    /// Makes a date of the eight bytes of a `binary64`, the highest first: seconds since
+    /// Makes a date from the eight bytes of a `binary64`, the highest first: seconds since
     /// 2001-01-01T00:00:00Z.
     ///
     /// The fraction is kept, and the sign of a zero is dropped.
@@ -71,7 +71,7 @@ impl Date {
         self.bytes
     }
 
-    /// Makes a date, without a fraction, of a second since 2001-01-01T00:00:00Z. Returns `None` if
+    /// Converts a second since 2001-01-01T00:00:00Z to a date without a fraction. Returns `None` if
     /// the second is outside the range of dates.
     pub fn from_plist_secs(second: i64) -> Option<Date>
         // The answer.
@@ -90,7 +90,7 @@ impl Date {
         })
     }
 
-    /// Makes a date, without a fraction, of a Unix second. Returns `None` if the second is outside
+    /// Converts a Unix second to a date without a fraction. Returns `None` if the second is outside
     /// the range of dates.
     pub fn from_unix_secs(second: i64) -> Option<Date>
         // The answer.

@@ -1,4 +1,4 @@
-//! Parses a date's text to its Unix second.
+//! Parses dates to Unix seconds.
 
 ghost use Rattle.std.specs.Prelude.{◌≡◌, ◌==◌, ◌+◌, ◌+ℤ◌, ◌-ℤ◌, ◌*ℤ◌, ◌<◌, ◌≤◌, cond, length, neg_ℤ, ℤ, pos, IsTrue, Some, None, IfSome};
 ghost use Rattle.jiff_core.specs.Calendar.{IsEpochDay, IsWithin};

@@ -1,4 +1,4 @@
-//! Which events may come next in a property list, and what an event changes about that.
+//! Which events may come next in a property list, and how an event changes that.
 
 ghost use Rattle.std.specs.Prelude.{◌≡◌};
 ghost use Rattle.plist_base.specs.Events.{event_of};
@@ -6,7 +6,7 @@ ghost use Rattle.plist_base.specs.Expects.{change_of, change_of_value, change_of
 
 use crate::{Event, EventShape};
 
-/// What the next events have to be.
+/// What the next events must be.
 #[derive(Clone, Copy, Drop)]
 pub enum Expect {
     /// A value.

@@ -26,7 +26,7 @@ pub trait Source: Drop {
     /// Returns the number of bytes.
     ///
     /// # Errors
-    /// The I/O error. The call isn't tried again, not even after `Interrupted`; known bytes don't
+    /// Any I/O error. The call isn't tried again, not even after `Interrupted`. Known bytes don't
     /// change.
     fn size(&mut self) -> Result<u64, io::Error>
         ensures length { DecodesBy result (known self.old) length }
@@ -38,7 +38,7 @@ pub trait Source: Drop {
     /// left.
     ///
     /// # Errors
-    /// The I/O error. The call isn't tried again, not even after `Interrupted`. The contents of the
+    /// Any I/O error. The call isn't tried again, not even after `Interrupted`. The contents of the
     /// buffer are unspecified then.
     fn read_at(&mut self, place: u64, buf: &mut [u8]) -> Result<usize, io::Error>
         ensures bound { IfOk result (λ count. count ≤ length buf.new) }

@@ -31,7 +31,7 @@ fn change_on(expects: Option<Expect>, event: &Event<'_>) -> Change
     }
 }
 
-// Returns what is expected after an event that made this change and is buffered.
+// Returns what is expected once an event that made this change is buffered.
 fn next_expected(
     change: Change,
     expects: Option<Expect>,

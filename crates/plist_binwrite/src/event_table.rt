@@ -290,7 +290,7 @@ impl EventTable<'static> {
         }
     }
 
-    // Appends a copy of a scalar that is neither a string nor data; one that is goes to
+    // Appends a copy of a scalar. A string or data is passed to `copy_content`.
     // `copy_content`.
     #[inline(never)]
     fn copy_plain(&mut self, alloc: Global, event: Event<'_>) -> Result<(), AllocError>

@@ -23,8 +23,8 @@ fn stamp(stamps: &mut Vec<usize>, scalar: usize, mark: usize) -> bool
     stood
 }
 
-// Returns whether a dictionary begins at an index that contains a key twice. The stamp of a
-// different scalar says in which dictionary it was last a key, by the index of the start.
+// Returns whether a dictionary that contains a key twice begins at an index. The stamp of a
+// different scalar identifies the last dictionary in which it was a key, by the index of the start.
 fn repeats_at(events: &EventTable<'_>, start: usize, stamps: &mut Vec<usize>) -> bool
     requires start { start < length (plain_events events.now) }
     requires long { length stamps.old.items ≡ length (scalars_of events.now) }

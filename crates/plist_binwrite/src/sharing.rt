@@ -18,7 +18,7 @@ use std::io::Write;
 pub trait Sharing: Sealed + Drop {
     ghost use Rattle.plist_binwrite.specs.Completing.{SendsHeld};
 
-    /// Which bytes are a file of a tree.
+    /// The bytes that are a file of a tree.
     ghost IsFile: { Tree → List ℕ → Type 0 };
     /// The number of bytes of the file of a tree.
     ghost size: { Tree → ℕ };

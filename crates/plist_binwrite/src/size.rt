@@ -16,7 +16,7 @@ use crate::plan::Planned;
 use crate::widths::offset_width;
 use plist_base::Error;
 
-/// Returns the number of items of an array from an index on. A key is an item, and so is its value.
+/// Counts the items of a collection from an index on. In a dictionary, keys and values both count.
 pub fn count_items(events: &EventTable<'_>, from: usize) -> usize
     ensures value { CountsItems events.now from result }
     ensures small { result < 2 ^ 64 }

@@ -32,7 +32,7 @@ pub fn reference_width(count: u64) -> usize
     least_width(count.saturating_sub(1))
 }
 
-/// Returns the number of bytes in an offset, if the offset table lies here.
+/// Returns the number of bytes in an offset, if the offset table lies at `table`.
 pub fn offset_width(table: u64) -> usize
     ensures value { result ≡ offset_width table }
     ensures range { (1 ≤ result) × (result ≤ 8) }

@@ -7,7 +7,7 @@ ghost use Rattle.plist_format.specs.Object.{layout_of};
 use std::marker::Model;
 
 /// The low half of the marker of an object that has a length: the length itself if it is below 15,
-/// or else the statement that the length follows.
+/// or a mark that the length follows.
 #[derive(Clone, Copy)]
 pub struct LowHalf {
     value: u8,
@@ -90,7 +90,7 @@ impl Model for UidWidth {
 }
 
 impl UidWidth {
-    /// Makes the width of this many bytes.
+    /// Creates a width of this many bytes.
     #[inline(always)]
     pub fn new(bytes: usize) -> UidWidth
         requires { (1 ≤ bytes) × (bytes ≤ 8) }
@@ -109,7 +109,7 @@ impl UidWidth {
     }
 }
 
-/// The kinds of objects whose length follows from or after the marker.
+/// The kinds of objects that have a length, in the marker or after it.
 #[derive(Clone, Copy)]
 pub enum CountedKind {
     /// Data.

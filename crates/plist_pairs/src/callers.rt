@@ -18,7 +18,7 @@ pub fn insert_each<V: Discard>(to: &mut Pairs<V>, all: Vec<(String, V)>) -> Resu
     to.extend(all)
 }
 
-/// Makes pairs of a list, inserted in their order. The only error is `OutOfMemory`.
+/// Makes pairs from a list, inserted in their order. The only error is `OutOfMemory`.
 pub fn of_list<V: Discard>(alloc: Global, all: Vec<(String, V)>) -> Result<Pairs<V>, Error>
     ensures { IfOk result (λ made. made ≡ insert_all bytes_eq [] (map shown_owned_pair all.items)) }
 {

@@ -59,7 +59,7 @@ fn empty_store<V>(alloc: Global) -> Result<Box<Store<V>>, AllocError>
     }
 }
 
-// Stores a store where there is none. An assignment would have to drop the old value, which isn't
+// Sets the store, which must be `None`. An assignment would have to drop the old value, which isn't
 // possible for every type of values.
 fn put<V>(dest: &mut Option<Box<Store<V>>>, store: Box<Store<V>>)
     requires { dest.old ≡ None }
@@ -78,7 +78,7 @@ impl<V> Pairs<V> {
     ghost use Rattle.plist_pairs.specs.Lends.{LendsAtKey};
     ghost use Rattle.plist_pairs.specs.Shown.{shown_key, shown_pair};
 
-    /// Makes a value without pairs. It allocates nothing before the first insert.
+    /// Creates pairs without any entry. It allocates nothing before the first insert.
     pub fn new(alloc: Global) -> Pairs<V>
         ensures empty { result ≡ [] }
     {
@@ -115,7 +115,7 @@ impl<V> Pairs<V> {
         }
     }
 
-    /// Returns the value of the key, to be changed, or `None` if the key isn't there.
+    /// Returns a mutable reference to the key's value, or `None` if the key isn't there.
     pub fn get_mut(&mut self, key: &str) -> Option<&mut V>
         ensures value { option_copied_mut result ≡ lookup (bytes_eq key.now) self.old }
         ensures member { IfSome result (λ lent. IsAmong (values_of self.old) lent.now) }

@@ -125,7 +125,8 @@ fn class_of_collection(
     Ok(class)
 }
 
-// Sets the class of the tree that begins at an index, if it is a collection; a scalar has its
+// Sets the class of the tree that begins at an index, if it is a collection. A scalar already has
+// one.
 // class.
 fn give_class(
     alloc: Global,

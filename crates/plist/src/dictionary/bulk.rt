@@ -40,7 +40,7 @@ impl Dictionary {
         self.pairs.extend(more)
     }
 
-    /// Makes a dictionary of these pairs, inserted in their order.
+    /// Makes a dictionary from these pairs, inserted in their order.
     ///
     /// # Errors
     ///

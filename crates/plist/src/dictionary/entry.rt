@@ -80,7 +80,7 @@ impl<'a> OccupiedEntry<'a> {
         self.pairs.pair_at(self.at).1
     }
 
-    /// Returns the key's value, to be changed.
+    /// Returns a mutable reference to the key's value.
     pub fn get_mut(&mut self) -> &mut Value
         ensures value { entry_value (Occupied self.old) ≡ Some result.now }
         ensures* writes_back { sem 𝓛 (occupied_lends self.entry result) }
@@ -89,7 +89,7 @@ impl<'a> OccupiedEntry<'a> {
         self.pairs.value_at(index)
     }
 
-    /// Returns the key's value, to be changed for as long as the dictionary is borrowed.
+    /// Returns a mutable reference to the key's value, for as long as the dictionary is borrowed.
     pub fn into_mut(self) -> &'a mut Value
         ensures value { entry_value (Occupied self.entry) ≡ Some result.now }
         ensures member { IsAmong (values_of (entry_pairs (Occupied self.entry))) result.now }
@@ -162,8 +162,8 @@ impl<'a> Entry<'a> {
         }
     }
 
-    /// Returns the key's value, to be changed: the one that it has, or else this one, which is
-    /// added.
+    /// Returns a mutable reference to the key's value: the one that it has, or else this one, which
+    /// is added.
     ///
     /// # Errors
     ///

@@ -27,7 +27,7 @@ impl Value {
         Some(array)
     }
 
-    /// Returns the array, to be changed, or `None` if the value isn't one.
+    /// Returns a mutable reference to the array, or `None` if the value isn't one.
     pub fn as_array_mut(&mut self) -> Option<&mut Vec<Value>>
         ensures value { items_lent result ≡ array_in (tree_of self.old) }
         ensures made { IfSome result (λ items. self.old ≡ made.Array items.now) }
@@ -51,7 +51,7 @@ impl Value {
         Some(dictionary)
     }
 
-    /// Returns the dictionary, to be changed, or `None` if the value isn't one.
+    /// Returns a mutable reference to the dictionary, or `None` if the value isn't one.
     pub fn as_dictionary_mut(&mut self) -> Option<&mut Dictionary>
         ensures value { pairs_lent result ≡ dictionary_in (tree_of self.old) }
         ensures made { IfSome result (λ pairs. self.old ≡ made.Dictionary pairs.now) }

@@ -212,7 +212,7 @@ module _ {R : Type 0} (known : R → Option (List ℕ)) where
       × (unread known new ≡ Some ys)
       × GivesAsciiItem (stops stop) xs old.taken item ys new.taken)
 
-  -- after a quoted text no byte has been looked at
+  -- after a quoted string no byte has been looked at
   abbrev pub StopsAtQuote : Stop → Input R → Option (Result Event Error) → Input R → Type 0
   StopsAtQuote stop old item new = IfKnown (unread known old) (λ xs.
       IfQuotedItem (placed_items (stops stop) xs old.taken) item (new.peeked ≡ None))

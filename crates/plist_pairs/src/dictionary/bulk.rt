@@ -80,7 +80,7 @@ impl<V> Pairs<V> {
         Ok(())
     }
 
-    /// Makes a dictionary of these pairs, inserted in their order.
+    /// Makes a dictionary from these pairs, inserted in their order.
     ///
     /// # Errors
     ///

@@ -28,7 +28,7 @@ impl<V> Pairs<V> {
         self.store.as_ref().unwrap().key_at(index)
     }
 
-    /// Returns the value at an index, to be changed.
+    /// Returns a mutable reference to the value at an index.
     pub fn value_at(&mut self, index: usize) -> &mut V
         requires { index < length self.old }
         ensures value { slice_get (values_of self.old) index ≡ Some result.now }

@@ -15,7 +15,7 @@ use std::alloc::Global;
 use std::marker::Model;
 use std::mem;
 
-/// Pairs, which contracts see as a list of them, with each key as its bytes, and once.
+/// Pairs. Contracts see the list of them, with each key as its bytes, and no key twice.
 #[derive(Drop)]
 pub(crate) struct Store<V> {
     keys: IndexSet<String>,
