@@ -14,6 +14,6 @@ abbrev pub ReadsBack : List ℕ → Result Tree Fault → Type 0
 ReadsBack file answer =
     (value : Value) → IsWrittenAs (tree_of value) file → IsReadBack (tree_of value) answer
 
--- if the bytes are known and a file of a value, the result is that value
+-- if the bytes are known, and a file of a value, they are read back as that value
 abbrev pub ReadsBackIn : (known : Option (List ℕ)) → Result Value Error → Type 0
 ReadsBackIn known answer = IfSome known (λ file. ReadsBack file (built_tree answer))

@@ -56,7 +56,7 @@ BeginsWith before None after = before ≡ []
 BeginsWith before (Some (Ok event)) after = before ≡ Ok event ∷ after
 BeginsWith before (Some (Err fault)) after = MatchFault fault.kind ⊤ ⊤ (before ≡ Err fault ∷ after)
 
--- the item is the first of those that are foreseen, if any are known; then the later ones are
+-- if items are foreseen, this one is the first of them, and then the later ones are foreseen, too
 -- known, too
 abbrev pub BeginsWithIfKnown : (before : Option (List Item)) → Option Item
     → (after : Option (List Item))

@@ -29,8 +29,8 @@ MatchAnswer (Ok done) accepted refused failed other = accepted
 MatchAnswer (Err fault) accepted refused failed other =
     (fault.offset ≡ None) × MatchKind fault.kind refused failed other
 
--- what is kept after an event was accepted: unless the event completes a tree, what can come next
--- is what can follow the events kept before and this one
+-- what the writer keeps after it accepted an event: unless the event completes a tree, what can
+-- come next is exactly what can follow the events kept before and this one
 abbrev pub IsHeldAfter : (before : List PlainEvent) → PlainEvent → (after : List PlainEvent) → Type 0
 IsHeldAfter before event after =
     AreTreeEvents (before ++ event ∷ []) ⊎ ContinueAlike after (before ++ event ∷ [])

@@ -25,7 +25,7 @@ failed_of writer = writer.has_failed
 abbrev pub sink_of : {W S : Type 0} {g : Ghosts W} {h : SharingGhosts S} → FileWriter W S g h → W
 sink_of writer = writer.writer
 
--- given which bytes are a file of a tree, and the number of bytes in such a file
+-- given which bytes are a file of a tree, and how many bytes such a file has
 module _ {W S : Type 0} {g : Ghosts W} {h : SharingGhosts S} (IsFile : Tree → List ℕ → Type 0)
     (size : Tree → ℕ) (contents : W → Option (List ℕ)) where
   -- the buffered events and this one are a tree's: a file of it was written, and nothing is

@@ -1,5 +1,5 @@
-//! Proved callers of the conversions into values and of the accessors: what was converted is
-//! returned by its own accessor, and by no other.
+//! Proved callers of the conversions into values and of the accessors: what was converted is found
+//! by the accessors of its kind, and by no others.
 
 ghost use Rattle.std.specs.Prelude.{◌≡◌, IfErr, IfOk, IsSome, IsTrue, None, Some, option_map, string_bytes, true};
 ghost use Rattle.std.specs.Option.{option_copied};

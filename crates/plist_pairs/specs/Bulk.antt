@@ -28,8 +28,8 @@ module _ {F V : Type 0} (g : Shared F (Bor (String Global) × (Bor V × Unit {0}
       × (new ≡ items_where_true answers old)
 
 module _ {I V : Type 0} (next_gives : I → Option (String Global × V) → I → Type 0) (iter : I) where
-  -- All pairs of the iterator are inserted in turn. After an error these are the pairs that precede
-  -- some pair that was taken, too, and whose key isn't among them.
+  -- All pairs of the iterator are inserted in turn. After an error, only the pairs that precede
+  -- some pair are; that pair was taken from the iterator, too, and its key isn't among them.
   abbrev pub ExtendsBy : Rows V → Result (Unit {0}) Error → Rows V → Type 0
   ExtendsBy old (Ok _) new =
       (taken : List (String Global × V)) × Drains next_gives iter taken
@@ -46,7 +46,7 @@ module _ {I V : Type 0} (next_gives : I → Option (String Global × V) → I �
       (taken : List (String Global × V)) × Drains next_gives iter taken
       × (made ≡ insert_all bytes_eq [] (map shown_owned_pair taken))
 
--- both words for a value that becomes an iterator: some iterator that it becomes yields the pairs
+-- for a value that becomes an iterator: the pairs are those of some iterator that it becomes
 module _ {I J V : Type 0} (becomes : J → I → Type 0)
     (next_gives : I → Option (String Global × V) → I → Type 0) (made : J) where
   abbrev pub ExtendsByIterable : Rows V → Result (Unit {0}) Error → Rows V → Type 0

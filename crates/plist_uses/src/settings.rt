@@ -16,7 +16,7 @@ use plist::{Dictionary, Error, Value};
 use std::alloc::Global;
 use std::io::Write;
 
-/// Settings by name, in the order in which the names were first set.
+/// Settings by name, in the order in which the names first occurred.
 #[derive(Drop)]
 pub struct Settings {
     pairs: Dictionary,

@@ -12,8 +12,8 @@ ghost use Rattle.plist_uses.specs.Uploads.{items_of_upload};
 use plist::{Error, Limits, Value};
 use std::alloc::Global;
 
-/// Reads the value of untrusted bytes: at most 64 nested collections, at most 100,000 events, and
-/// at most 16 MiB of strings and data, whatever the bytes contain. So no file costs more memory
+/// Reads the value of untrusted bytes: at most 64 levels of collections, at most 100,000 events,
+/// and at most 16 MiB of strings and data, whatever the bytes contain. So no file costs more memory
 /// than these take, or more of the call stack than 64 levels when the value is dropped, compared or
 /// copied.
 ///

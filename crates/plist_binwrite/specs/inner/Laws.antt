@@ -12,7 +12,7 @@ use Rattle.plist_binwrite.specs.declared.sharing.Sharing.{Ghosts as SharingGhost
 use Rattle.plist_binwrite.specs.declared.writer.FileWriter.{FileWriter}
 use Rattle.plist_binwrite.specs.FileWriter.{IsWriterStep, TakesEvent, Completes, Holds, open_events, failed_of}
 
--- each part of a fact by kind implies that of another
+-- a fact by kind implies another one if each of its parts does
 by_kind : (kind : FaultKind) (a b c d : Type 0) → (a → c) → (b → d) → MatchKind kind a b ⊥
     → MatchKind kind c d ⊥
 by_kind (UnexpectedEventType expected found) a b c d f g h = f h

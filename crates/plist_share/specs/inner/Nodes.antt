@@ -24,7 +24,7 @@ node_of collection = (collection.is_dictionary, collection.children.items)
 abbrev pub nodes_seen : List Collection → List Node
 nodes_seen collections = map node_of collections
 
--- some were appended to those that were there, which stay
+-- collections were appended to those that were there, which stay
 pub record Extends (old new : List Node) : Type 0 where
   pub keeps : (i : ℕ) → i < length old → slice_get new i ≡ slice_get old i
   pub grows : length old ≤ length new
