@@ -57,7 +57,6 @@ BeginsWith before (Some (Ok event)) after = before ≡ Ok event ∷ after
 BeginsWith before (Some (Err fault)) after = MatchFault fault.kind ⊤ ⊤ (before ≡ Err fault ∷ after)
 
 -- if items are foreseen, this one is the first of them, and then the later ones are foreseen, too
--- known, too
 abbrev pub BeginsWithIfKnown : (before : Option (List Item)) → Option Item
     → (after : Option (List Item))
     → Type 0

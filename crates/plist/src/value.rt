@@ -227,7 +227,6 @@ impl Value {
     ///
     /// The limits don't bound the bytes of strings and data, to which a small file may refer again
     /// and again; [`Value::from_reader_within`] bounds them.
-    /// and again: [`Value::from_reader_within`] does.
     ///
     /// # Errors
     ///

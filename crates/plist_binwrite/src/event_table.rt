@@ -291,7 +291,6 @@ impl EventTable<'static> {
     }
 
     // Appends a copy of a scalar. A string or data is passed to `copy_content`.
-    // `copy_content`.
     #[inline(never)]
     fn copy_plain(&mut self, alloc: Global, event: Event<'_>) -> Result<(), AllocError>
         requires { is_leaf (event_of event) ≡ true }

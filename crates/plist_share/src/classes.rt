@@ -127,7 +127,6 @@ fn class_of_collection(
 
 // Sets the class of the tree that begins at an index, if it is a collection. A scalar already has
 // one.
-// class.
 fn give_class(
     alloc: Global,
     events: &EventTable<'_>,
