@@ -1,4 +1,4 @@
--- What the `&mut` accessors of a value lend, and its types.
+-- What the `&mut` accessors of a value borrow from it, and the types of what is borrowed.
 use denote.RattleType.{RattleType}
 use Rattle.std.specs.Prelude.{Option, option_map}
 use Rattle.plist_base.specs.Trees.{Members, Trees}

@@ -178,9 +178,9 @@ impl Value {
     /// Value::from_reader(alloc, Seeking::new(file))
     /// ```
     ///
-    /// ASCII is read in the lax dialect, in which a bare string doesn't end at the end of a line: a
-    /// file with one value a line, without `;` or quotes between them, has other strings than it
-    /// seems to have. [`Value::from_reader_with_dialect`] reads such files.
+    /// ASCII is read in the lax dialect, in which a bare string doesn't end at the end of a line.
+    /// In a file with one value per line, without `;` or quotes between them, the ends of lines can
+    /// therefore become part of strings. [`Value::from_reader_with_dialect`] reads such files.
     ///
     /// # Errors
     ///

@@ -108,9 +108,9 @@ tight_texts : AreRead tight_stops (
     ∷ ("{k=0x10}", dictionary ∷ text "k" ∷ number 16 ∷ close ∷ [])
     -- a slash before a stop
     ∷ ("/=", text "/" ∷ [])
-    -- none of these ends a quoted string
+    -- =, } and LF don't end a quoted string
     ∷ ("'=}\n'", text "=}\n" ∷ [])
-    -- none of these ends a quoted string that isn't closed
+    -- = and } don't end a quoted string that isn't closed
     ∷ ("'=}", refused UnclosedString 3 ∷ [])
     -- = and } don't end a comment
     ∷ ("/*=}*/ //=}", []) ∷ [])

@@ -14,11 +14,11 @@ use Rattle.plist_ascii.specs.Taken.{Taken, taken, run}
 abbrev pub Token : Type 0
 Token = Taken (Option PlainEvent)
 
--- the bytes that end a bare string: space, `)`, CR, tab, `;`, `,`
+-- the bytes that end a bare string in the lax dialect: space, `)`, CR, tab, `;`, `,`
 abbrev pub lax_stops : ℕ → Bool
 lax_stops c = list_any (λ d. c == d) (32 ∷ 41 ∷ 13 ∷ 9 ∷ 59 ∷ 44 ∷ [])
 
--- these bytes, and LF, `}`, `=`
+-- the bytes that end a bare string in the tight dialect: those of the lax one, and LF, `}`, `=`
 abbrev pub tight_stops : ℕ → Bool
 tight_stops c = list_any (λ d. c == d) (32 ∷ 41 ∷ 13 ∷ 9 ∷ 59 ∷ 44 ∷ 10 ∷ 125 ∷ 61 ∷ [])
 

@@ -27,7 +27,7 @@ level_after shape.StartDictionary level = level + 1
 level_after shape.EndCollection level = level - 1
 level_after shape.Scalar level = level
 
--- the event isn't one collection too many, and after it `behind` collections are open
+-- the event doesn't open one collection too many, and after it `behind` collections are open
 abbrev pub IsLevelAfter : (depth level : ℕ) → EventShape → (behind : ℕ) → Type 0
 IsLevelAfter depth level shape behind =
     (behind ≡ level_after shape level) × ((opens shape && nat_le depth level) ≡ false)
@@ -84,8 +84,7 @@ Refuses = RefusesEvent limited_by IsLimitReached
 abbrev pub RefusesBy : Limiter → PlainEvent → Limit → Type 0
 RefusesBy limiter event limit = Refuses limiter event (fault_nowhere (LimitReached limit))
 
--- what is left, admitted and refused where limits are optional: without them every event is
--- admitted
+-- `limited_by`, `Admits` and `Refuses` for optional limits: without limits every event is admitted
 abbrev pub limited_by_any : Option Limiter → List Item → List Item
 limited_by_any None items = items
 limited_by_any (Some limiter) items = limited_by limiter items

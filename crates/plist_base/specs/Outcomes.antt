@@ -1,4 +1,4 @@
--- Words for the result of a call: which errors alone it returns, and what it says about known
+-- Words for the result of a call: the only errors that it returns, and what it says about known
 -- bytes.
 use Rattle.std.specs.Prelude.{◌≡◌, ℕ, List, Option, Result, IfOk, IfErr, IfSome}
 use Rattle.plist_base.specs.declared.error.Error.{Error}
@@ -8,15 +8,15 @@ use Rattle.plist_base.specs.Faults.{Fault, Io, OutOfMemory, fault_nowhere, fault
 abbrev pub IfFault : {A : Type 0} → Result A Error → (Fault → Type 0) → Type 0
 IfFault answer says = IfErr answer (λ error. says (fault_of error))
 
--- if the call failed, then with this fault
+-- if the call failed, the error is this fault
 abbrev pub OnlyFault : {A : Type 0} → Result A Error → Fault → Type 0
 OnlyFault answer fault = IfErr answer (λ error. fault_of error ≡ fault)
 
--- if the call failed, then for `OutOfMemory`, without an offset
+-- if the call failed, the error is `OutOfMemory`, without an offset
 abbrev pub OnlyMemory : {A : Type 0} → Result A Error → Type 0
 OnlyMemory answer = OnlyFault answer (fault_nowhere OutOfMemory)
 
--- if the call failed, then for `Io`, without an offset
+-- if the call failed, the error is `Io`, without an offset
 abbrev pub OnlyDevice : {A : Type 0} → Result A Error → Type 0
 OnlyDevice answer = OnlyFault answer (fault_nowhere Io)
 

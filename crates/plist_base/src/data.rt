@@ -185,7 +185,7 @@ impl From<Data> for Vec<u8> {
     }
 }
 
-/// Data is equal if its bytes are.
+/// Two values are equal if their bytes are.
 impl PartialEq for Data {
     ghost use Rattle.std.specs.Prelude.{nat_eq};
     ghost use Rattle.std.specs.Cmp.Lexicographic.{pointwise};

@@ -1,4 +1,4 @@
-//! The trait of what takes the events of a property list.
+//! The trait of writers, which take the events of a property list.
 
 ghost use Rattle.std.specs.Prelude.{◌≡◌, Bool, List, Err, false, true};
 ghost use Rattle.plist_base.specs.Faults.{WriterFailed, fault_nowhere};
@@ -11,8 +11,8 @@ pub trait Sealed {}
 
 /// A writer takes the events of a property list, one by one.
 ///
-/// Until a writer fails, it accepts an event only if the events that it keeps (`held`) can be
-/// continued with it to those of a property list. It rejects an event (`UnexpectedEventType`,
+/// Until a writer fails, it accepts an event only if the events that it keeps (`held`) and this one
+/// can be continued to those of a property list. It rejects an event (`UnexpectedEventType`,
 /// `ExpectedEndOfEventStream`) only if they can't, and then nothing has changed. Any other error
 /// (`OutOfMemory`, `Io`, `PlistTooLarge`) is returned only for an event that can come next, and the
 /// writer has failed then: each later call returns `WriterFailed` and changes nothing. No error of

@@ -2,7 +2,8 @@
 use Rattle.std.specs.Prelude.{ℕ, ◌-◌}
 use Rattle.plist_binwrite.specs.Forms.{least_width}
 
--- the width of a reference among this many objects, and of an offset if the offset table lies here
+-- the width of a reference among `count` objects, and of an offset if the offset table lies at
+-- `table`
 abbrev pub reference_width : (count : ℕ) → ℕ
 reference_width count = least_width (count - 1)
 

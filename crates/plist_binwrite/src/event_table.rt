@@ -47,9 +47,9 @@ impl<'e> EventTable<'e> {
         }
     }
 
-    /// Allocates memory for more scalars if the table of different scalars is full and this many
-    /// are expected in all: sixteen times as many as there are, and a thousand. So a wrong hint
-    /// costs no more than that. If the allocation fails, the table grows as it fills.
+    /// Reserves memory for this many scalars in all if the table of different scalars is full, but
+    /// for at most sixteen times as many as there are, and a thousand. So a wrong hint costs no
+    /// more than that. If the allocation fails, the table grows as it fills.
     pub fn expect_scalars(&mut self, expected: usize)
         ensures events { plain_events self.new ≡ plain_events self.old }
     {
@@ -321,7 +321,7 @@ impl EventTable<'static> {
         }
     }
 
-    // Appends a copy of an event. It returns no `Error`, as `take` doesn't.
+    // Appends a copy of an event. Like `take`, it doesn't return an `Error`.
     fn take_copy(&mut self, alloc: Global, event: Event<'_>) -> Result<(), AllocError>
         ensures events { OnOk result (GrowsBy self.old (plain_event event.entry) self.new) }
         ensures unchanged { OnErr result (plain_events self.new ≡ plain_events self.old) }

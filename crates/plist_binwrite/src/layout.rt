@@ -16,7 +16,8 @@ use std::alloc::{AllocError, Global};
 pub struct FileLayout {
     /// The objects by their numbers, in their order in the file.
     pub order: Numbers,
-    /// The offset of each object, by its number. Until it is known, a mark for objects in `order`.
+    /// The offset of each object, by its number. Until the offsets are known, a mark for each
+    /// object that is in `order`.
     pub places: Numbers,
 }
 

@@ -173,7 +173,8 @@ pub fn lent_again(number: &u64) -> Option<u64>
     Value::from(number).as_unsigned_integer()
 }
 
-/// Returns whether the string that a value lends is this one, which is always true.
+/// Returns whether the string that is borrowed from a value has as many bytes as this one, which is
+/// always true.
 pub fn lends_its_text(text: String) -> bool
     ensures { result ≡ true }
 {

@@ -47,7 +47,7 @@ pub fn set_first_byte(held: &mut Data, byte: u8)
     bytes[0] = byte;
 }
 
-/// Returns whether data is equal, that is, whether its bytes are.
+/// Returns whether two values of data are equal, that is, whether their bytes are.
 pub fn are_same(first: &Data, other: &Data) -> bool
     ensures { IsTrue result ↔ (first.now ≡ other.now) }
 {

@@ -1,5 +1,5 @@
-//! Proved callers of what a dictionary lends and yields: each value is less deep than the
-//! dictionary, so a recursion over it ends, whichever call it gets the values from.
+//! Proved callers of the calls of a dictionary that borrow or yield values: each value is less deep
+//! than the dictionary, so a recursion over the values ends, whichever call they are from.
 
 use plist::dictionary::Entry;
 use plist::{Dictionary, Error, ErrorKind, Value};

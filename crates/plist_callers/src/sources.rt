@@ -38,7 +38,7 @@ pub fn sizes(bytes: &[u8], more: Vec<u8>) -> (Option<u64>, Option<u64>)
     (slice.size().ok(), vector.size().ok())
 }
 
-/// Returns how many bytes a slice and a vector lend from an offset on: all that there are.
+/// Returns how many bytes a slice and a vector have buffered from an offset on: all that there are.
 pub fn lent(bytes: &[u8], more: &Vec<u8>, place: u64) -> (usize, usize)
     ensures { result ≡ (length (drop place bytes.now), length (drop place more.now.items)) }
 {

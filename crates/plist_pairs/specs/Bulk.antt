@@ -28,8 +28,8 @@ module _ {F V : Type 0} (g : Shared F (Bor (String Global) × (Bor V × Unit {0}
       × (new ≡ items_where_true answers old)
 
 module _ {I V : Type 0} (next_gives : I → Option (String Global × V) → I → Type 0) (iter : I) where
-  -- All pairs of the iterator are inserted in turn. After an error, only the pairs that precede
-  -- some pair are; that pair was taken from the iterator, too, and its key isn't among them.
+  -- The pairs of the iterator are inserted in turn: all of them, or after an error all that were
+  -- taken except the last one, whose key isn't among the pairs.
   abbrev pub ExtendsBy : Rows V → Result (Unit {0}) Error → Rows V → Type 0
   ExtendsBy old (Ok _) new =
       (taken : List (String Global × V)) × Drains next_gives iter taken

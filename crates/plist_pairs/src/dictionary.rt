@@ -29,7 +29,7 @@ use std::marker::Model;
 /// see the list of the pairs, with each key as its bytes.
 #[derive(Drop)]
 pub struct Pairs<V> {
-    // `None` before the first insert, so that a value without pairs is small.
+    // `None` before the first insert, so that an empty `Pairs` is small.
     store: Option<Box<Store<V>>>,
     alloc: Global,
 }

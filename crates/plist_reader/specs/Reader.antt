@@ -276,7 +276,7 @@ Gives known failed old item new = StateGives known failed old.state item new.sta
 abbrev pub all_steps : ℕ
 all_steps = walk_steps (2 ^ 64) + 1 + 2 ^ 64
 
--- more than the number of items that remain
+-- an upper bound on the number of items that remain
 abbrev pub steps_in_state : {R : Type 0} {g : Ghosts R} → State R g → ℕ
 steps_in_state (state.Unread source limits dialect) = all_steps
 steps_in_state (state.Binary reader) = binary.binary_steps reader

@@ -6,8 +6,8 @@ use Rattle.plist_commands.specs.Commands.{IsNoCommand, IsStatusAfter, PlainComma
 use Rattle.plist_commands.specs.Failures.{CommandOutcome, OfPlist}
 use Rattle.plist_commands.specs.Messages.{PlainMessage, Fault, Usage}
 
--- for some arguments this is the status of their run: they are no command, nothing is printed, and
--- the usage is reported; or they are a command, which ends like this
+-- the status of a run of some arguments: either they are no command, nothing is printed, and the
+-- usage is reported; or they are a command, and the status follows from its outcome
 abbrev pub RunsWords : {O E : Type 0} → (reports : E → PlainMessage → Bool → E → Type 0)
     → (status : ℕ) → (old new : O) → (err told : E) → Type 0
 RunsWords reports status old new err told =
@@ -21,7 +21,7 @@ RunsWords reports status old new err told =
 abbrev pub IsStatusOf : Result ℕ Error → (code : ℕ) → Type 0
 IsStatusOf answer code = MatchResult answer (λ status. code ≡ status) (λ _. code ≡ 1)
 
--- an error was reported, or there is none and nothing was
+-- the error was reported; or the result isn't an error, and nothing was reported
 abbrev pub ReportsFault : {E : Type 0} → (reports : E → PlainMessage → Bool → E → Type 0)
     → Result ℕ Error
     → (old new : E) → Type 0

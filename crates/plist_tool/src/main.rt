@@ -45,7 +45,8 @@ fn exit_code<E: Messages>(answer: Result<u8, Error>, err: &mut E) -> ExitCode
     }
 }
 
-// Standard output, to which a command writes many lines at a time, and standard error.
+// Runs the command with standard output, to which it writes many lines at a time, and standard
+// error.
 fn main(rt: HostRuntime) -> ExitCode {
     let mut out = io::writer(&rt);
     let mut err = rt.stderr();

@@ -2,7 +2,7 @@
 
 use crate::support::{expect_done, expect_fault, put};
 
-// An archive of a list of one name. Python's `plistlib` made it, and the other one.
+// An archive of a list of one name. Python's `plistlib` made it, and also `CYCLE`.
 const LIST: &[u8] = b"\
     bplist00\xd2\x01\x02\x03\x0bX$objectsT$top\xa3\x04\x05\x0aU$null\xd2\x06\x07\x08\x09\
     TnameTnext\x80\x02\x80\0Qx\xd2\x0c\x0d\x0e\x0aTrootTtext\x80\x01\x08\x0d\x16\x1b\x1f\

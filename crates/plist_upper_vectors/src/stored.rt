@@ -31,7 +31,8 @@ enum Origin<'a> {
     File(&'a str),
 }
 
-// Writes it to a new file, of which one call may fail. Returns also which stage that file reached.
+// Writes the value or the property list to a new file, of which one call may fail. Also returns the
+// stage that the file reached.
 fn write_to(
     rt: &(impl Abort + AllocGlobal + Env + Files),
     from: Origin<'_>,
@@ -107,7 +108,8 @@ fn makes_its_file_once(rt: HostRuntime) {
     expect_stored(&rt, Origin::File("to_be_read"), TEXT);
 }
 
-// A key that is repeated needs a value, so that file is read twice, but the other is created once.
+// A repeated key needs a value, so the file that is read is read twice, but the other file is
+// created once.
 #[test]
 fn goes_no_further_than_a_failure(rt: HostRuntime) {
     expect_failures(&rt, Origin::Memory);

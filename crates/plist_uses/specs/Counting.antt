@@ -18,7 +18,7 @@ abbrev pub is_text : PlainEvent → Bool
 is_text (ScalarEvent (String text)) = true
 is_text event = false
 
--- any other scalar
+-- a scalar that isn't a string
 abbrev pub is_other : PlainEvent → Bool
 is_other (ScalarEvent (String text)) = false
 is_other (ScalarEvent scalar) = true

@@ -87,13 +87,13 @@ fn expect_end(rt: &(impl Abort + AllocGlobal), cut: &Cut, found: &str, items: &s
     assert!(rt; cut.place < cut.resumes as u64, "at {}", cut.end);
 }
 
-// Checks this for the reader of binary files.
+// Checks the items that the reader of binary files yields for a file that is cut.
 fn expect_binary(rt: &(impl Abort + AllocGlobal), cut: &mut Cut, items: &str) {
     let found = words_of(rt.alloc(), BinaryReader::new(rt.alloc(), &mut *cut));
     expect_end(rt, cut, must(rt, found).as_str(), items);
 }
 
-// Checks this for the reader that chooses by the format.
+// Checks the items that the reader of either format yields for a file that is cut.
 fn expect_either(rt: &(impl Abort + AllocGlobal), cut: &mut Cut, items: &str) {
     let found = words_of(rt.alloc(), Reader::new(rt.alloc(), &mut *cut));
     expect_end(rt, cut, must(rt, found).as_str(), items);

@@ -35,7 +35,7 @@ fn ends_of_the_range(rt: HostRuntime) {
     expect(&rt, greatest, None, Some(u64::MAX), "18446744073709551615");
 }
 
-// Two are equal if the integers are.
+// Returns whether two integers are equal, that is, whether their values are.
 fn is_same(a: &Integer, b: &Integer) -> bool
     ensures { IsTrue result ↔ (a.now ≡ b.now) }
 {
@@ -55,7 +55,7 @@ fn equal_from_each_type(rt: HostRuntime) {
     assert!(rt; !is_same(&seven, &Integer::from(-7i64)));
 }
 
-// One is below another if the integer is.
+// Returns whether one integer is below another, that is, whether its value is.
 fn is_below(a: &Integer, b: &Integer) -> bool
     ensures { IsTrue result ↔ (a.now <ℤ b.now) }
 {

@@ -72,7 +72,8 @@ fn expect_failure(rt: &(impl Abort + AllocGlobal), call: u64, kind: ErrorKind) -
     true
 }
 
-// Checks this for each call of a reader, of which 46 are made for the head alone.
+// Checks that the error of each call that a reader makes is passed on, and that the failed call
+// isn't tried again. The head alone takes 46 calls.
 fn expect_failures(rt: &(impl Abort + AllocGlobal), kind: ErrorKind) {
     for call in 0..1000 {
         if !expect_failure(rt, call, kind) {
@@ -83,7 +84,8 @@ fn expect_failures(rt: &(impl Abort + AllocGlobal), kind: ErrorKind) {
     panic!(rt; "the device never stopped failing")
 }
 
-// Checks this for `read_exact_at`.
+// Checks that a reader and `read_exact_at` pass on the errors of a device, and try no failed call
+// again.
 fn expect_handed_on(rt: &(impl Abort + AllocGlobal), kind: ErrorKind) {
     expect_failures(rt, kind);
     let mut device = device_of(rt, 2, DeviceFault::Fails(kind));
@@ -118,7 +120,8 @@ fn expect_short(rt: &(impl Abort + AllocGlobal), call: u64) -> bool {
     true
 }
 
-// Checks this for each read, the first of which is the second call.
+// Checks that each read that returns no byte ends the items, and isn't tried again. The first read
+// is the second call.
 fn expect_shorts(rt: &(impl Abort + AllocGlobal)) {
     for call in 1..1000 {
         if !expect_short(rt, call) {

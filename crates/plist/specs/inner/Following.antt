@@ -76,7 +76,7 @@ value-goes outer EndCollection ok = λ p. none-some _ (sym p)
 value-goes outer (ScalarEvent x) ok =
     let t = tree-goes (Leaf x) outer ok in (t.0, ap (map without_length) t.1)
 
--- an end makes a tree of its collection, whose events start at its start
+-- a collection's end completes its tree, whose events begin with the collection's start
 closed-goes : (t : Tree) (start : PlainEvent) (inside : List PlainEvent)
     (outer : List OpenCollection) → AllTakeValue outer
     → AreAlike (bracketing t) (start ∷ (inside ++ EndCollection ∷ []))

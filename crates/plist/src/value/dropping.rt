@@ -1,5 +1,6 @@
-//! How a value is dropped without recursion. The values that are left are in one list. To be kept,
-//! that list is stored as an array in the next list, in place of a value that was taken out of it.
+//! How values are dropped without recursion. The values that are left are in one list. When the
+//! values of a collection are added, that list is stored among them as an array, in a slot that one
+//! of them leaves, so that no memory is allocated.
 
 ghost use Rattle.std.specs.Prelude.{◌<◌, vec_len};
 ghost use Rattle.std.specs.Vec.{vec_capacity};

@@ -41,7 +41,7 @@ pub record IsReady (es : List PlainEvent) (ready : Ready) : Type 0 where
       → (class : ℕ → ℕ) → IsPlanByClass es class ready.plan → (t : Tree) → es ≡ lengthless t
       → IsFileBy class t (file_of ready objects)
 
--- a planned file whose offset table lies here
+-- a planned file whose offset table lies at `table`
 abbrev pub ready_at : Draft → (table : ℕ) → Ready
 ready_at draft table =
     record { plan = draft.plan; order = draft.order; places = draft.places; table = table }

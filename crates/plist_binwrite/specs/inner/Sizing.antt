@@ -25,7 +25,8 @@ abbrev pub CountsItems : EventTable → (from count : ℕ) → Type 0
 CountsItems held from count =
     (ts : Trees) → ItemsOccurAt (plain_events held) ts from → count ≡ number_of_trees ts
 
--- a file with this many objects, whose offset table lies here, has less than 2^64 bytes, or doesn't
+-- a file with this many objects, whose offset table lies at `table`, has less than 2^64 bytes, or
+-- doesn't
 abbrev pub FitsWith : (table count : ℕ) → Type 0
 FitsWith table count =
     (objects : ℕ) → table ≡ 8 + objects → size_with count objects < 2 ^ 64
@@ -45,7 +46,7 @@ module _ (file : Planned) where
   IsWritableAt index = (t : Tree) → OccursAt (events_in file) t index
       → IsWritable file.width (object_of (numbers_by file) t index)
 
-  -- in this order, the objects of the plan end here
+  -- the length of the magic and the objects in this order, or none if it is 2^64 or more
   abbrev pub IsEndOrNone : (order : List ℕ) → Option ℕ → Type 0
   IsEndOrNone order found = (objects : ℕ → Object)
       → Describes (events_in file) (numbers_of file.plan.now) objects
