@@ -18,7 +18,7 @@ use Rattle.plist.specs.declared.stream.events.Next.{Next}
 use Rattle.plist.specs.declared.stream.events.Next.TheVariants as next
 use Rattle.plist.specs.ValueTrees.{tree_of, tree_pairs}
 
--- the remaining events of the value that is next, if there is one
+-- the remaining events of the value that is next, or no events if no value is
 abbrev pub left_of_value : Option (Bor Value) → List PlainEvent
 left_of_value None = []
 left_of_value (Some value) = bracketing (tree_of value.now)

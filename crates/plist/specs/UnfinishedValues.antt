@@ -24,7 +24,7 @@ open_of (run.Dictionary pairs) = InDictionary (last_values (tree_pairs (pairs_of
 open_of (run.AfterKey pairs key) =
     AfterKey (last_values (tree_pairs (pairs_of pairs))) (string_bytes key)
 
--- what a root, if there is one, and the open collections, innermost first, stand for
+-- what an optional root, and the open collections, innermost first, stand for
 abbrev pub held_in : Option Value → List UnclosedCollection → Unfinished
 held_in (Some root) collections = Complete (tree_of root)
 held_in None [] = NotBegun

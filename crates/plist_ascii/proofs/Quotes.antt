@@ -59,7 +59,7 @@ part_goes_on quote n xs part h more =
     ∙ behind_behind m n (take m xs) part (more _)
     ∙ ap (λ zs. piece_then (m + n) (take m xs ++ part) (more zs)) (drop-drop n m xs)
 
--- room
+-- the meaning doesn't depend on the fuel, if that is at least the number of bytes
 
 then_same : (n : ℕ) (r : Result (List ℕ) FaultKind) (f g : ℕ → Taken (List ℕ)) → f n ≡ g n
     → escape_then n r f ≡ escape_then n r g

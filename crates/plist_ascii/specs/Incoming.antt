@@ -14,7 +14,7 @@ GivesByte old (Some byte) new = Consumes old new (byte ∷ [])
 abbrev pub LosesFirst : (count : ℕ) → (held : List ℕ) → Option (List ℕ) → Option (List ℕ) → Type 0
 LosesFirst count held old new = Consumes old new (take count held)
 
--- the count of failures, if there is one, rose or is at its maximum
+-- if failures are counted, their count rose or is at its maximum
 abbrev pub RisesIfCounted : Option ℕ → Option ℕ → Type 0
 RisesIfCounted None new = ⊤
 RisesIfCounted (Some old) None = ⊥

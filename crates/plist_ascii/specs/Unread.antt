@@ -33,7 +33,7 @@ unread known input = unread_of (known input.inner) input.ended input.peeked inpu
 abbrev pub IfKnown : Option (List ℕ) → (List ℕ → Type 0) → Type 0
 IfKnown known P = (bytes : List ℕ) → known ≡ Some bytes → P bytes
 
--- the first byte, if there is one
+-- the first byte, or none if there are no bytes
 abbrev pub first : List ℕ → Option ℕ
 first bytes = slice_get bytes 0
 

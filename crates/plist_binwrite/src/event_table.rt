@@ -189,7 +189,7 @@ impl<'e> EventTable<'e> {
         }
     }
 
-    // Returns the index of an equal scalar among the different ones, if there is one.
+    // Returns the index of an equal scalar among the different ones, or `None` if none is equal.
     fn find(&self, event: &Event<'_>) -> Option<usize>
         ensures { IfSome result (λ index. slice_get (scalars_of self.now) index
             ≡ Some (event_of event.now)) }

@@ -50,7 +50,7 @@ fn begins_with<S: Source, const N: usize>(source: &mut S, front: &[u8; N]) -> Re
     }
 }
 
-// Returns the number of bytes in the byte order mark, if there is one, and else 0.
+// Returns the number of bytes in the byte order mark, or 0 if the source begins with none.
 fn byte_order_mark_length<S: Source>(source: &mut S) -> Result<u64, Error>
     // The answer.
     ensures length { DecodesBy result (S.known source.old) byte_order_mark_length }

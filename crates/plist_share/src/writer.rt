@@ -6,10 +6,11 @@ use plist_binwrite::FileWriter;
 /// Writes binary property lists, one after another, to a writer, and stores each different array,
 /// dictionary and scalar once: no file of the same events has fewer objects.
 ///
-/// Two arrays or dictionaries are equal if they contain the same, in the same order. The writer
-/// buffers the events of the open property list. The event that completes it has the whole file
-/// planned, written and flushed, and then no event is buffered; the inner writer isn't called
-/// before. The offsets in each file count from its own start. Lengths of starts decide nothing.
+/// Two arrays or dictionaries are equal if they contain the same items or pairs, in the same order.
+/// The writer buffers the events of the open property list. The event that completes it has the
+/// whole file planned, written and flushed, and then no event is buffered; the inner writer isn't
+/// called before. The offsets in each file count from its own start. Lengths of starts decide
+/// nothing.
 ///
 /// # Errors
 /// `UnexpectedEventType` for an event that can't follow the buffered ones; nothing changes.

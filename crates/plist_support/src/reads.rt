@@ -123,8 +123,8 @@ pub fn expect_on_devices(alloc: Global, by: By, bytes: &[u8], items: &str) -> Re
     fail(format!(in alloc; "more than {MOST} items"))
 }
 
-// Checks a source that has `left` bytes after its first call: the items are the same, or a prefix
-// of them is followed by the end at the first offset without a byte.
+// Checks a source that has `left` bytes after its first call: it yields these items, or a prefix of
+// them and then the end at the first offset without a byte.
 fn expect_shrunk(alloc: Global, bytes: &[u8], items: &str, left: usize) -> Result<(), Wrong> {
     let mut device = device_of(alloc, bytes, 1, DeviceFault::Shrinks(left))?;
     let found = words_over(alloc, By::Binary, &mut device, usize::MAX)?;

@@ -37,7 +37,7 @@ fn ascii_is_read_by_windows(rt: HostRuntime) {
     expect_few_calls(&rt, &bytes, 1);
 }
 
-// Returns the only item, if there is one.
+// Returns the reader's only item, or `None` if it yields none.
 fn only_item(
     rt: &(impl Abort + AllocGlobal),
     device: &mut Device,

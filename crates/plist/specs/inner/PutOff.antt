@@ -92,7 +92,7 @@ PairsLeft pairs others start place now =
     × (to_compare (waiting now) + weights (values_of (drop place pairs))
     ≤ to_compare (waiting start) + weights (values_of pairs))
 
--- the pair that was deferred last is taken, if there is one
+-- the pair that was deferred last is taken, or no pair is deferred
 abbrev pub TakesLast : (before : Later) → Option Pair → (after : Later) → Type 0
 TakesLast before found after = MatchOption found (waiting before ≡ [])
     (λ pair. waiting before ≡ waiting after ++ pair ∷ [])
