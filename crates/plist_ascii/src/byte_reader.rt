@@ -22,6 +22,7 @@ pub trait ByteReader {
     /// `Interrupted`.
     ///
     /// # Errors
+    ///
     /// Any I/O error.
     fn next_byte(&mut self) -> Result<Option<u8>, io::Error>
         ensures byte { IfOk result (λ b. GivesByte (remaining self.old) b (remaining self.new)) }

@@ -79,6 +79,7 @@ impl<R: ByteReader> Input<R> {
 /// `b` and two ends. Starts have no length.
 ///
 /// # Errors
+///
 /// `UnclosedString`, `IncompleteComment`, `InvalidUtf8AsciiStream`, `InvalidOctalString` and
 /// `InvalidUtf16String` are errors in the bytes: the reader continues at the next byte. `Io`, if a
 /// read fails, and `OutOfMemory`, which occurs only in a string, end the reader. Then, and after

@@ -78,6 +78,7 @@ impl Integer {
     /// allowed. No other characters are allowed, not even blanks at the ends.
     ///
     /// # Errors
+    ///
     /// [`InvalidInteger`] if and only if the string spells no such integer.
     pub fn from_str(text: &str) -> Result<Integer, InvalidInteger>
         ensures number { SpellsInteger text.now result }

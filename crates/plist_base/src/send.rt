@@ -13,6 +13,7 @@ use std::io::Write;
 /// Writes all the bytes. A failed write isn't tried again, not even after `Interrupted`.
 ///
 /// # Errors
+///
 /// `Io`, without an offset, if a write fails or takes no byte. A prefix of the bytes is written
 /// then.
 pub fn send<W: Write>(writer: &mut W, bytes: &[u8]) -> Result<(), Error>
@@ -37,6 +38,7 @@ pub fn send<W: Write>(writer: &mut W, bytes: &[u8]) -> Result<(), Error>
 /// Flushes the writer.
 ///
 /// # Errors
+///
 /// `Io`, without an offset, if the flush fails.
 pub fn flush<W: Write>(writer: &mut W) -> Result<(), Error>
     ensures fault { OnlyDevice result }
@@ -51,6 +53,7 @@ pub fn flush<W: Write>(writer: &mut W) -> Result<(), Error>
 /// Writes all the bytes, and then flushes the writer.
 ///
 /// # Errors
+///
 /// `Io`, without an offset, if a write fails or takes no byte, and a prefix of the bytes is
 /// written; or if the flush fails, and all of them are.
 #[tactic(auto, using(crate::proofs::Fronts::front_whole))]

@@ -26,6 +26,7 @@ pub trait Source: Drop {
     /// Returns the number of bytes.
     ///
     /// # Errors
+    ///
     /// Any I/O error. The call isn't tried again, not even after `Interrupted`. Known bytes don't
     /// change.
     fn size(&mut self) -> Result<u64, io::Error>
@@ -38,6 +39,7 @@ pub trait Source: Drop {
     /// left.
     ///
     /// # Errors
+    ///
     /// Any I/O error. The call isn't tried again, not even after `Interrupted`. The contents of the
     /// buffer are unspecified then.
     fn read_at(&mut self, place: u64, buf: &mut [u8]) -> Result<usize, io::Error>
@@ -132,6 +134,7 @@ impl Source for Vec<u8> {
 /// read isn't tried again, not even after `Interrupted`.
 ///
 /// # Errors
+///
 /// `Io` if a read fails and `UnexpectedEof` if the bytes end too early, each with the offset of
 /// that read. The buffer then contains the bytes that precede this offset.
 pub fn read_exact_at<S: Source>(source: &mut S, place: u64, buf: &mut [u8]) -> Result<(), Error>

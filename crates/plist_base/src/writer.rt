@@ -31,6 +31,7 @@ pub trait Writer: Sealed {
     /// one does.
     ///
     /// # Errors
+    ///
     /// `UnexpectedEventType` and `ExpectedEndOfEventStream` if the event can't come next: nothing
     /// has changed. `OutOfMemory`, `Io` and `PlistTooLarge` if it can, and `WriterFailed` after one
     /// of these three: the writer has failed.

@@ -110,6 +110,7 @@ impl EventBuffer {
     /// error, `UnexpectedEventType` without an offset, and nothing changes.
     ///
     /// # Errors
+    ///
     /// `OutOfMemory`, without an offset, for an event that can follow the buffered ones.
     #[inline(always)]
     pub fn try_push(&mut self, alloc: Global, event: Event<'_>) -> Result<Option<Error>, Error>

@@ -249,6 +249,7 @@ impl<'e> EventTable<'e> {
     /// memory of its index.
     ///
     /// # Errors
+    ///
     /// `OutOfMemory`, without an offset. The events are unchanged then.
     #[inline(always)]
     pub fn push(&mut self, event: Event<'e>) -> Result<(), Error>
@@ -338,6 +339,7 @@ impl EventTable<'static> {
     /// Appends a copy of an event. A string or data that is equal to a stored one isn't copied.
     ///
     /// # Errors
+    ///
     /// `OutOfMemory`, without an offset. The events are unchanged then.
     #[inline(always)]
     pub fn push_copy(&mut self, alloc: Global, event: Event<'_>) -> Result<(), Error>

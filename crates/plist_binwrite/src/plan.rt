@@ -51,6 +51,7 @@ pub struct Planned<'p, 'e> {
 /// Plans the events of a tree: one object for each class. All classes are below a count.
 ///
 /// # Errors
+///
 /// `OutOfMemory`, without an offset.
 pub fn plan_by_class(
     alloc: Global,

@@ -55,6 +55,7 @@ fn repeats_at(events: &EventTable<'_>, start: usize, stamps: &mut Vec<usize>) ->
 /// none does, the last value of each key is its only one.
 ///
 /// # Errors
+///
 /// `OutOfMemory`, without an offset.
 pub fn repeats_key(alloc: Global, events: &EventTable<'_>) -> Result<bool, Error>
     ensures once { IfOk result (TestsKeysOnce events.now) }

@@ -159,6 +159,7 @@ fn send_draft<W: Write>(
 /// Trees of one class share an object; the class of an end isn't read.
 ///
 /// # Errors
+///
 /// `PlistTooLarge` if the file would have 2^64 bytes or more, and `OutOfMemory`, before a byte is
 /// written; `Io` after a prefix of the file was.
 pub fn complete_by_class<W: Write>(
@@ -184,6 +185,7 @@ pub fn complete_by_class<W: Write>(
 /// byte is written.
 ///
 /// # Errors
+///
 /// Those of [`complete_by_class`].
 pub fn complete<W: Write>(
     alloc: Global,

@@ -27,6 +27,7 @@ pub trait Sharing: Sealed + Drop {
     /// memory is allocated before the first byte is written.
     ///
     /// # Errors
+    ///
     /// `PlistTooLarge` if the file would have 2^64 bytes or more, and `OutOfMemory`, before a byte
     /// is written; `Io` after a prefix of the file was.
     fn complete<W: Write>(

@@ -65,6 +65,7 @@ fn place_or_none(place: Option<u64>) -> usize
 /// after all of them, which is that of the offset table.
 ///
 /// # Errors
+///
 /// `OutOfMemory`, without an offset.
 pub fn place_objects(
     file: &Planned<'_, '_>,

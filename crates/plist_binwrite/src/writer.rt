@@ -18,6 +18,7 @@ use std::marker::PhantomData;
 /// before. The offsets in each file count from its own start. Lengths of starts decide nothing.
 ///
 /// # Errors
+///
 /// `UnexpectedEventType` for an event that can't follow the buffered ones; nothing changes.
 /// `PlistTooLarge` if the file would have 2^64 bytes or more. `PlistTooLarge`, `OutOfMemory` and
 /// `Io` are returned only for an event that can follow the buffered ones, and the writer has failed

@@ -112,6 +112,7 @@ fn xml_place<S: Source>(source: &mut S, start: u64) -> Result<Option<u64>, Error
 /// Determines the format that a source's first bytes indicate.
 ///
 /// # Errors
+///
 /// `Io`, with the offset of the failed read.
 pub fn format_of<S: Source>(source: &mut S) -> Result<Format, Error>
     // The answer.

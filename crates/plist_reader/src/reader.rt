@@ -114,6 +114,7 @@ fn begin<R: Source>(
 /// that byte. The reader chooses on the first call of `next`.
 ///
 /// # Errors
+///
 /// `XmlUnsupported`, after which the reader has ended. `Io` with the offset of the failed read, if
 /// a read fails while the reader chooses; then it has ended, too. After the choice, the errors of
 /// the chosen reader, with the same effect: a binary reader has ended after each of its errors, and

@@ -205,6 +205,7 @@ fn give_trees(alloc: Global, events: &EventTable<'_>, found: &mut Classes) -> Re
 /// inside outwards.
 ///
 /// # Errors
+///
 /// `OutOfMemory`, without an offset.
 pub fn tree_classes(alloc: Global, events: &EventTable<'_>) -> Result<Classes, Error>
     // The answer.

@@ -13,6 +13,7 @@ use plist_binwrite::FileWriter;
 /// nothing.
 ///
 /// # Errors
+///
 /// `UnexpectedEventType` for an event that can't follow the buffered ones; nothing changes.
 /// `PlistTooLarge` if the file would have 2^64 bytes or more. `PlistTooLarge`, `OutOfMemory` and
 /// `Io` are returned only for an event that can follow the buffered ones, and the writer has failed

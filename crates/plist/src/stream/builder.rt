@@ -116,6 +116,7 @@ pub trait AnyEvent: Drop {
     /// Writes the event to a builder that hasn't failed.
     ///
     /// # Errors
+    ///
     /// Those of the builder's `write`.
     fn write_to(self, builder: &mut Builder) -> Result<(), Error>
         requires { (built_of builder.old).failed ≡ false }

@@ -33,6 +33,7 @@ enum Next<'a> {
 /// data are borrowed from the value.
 ///
 /// # Errors
+///
 /// `OutOfMemory`, without an offset, in place of a start; then the iterator has ended. No other
 /// event allocates memory.
 #[derive(Drop)]
