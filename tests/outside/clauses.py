@@ -3,14 +3,13 @@
 
     tests/outside/clauses.py REV [--all]
 
-Clauses are those of functions and the ghost items of traits, impls and types, as `rt fmt` lays them
-out; `specs/` isn't compared. Names of REV may be those that docs/renames.tsv got since. Prints each
-public function (`pub`, or of a trait) that is gone or private now, has a clause that is gone,
-changed or under another label, or a new `requires`; with --all private ones too. What moved within
-its crate is found by its name. Ends with status 1 where it prints any, else with counts.
+Compares the clauses of functions and the ghost items of traits, impls and types, as `rt fmt` lays
+them out, but not `specs/`. Prints each public function (`pub`, or of a trait) that is gone or
+private now, that has a clause that is gone, changed or under another label, or that has a new
+`requires`; with --all it prints private functions, too. A function that moved within its crate is
+found by its name. Ends with status 1 if it prints any function, and otherwise with counts.
 """
 import collections
-import functools
 import io
 import pathlib
 import re
@@ -74,58 +73,33 @@ def files_of(revision):
     whole = subprocess.check_output(["git", "-C", TOP, "archive", revision])
     with tarfile.open(fileobj=io.BytesIO(whole)) as tar:
         return {it.name: tar.extractfile(it).read().decode()
-                for it in tar if it.name.endswith((".rt", ".tsv"))}
+                for it in tar if it.name.endswith(".rt")}
 
 
-class Renames:
-    """The rows of docs/renames.tsv that the table of REV hasn't."""
+def differences(old, new):
+    """How many clauses are the same, and what is printed about the others."""
+    count, lines, met = 0, [], []
+    for a in old.clauses:
+        them = [b for b in new.clauses if b.kind == a.kind]
+        labelled = [b for b in them if b.label == a.label]
+        worded = [b for b in them if b.body == a.body]
+        same = [b for b in labelled if b in worded]
+        near = same or labelled or worded
+        met += near
+        count += bool(same)
+        if not same:
+            lines += [("was: " if near else "gone: ") + a.text]
+            lines += ["now: " + b.text for b in near]
+    lines += ["new: " + b.text for b in new.clauses if b.kind[0] == "r" and b not in met]
+    return count, lines + (["private now"] if old.public and not new.public else [])
 
-    def __init__(self, before):
-        today, old = (TOP / "docs/renames.tsv").read_text(), before.get("docs/renames.tsv", "")
-        self.rows = [it.split("\t") for it in set(today.splitlines()) - set(old.splitlines())]
-        lines = (TOP / "crates.txt").read_text().splitlines()
-        self.below = {it.split(":")[0]: re.findall(r"\w+", it) for it in lines}
 
-    @functools.cache
-    def names(self, crate, word, is_label):
-        """What a word of a crate may be called now."""
-        found = [word]
-        for it in found:
-            for where, place, old, new in self.rows:
-                seen = re.fullmatch(re.escape(old).replace(r"\.\.", "(.*)"), it)
-                if seen and where in self.below[crate] and (is_label or place != "labels"):
-                    name = seen.expand(new.replace("..", r"\1", 1).replace("..", r"\2"))
-                    found += [name] if name not in found else []
-        return found
-
-    def alike(self, crate, old, new, is_label=False):
-        return len(old) == len(new) and all(
-            a == b or b in self.names(crate, a, is_label) for a, b in zip(old, new))
-
-    def differences(self, crate, old, new):
-        """How many clauses are alike, and what is printed of the others."""
-        count, lines, met = 0, [], []
-        for a in old.clauses:
-            them = [b for b in new.clauses if b.kind == a.kind]
-            labelled = [b for b in them if self.alike(crate, [a.label], [b.label], True)]
-            worded = [b for b in them if self.alike(crate, a.body, b.body)]
-            same = [b for b in labelled if b in worded]
-            near = same or labelled or worded
-            met += near
-            count += bool(same)
-            if not same:
-                lines += [("was: " if near else "gone: ") + a.text]
-                lines += ["now: " + b.text for b in near]
-        lines += ["new: " + b.text for b in new.clauses if b.kind[0] == "r" and b not in met]
-        return count, lines + (["private now"] if old.public and not new.public else [])
-
-    def compare(self, crate, key, was, now):
-        """The same of a function beside that of now which is most like it."""
-        old = [key[2], *WORD.findall(key[1])]
-        found = [(place[0] != key[0], self.differences(crate, was[key], new))
-                 for place, new in now.items() if place == key or place not in was
-                 if self.alike(crate, old, [place[2], *WORD.findall(place[1])])]
-        return min(found, key=lambda it: (it[0], len(it[1][1])))[1] if found else (0, ["gone"])
+def compare(key, was, now):
+    """The differences between a function and the one of that name now which is most like it."""
+    found = [(place[0] != key[0], differences(was[key], new))
+             for place, new in now.items()
+             if place[1:] == key[1:] and (place == key or place not in was)]
+    return min(found, key=lambda it: (it[0], len(it[1][1])))[1] if found else (0, ["gone"])
 
 
 def main():
@@ -133,8 +107,7 @@ def main():
         sys.exit(__doc__)
     before = files_of(sys.argv[1])
     now = functions({str(it): it.read_text() for it in TOP.glob("crates/*/src/**/*.rt")})
-    renames = Renames(before)
-    found = [(crate, key, *renames.compare(crate, key, was, now[crate]))
+    found = [(crate, key, *compare(key, was, now[crate]))
              for crate, was in functions(before).items() for key in was
              if was[key].public or sys.argv[2:]]
     different = [it for it in found if it[3]]

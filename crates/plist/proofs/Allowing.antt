@@ -1,4 +1,4 @@
--- Items as far as they are allowed, by whatever judges an event.
+-- Items as far as an allowance admits them.
 use Rattle.std.proofs.Common.{◌≡◌, Bool, true, false, cond, List, [], ◌∷◌, map, Option, None, Some, Result, Ok, Err, MatchBool, refl, sym, ap, ◌∙◌, subst, option_map}
 use Rattle.std.specs.Iterator.{Yields}
 use Rattle.plist_base.specs.declared.error.Error.{Error}
@@ -26,7 +26,7 @@ module _ {A : Type 0} (lets : A → List Item → List Item) (may_reach : Fault 
   abbrev come : Bool → A → List Item → List Item
   come ended allowance items = cond ended [] (lets allowance items)
 
-  -- ---- what is seen to come
+  -- ---- what is foreseen
 
   begins : (was : Bool) (old new : A) (now : Bool) (asked item : Given) (all left : List Item)
       → was ≡ false → BeginsWith all (option_map (item_by event_of) asked) left
@@ -58,7 +58,7 @@ module _ {A : Type 0} (lets : A → List Item → List Item) (may_reach : Fault 
   )
 
   module _ {I : Type 0} (inner_gives : I → Given → I → Type 0) where
-    -- nothing more comes
+    -- the iterator has ended
     over : (coming : I → Option (List Item)) (old new : Limited I A) (item : Given)
         → old.ended ≡ true → item ≡ None → new ≡ old
         → BeginsWithIfKnown (option_map (items_allowed lets old) (coming (iterator_of old)))
@@ -73,7 +73,7 @@ module _ {A : Type 0} (lets : A → List Item → List Item) (may_reach : Fault 
         stays None = tt
         stays (Some all) = (items_allowed lets old all, refl, rw e refl)
 
-    -- whatever shows the items of an iterator, shows those of them that are allowed
+    -- however an iterator's items are foreseen, those that are allowed are foreseen
     pub allowed-shows : (coming : I → Option (List Item))
         → ForeseesItems event_of inner_gives coming
         → ForeseesItems event_of (GivesAllowed lets may_reach inner_gives)
@@ -92,7 +92,7 @@ module _ {A : Type 0} (lets : A → List Item → List Item) (may_reach : Fault 
             goes old.ended old.limiter new.limiter new.ended (coming old.inner) (coming new.inner)
             asked item e (shows old.inner asked new.inner gave) passes
 
-  -- ---- the events that came
+  -- ---- the events that were yielded
 
   events-pass : (old new : A) (was now : Bool) (asked : Given) (x : Result Event Error)
       (e : PlainEvent) (items : List Item) → was ≡ false → item_by event_of x ≡ Ok e
@@ -106,7 +106,7 @@ module _ {A : Type 0} (lets : A → List Item → List Item) (may_reach : Fault 
   events-pass old new was now (Some (Err error)) x e items w is p =
       cc (ap (item_by _) (sym p.0) ∙ is)
 
-  -- the iterator inside gave them, too
+  -- the inner iterator yielded them, too
   gave-same : {I : Type 0} (inner_gives : I → Given → I → Type 0) (before after : I) (old new : A)
       (now : Bool) (asked : Given) (x : Result Event Error) (e : PlainEvent)
       → item_by event_of x ≡ Ok e → PassesNext lets may_reach old asked (Some x) new now
@@ -119,7 +119,7 @@ module _ {A : Type 0} (lets : A → List Item → List Item) (may_reach : Fault 
       cc (ap (item_by _) (sym p.0) ∙ is)
 
   module _ {I : Type 0} (inner_gives : I → Given → I → Type 0) where
-    -- events that came are allowed
+    -- events that were yielded are allowed
     pub run-passes : (old rest : Limited I A) (taken : List (Result Event Error))
         (events : List PlainEvent) → Yields (GivesAllowed lets may_reach inner_gives) old taken rest
         → map (item_by event_of) taken ≡ map Ok events

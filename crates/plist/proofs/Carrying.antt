@@ -1,4 +1,4 @@
--- Laws of what a builder holds.
+-- Laws of a builder's contents.
 use Rattle.std.proofs.Common.{◌≡◌, ℕ, List, [], ◌∷◌, ◌++◌, Some, option_map, map, refl, ap, ◌∙◌}
 use Rattle.indexmap.proofs.MapLemmas.{insert_all_push}
 use Rattle.plist_base.specs.Events.{PlainEvent, StartArray, StartDictionary, EndCollection, ScalarEvent}
@@ -62,7 +62,7 @@ dictionary-last ps outer EndCollection =
 dictionary-last ps outer (ScalarEvent (String k)) = refl
 dictionary-last ps outer e = refl
 
--- to add a pair in its place is to take the last values of what was added at the end
+-- adding a pair in its place is taking the last values after adding it at the end
 pub extended-last : (u : Unfinished) (e : PlainEvent)
     → option_map last_wins_so_far (and_event and_pair u e)
     ≡ and_event with_pair (last_wins_so_far u) e

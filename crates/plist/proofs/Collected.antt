@@ -1,4 +1,4 @@
--- The items that a builder has taken, and what comes of them.
+-- The items that a builder has taken, and what they are collected to.
 use Rattle.std.proofs.Common.{◌≡◌, inl, inr, false, true≢false, List, [], ◌∷◌, ◌++◌, Option, Some, None, Result, Ok, Err, option_map, map, refl, sym, ap, ◌∙◌, IfOk, IfErr}
 use Rattle.plist_base.specs.declared.error.Error.{Error}
 use Rattle.plist_base.specs.Events.{PlainEvent, Item}
@@ -19,13 +19,13 @@ use Rattle.plist.specs.ValueTrees.{tree_of}
 use Rattle.plist.specs.Collecting.{IsBuiltFrom, TakesOne, RefusesOne, built_tree}
 use Rattle.plist.proofs.Carrying.{extended-last}
 
--- these events are held, with the last value of each key
+-- these events were taken, with the last value of each key
 abbrev pub Holds : List PlainEvent → Built → Type 0
 Holds events built =
     (held : Unfinished) × IsNested held × AreAlike (events_so_far held) events
     × (built.unfinished ≡ last_wins_so_far held)
 
--- what is held are the events of the items
+-- the events of the items were taken
 abbrev pub TookAll : List Item → Built → Type 0
 TookAll items built =
     (events : List PlainEvent) × (items ≡ map Ok events) × (built.failed ≡ false)
@@ -44,7 +44,7 @@ pub from_last : (o : Option Unfinished) (w : Unfinished) → option_map last_win
 from_last None w p = absurd (none-some w p)
 from_last (Some v) w p = (v, refl, sym (same_Some _ w p))
 
--- an event more is held
+-- one more event is taken
 pub holds-more : (events : List PlainEvent) (e : PlainEvent) (before after : Built)
     → Holds events before → TakesOne before (Ok e) after → Holds (events ++ e ∷ []) after
 holds-more events e before after (held, ok, alike, last) k =
@@ -123,7 +123,7 @@ ended stops ends items built fault faults.WriterFailed q end (events, is, fine, 
     k = absurd (true≢false (cc))
 ended stops ends items built fault kind q end t o k = absurd k
 
--- whatever `finish` answers
+-- `finish` returns this
 pub finished : (stops ends : Type 0) (items : List Item) (built : Built)
     (result : Result Value Error) → ends → TookAll items built → IfOk result
     (λ value. complete_tree built.unfinished ≡ Some (tree_of value))
@@ -135,7 +135,7 @@ finished stops ends items built (Ok value) end (events, is, fine, (held, nested,
 finished stops ends items built (Err error) end t ok err =
     ended stops ends items built (fault_of error) (fault_of error).kind refl end t err.0 err.1
 
--- one more of the items that are seen
+-- one more of the items that are foreseen
 pub seen-more : {E : Type 0} (see : E → Item) (seen : List E) (item : E) (P : List Item → Type 0)
     → P (map see seen ++ see item ∷ []) → P (map see (seen ++ item ∷ []))
 seen-more see seen item P h = rw (map-append see _ _) h

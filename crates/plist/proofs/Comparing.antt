@@ -1,4 +1,4 @@
--- Equality of values, of which some are put off.
+-- Equality of values, of which some are deferred.
 use Rattle.std.proofs.Common.{◌≡◌, ℕ, zero, suc, ◌≤◌, Some, List, [], ◌∷◌, ap, arith, slice_get, ◌<◌, ◌+◌, Bool, true, false, ◌&&◌, Option, None, ◌++◌, length, drop, get_or, IsSome, ◌↔◌, MatchOption, true≢false, refl, sym, ◌∙◌, subst, add-one, bytes_eq, option_to_list, drop-cons}
 use Rattle.std.specs.Map.{values_of, lookup, keys_of}
 use Rattle.std.proofs.lemmas.Option.{none-some, same_Some, get_or_from_slice_get, slice_get-get_or, slice_get_read, slice_get_within}
@@ -32,7 +32,7 @@ no-deeper f (p ∷ ps) zero k v e =
     let same = ap (λ q. f q.1) (same_Some p (k, v) e) in omega arith
 no-deeper f (p ∷ ps) (suc i) k v e = let rest = no-deeper f ps i k v e in omega arith
 
--- ---- truth values
+-- ---- Booleans
 
 pub and-moved : (a b c : Bool) → (a && b) && c ≡ b && (a && c)
 and-moved true b c = refl
@@ -48,7 +48,7 @@ module _ (all here left was : Bool) (bound one rest : ℕ) (before : Later) (ans
   decides =
       cc (and-moved here left (are_same (waiting before)))
 
-  -- where it isn't equal that is the answer, and else what is left and what is put off decide
+  -- if it isn't equal, that is the result, and else what is left and what is deferred decide
   pub next : (answer ≡ false → (false ≡ all) × (to_compare (waiting after) ≤ bound))
       × (answer ≡ true → (left && are_same (waiting after) ≡ all)
       × (to_compare (waiting after) + rest ≤ bound))
@@ -64,7 +64,7 @@ module _ (all here left was : Bool) (bound one rest : ℕ) (before : Later) (ans
     ),
   )
 
--- ---- pairs that are put off
+-- ---- deferred pairs
 
 pub same-behind : (ps : List Pair) (p : Pair)
     → are_same (ps ++ p ∷ []) ≡ same_values p.value.now p.other.now && are_same ps
@@ -94,7 +94,7 @@ taken was [] m None n is e h left = is
 taken was (p ∷ l) m None n is e h left = absurd (true≢false (sym (h.1 (omega arith))))
 taken was l m (Some p) n is e h left = is ∙ left
 
--- nothing is put off
+-- nothing is deferred
 pub at-once : (later : Later) (equal answer : Bool) (most : ℕ) → answer ≡ equal
     → Compares equal most later answer later
 at-once later equal answer most e = (
@@ -113,13 +113,13 @@ weight-some value =
 
 -- ---- arrays
 
--- what is left of a list begins with the item at its place
+-- what is left of a list begins with the item at its index
 left-from : {X : Type 0} (xs : List X) (i : ℕ) (x : X) → slice_get xs i ≡ Some x
     → drop i xs ≡ x ∷ drop (i + 1) xs
 left-from xs i x e =
     rw add-one (cc (drop-cons xs i x (slice_get_within xs i x e), get_or_from_slice_get xs i x x e))
 
--- an item of both arrays is compared
+-- an item of each array is compared
 module _ (vs ws : List Value) (i : ℕ) (v w : Value) (start before : Later) (answer : Bool)
     (after : Later) (p : i < length vs) (q : i < length ws) (a : v ≡ get_or vs i v)
     (b : w ≡ get_or ws i w) (so : ItemsLeft vs ws start i before)
@@ -180,7 +180,8 @@ module _ (ps qs : Rows) (d : IsDistinct bytes_eq (keys_of ps))
       (own_value bytes_eq nat_list_eq_equiv ps i k v at d p)
       ∙ covered-at ps qs i k v h at)
 
-  -- dictionaries of as many pairs are the same where the second has the same at each key
+  -- dictionaries of equal length are the same if the second has the same values at the keys of the
+  -- first
   pub covered-is-same : are_covered ps qs
       ≡ same (Dictionary (pair_trees ps)) (Dictionary (pair_trees qs))
   covered-is-same =
@@ -206,7 +207,7 @@ module _ (ps qs : Rows) (d : IsDistinct bytes_eq (keys_of ps))
         → ComparesPairs ps qs start answer after
     answers answer after h = (h.0 ∙ ap (λ s. s && are_same (waiting start)) covered-is-same, h.1)
 
-    -- a key of the first that the others lack
+    -- the others lack a key of the first
     pub pairs-lack : None ≡ lookup (bytes_eq k) qs → ComparesPairs ps qs start false before
     pairs-lack none =
         answers false before (

@@ -25,7 +25,7 @@ by-square a b o p less le =
     let same = ap (λ n. n * n) e in
     omega arith
 
--- a value that holds no others is dropped
+-- a value that contains no others is dropped
 pub less-by-one : (xs ys : List Value) (v : Value) → weight v ≡ 1 → ys ≡ xs ++ v ∷ []
     → to_drop xs < to_drop ys
 less-by-one xs ys v one is =
@@ -38,7 +38,7 @@ others-append : (xs : List Value) (v : Value) → 0 < length xs
 others-append [] v p = absurd (omega arith)
 others-append (x ∷ xs) v p = omega (arith, weights-append xs (v ∷ []), weights-more v [])
 
--- what a value holds comes in its place
+-- a value is replaced by its contents
 pub less-by-joining : (joined left below ys : List Value) (v : Value)
     → weight v ≡ 1 + weights below → ys ≡ left ++ v ∷ [] → IsLess joined left below
     → to_drop joined < to_drop ys

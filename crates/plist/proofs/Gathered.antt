@@ -1,4 +1,4 @@
--- The events of a value are gathered, and their file goes out.
+-- The events of a value are collected, and their file is written.
 use Rattle.std.proofs.Common.{◌≡◌, ℕ, List, ◌∷◌, [], ◌++◌, Option, Some, Result, Ok, Err, map, refl, sym, ap, ◌∙◌, subst, append_assoc, append-nil, None, IfErr}
 use Rattle.plist_base.specs.Bracketing.{bracketing, without_length, lengthless, AreAlike, AreTreeEvents}
 use Rattle.plist_base.specs.declared.error.Error.{Error}
@@ -14,12 +14,12 @@ use Rattle.plist.specs.declared.stream.events.Events.{Events}
 use Rattle.plist.specs.Events.{GivesEvent, remaining_events}
 use Rattle.plist.specs.SendingValues.{StopsSending, SendsTree}
 
--- what was gathered, and then what is left, both without lengths
+-- what was collected, followed by what remains, both without lengths
 abbrev pub GatheredSoFar : List PlainEvent → (held : List PlainEvent) → (left : Events) → Type 0
 GatheredSoFar all held left = held ++ map without_length (remaining_events left)
     ≡ map without_length all
 
--- one event more
+-- one more event
 pub gathered_more : (all held new : List PlainEvent) (before after : Events)
     (item : Result Event Error) (event : Event) → GatheredSoFar all held before
     → GivesEvent before (Some item) after → item ≡ Ok event
@@ -31,7 +31,7 @@ gathered_more all held new before after item event so gives is grown =
     (remaining_events after))
     ∙ ap (λ l. held ++ map without_length l) (sym given) ∙ so
 
--- none left
+-- no events remain
 pub gathered_all : (tree : Tree) (held left : List PlainEvent)
     → held ++ map without_length left ≡ map without_length (bracketing tree) → left ≡ []
     → held ≡ lengthless tree
@@ -43,7 +43,7 @@ pub gathered_alike : (tree : Tree) (es : List PlainEvent) → es ≡ lengthless 
 gathered_alike tree es is =
     ap (map _) (is ∙ sym (lengthless-is _)) ∙ alike_without_length _
 
--- ---- sending them
+-- ---- writing them
 
 module _ (tree : Tree) (es : List PlainEvent) (alike : AreAlike es (bracketing tree)) where
   pub whole_tree : AreTreeEvents es
@@ -67,7 +67,7 @@ pub wants_memory : {W : Type 0} (contents : W → Option (List ℕ)) (tree : Tre
 wants_memory contents tree fault w is =
     rw is (refl, (tt, refl))
 
--- a device's failure after the whole file stops its sending
+-- an I/O error after the whole file was written
 stops_behind : {W : Type 0} (contents : W → Option (List ℕ)) (tree : Tree) (fault : Fault)
     (old new : W) → SendsTree contents tree (Ok tt) old new → fault ≡ fault_nowhere Io
     → (fault.offset ≡ None) × StopsSending contents fault.kind tree old new

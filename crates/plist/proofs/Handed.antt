@@ -1,4 +1,4 @@
--- The events that a writer has been handed.
+-- The events that a writer has taken.
 use Rattle.std.proofs.Common.{◌≡◌, inl, inr, List, [], ◌∷◌, ◌++◌, Some, None, Result, Ok, Err, refl, sym, ap, ◌∙◌, append_assoc, append-nil, subst}
 use Rattle.plist_base.specs.declared.error.Error.{Error}
 use Rattle.plist_base.specs.declared.event.Event.{Event}
@@ -18,7 +18,7 @@ module _ {S : Type 0} (Step : S → PlainEvent → Answer → S → Type 0) wher
   took-more (d ∷ taken) before between after e (w, s, t) r =
       (w, s, took-more taken w between after e t r)
 
-  -- what has been handed so far
+  -- what the writer has taken so far
   abbrev pub HandedSoFar : (before : S) → List PlainEvent → Events → (now : S) → Type 0
   HandedSoFar before all events now =
       (taken : List PlainEvent) × (all ≡ taken ++ remaining_events events)

@@ -1,4 +1,4 @@
--- What goes out of a writer of files that took all events of a tree.
+-- What is written by a writer of files that took all events of a tree.
 use Rattle.std.proofs.Common.{◌≡◌, ◌⊎◌, inl, inr, ℕ, false, List, [], ◌∷◌, ◌++◌, Option, Ok, refl, sym, ap, ◌∙◌, subst, append_assoc, map}
 use Rattle.std.proofs.iter.Next as it
 use Rattle.std.specs.Io.KnownBytes.{Appends}
@@ -24,7 +24,7 @@ module _ {W S : Type 0} {g : Ghosts W} {h : SharingGhosts S} (IsFile : Tree → 
   abbrev Step : FileWriter W S g h → PlainEvent → Answer → FileWriter W S g h → Type 0
   Step before event answer after = IsWriterStep IsFile size contents before event answer after
 
-  -- these events are held, and nothing went out
+  -- these events are buffered, and nothing was written
   abbrev IsHolding : (start : W) → List PlainEvent → FileWriter W S g h → Type 0
   IsHolding start events writer =
       AreAlike (open_events writer) events × (failed_of writer ≡ false) × (sink_of writer ≡ start)
@@ -85,7 +85,7 @@ module _ {W S : Type 0} {g : Ghosts W} {h : SharingGhosts S} (IsFile : Tree → 
       next (inl (went, none)) go = absurd (went.1.0.1 d behind)
       next (inr (unwhole, held, same)) go = go held same
 
-  -- a new writer that took all events of a tree sent a file of it
+  -- a new writer that took all events of a tree wrote a file of it
   pub all-sent : (start : W) (before after : FileWriter W S g h) → open_events before ≡ []
       → failed_of before ≡ false → sink_of before ≡ start
       → TakesAll Step before (bracketing tree) after → SendsFrom start after

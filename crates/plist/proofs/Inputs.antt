@@ -1,4 +1,4 @@
--- What comes of the items that are seen to come.
+-- What the items that are foreseen are collected to.
 use Rattle.std.proofs.Common.{◌≡◌, List, [], ◌∷◌, ◌++◌, Option, Some, None, Result, Ok, Err, inl, inr, map, option_map, refl, sym, ap, ◌∙◌, subst, append_assoc, append-nil}
 use Rattle.std.specs.Prelude.{⊤}
 use Rattle.std.specs.Iterator.{Yields}
@@ -38,7 +38,7 @@ pub no-events : (es : List PlainEvent) → ◌≡◌ {A = List Item} [] (map Ok 
 no-events [] p = refl
 no-events (x ∷ es) p = cc p
 
--- an error among the items, or a refused event, and they are no tree's
+-- with an error among the items, or a rejected event, they are no tree's
 no-tree-error : (all : List Item) (events : List PlainEvent) (error : Fault) (more : List Item)
     → all ≡ map Ok events ++ Err error ∷ more → (tree : Tree) → AreItemsOfTree all tree → ⊥
 no-tree-error all events error more is tree (others, same, alike) =
@@ -75,7 +75,7 @@ no-tree-end all events is none tree (others, same, like) =
     let e : others ≡ events = s.2 ∙ ap (λ l. events ++ l) (no-events s.0 s.1) ∙ append-nil events in
     none tree (ap (map without_length) (sym e) ∙ like)
 
--- ---- a refusal
+-- ---- an event is rejected
 
 -- the item after these events isn't taken
 pub stops-there : (all left after : List Item) (events : List PlainEvent) (held : Unfinished)
@@ -106,7 +106,7 @@ stops-there all left after events held (Err error) fault ok alike is b r =
     (subst (λ k. MatchFault k ⊤ ⊤ (left ≡ Err error ∷ after)) (ap (λ (f : Fault). f.kind) (sym r))
     b)
 
--- ---- what was collected is what the items are read to
+-- ---- what was collected is the value of the items
 
 module _ {E I : Type 0} (plain : E → PlainEvent)
     (gives : I → Option (Result E Error) → I → Type 0) (coming : I → Option (List Item))
@@ -124,7 +124,7 @@ module _ {E I : Type 0} (plain : E → PlainEvent)
   first x d taken more all left e b =
       let is : item_by plain x ≡ Ok d = cc in subst (λ i. BeginsWith all (Some i) left) is b
 
-  -- these events came, and then nothing
+  -- these events were yielded, and then nothing
   drained : (events : List PlainEvent) (taken : List (Result E Error)) (iter t u : I)
       (all : List Item) → coming iter ≡ Some all → Yields gives iter taken t → gives t None u
       → map (item_by plain) taken ≡ map Ok events → all ≡ map Ok events
@@ -136,7 +136,7 @@ module _ {E I : Type 0} (plain : E → PlainEvent)
       first x d taken (map Ok events) all g.0 e g.2
       ∙ ap (λ l. Ok d ∷ l) (drained events taken mid t u g.0 g.1 y end (cc e))
 
-  -- these events came, and then an item
+  -- these events were yielded, and then an item
   behind : (events : List PlainEvent) (taken : List (Result E Error)) (iter t : I) (item : Item)
       (all : List Item) → coming iter ≡ Some all → Yields gives iter taken t
       → map (item_by plain) taken ≡ map Ok events ++ item ∷ []
@@ -194,7 +194,7 @@ back-ok tree t all is (whole, (events, same, alike), last) =
     ∙ append-nil (bracketing tree) in
     last ∙ ap last_wins (one_tree whole tree (sym alike ∙ ap (map without_length) e))
 
--- what the events of a value are read to
+-- the value of a value's events
 pub back : (tree : Tree) (all : List Item) (answer : Result Tree Fault) → last_wins tree ≡ tree
     → all ≡ map Ok (bracketing tree) → IsValueOf all answer → IsReadBack tree answer
 back tree all (Ok t) twice is h = back-ok tree t all is h ∙ twice

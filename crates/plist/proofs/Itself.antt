@@ -23,7 +23,7 @@ use Rattle.plist.proofs.Carrying.{items-last, pairs-last, extended-last}
 abbrev IsItself : Value → Type 0
 IsItself value = last_wins (tree_of value) ≡ tree_of value
 
--- the members of a dictionary
+-- the members of a dictionary are their own last values
 abbrev members_in : dictionary.Dictionary → Members
 members_in = dictionary.fold-Dictionary Tree Members tree_step members_step
 
@@ -33,7 +33,7 @@ AreThemselves members = last_wins (Dictionary members) ≡ Dictionary members
 abbrev HasItself : dictionary.Dictionary → Type 0
 HasItself d = AreThemselves (members_in d)
 
--- the same, of one layer
+-- the values and dictionaries of one layer are their own last-value forms
 abbrev Layer : Value-F Value dictionary.Dictionary → Type 0
 Layer x =
     let t = tree_step (map-Value Value dictionary.Dictionary Tree Members tree_of members_in x) in
@@ -53,7 +53,7 @@ from-pairs x p =
     let e = dictionary.fold-roll-Dictionary _ _ _ _ x in
     ap (λ m. last_wins (Dictionary m)) e ∙ p ∙ sym (ap Dictionary e)
 
--- what a function leaves as it is, item by item, the list too
+-- a function that leaves each item unchanged leaves the list unchanged
 fixed : {A B : Type 0} (f : A → A) (g : B → A) → ((b : B) → f (g b) ≡ g b) → (bs : List B)
     → map f (map g bs) ≡ map g bs
 fixed f g e [] = refl
@@ -65,7 +65,7 @@ rows-itself rows s =
     ap last_values (values-inserts last_wins [] rows ∙ ap last_values s)
     ∙ last-values-once (last_values rows) (once-last rows)
 
--- of what is known of the values and the dictionaries in it
+-- a layer, given this for the values and the dictionaries in it
 layer-of : {V D : Type 0} (y : Value-F V D) (value : V → Value) (pairs : D → dictionary.Dictionary)
     → ((v : V) → IsItself (value v)) → ((d : D) → HasItself (pairs d))
     → Layer (map-Value V D Value dictionary.Dictionary value pairs y)
@@ -88,7 +88,7 @@ pairs-layer-of y value pairs one =
     (fixed (λ p. (p.0, last_wins p.1)) (λ p. (p.0, tree_of (value p.1)))
     (λ p. ap (λ t. (p.0, t)) (one p.1)) y.pairs)))
 
--- a value's keys stand once at every level, so the last value of each is the value
+-- a value's keys are distinct at every level, so the value is its own last-value form
 pub itself : (v : Value) → last_wins (tree_of v) ≡ tree_of v
 itself =
     ind-Value IsItself HasItself
@@ -109,7 +109,7 @@ open-itself (run.Dictionary pairs) = ap InDictionary (pairs-itself (pairs_of pai
 open-itself (run.AfterKey pairs key) =
     ap (λ d. AfterKey d (string_bytes key)) (pairs-itself (pairs_of pairs))
 
--- what is held is its own last-value form
+-- an unfinished tree is its own last-value form
 pub held-itself : (root : Option Value) (cs : List UnclosedCollection)
     → last_wins_so_far (held_in root cs) ≡ held_in root cs
 held-itself (Some v) cs = ap Complete (itself v)
@@ -117,7 +117,7 @@ held-itself None [] = refl
 held-itself None (c ∷ cs) =
     λ i. Within (open-itself c i) (fixed last_wins_within open_of open-itself cs i)
 
--- what a builder holds is carried on by an event as the plain events are
+-- an event changes a builder's unfinished tree as it changes that of the plain events
 pub carry : (root : Option Value) (cs : List UnclosedCollection) (e : PlainEvent) (a : Unfinished)
     → IsNested (held_in root cs) → refusal_at (held_in root cs) e ≡ None
     → and_event with_pair (held_in root cs) e ≡ Some a → IsExtendedBy (held_in root cs) e a

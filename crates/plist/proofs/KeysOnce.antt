@@ -1,4 +1,4 @@
--- Where no key stands twice a tree is its last-value form, which nests no deeper than it.
+-- If no key occurs twice, a tree is its last-value form; that form nests no deeper than the tree.
 use Rattle.std.proofs.Common.{◌↔◌, ◌≡◌, ℕ, false, List, [], ◌∷◌, refl, sym, ap, ◌∙◌, subst, bytes_eq, ◌-◌, Bool, true, if◌then◌else◌}
 use Rattle.std.specs.List.{IsDistinct, AllByRecursion}
 use Rattle.std.specs.Map.{keys_of}
@@ -36,7 +36,7 @@ listed-once (MemberAnd key t ms) = (
   λ o. ((lacks key ms).1 o.0, (listed-once ms).1 o.1),
 )
 
--- the keys stay
+-- the keys are unchanged
 same-keys : (ms : Members) → keys_of (list_of_members ms) ≡ keys_of (last_wins_in_pairs ms)
 same-keys NoMembers = refl
 same-keys (MemberAnd key t ms) = ap (λ l. key ∷ l) (same-keys ms)
@@ -50,7 +50,7 @@ rows-back : (rows : TreePairs) → list_of_members (members_of rows) ≡ rows
 rows-back [] = refl
 rows-back (p ∷ ps) = ap (λ l. p ∷ l) (rows-back ps)
 
--- the keys of pairs that are last values stand once
+-- the keys of pairs that are last values are distinct
 once-listed : (ms : Members) (rows : TreePairs) → members_of (last_values rows) ≡ ms
     → EachOnce (list_of_members ms)
 once-listed ms rows p =

@@ -1,4 +1,4 @@
--- The last values of pairs: keys in the order in which they came first, each with its last value.
+-- The last values of pairs: keys in the order of their first occurrence, each with its last value.
 use Rattle.std.proofs.Common.{◌≡◌, ℕ, Bool, true, false, cond, if◌then◌else◌, List, [], ◌∷◌, Option, None, Some, refl, ap, ◌∙◌, bytes_eq}
 use Rattle.std.specs.Map.{lookup, keys_of}
 use Rattle.std.specs.Option.{option_or}
@@ -13,7 +13,7 @@ Key = List ℕ
 
 -- ---- one pair
 
--- k is e, or it isn't; so is q; and where q is k, it is e just where k is
+-- k is e or isn't, and q is e or isn't; if q is k, then it is e if and only if k is
 one : (b c d : Bool) (v w : Tree) (l more : Option Tree) → (b ≡ true → c ≡ d) → (c ≡ true → d ≡ b)
     → more ≡ cond c (Some v) l
     → (if b then cond d (Some v) l else cond d (Some w) more)
@@ -74,6 +74,6 @@ or-none : (o : Option Tree) → option_or o None ≡ o
 or-none None = refl
 or-none (Some x) = refl
 
--- each key once, where it came first, with its last value
+-- each key occurs once, at its first position, with its last value
 pub are-last-values : (rows : TreePairs) → AreLastValues rows (last_values rows)
 are-last-values rows = (keys-all [] rows, λ q. lookup-all q [] rows ∙ or-none (last_value q rows))

@@ -1,4 +1,5 @@
--- A tree's last-value form has no more events than the tree, and its texts and data no more bytes.
+-- A tree's last-value form has no more events than the tree, and its strings and data no more
+-- bytes.
 use Rattle.std.proofs.Common.{◌≡◌, ℕ, ◌+◌, ◌≤◌, Bool, true, false, List, [], ◌∷◌, ◌++◌, length, Option, refl, arith, bytes_eq, if◌then◌else◌}
 use Rattle.plist_base.specs.Events.{PlainEvent, ScalarEvent, StartArray, StartDictionary, EndCollection}
 use Rattle.plist_base.specs.Budgets.{bytes_in, total_bytes}
@@ -25,12 +26,12 @@ member : (k t s first rest all : ℕ) → t ≤ first → s ≤ rest → all ≡
     → k + (t + s) ≤ k + all
 member k t s first rest all a b c = omega arith
 
--- events weigh as much as all of them together
+-- the weight of all events together
 abbrev weight_of : (PlainEvent → ℕ) → List PlainEvent → ℕ
 weight_of w [] = 0
 weight_of w (e ∷ es) = w e + weight_of w es
 
--- where a start weighs the same whatever length it tells
+-- the weight of a start doesn't depend on its length
 module _ (w : PlainEvent → ℕ) (arrays : (k l : Option ℕ) → w (StartArray k) ≡ w (StartArray l))
     (pairs : (k l : Option ℕ) → w (StartDictionary k) ≡ w (StartDictionary l)) where
   append-weighs : (es fs : List PlainEvent)

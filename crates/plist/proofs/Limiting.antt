@@ -24,7 +24,7 @@ use Rattle.plist.proofs.Allowing.{Given, allowed-shows, run-inside, run-passes}
 use Rattle.plist.proofs.KeysOnce.{last-nests}
 use Rattle.plist.proofs.Lighter.{fewer-bytes, fewer-events}
 
--- what `Limited` makes of a run, of limits and of a budget
+-- what `Limited` makes of a run, for limits and for a budget
 pub limited-shows : {I : Type 0} (inner_gives : I → Given → I → Type 0)
     (coming : I → Option (List Item)) → ForeseesItems event_of inner_gives coming
     → ForeseesItems event_of (GivesLimited inner_gives)
@@ -39,10 +39,10 @@ pub budget-shows : {I : Type 0} (inner_gives : I → Given → I → Type 0)
 budget-shows inner_gives =
     allowed-shows within_budget IsBudgetUsedUp (λ _. refl) (λ _ _ _. refl) inner_gives
 
--- ---- what passes
+-- ---- the events that pass
 
 module _ (limits : Limits) where
-  -- no event of these reaches a limit
+  -- none of these events reaches a limit
   abbrev Pass : (came level : ℕ) → List PlainEvent → Type 0
   Pass came level [] = ⊤
   Pass came level (e ∷ es) = (limit_at limits came level e ≡ None)
@@ -61,7 +61,7 @@ module _ (limits : Limits) where
       _ _ h in
       (c.0, passes (came + 1) _ es c.1)
 
-  -- lengths decide nothing
+  -- lengths don't matter
   next : {P Q R : Type 0} → Q ↔ R → (P × Q) ↔ (P × R)
   next h = (λ p. (p.0, h.0 p.1), λ p. (p.0, h.1 p.1))
 
@@ -89,7 +89,7 @@ module _ (limits : Limits) where
   below : (m n : ℕ) → nat_le m n ≡ false → n < m
   below m n h = grind (arith, nat_tests)
 
-  -- not more events than may come
+  -- there are no more events than are allowed
   few : (came level : ℕ) (es : List PlainEvent) → came ≤ limits.items → Pass came level es
       → came + length es ≤ limits.items
   few came level [] l h = omega arith
@@ -100,7 +100,7 @@ module _ (limits : Limits) where
       ≤ limits.items = few (came + 1) _ es (omega arith) h.1 in
       omega arith
 
-  -- a start that passes finds below_depth for its collection
+  -- a start that passes leaves a level for its collection
   below_depth : (came level : ℕ) → limit_at limits came level (event.StartArray None) ≡ None
       → level < limits.depth
   below_depth came level h = below _ _ (allowed (nat_le limits.items came) _ h).1
@@ -108,7 +108,7 @@ module _ (limits : Limits) where
   abbrev PassFrom : (level : ℕ) → List PlainEvent → Type 0
   PassFrom level es = (came : ℕ) × Pass came level es
 
-  -- what nests within a collection, nests one level deeper with it
+  -- what nests within a collection nests one level deeper with it
   around : (P : ℕ → Type 0) (inside rest : List PlainEvent) (came level : ℕ)
       → limit_at limits came level (event.StartArray None) ≡ None
       → Pass (came + 1) (level + 1) ((inside ++ event.EndCollection ∷ []) ++ rest)
@@ -164,7 +164,7 @@ module _ (limits : Limits) where
         ) in
         let others = pairs-nest members level rest first.1 in ((first.0, others.0), others.1)
 
--- ---- bytes that came within a budget
+-- ---- the bytes of events within a budget
 
 light-choice : (longer : Bool) (e : PlainEvent) (behind es : List Item)
     → cond longer (Err (fault_nowhere OutOfMemory) ∷ []) (Ok e ∷ behind) ≡ Ok e ∷ es
@@ -184,7 +184,7 @@ light left (e ∷ es) h =
     not-less : (m n : ℕ) → nat_lt m n ≡ false → n ≤ m
     not-less m n h = grind (arith, nat_tests)
 
--- lengths have none
+-- lengths have no bytes
 no-length : (es : List PlainEvent) → total_bytes (map without_length es) ≡ total_bytes es
 no-length [] = refl
 no-length (event.StartArray length ∷ es) = ap (λ n. 0 + n) (no-length es)
@@ -202,7 +202,8 @@ alike-light left right most alike h =
 
 -- ---- the value
 
--- events that limits let come are those of a tree that nests, and are no more, whatever keys repeat
+-- events that the limits admit are those of a tree that nests within them, and are no more,
+-- whatever keys are repeated
 tree-within : (limits : Limits) (events : List PlainEvent) (whole : Tree)
     → limited_items limits (map Ok events) ≡ map Ok events → AreAlike events (bracketing whole)
     → NestsWithin (last_wins whole) limits.depth × AreWithin limits (bracketing whole)

@@ -1,4 +1,4 @@
--- Which faults a value that is read can have.
+-- The faults with which reading a value can fail.
 use Rattle.std.proofs.Common.{◌≡◌, ℕ, inl, inr, Bool, true, false, List, [], ◌∷◌, ◌++◌, Option, Some, None, Result, Ok, Err, IfErr, IfSome, MatchBool, map, refl, sym, subst}
 use Rattle.std.specs.Prelude.{⊤}
 use Rattle.std.specs.Iterator.{Yields}
@@ -25,7 +25,7 @@ use Rattle.plist.specs.Building.{Unfinished, NotBegun, Within, Complete, expecte
 use Rattle.plist.specs.Collecting.{Collects, IsRefusal, built_tree, item_by}
 use Rattle.plist.specs.FromReader.{IsFaultOfEvents, IsReadingFault}
 
--- ---- an event that can't come
+-- ---- an event that can't come next
 
 if-refused : (change : Change) (kind : FaultKind) → IsFaultOfEvents kind
     → IfSome (if_refused change kind) IsFaultOfEvents
@@ -96,7 +96,7 @@ loosened : (limited : Bool) (kind : FaultKind) → IsReaderFault limited kind
 loosened limited (LimitReached limit) is = refl
 loosened limited kind is = is
 
--- a fault that comes under an allowance is one that it reaches, or one of the iterator inside
+-- a fault that is yielded under an allowance is one of its own, or one of the inner iterator
 module _ {I A : Type 0} (lets : A → List Item → List Item) (may_reach : Fault → Type 0)
     (inner_gives : I → Option (Result Event Error) → I → Type 0) (limited : Bool)
     (reaches : (fault : Fault) → may_reach fault → IsReadingFault limited fault)
@@ -125,7 +125,7 @@ module _ {I A : Type 0} (lets : A → List Item → List Item) (may_reach : Faul
       by false (asked, gave, is) = behind asked gave is
 
 module _ {R : Type 0} {g : Ghosts R} (known : R → Option (List ℕ)) (failed : R → ℕ) where
-  -- one without limits
+  -- a reader without limits
   pub reader-tells : (reader : Reader R g) (answer : Result Value Error) → reader_is_limited reader
       ≡ false
       → Collects event_of (Gives known failed) reader (built_tree answer)
@@ -159,7 +159,7 @@ module _ {R : Type 0} {g : Ghosts R} (known : R → Option (List ℕ)) (failed :
       passed within_budget IsBudgetUsedUp (GivesLimited (Gives known failed)) true
       (λ fault reached. subst (IsReadingFault true) (sym reached) (inl (tt, refl))) limit-tells
 
-  -- one under limits
+  -- a reader under limits
   pub limited-tells : (limited : Limited (Reader R g) Limiter) (answer : Result Value Error)
       → Collects event_of (GivesLimited (Gives known failed)) limited (built_tree answer)
       → IfErr answer (λ error. IsReadingFault true (fault_of error))
@@ -168,7 +168,7 @@ module _ {R : Type 0} {g : Ghosts R} (known : R → Option (List ℕ)) (failed :
       (λ old item new gives all. tt) (λ old error new gives all. limit-tells old error new gives)
       limited answer tt collects
 
-  -- and within a budget of bytes
+  -- a reader under limits and within a budget of bytes
   pub budgeted-tells : (budgeted : Limited (Limited (Reader R g) Limiter) ByteBudget)
       (answer : Result Value Error)
       → Collects event_of (GivesWithinBudget (GivesLimited (Gives known failed))) budgeted

@@ -22,7 +22,7 @@ first-lookup : (k : List ℕ) (ps : List (List ℕ × Tree))
 first-lookup k [] = refl
 first-lookup k (p ∷ ps) = ap (cond (bytes_eq k p.0) (Some p.1)) (first-lookup k ps)
 
--- what a dictionary has at a key
+-- the value of a key in a dictionary
 pub first-at : (k : List ℕ) (ps : List (List ℕ × Value)) → IsDistinct bytes_eq (keys_of ps)
     → first_value k (pair_trees ps) ≡ option_map tree_of (lookup (bytes_eq k) ps)
 first-at k ps d =
@@ -35,7 +35,7 @@ at-values None (Some w) = (λ h. absurd (cc), λ h. absurd h)
 at-values (Some v) None = (λ h. absurd (cc), λ h. absurd h)
 at-values (Some v) (Some w) = (λ h. h, λ h. h)
 
--- dictionaries are the same where their values are so key by key
+-- dictionaries are the same if their values are, key by key
 pub same_dictionaries : (ps qs : List (List ℕ × Value)) → IsDistinct bytes_eq (keys_of ps)
     → IsDistinct bytes_eq (keys_of qs)
     → same_pairs (same_by tree_of) ps qs
@@ -53,7 +53,7 @@ same_dictionaries ps qs d e =
     (rw (← first-at k ps d, ← first-at k qs e)
     ((dictionaries_alike (pair_trees ps) (pair_trees qs)).0 h k))))
 
--- arrays by place
+-- arrays are compared index by index
 pub same-lengths : (vs ws : List Value) → same_items (item_trees vs) (item_trees ws) ≡ true
     → length vs ≡ length ws
 same-lengths [] [] h = refl
@@ -65,5 +65,5 @@ pub unequal-lengths : (vs ws : List Value) → (length vs ≡ length ws → ⊥)
     → false ≡ same_items (item_trees vs) (item_trees ws)
 unequal-lengths vs ws n = sym (false_from_ne_true _ (λ h. n (same-lengths vs ws h)))
 
--- an equivalence, and what it says of scalars and of dictionaries
+-- sameness is an equivalence, and decides scalars and dictionaries
 pub ruleset sameness = (refl_tree, symmetric, trans_tree, scalars_alike, dictionaries_alike)

@@ -1,4 +1,4 @@
--- What the readers, and the events of a value, show of the items that are to come.
+-- How the readers, and the events of a value, foresee the items that remain.
 use Rattle.std.proofs.Common.{◌≡◌, ℕ, Bool, List, [], ◌∷◌, Option, Some, None, Result, Ok, Err, IfSome, map, refl, ap, ◌∙◌, subst, option_map, ◌++◌}
 use Rattle.plist_base.specs.declared.error.Error.{Error}
 use Rattle.plist_base.specs.declared.event.Event.{Event}
@@ -57,7 +57,7 @@ pub joined : {A B C : Type 0} (f : B → C) (g : A → B) (k : Option A)
 joined f g None = refl
 joined f g (Some x) = refl
 
--- the answer is that of the items that these bytes are read to
+-- the result is the value of the items of these bytes
 pub of-items : (f : List ℕ → List Item) (k : Option (List ℕ)) (items : Option (List Item))
     (answer : Result Tree Fault) → items ≡ option_map f k → IsReadIfKnown items answer
     → IfSome k (λ bytes. IsValueOf (f bytes) answer)
@@ -66,7 +66,7 @@ of-items f (Some bytes) items answer e h = subst (λ o. IsReadIfKnown o answer) 
 
 -- ---- a reader of ASCII property lists
 
--- the items that it has to come
+-- the items that remain
 abbrev pub ascii_coming : {R : Type 0} → (R → Option (List ℕ)) → AsciiReader R → Option (List Item)
 ascii_coming known reader =
     option_map (λ bytes. items_of_ascii (ascii.stops_of reader) bytes (ascii.place_of reader))
@@ -91,7 +91,7 @@ ascii-start now given k left place d e z =
 
 -- ---- a reader of binary property lists
 
--- the items that it has to come
+-- the items that remain
 abbrev pub binary_coming : {R C : Type 0} {g : Ghosts R} {h : CounterGhosts C}
     → (R → Option (List ℕ)) → BinaryReader R C g h → Option (List Item)
 binary_coming known reader =
@@ -159,7 +159,7 @@ event-item before after (Some (Ok event)) h = ap (map Ok) h.0
 event-item before after (Some (Err error)) h =
     MatchFault-at (fault_of error).kind _ _ _ _ (ap (λ (f : Fault). f.kind) h.0) tt
 
--- the items that are left of a value's events
+-- the items that remain of a value's events
 abbrev pub events_coming : Events → Option (List Item)
 events_coming events = Some (map Ok (remaining_events events))
 

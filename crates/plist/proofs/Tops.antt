@@ -16,7 +16,7 @@ use Rattle.plist.specs.inner.Steps.{and_tree}
 use Rattle.plist.specs.ValueTrees.{tree_of, tree_pairs}
 use Rattle.plist_pairs.proofs.Keeping.{EachOnce, last-values-once, once-earlier, values-insert}
 
--- the innermost collection stands first
+-- the innermost collection is first
 pub innermost : (outer : List UnclosedCollection) (inner : UnclosedCollection)
     → reverse (outer ++ inner ∷ []) ≡ inner ∷ reverse outer
 innermost outer inner = reverse-append outer _
@@ -27,7 +27,7 @@ pub innermost_of : (collections outer : List UnclosedCollection) (popped : Optio
 innermost_of collections outer popped inner p q =
     ap reverse (p ∙ ap (λ o. outer ++ option_to_list o) q) ∙ innermost outer inner
 
--- pairs whose keys stand once do so with their trees, too, and so they are their own last values
+-- distinct keys stay distinct when values become trees, so the pairs are their own last values
 pub once_trees : (ps : List (List ℕ × Value)) → EachOnce ps → EachOnce (tree_pairs ps)
 once_trees ps = subst (IsDistinct _) (sym (keys_of-map_values _ ps))
 

@@ -1,4 +1,4 @@
--- What stands in a property list of a kind, and nothing in one of another kind.
+-- The content of a property list of one kind, and none for other kinds.
 use Rattle.std.specs.Prelude.{ℕ, ◌^◌, ℤ, pos, ◌<ℤ◌, ◌≤ℤ◌, Bool, List, Option, Some, None}
 use Rattle.plist_base.specs.declared.real.RealBits.{RealBits}
 use Rattle.plist_base.specs.Trees.{Tree, Leaf, Array, Dictionary, Trees, Members, Boolean, Data, Date, Integer, Real, String, Uid}
@@ -8,12 +8,12 @@ abbrev pub array_in : Tree → Option Trees
 array_in (Array items) = Some items
 array_in tree = None
 
--- the members of a dictionary
+-- the pairs of a dictionary
 abbrev pub dictionary_in : Tree → Option Members
 dictionary_in (Dictionary members) = Some members
 dictionary_in tree = None
 
--- a truth value
+-- a Boolean
 abbrev pub boolean_in : Tree → Option Bool
 boolean_in (Leaf (Boolean flag)) = Some flag
 boolean_in tree = None
@@ -33,12 +33,12 @@ abbrev pub real_in : Tree → Option RealBits
 real_in (Leaf (Real bits)) = Some bits
 real_in tree = None
 
--- a whole number
+-- an integer
 abbrev pub integer_in : Tree → Option ℤ
 integer_in (Leaf (Integer number)) = Some number
 integer_in tree = None
 
--- the bytes of a text
+-- the bytes of a string
 abbrev pub text_in : Tree → Option (List ℕ)
 text_in (Leaf (String bytes)) = Some bytes
 text_in tree = None
@@ -48,10 +48,10 @@ abbrev pub uid_in : Tree → Option ℕ
 uid_in (Leaf (Uid number)) = Some number
 uid_in tree = None
 
--- a whole number fits an `i64`, where it is none that is too low for it
+-- an integer fits into an `i64`, given that it isn't too low
 abbrev pub IsBelowSigned : ℤ → Type 0
 IsBelowSigned number = number <ℤ pos (2 ^ 63)
 
--- it isn't negative
+-- an integer isn't negative
 abbrev pub IsNatural : ℤ → Type 0
 IsNatural number = pos 0 ≤ℤ number

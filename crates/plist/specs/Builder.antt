@@ -12,11 +12,11 @@ use Rattle.plist.specs.UnfinishedValues.{AddsEvent, unfinished_of}
 use Rattle.plist.specs.ValueTrees.{tree_of}
 use Rattle.plist.specs.declared.value.Value.{Value}
 
--- what a builder holds, and whether it has failed
+-- what contracts see of a builder: its unfinished tree, and whether it has failed
 abbrev pub built_of : Builder → Built
 built_of builder = record { unfinished = unfinished_of builder.unfinished; failed = builder.failed }
 
--- what a builder's step is
+-- what a builder's call does
 abbrev pub IsBuildingStep : (before : Builder) → PlainEvent → Answer → (after : Builder) → Type 0
 IsBuildingStep before event answer after =
     IsNested (unfinished_of before.unfinished)
@@ -26,27 +26,28 @@ IsBuildingStep before event answer after =
 abbrev pub TakesItem : (before : Builder) → Item → (after : Builder) → Type 0
 TakesItem before item after = TakesOne (built_of before) item (built_of after)
 
--- a builder that hasn't failed refuses an item's event, or passes an item's fault on
+-- a builder that hasn't failed rejects an item's event, or returns an item's fault
 abbrev pub RefusesItem : (before : Builder) → Item → Fault → Type 0
 RefusesItem before item fault = RefusesOne (built_of before).unfinished item fault
 
--- the same of a call's answer
+-- if the call failed, the builder rejected the item's event, or returned the item's fault
 abbrev pub RefusesWith : {A : Type 0} → (before : Builder) → Item → Result A Error → Type 0
 RefusesWith before item answer = IfErr answer (λ error. RefusesItem before item (fault_of error))
 
--- the events so far are all of this value's
+-- the events so far are exactly those of this value
 abbrev pub HasAllEventsOf : Built → Value → Type 0
 HasAllEventsOf built value = AreAlike (events_so_far built.unfinished) (bracketing (tree_of value))
 
--- its tree is what was built
+-- the value's tree is what was built
 abbrev pub IsBuilt : Built → Value → Type 0
 IsBuilt built value = complete_tree built.unfinished ≡ Some (tree_of value)
 
--- the same of a builder that hasn't failed
+-- if the builder hadn't failed and the call failed, it rejected the item's event, or returned its
+-- fault
 abbrev pub RefusesUnlessFailed : {A : Type 0} → (before : Builder) → Item → Result A Error → Type 0
 RefusesUnlessFailed before item answer =
     (built_of before).failed ≡ false → RefusesWith before item answer
 
--- the event is added to what a builder holds
+-- the event is added to a builder's unfinished tree
 abbrev pub BuilderAddsEvent : (before : Builder) → PlainEvent → (after : Builder) → Type 0
 BuilderAddsEvent before event after = AddsEvent before.unfinished event after.unfinished

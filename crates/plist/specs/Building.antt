@@ -1,4 +1,4 @@
--- What a builder holds: a tree that isn't complete yet, and what it is after one more event.
+-- The contents of a builder: a tree that isn't complete yet, and how an event changes it.
 use Rattle.std.specs.Prelude.{◌≡◌, ℕ, Bool, true, false, List, [], ◌∷◌, ◌++◌, Option, Some, None, Ok, Err, map, ⊤}
 use mathlib.Core.HLevel.{×_prop, Unit-prop, ⊥_prop}
 use Rattle.plist_base.specs.declared.error.EventKind.{EventKind}
@@ -16,20 +16,20 @@ use Rattle.plist_base.specs.Writing.{Answer}
 use Rattle.plist.specs.LastWins.{TreePairs, last_values, last_wins}
 
 -- an open collection: an array with its items so far; a dictionary with its pairs so far; a
--- dictionary with these and a key whose value is to come
+-- dictionary with its pairs so far and a key whose value is next
 pub data OpenCollection : Type 0 where
   InArray : (items : List Tree) → OpenCollection
   InDictionary : (pairs : TreePairs) → OpenCollection
   AfterKey : (pairs : TreePairs) → (key : List ℕ) → OpenCollection
 
--- no event yet; within an open collection, and those round it, innermost first; or the complete
+-- no event yet; within an open collection, and those around it, innermost first; or the complete
 -- tree
 pub data Unfinished : Type 0 where
   NotBegun : Unfinished
   Within : OpenCollection → (outer : List OpenCollection) → Unfinished
   Complete : Tree → Unfinished
 
--- a value can come directly inside the collection: it is an array, or its last key waits for one
+-- a value can be next directly in the collection: it is an array, or its last key has no value yet
 abbrev pub TakesValue : OpenCollection → Type 0
 TakesValue (InArray items) = ⊤
 TakesValue (InDictionary pairs) = ⊥
@@ -39,7 +39,7 @@ abbrev pub AllTakeValue : List OpenCollection → Type 0
 AllTakeValue [] = ⊤
 AllTakeValue (collection ∷ outer) = TakesValue collection × AllTakeValue outer
 
--- each collection but the innermost can hold the next one
+-- each collection except the innermost can contain the next one
 abbrev pub IsNested : Unfinished → Type 0
 IsNested NotBegun = ⊤
 IsNested (Within collection outer) = AllTakeValue outer
@@ -77,7 +77,8 @@ events_so_far NotBegun = []
 events_so_far (Within collection outer) = events_around outer ++ events_within collection
 events_so_far (Complete tree) = bracketing tree
 
--- the same with each key in its first place with its last value, wherever a pair is complete
+-- the unfinished tree in which each complete pair's key is in its first position, with its last
+-- value
 abbrev pub last_wins_in_rows : TreePairs → TreePairs
 last_wins_in_rows rows = last_values (map (λ pair. (pair.0, last_wins pair.1)) rows)
 
@@ -92,8 +93,8 @@ last_wins_so_far (Within collection outer) =
     Within (last_wins_within collection) (map last_wins_within outer)
 last_wins_so_far (Complete tree) = Complete (last_wins tree)
 
--- After the event, what is held are the events held before it, followed by it, up to lengths, with
--- each key in its first place with its last value.
+-- After the event, the contents are the events before it, followed by it, up to lengths, with each
+-- key in its first position with its last value.
 abbrev pub IsExtendedBy : (before : Unfinished) → PlainEvent → (after : Unfinished) → Type 0
 IsExtendedBy before event after =
     (taken : Unfinished) × IsNested taken
@@ -106,34 +107,34 @@ complete_tree NotBegun = None
 complete_tree (Within collection outer) = None
 complete_tree (Complete tree) = Some tree
 
--- what may come next directly inside the collection
+-- what is expected directly in the collection
 abbrev pub expected_within : OpenCollection → Expect
 expected_within (InArray items) = Items
 expected_within (InDictionary pairs) = Pairs
 expected_within (AfterKey pairs key) = OneValue
 
--- what a refusal says was expected; no event is refused among the items of an array
+-- the kind that an error names as expected; no event is rejected among the items of an array
 abbrev pub kind_expected : Expect → EventKind
 kind_expected Pairs = event_kind.DictionaryKeyOrEndCollection
 kind_expected expect = event_kind.ValueOrStartCollection
 
--- a fault of this kind, where the event is refused
+-- a fault of this kind, if the event is rejected
 abbrev pub if_refused : Change → FaultKind → Option FaultKind
 if_refused Refused kind = Some kind
 if_refused change kind = None
 
--- why the event can't come where this is expected, if it can't
+-- the fault of an event that can't come next where this is expected
 abbrev pub refusal_of : Expect → PlainEvent → Option FaultKind
 refusal_of expect event = if_refused (change_of expect event)
     (UnexpectedEventType (kind_expected expect) (kind_of_event event))
 
--- why it can't come next, if it can't
+-- the fault of an event that can't come next
 abbrev pub refusal_at : Unfinished → PlainEvent → Option FaultKind
 refusal_at NotBegun event = refusal_of OneValue event
 refusal_at (Within collection outer) event = refusal_of (expected_within collection) event
 refusal_at (Complete tree) event = Some (ExpectedEndOfEventStream (kind_of_event event))
 
--- what a builder holds, and whether it has failed
+-- the contents of a builder, and whether it has failed
 pub record Built : Type 0 where
   pub unfinished : Unfinished
   pub failed : Bool
@@ -142,7 +143,7 @@ pub record Built : Type 0 where
 abbrev pub nothing_built : Built
 nothing_built = record { unfinished = NotBegun; failed = false }
 
--- what a builder's step is where it answers a fault of this kind
+-- a builder's call that returns a fault of this kind
 abbrev pub IsRefusedStep : (before : Built) → PlainEvent → FaultKind → (after : Built)
     → (unchanged : Type 0) → Type 0
 IsRefusedStep before event OutOfMemory after unchanged =
@@ -151,7 +152,7 @@ IsRefusedStep before event WriterFailed after unchanged = (before.failed ≡ tru
 IsRefusedStep before event kind after unchanged =
     (before.failed ≡ false) × (refusal_at before.unfinished event ≡ Some kind) × unchanged
 
--- what a builder's step is where it gives this answer
+-- a builder's call that returns this result
 abbrev pub IsAnswered : (before : Built) → PlainEvent → Answer → (after : Built)
     → (unchanged : Type 0) → Type 0
 IsAnswered before event (Ok done) after unchanged =
@@ -160,7 +161,7 @@ IsAnswered before event (Ok done) after unchanged =
 IsAnswered before event (Err fault) after unchanged =
     (fault.offset ≡ None) × IsRefusedStep before event fault.kind after unchanged
 
--- why a value can't be had: the builder has failed, or the events are no tree's yet
+-- why there is no value: the builder has failed, or the events aren't a tree's yet
 abbrev pub IsUnfinishedFor : FaultKind → Built → Type 0
 IsUnfinishedFor WriterFailed built = built.failed ≡ true
 IsUnfinishedFor UnexpectedEndOfEventStream built =

@@ -12,43 +12,43 @@ use Rattle.plist.specs.LastWins.{with_pair, last_wins}
 use Rattle.plist.specs.inner.Steps.{and_event}
 use Rattle.plist.specs.ValueTrees.{tree_of}
 
--- what contracts see of an item whose event is seen by `plain`
+-- what contracts see of an item, given what they see of its event
 abbrev pub item_by : {E : Type 0} → (plain : E → PlainEvent) → Result E Error → Item
 item_by plain (Ok event) = Ok (plain event)
 item_by plain (Err error) = Err (fault_of error)
 
--- what contracts see of a value that was asked for
+-- what contracts see of the result of building a value
 abbrev pub built_tree : Result Value Error → Result Tree Fault
 built_tree (Ok value) = Ok (tree_of value)
 built_tree (Err error) = Err (fault_of error)
 
--- the fault of an event that can't come next, and lack of memory where it can
+-- the fault of an event that can't come next, and `OutOfMemory` for one that can
 abbrev pub IsRefusal : (refusal : Option FaultKind) → Fault → Type 0
 IsRefusal None fault = fault ≡ fault_nowhere OutOfMemory
 IsRefusal (Some kind) fault = fault ≡ fault_nowhere kind
 
--- an item is an error, which is the answer
+-- an item is an error, which is the result
 abbrev pub EndsInError : (stops : Type 0) → (events : List PlainEvent) → List Item → Fault → Type 0
 EndsInError stops events items fault = (items ≡ map Ok events ++ Err fault ∷ []) × stops
 
--- an event can't come after what is held, or memory runs out at it
+-- an event can't follow the ones before it, or memory runs out
 abbrev pub EndsInRefusal : (stops : Type 0) → Unfinished → (events : List PlainEvent) → List Item
     → Fault → Type 0
 EndsInRefusal stops held events items fault =
     (event : PlainEvent) × (items ≡ map Ok events ++ Ok event ∷ []) × stops
     × IsRefusal (refusal_at held event) fault
 
--- the events end, no item comes after them, and they are no tree's
+-- the events end, no item follows them, and they are no tree's
 abbrev pub EndsUnfinished : (ends : Type 0) → (events : List PlainEvent) → List Item → Fault
     → Type 0
 EndsUnfinished ends events items fault =
     (items ≡ map Ok events) × ends × (fault ≡ fault_nowhere UnexpectedEndOfEventStream)
     × ((tree : Tree) → AreAlike events (bracketing tree) → ⊥)
 
--- What comes of the items that were taken: the tree whose events they are up to lengths, with the
--- last value of each key, where no item comes after them; or the fault that ends them, after
--- events that could follow one another. `stops` is that nothing was asked for after them, and
--- `ends` that no item comes there.
+-- What the items that were taken are collected to: the tree whose events they are up to lengths,
+-- with the last value of each key, if no item follows them; or the fault that ends them, after
+-- events that can follow one another. `stops` says that no further item was taken, and `ends` that
+-- there is none.
 abbrev pub IsBuiltFrom : (stops ends : Type 0) → List Item → Result Tree Fault → Type 0
 IsBuiltFrom stops ends items (Ok tree) =
     (events : List PlainEvent) × (whole : Tree) × (items ≡ map Ok events) × ends
@@ -61,14 +61,15 @@ IsBuiltFrom stops ends items (Err fault) =
 
 module _ {E I : Type 0} (plain : E → PlainEvent)
     (next_gives : I → Option (Result E Error) → I → Type 0) (iter : I) where
-  -- The items that were taken of an iterator, in order, what came of them, and the iterator then:
-  -- after one that is an error or is refused it isn't asked again, and at the end just once.
+  -- The items that were taken from an iterator, in order, what they are collected to, and the
+  -- iterator afterwards: it isn't called again after an item that is an error or is rejected, and
+  -- it is called just once at the end.
   abbrev pub CollectsTo : Result Tree Fault → (after : I) → Type 0
   CollectsTo answer after =
       (taken : List (Result E Error)) × (left : I) × Yields next_gives iter taken left
       × IsBuiltFrom (after ≡ left) (next_gives left None after) (map (item_by plain) taken) answer
 
-  -- the same of an iterator that nobody sees after them
+  -- what an iterator's items are collected to, if the iterator isn't seen afterwards
   abbrev pub Collects : Result Tree Fault → Type 0
   Collects answer = (after : I) × CollectsTo answer after
 
@@ -78,7 +79,7 @@ TakesOne before (Ok event) after =
     (and_event with_pair before.unfinished event ≡ Some after.unfinished) × (after.failed ≡ false)
 TakesOne before (Err fault) after = ⊥
 
--- an item is an error, or its event is refused
+-- an item is an error, or its event is rejected
 abbrev pub RefusesOne : Unfinished → Item → Fault → Type 0
 RefusesOne held (Ok event) fault = IsRefusal (refusal_at held event) fault
 RefusesOne held (Err error) fault = fault ≡ error

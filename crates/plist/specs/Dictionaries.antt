@@ -3,7 +3,7 @@ use Rattle.std.specs.Prelude.{ℕ, List}
 use Rattle.plist.specs.declared.value.Value.{Value}
 use Rattle.plist.specs.declared.dictionary.Dictionary.{Dictionary, out-Dictionary, roll-Dictionary}
 
--- the pairs, a key as its bytes
+-- the pairs, with each key as its bytes
 abbrev pub pairs_of : Dictionary → List (List ℕ × Value)
 pairs_of dictionary = (out-Dictionary dictionary).pairs
 

@@ -1,4 +1,4 @@
--- What is borrowed of a dictionary by `&mut`.
+-- What a mutable reference into a dictionary borrows.
 use Rattle.std.specs.Prelude.{ℕ, List, Option, bytes_eq}
 use Rattle.std.specs.Borrow.{Lends, LendsIf, MutBor, Fml}
 use Rattle.std.specs.Map.{set_value}
@@ -9,23 +9,23 @@ use Rattle.plist.specs.contracts.dictionary.Dictionary.{the_row}
 use Rattle.plist.specs.contracts.value.Value as value
 use Rattle.plist.specs.Dictionaries.{dictionary_of, pairs_of}
 
--- the dictionary, once this is the key's value
+-- the dictionary after this becomes the key's value
 abbrev pub with_value_at : Dictionary → (key : List ℕ) → Value → Dictionary
 with_value_at dictionary key value =
     dictionary_of (set_value (bytes_eq key) (pairs_of dictionary) value)
 
--- the dictionary ends with the last value behind the reference at the key, and as it is where there
--- is no reference
+-- when the reference ends, its last value is that of the key; without a reference the dictionary is
+-- unchanged
 abbrev pub DictionaryLendsAtKey : MutBor Dictionary → List ℕ → Option (MutBor Value) → Fml
 DictionaryLendsAtKey dictionary key lent =
     LendsIf the_row value.the_row dictionary lent (with_value_at dictionary.now key) dictionary.now
 
--- the dictionary ends with the last value behind the reference at the key, which is there
+-- when the reference ends, its last value is that of the key, which is there
 abbrev pub DictionaryLendsValue : MutBor Dictionary → List ℕ → MutBor Value → Fml
 DictionaryLendsValue dictionary key lent =
     Lends the_row value.the_row dictionary lent (with_value_at dictionary.now key)
 
--- the dictionary ends with the last value behind the reference at the index
+-- when the reference ends, its last value is that at the index
 abbrev pub DictionaryLendsIndex : MutBor Dictionary → ℕ → MutBor Value → Fml
 DictionaryLendsIndex dictionary index lent =
     Lends the_row value.the_row dictionary lent

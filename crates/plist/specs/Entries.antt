@@ -1,5 +1,5 @@
--- What the contracts of a dictionary's entries say. The words serve an entry's halves too, as
--- `with_value (Occupied o)`.
+-- The words in the contracts of a dictionary's entries. They apply to both kinds of entries, too,
+-- as in `with_value (Occupied o)`.
 pub use Rattle.plist.specs.declared.dictionary.entry.Entry.TheVariants.{Occupied, Vacant}
 use Rattle.std.specs.Prelude.{◌≡◌, ℕ, ◌<◌, List, [], ◌∷◌, ◌++◌, length, Option, None, Some, Result, cond, is_some, slice_get, string_bytes, bytes_eq, String}
 use Rattle.std.specs.Borrow.{Fml, MutBor, follows, follows_if, name_if_ok}
@@ -26,7 +26,7 @@ abbrev pub entry_ref : Entry → MutBor Dictionary
 entry_ref (Occupied o) = o.pairs
 entry_ref (Vacant e) = e.pairs
 
--- the pairs, as the entry holds them
+-- the pairs that the entry refers to
 abbrev pub entry_pairs : Entry → List (List ℕ × Value)
 entry_pairs e = pairs_of (entry_ref e).now
 
@@ -35,7 +35,7 @@ abbrev pub entry_key : Entry → Option (List ℕ)
 entry_key (Occupied o) = slice_get (keys_of (pairs_of o.pairs.now)) o.at
 entry_key (Vacant e) = Some (string_bytes e.key)
 
--- the key that a vacant entry holds
+-- the key that a vacant entry owns
 abbrev pub kept_key : Entry → Option (String Global)
 kept_key (Occupied o) = None
 kept_key (Vacant e) = Some e.key
@@ -45,21 +45,21 @@ abbrev pub entry_value : Entry → Option Value
 entry_value (Occupied o) = slice_get (values_of (pairs_of o.pairs.now)) o.at
 entry_value (Vacant e) = None
 
--- both are of one index in the same pairs, whose values may differ
+-- both have the same index in the same dictionary, whose values may differ
 abbrev pub IsSameEntry : OccupiedEntry → OccupiedEntry → Type 0
 IsSameEntry o p = (p.pairs.ghost_name ≡ o.pairs.ghost_name) × (p.at ≡ o.at)
 
--- the pairs are those of the entry without the key's, in whose place the last one stands
+-- the pairs of the entry without the key's, whose index the last pair takes
 abbrev pub IsTaken : Entry → List (List ℕ × Value) → Type 0
 IsTaken (Occupied o) after = IsRemovedAt (pairs_of o.pairs.now) o.at after
 IsTaken (Vacant e) after = after ≡ pairs_of e.pairs.now
 
--- the pairs, once v is the key's value
+-- the pairs after v becomes the key's value
 abbrev pub with_value : Entry → Value → List (List ℕ × Value)
 with_value (Occupied o) v = set_value_at (pairs_of o.pairs.now) o.at v
 with_value (Vacant e) v = pairs_of e.pairs.now ++ (string_bytes e.key, v) ∷ []
 
--- the dictionary, once v is the key's value
+-- the dictionary after v becomes the key's value
 abbrev pub dictionary_with : Entry → Value → Dictionary
 dictionary_with e v = dictionary_of (with_value e v)
 
@@ -68,23 +68,23 @@ abbrev pub unless_there : String Global → List (List ℕ × Value) → Option 
 unless_there key pairs =
     cond (is_some (lookup (bytes_eq (string_bytes key)) pairs)) None (Some key)
 
--- to give the key of the entry a value is to insert this key
+-- setting the value of the entry's key is inserting this key
 abbrev pub Inserts : Entry → (pairs : List (List ℕ × Value)) → (key : List ℕ) → Type 0
 Inserts e pairs key = (v : Value) → IsSetAt pairs key v (with_value e v)
 
--- to take the key of the entry out is to remove this key
+-- removing the entry's key is removing this key
 abbrev pub Removes : Entry → (pairs : List (List ℕ × Value)) → (key : List ℕ) → Type 0
 Removes e pairs key = (after : List (List ℕ × Value)) → IsTaken e after → IsTakenAt pairs key after
 
--- the key that the entry holds, and this value
+-- the key that the entry owns, and this value
 abbrev pub HandsBack : Entry → Value → String Global × Value → Type 0
 HandsBack e value back = (kept_key e ≡ Some back.0) × (back.1 ≡ value)
 
--- the key that the entry holds, and a value that was made
+-- the key that the entry owns, and a value that was made
 abbrev pub HandsBackMade : Entry → (made : Value → Type 0) → String Global × Value → Type 0
 HandsBackMade e made back = (kept_key e ≡ Some back.0) × made back.1
 
--- the value that the key has, or else one that was made
+-- the value of the key, or else one that was made
 abbrev pub HasOrMakes : Entry → (made : Value → Type 0) → MutBor Value → Type 0
 HasOrMakes e made place = UnwrapsOrElse (entry_value e) made place.now
 
@@ -92,7 +92,7 @@ pub still_within : (o : OccupiedEntry) (v : Value) → o.at < length (with_value
 still_within o v =
     subst (λ n. o.at < n) (sym (length-set_value_at (pairs_of o.pairs.now) o.at v)) o.within
 
--- o, once v is its value
+-- o, after v becomes its value
 abbrev pub with_entry_value : OccupiedEntry → Value → OccupiedEntry
 with_entry_value o v = record {
   pairs = record o.pairs { now = dictionary_with (Occupied o) v };
@@ -100,20 +100,20 @@ with_entry_value o v = record {
   within = still_within o v;
 }
 
--- once the borrow r ends, the pairs have the last value written through r at e's key
+-- after the borrow r ends, the pairs have the last value written through r at e's key
 abbrev pub entry_lends : Entry → MutBor Value → Fml
 entry_lends e r =
     follows the_row value.the_row (entry_ref e).ghost_name r.ghost_name (dictionary_with e)
 
--- if r is a reference, the pairs have the last value written through it once its borrow ends;
--- otherwise they stay as they are
+-- if r is a reference, the pairs have the last value written through it after its borrow ends;
+-- otherwise they are unchanged
 abbrev pub entry_lends_ok : {E : Type 0} → Entry → Result (MutBor Value) E → Fml
 entry_lends_ok e r =
     follows_if the_row value.the_row (entry_ref e).ghost_name (name_if_ok (λ x. x.ghost_name) r)
     (dictionary_with e) (entry_ref e).now
 
--- once the borrow r ends, the entry behind o has the last value written through r. Its lifetime
--- is the second of the signature
+-- after the borrow r ends, the entry behind o has the last value written through r; its lifetime is
+-- the second one in the signature
 abbrev pub occupied_lends : MutBor OccupiedEntry → MutBor Value → Fml
 occupied_lends o r =
     follows (occupied.the_row (record { mir = named 1; lft = [] })) value.the_row o.ghost_name

@@ -1,5 +1,5 @@
--- Property lists that are the same, whatever the order of a dictionary's pairs. Of a key that
--- stands more than once the first counts.
+-- Property lists that are the same up to the order of a dictionary's pairs. If a key occurs more
+-- than once, its first value counts.
 use Rattle.std.specs.Prelude.{◌≡◌, ℕ, Bool, true, false, ◌&&◌, ◌||◌, cond, Option, Some, None, is_some, List, [], ◌∷◌, ◌↔◌, bytes_eq}
 use Rattle.std.specs.List.{list_any}
 use Rattle.plist_base.specs.Scalars.{scalar_eq}
@@ -18,14 +18,15 @@ abbrev pub if_found : Option Tree → (Tree → Bool) → Bool
 if_found None test = false
 if_found (Some tree) test = test tree
 
--- each key of the first stands in the second
+-- each key of the first occurs in the second
 abbrev pub has_keys : Members → Members → Bool
 has_keys NoMembers others = true
 has_keys (MemberAnd key tree members) others =
     is_some (first_value key others) && has_keys members others
 
 abbrev mutual
-  -- equal kinds; arrays by place; dictionaries with the same keys and the same values
+  -- trees of one kind: arrays are compared index by index, and dictionaries have the same keys with
+  -- the same values
   pub same : Tree → Tree → Bool
   same (Leaf a) (Leaf b) = scalar_eq a b
   same (Array items) (Array others) = same_items items others
@@ -39,38 +40,38 @@ abbrev mutual
       same tree other && same_items trees others
   same_items _ _ = false
 
-  -- each key of the first that wasn't seen has the same value in the second
+  -- each key of the first that hasn't been seen has the same value in the second
   pub is_covered : (seen : List (List ℕ)) → Members → Members → Bool
   is_covered seen NoMembers others = true
   is_covered seen (MemberAnd key tree members) others =
       (is_among key seen || if_found (first_value key others) (λ other. same tree other))
       && is_covered (key ∷ seen) members others
 
--- what two dictionaries have at a key
+-- the values of a key in two dictionaries are the same, or both are missing
 abbrev pub AreSameAt : Option Tree → Option Tree → Type 0
 AreSameAt None None = Unit {0}
 AreSameAt None (Some u) = ⊥
 AreSameAt (Some t) None = ⊥
 AreSameAt (Some t) (Some u) = same t u ≡ true
 
--- at each key both have nothing, or values that are the same
+-- at each key the values are the same, or both are missing
 abbrev pub AreSameEverywhere : (left right : Members) → Type 0
 AreSameEverywhere left right =
     (key : List ℕ) → AreSameAt (first_value key left) (first_value key right)
 
--- ---- what `same` is
+-- ---- properties of `same`
 
--- where the first is the same as the second, and that as the third, the first is as the third
+-- `same` is transitive
 abbrev pub IsTransitive : Type 0
 IsTransitive =
     (first second third : Tree) → same first second ≡ true → same second third ≡ true
     → same first third ≡ true
 
--- scalars are the same where they are one
+-- scalars are the same if and only if they are equal
 abbrev pub DecidesScalars : Type 0
 DecidesScalars = (left right : Scalar) → (same (Leaf left) (Leaf right) ≡ true) ↔ (left ≡ right)
 
--- dictionaries are, where they have the same at every key
+-- dictionaries are the same if and only if they have the same values at all keys
 abbrev pub DecidesDictionaries : Type 0
 DecidesDictionaries = (left right : Members)
     → (same (Dictionary left) (Dictionary right) ≡ true) ↔ AreSameEverywhere left right

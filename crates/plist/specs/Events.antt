@@ -1,4 +1,4 @@
--- The events that an iterator over a value's events has left.
+-- The remaining events of an iterator over a value's events.
 use Rattle.std.specs.Prelude.{◌≡◌, List, [], ◌∷◌, ◌++◌, Option, Some, None, Result, Ok, Err, map, reverse, string_bytes, ⊤}
 use Rattle.std.specs.Borrow.{Bor}
 use Rattle.plist_base.specs.declared.error.Error.{Error}
@@ -18,39 +18,40 @@ use Rattle.plist.specs.declared.stream.events.Next.{Next}
 use Rattle.plist.specs.declared.stream.events.Next.TheVariants as next
 use Rattle.plist.specs.ValueTrees.{tree_of, tree_pairs}
 
--- the events left of the value that comes next, if there is one
+-- the remaining events of the value that is next, or no events if no value is
 abbrev pub left_of_value : Option (Bor Value) → List PlainEvent
 left_of_value None = []
 left_of_value (Some value) = bracketing (tree_of value.now)
 
--- the events left of an open collection, before its end
+-- the remaining events of an open collection, without its end
 abbrev pub left_of_level : Level → List PlainEvent
 left_of_level (level.Array items) = bracketing_of_items (trees_of (map tree_of items.now))
 left_of_level (level.Dictionary pairs) = bracketing_of_pairs (members_of (tree_pairs pairs))
 
--- the events left of the open collections, innermost first
+-- the remaining events of the open collections, innermost first
 abbrev pub left_of_levels : List Level → List PlainEvent
 left_of_levels [] = []
 left_of_levels (level ∷ levels) = left_of_level level ++ EndCollection ∷ left_of_levels levels
 
--- the events left
+-- the remaining events
 abbrev pub remaining_events : Events → List PlainEvent
 remaining_events events = left_of_value events.value ++ left_of_levels (reverse events.levels.items)
 
--- a text or data is borrowed
+-- a string or data is borrowed
 abbrev pub IsBorrowed : Event → Type 0
 IsBorrowed (event.String (text.Owned owned)) = ⊥
 IsBorrowed (event.Data (slice.Owned owned)) = ⊥
 IsBorrowed other = ⊤
 
--- a start comes first
+-- the first event is a start
 abbrev pub BeginsWithStart : List PlainEvent → Type 0
 BeginsWithStart (StartArray length ∷ events) = ⊤
 BeginsWithStart (StartDictionary length ∷ events) = ⊤
 BeginsWithStart events = ⊥
 
--- The first event left is given, its text or data borrowed, and the others are left; nothing is
--- given where nothing is left; for lack of memory a start isn't given, and then nothing is left.
+-- The first remaining event is yielded, its string or data borrowed, and the others remain; nothing
+-- is yielded if nothing remains; if memory runs out, `OutOfMemory` is yielded in place of a start,
+-- and nothing remains.
 abbrev pub GivesEvent : Events → Option (Result Event Error) → Events → Type 0
 GivesEvent before None after = (remaining_events before ≡ []) × (remaining_events after ≡ [])
 GivesEvent before (Some (Ok given)) after =
@@ -59,7 +60,7 @@ GivesEvent before (Some (Err error)) after =
     (fault_of error ≡ fault_nowhere OutOfMemory) × BeginsWithStart (remaining_events before)
     × (remaining_events after ≡ [])
 
--- what comes next, and what is left behind it
+-- what is next, and what remains after it
 abbrev pub ComesNext : Events → Next → Events → Type 0
 ComesNext before next.Nothing after = (remaining_events before ≡ []) × (remaining_events after ≡ [])
 ComesNext before next.End after = remaining_events before ≡ EndCollection ∷ remaining_events after
@@ -70,7 +71,7 @@ ComesNext before (next.Value value) after =
     ≡ bracketing (tree_of value.now) ++ left_of_levels (reverse after.levels.items))
     × (after.value ≡ None)
 
--- the first event of a tree is given, and its others are left before those left
+-- the first event of a tree is yielded, and its others remain, before those that remained
 abbrev pub BeginsValue : Tree → Events → Result Event Error → Events → Type 0
 BeginsValue tree before (Ok given) after =
     (bracketing tree ++ remaining_events before ≡ event_of given ∷ remaining_events after)
@@ -79,7 +80,7 @@ BeginsValue tree before (Err error) after =
     (fault_of error ≡ fault_nowhere OutOfMemory)
     × BeginsWithStart (bracketing tree ++ remaining_events before) × (remaining_events after ≡ [])
 
--- a level's events and its end come before what was left
+-- a level's events and its end precede those that remained
 abbrev pub OpensLevel : (before : Events) → Level → (after : Events) → Type 0
 OpensLevel before level after =
     remaining_events after ≡ left_of_level level ++ EndCollection ∷ remaining_events before

@@ -1,4 +1,5 @@
--- The value of a source or of a file, which is read whole, item by item; and why there is none.
+-- The value of a source or of a file, which is read completely, item by item; and why there is
+-- none.
 use Rattle.std.specs.Prelude.{◌≡◌, ℕ, ◌⊎◌, Bool, List, Option, None, Some, Result, Err, ⊤}
 use Rattle.plist_base.specs.Events.{Item, event_of}
 use Rattle.plist_base.specs.Faults.{Fault, FaultKind, ExpectedEndOfEventStream, Io, UnexpectedEndOfEventStream, UnexpectedEventType, fault_nowhere}
@@ -23,23 +24,23 @@ use Rattle.plist_reader.specs.declared.reader.Reader.{Reader}
 use Rattle.plist_reader.specs.Reader.{Gives, FaultHasOffset, IsReaderFault, IsNewReader, IsUnread, limited_input}
 use Rattle.plist.specs.Collecting.{Collects}
 
--- the answer comes of the run of a new reader of this very source, in ASCII in this dialect
+-- the result is that of a run of a new reader of this source, which reads ASCII in this dialect
 abbrev pub IsReadInDialect : {R : Type 0} → Dialect → (known : R → Option (List ℕ))
     (failed : R → ℕ) (source : R) → Result Tree Fault → Type 0
 IsReadInDialect {R} dialect known failed source answer =
     (reader : Reader R (record { known = known; failures = failed }))
     × IsUnread reader source None dialect × Collects event_of (Gives known failed) reader answer
 
--- the answer comes of the run of a new reader of this very source, in the lax dialect of ASCII
+-- the result is that of a run of a new reader of this source, which reads ASCII in the lax dialect
 abbrev pub IsReadByReader : {R : Type 0} (known : R → Option (List ℕ)) (failed : R → ℕ) (source : R)
     → Result Tree Fault → Type 0
 IsReadByReader known failed source answer = IsReadInDialect Lax known failed source answer
 
--- the items of an input under these limits, whose strings and data have at most so many bytes
+-- the items of an input under these limits, whose strings and data have at most this many bytes
 abbrev pub budgeted_input : Limits → (bytes : ℕ) → List ℕ → List Item
 budgeted_input limits bytes input = within_bytes bytes (limited_input limits input)
 
--- a new reader of this very source, under these limits
+-- a new reader of this source, under these limits
 abbrev pub LimitedReader : {R : Type 0} (known : R → Option (List ℕ)) (failed : R → ℕ) → Type 0
 LimitedReader {R} known failed =
     Limited (Reader R (record { known = known; failures = failed })) Limiter
@@ -50,15 +51,15 @@ BeginsUnder limits known failed source limited =
     (items_admitted limited ≡ limited_items limits)
     × IsNewReader (inner_of_limited limited) source
 
--- the answer comes of the run of a new reader of this very source, under these limits
+-- the result is that of a run of a new reader of this source, under these limits
 abbrev pub IsReadWithin : {R : Type 0} → Limits
     → (known : R → Option (List ℕ)) (failed : R → ℕ) (source : R) → Result Tree Fault → Type 0
 IsReadWithin limits known failed source answer =
     (limited : LimitedReader known failed) × BeginsUnder limits known failed source limited
     × Collects event_of (GivesLimited (Gives known failed)) limited answer
 
--- the answer comes of the run of a new reader of this very source, under these limits and within
--- this budget of bytes
+-- the result is that of a run of a new reader of this source, under these limits and within this
+-- budget of bytes
 abbrev pub IsReadWithinBudget : {R : Type 0} → Limits → (bytes : ℕ)
     → (known : R → Option (List ℕ)) (failed : R → ℕ) (source : R) → Result Tree Fault → Type 0
 IsReadWithinBudget limits bytes known failed source answer =
@@ -67,7 +68,8 @@ IsReadWithinBudget limits bytes known failed source answer =
     × BeginsUnder limits known failed source (inner_of_limited budgeted)
     × Collects event_of (GivesWithinBudget (GivesLimited (Gives known failed))) budgeted answer
 
--- the same of a reader of ASCII in this dialect, which has taken no byte and looked at none
+-- the result is that of a run of a new reader of ASCII, in this dialect, which has taken no byte
+-- and looked at none
 abbrev pub IsReadAsAscii : {R : Type 0} (known : R → Option (List ℕ)) (failed : R → Option ℕ)
     (source : R) → Dialect → Result Tree Fault → Type 0
 IsReadAsAscii {R} known failed source dialect answer =
@@ -76,40 +78,40 @@ IsReadAsAscii {R} known failed source dialect answer =
     × (untaken_bytes known reader ≡ readable (known source))
     × Collects event_of (ascii.GivesAscii known failed) reader answer
 
--- the items of an ASCII text
+-- the items of ASCII bytes
 abbrev pub items_of_text : (bare : ℕ → Bool) → List ℕ → List Item
 items_of_text bare bytes = items_of_ascii bare (input_front bytes) 0
 
--- a fault of the events that came, for which they are no value's
+-- a fault of events that aren't a value's
 abbrev pub IsFaultOfEvents : FaultKind → Type 0
 IsFaultOfEvents (UnexpectedEventType expected found) = ⊤
 IsFaultOfEvents (ExpectedEndOfEventStream found) = ⊤
 IsFaultOfEvents UnexpectedEndOfEventStream = ⊤
 IsFaultOfEvents kind = ⊥
 
--- why there is no value of a source: a fault that its reader can give, with a place where that has
--- one; or one of the events, which has none
+-- why a source has no value: a fault that its reader can yield, with an offset if that kind has
+-- one; or a fault of the events, without an offset
 abbrev pub IsReadingFault : (limited : Bool) → Fault → Type 0
 IsReadingFault limited fault =
     (IsReaderFault limited fault.kind × FaultHasOffset fault)
     ⊎ (IsFaultOfEvents fault.kind × (fault.offset ≡ None))
 
--- a file couldn't be opened, or this is so of a source over it, none of whose calls had failed
+-- a file couldn't be opened, or this is true of a source over it, none of whose calls had failed
 abbrev pub IfOpened : (F : Type 0) → Result Tree Fault → (Seeking F → Type 0) → Type 0
 IfOpened F answer P =
     (answer ≡ Err (fault_nowhere Io))
     ⊎ ((source : Seeking F) × (failures_of source ≡ 0) × P source)
 
--- the answer comes of a file, which in ASCII is of this dialect
+-- the result is that of a file, which is read in this dialect if it is ASCII
 abbrev pub IsReadFromFile : (F : Type 0) → Dialect → Result Tree Fault → Type 0
 IsReadFromFile F dialect answer =
     IfOpened F answer (λ source. IsReadInDialect dialect (λ _. None) failures_of source answer)
 
--- the same under these limits
+-- the result is that of a file, under these limits
 abbrev pub IsReadFromFileWithin : (F : Type 0) → Limits → Result Tree Fault → Type 0
 IsReadFromFileWithin F limits answer =
     IfOpened F answer (λ source. IsReadWithin limits (λ _. None) failures_of source answer)
 
--- why there is no value of a file
+-- why a file has no value
 abbrev pub IsFileFault : (limited : Bool) → Fault → Type 0
 IsFileFault limited fault = (fault ≡ fault_nowhere Io) ⊎ IsReadingFault limited fault

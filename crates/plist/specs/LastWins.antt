@@ -1,4 +1,4 @@
--- A tree in which each key stands once: in its first place, with its last value.
+-- A tree in which each key occurs once: in its first position, with its last value.
 use Rattle.std.specs.Prelude.{◌≡◌, ℕ, List, [], ◌∷◌, ◌++◌, Option, None, Some, cond, bytes_eq}
 use Rattle.std.specs.List.{list_any}
 use Rattle.std.specs.Map.{lookup, keys_of}
@@ -10,16 +10,16 @@ use Rattle.plist_base.specs.Trees.{Tree, Leaf, Array, Dictionary, Trees, NoTrees
 abbrev pub TreePairs : Type 0
 TreePairs = List (List ℕ × Tree)
 
--- the pairs once this one has come: a key that is there keeps its place and takes the value, a new
--- one goes last
+-- the pairs after this one is inserted: a key that is there keeps its index and takes the value,
+-- and a new one is last
 abbrev pub with_pair : TreePairs → (key : List ℕ) → Tree → TreePairs
 with_pair rows key tree = insert_entry bytes_eq rows key tree
 
--- the pairs, each key in its first place with its last value
+-- the pairs, each key in its first position with its last value
 abbrev pub last_values : TreePairs → TreePairs
 last_values rows = insert_all bytes_eq [] rows
 
--- the keys once this one has come: one that is there stays, a new one goes last
+-- the keys after this one is inserted: one that is there stays, and a new one is last
 abbrev pub and_key : (keys : List (List ℕ)) → (key : List ℕ) → List (List ℕ)
 and_key keys key = cond (list_any (bytes_eq key) keys) keys (keys ++ key ∷ [])
 
@@ -27,7 +27,7 @@ abbrev pub first_keys_after : (seen keys : List (List ℕ)) → List (List ℕ)
 first_keys_after seen [] = seen
 first_keys_after seen (key ∷ keys) = first_keys_after (and_key seen key) keys
 
--- the keys, each once, in the order in which they came first
+-- the keys, each once, in the order of their first occurrence
 abbrev pub first_keys : List (List ℕ) → List (List ℕ)
 first_keys keys = first_keys_after [] keys
 
@@ -37,13 +37,13 @@ last_value key [] = None
 last_value key (row ∷ rows) =
     option_or (last_value key rows) (cond (bytes_eq key row.0) (Some row.1) None)
 
--- the keys in the order in which they came first, each with its last value
+-- the keys in the order of their first occurrence, each with its last value
 abbrev pub AreLastValues : (rows result : TreePairs) → Type 0
 AreLastValues rows result =
     (keys_of result ≡ first_keys (keys_of rows))
     × ((key : List ℕ) → lookup (bytes_eq key) result ≡ last_value key rows)
 
--- the tree in which that is so of each dictionary
+-- the tree whose dictionaries have their last values
 abbrev mutual
   pub last_wins : Tree → Tree
   last_wins (Leaf scalar) = Leaf scalar

@@ -1,4 +1,4 @@
--- What limits and a budget of bytes say of a value.
+-- What limits and a budget of bytes imply for a value.
 use Rattle.std.specs.Prelude.{◌≡◌, ℕ, ◌-◌, ◌≤◌, List, length, ⊤}
 use Rattle.plist_base.specs.declared.limits.Limits.{Limits}
 use Rattle.plist_base.specs.Events.{PlainEvent}
@@ -7,7 +7,7 @@ use Rattle.plist_base.specs.Trees.{Tree, Leaf, Array, Dictionary, Trees, NoTrees
 use Rattle.plist_base.specs.Bracketing.{bracketing}
 use Rattle.plist.specs.LastWins.{last_wins}
 
--- at most this many collections of a tree stand within one another
+-- at most this many collections of a tree are nested in one another
 abbrev mutual
   pub NestsWithin : Tree → (depth : ℕ) → Type 0
   NestsWithin (Leaf scalar) depth = ⊤
@@ -23,27 +23,27 @@ abbrev mutual
   PairsNestWithin (MemberAnd key tree members) depth =
       NestsWithin tree depth × PairsNestWithin members depth
 
--- this is so of a tree's events, and of those that it came of: the events of a tree whose last-value
--- form it is
+-- this is true of a tree's events, and of those from which it was built: the events of a tree of
+-- which it is the last-value form
 abbrev pub IfEvents : (List PlainEvent → Type 0) → Tree → Type 0
 IfEvents P tree =
     P (bracketing tree) × ((whole : Tree) × (tree ≡ last_wins whole) × P (bracketing whole))
 
--- there are no more events than these limits allow
+-- there are at most as many events as these limits allow
 abbrev pub AreWithin : Limits → List PlainEvent → Type 0
 AreWithin limits events = length events ≤ limits.items
 
--- nor have their strings and data more bytes than this
+-- there are at most as many events, and their strings and data have at most this many bytes
 abbrev pub AreWithinBudget : Limits → (bytes : ℕ) → List PlainEvent → Type 0
 AreWithinBudget limits bytes events = AreWithin limits events × (total_bytes events ≤ bytes)
 
--- a value's tree nests at most `depth` collections, and its events are within these limits, as are
--- those that it came of
+-- a value's tree nests at most `depth` collections; its events, and those from which it was built,
+-- are within these limits
 abbrev pub IsWithinLimits : Limits → Tree → Type 0
 IsWithinLimits limits tree = NestsWithin tree limits.depth × IfEvents (AreWithin limits) tree
 
--- a value's tree nests at most `depth` collections; its events, and those that it came of, are
--- within these limits and this budget of bytes
+-- a value's tree nests at most `depth` collections; its events, and those from which it was built,
+-- are within these limits and this budget of bytes
 abbrev pub IsWithinBudget : Limits → (bytes : ℕ) → Tree → Type 0
 IsWithinBudget limits bytes tree =
     NestsWithin tree limits.depth × IfEvents (AreWithinBudget limits bytes) tree

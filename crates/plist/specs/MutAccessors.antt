@@ -1,4 +1,4 @@
--- What the `&mut` accessors of a value lend, and the types of that.
+-- What the `&mut` accessors of a value borrow from it, and the types of what is borrowed.
 use denote.RattleType.{RattleType}
 use Rattle.std.specs.Prelude.{Option, option_map}
 use Rattle.plist_base.specs.Trees.{Members, Trees}
@@ -22,15 +22,15 @@ array_row = vec.the_row the_row global.the_row ghosts
 abbrev pub dictionary_row : RattleType
 dictionary_row = dictionary.the_row
 
--- the value ends as an array, or a dictionary, of what the reference lends, and as it was where
--- there is none
+-- when the reference ends, the value is an array, or a dictionary, of what is behind it; without a
+-- reference it is unchanged
 abbrev pub LendsArray : MutBor Value → Option (MutBor (Vec Value Global)) → Value → Fml
 LendsArray value lent old = LendsIf the_row array_row value lent made.Array old
 
 abbrev pub LendsDictionary : MutBor Value → Option (MutBor Dictionary) → Value → Fml
 LendsDictionary value lent old = LendsIf the_row dictionary_row value lent made.Dictionary old
 
--- the items, or the pairs, that a reference lends
+-- the items, or the pairs, behind a reference
 abbrev pub items_lent : Option (MutBor (Vec Value Global)) → Option Trees
 items_lent lent = option_map (λ array. item_trees array.now.items) lent
 

@@ -1,14 +1,15 @@
--- What a file holds that is made at its first write.
+-- The contents of a file that is created at its first write.
 use Rattle.std.specs.Prelude.{ℕ, List, Option, None, Some, Result, IfSome}
 use Rattle.std.specs.Io.KnownBytes.{WriteAppends}
 
 module _ {F : Type 0} (contents : F → Option (List ℕ)) where
-  -- what is known of it: before it is made nothing
+  -- the known bytes of the file: none before it is created
   abbrev pub contents_of : Option F → Option (List ℕ)
   contents_of None = None
   contents_of (Some file) = contents file
 
-  -- where there is a file now, one was made, and took of the bytes what was answered
+  -- if there is a file now, one was created, and as many of the bytes were appended as the call
+  -- returned
   abbrev pub WritesFirst : {E : Type 0} → Result ℕ E → (bytes : List ℕ) → (now : Option F) → Type 0
   WritesFirst answer bytes now = IfSome now (λ file.
       (made : F) × WriteAppends (contents made) (contents file) answer bytes)

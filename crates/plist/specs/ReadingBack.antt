@@ -1,4 +1,4 @@
--- A file that is written of a value is read as that value.
+-- A file that is written of a value is read back as that value.
 use Rattle.std.specs.Prelude.{ℕ, List, Option, Result, IfSome}
 use Rattle.plist_base.specs.declared.error.Error.{Error}
 use Rattle.plist_base.specs.Faults.{Fault}
@@ -9,11 +9,11 @@ use Rattle.plist.specs.Collecting.{built_tree}
 use Rattle.plist.specs.ValueOfItems.{IsReadBack}
 use Rattle.plist.specs.ValueTrees.{tree_of}
 
--- a file of a value gives that value
+-- a file of a value is read back as that value
 abbrev pub ReadsBack : List ℕ → Result Tree Fault → Type 0
 ReadsBack file answer =
     (value : Value) → IsWrittenAs (tree_of value) file → IsReadBack (tree_of value) answer
 
--- the same of bytes that may not be known, and of what was answered
+-- if the bytes are known, and a file of a value, they are read back as that value
 abbrev pub ReadsBackIn : (known : Option (List ℕ)) → Result Value Error → Type 0
 ReadsBackIn known answer = IfSome known (λ file. ReadsBack file (built_tree answer))

@@ -1,4 +1,4 @@
--- What goes out where a value is written as a binary property list.
+-- What is written for a value as a binary property list.
 use Rattle.std.specs.Prelude.{◌≡◌, ℕ, ◌^◌, ◌≤◌, List, Option, None, Result, Ok, Err, ⊤}
 use Rattle.std.specs.Io.KnownBytes.{Appends}
 use Rattle.plist_base.specs.declared.error.Error.{Error}
@@ -11,26 +11,26 @@ use Rattle.plist_binwrite.specs.Sizes.{file_size}
 use Rattle.plist.specs.declared.value.Value.{Value}
 use Rattle.plist.specs.ValueTrees.{tree_of}
 
--- why no file of the tree is made: its size, which is 2^64 or more, or lack of memory
+-- why no file of the tree is made: its size is 2^64 or more, or memory runs out
 abbrev pub StopsFile : FaultKind → Tree → Type 0
 StopsFile PlistTooLarge tree = 2 ^ 64 ≤ file_size tree
 StopsFile OutOfMemory tree = ⊤
 StopsFile kind tree = ⊥
 
 module _ {W : Type 0} (contents : W → Option (List ℕ)) where
-  -- the only refusals: of a device, after a beginning of a file of the tree; and where no file is
-  -- made, and what takes the bytes is the same
+  -- the only errors: `Io`, after a prefix of a file of the tree was written; and those for which no
+  -- file is made, and the writer is unchanged
   abbrev pub StopsSending : FaultKind → Tree → (old new : W) → Type 0
   StopsSending Io tree old new =
       (file : List ℕ) × IsFileOf tree file × AppendsPrefix (contents old) (contents new) file
   StopsSending kind tree old new = StopsFile kind tree × (new ≡ old)
 
-  -- a file of the tree goes out, or sending stops
+  -- a file of the tree is written, or an error stops it
   abbrev pub SendsTree : Tree → Answer → (old new : W) → Type 0
   SendsTree tree (Ok done) old new =
       (file : List ℕ) × IsFileOf tree file × Appends (contents old) (contents new) file
   SendsTree tree (Err fault) old new = (fault.offset ≡ None) × StopsSending fault.kind tree old new
 
-  -- the same of a value's tree
+  -- a file of the value's tree is written, or an error stops it
   abbrev pub SendsValue : Value → Result (Unit {0}) Error → (old new : W) → Type 0
   SendsValue value answer old new = SendsTree (tree_of value) (answer_of answer) old new

@@ -1,10 +1,10 @@
--- Why a file isn't stored, where nothing is known of what files hold.
+-- Why a file isn't stored. The contents of files aren't modelled.
 use Rattle.std.specs.Prelude.{◌≡◌, None, ⊤}
 use Rattle.plist_base.specs.Faults.{FaultKind, Fault, Io}
 use Rattle.plist_base.specs.Trees.{Tree}
 use Rattle.plist.specs.SendingValues.{StopsFile}
 
--- the only refusals: of a device, of size, and of memory
+-- the only errors: I/O, size, and memory
 abbrev pub StopsStoring : FaultKind → Tree → Type 0
 StopsStoring Io tree = ⊤
 StopsStoring kind tree = StopsFile kind tree

@@ -1,4 +1,4 @@
--- What the run-time state of a builder holds.
+-- What contracts see of the run-time state of a builder.
 use Rattle.std.specs.Prelude.{◌≡◌, List, [], ◌∷◌, Option, Some, None, MatchOption, String, map, option_map, reverse, string_bytes}
 use Rattle.std.specs.declared.alloc.Global.{Global}
 use Rattle.plist_base.specs.declared.error.ErrorKind.{ErrorKind}
@@ -16,15 +16,15 @@ use Rattle.plist.specs.LastWins.{last_values, with_pair}
 use Rattle.plist.specs.inner.Steps.{and_tree, and_event}
 use Rattle.plist.specs.ValueTrees.{tree_of, tree_pairs}
 
--- an open collection with its trees; a dictionary's keys stand once each, so its last values are
--- its pairs
+-- an open collection with its trees; a dictionary's keys are distinct, so its last values are its
+-- pairs
 abbrev pub open_of : UnclosedCollection → OpenCollection
 open_of (run.Array items) = InArray (map tree_of items.items)
 open_of (run.Dictionary pairs) = InDictionary (last_values (tree_pairs (pairs_of pairs)))
 open_of (run.AfterKey pairs key) =
     AfterKey (last_values (tree_pairs (pairs_of pairs))) (string_bytes key)
 
--- what a root, if there is one, and the open collections, innermost first, hold
+-- what an optional root, and the open collections, innermost first, stand for
 abbrev pub held_in : Option Value → List UnclosedCollection → Unfinished
 held_in (Some root) collections = Complete (tree_of root)
 held_in None [] = NotBegun
@@ -34,36 +34,36 @@ held_in None (inner ∷ outer) = Within (open_of inner) (map open_of outer)
 abbrev pub collections_of : UnfinishedValue → List OpenCollection
 collections_of unfinished = map open_of (reverse unfinished.collections.items)
 
--- what is held
+-- the unfinished tree
 abbrev pub unfinished_of : UnfinishedValue → Unfinished
 unfinished_of unfinished = held_in unfinished.root (reverse unfinished.collections.items)
 
--- the event is added to what is held
+-- the event is added to the unfinished tree
 abbrev pub AddsEvent : (before : UnfinishedValue) → PlainEvent → (after : UnfinishedValue) → Type 0
 AddsEvent before event after =
     and_event with_pair (unfinished_of before) event ≡ Some (unfinished_of after)
 
--- a text does
+-- a string is added to the unfinished tree
 abbrev pub TakesText : (before : UnfinishedValue) → String Global → (after : UnfinishedValue)
     → Type 0
 TakesText before text after = AddsEvent before (ScalarEvent (scalar.String (string_bytes text))) after
 
--- a value stands where the next one belongs
+-- a value is added as the next one
 abbrev pub AddsValue : (before : UnfinishedValue) → Value → (after : UnfinishedValue) → Type 0
 AddsValue before value after =
     unfinished_of after ≡ and_tree with_pair (tree_of value) (collections_of before)
 
--- a collection was opened inside those that are open
+-- a collection is opened inside the open ones
 abbrev pub Opens : (before : UnfinishedValue) → UnclosedCollection → (after : UnfinishedValue) → Type 0
 Opens before collection after =
     unfinished_of after ≡ Within (open_of collection) (collections_of before)
 
--- why the event can't come next, if it can't
+-- the error of an event that can't come next, or none if it can
 abbrev pub IsRefusalOf : UnfinishedValue → Event → Option ErrorKind → Type 0
 IsRefusalOf unfinished event found =
     option_map kind_of found ≡ refusal_at (unfinished_of unfinished) (event_of event)
 
--- nothing is held where the root was taken out, and else nothing changed
+-- nothing is left if the root was taken, and else nothing changed
 abbrev pub RootIsTaken : (before : UnfinishedValue) → Option Value → (after : UnfinishedValue) → Type 0
 RootIsTaken before taken after =
     MatchOption taken (after ≡ before) (λ _. unfinished_of after ≡ NotBegun)

@@ -1,4 +1,4 @@
--- The value of an input, from the items that it is seen to give.
+-- The value of an input, given the items that it is known to yield.
 use Rattle.std.specs.Prelude.{◌≡◌, ℕ, List, [], ◌∷◌, ◌++◌, Option, None, Some, Result, Ok, Err, IfSome, map, ⊤, option_map}
 use Rattle.plist_base.specs.declared.error.Error.{Error}
 use Rattle.plist_base.specs.Events.{PlainEvent, Item}
@@ -10,8 +10,8 @@ use Rattle.plist.specs.Collecting.{Collects, IsRefusal, built_tree, item_by}
 use Rattle.plist.specs.declared.value.Value.{Value}
 use Rattle.plist.specs.LastWins.{last_wins}
 
--- What stands after events that can follow one another decides: a fault is the answer, an event
--- that can't come next is refused, and where nothing stands there the events are no tree's.
+-- What follows events that can follow one another decides: a fault is the result, an event that
+-- can't come next is rejected, and if nothing follows, the events are no tree's.
 abbrev pub IsFaultOfNext : (held : Unfinished) (events : List PlainEvent) → (next : List Item) → Fault
     → Type 0
 IsFaultOfNext held events [] fault =
@@ -25,7 +25,7 @@ abbrev pub AreItemsOfTree : List Item → Tree → Type 0
 AreItemsOfTree items tree =
     (events : List PlainEvent) × (items ≡ map Ok events) × AreAlike events (bracketing tree)
 
--- the first fault or refusal, and then the items are no tree's
+-- the fault is the first one or that of the first rejected event, and the items are no tree's
 abbrev pub IsFirstFault : List Item → Fault → Type 0
 IsFirstFault items fault =
     ((events : List PlainEvent) × (next : List Item) × (held : Unfinished)
@@ -33,67 +33,67 @@ IsFirstFault items fault =
     × IsFaultOfNext held events next fault)
     × ((tree : Tree) → AreItemsOfTree items tree → ⊥)
 
--- The tree whose events the items are, with the last value of each key; or, but for a device's
--- fault and lack of memory, the first fault or refusal.
+-- The tree whose events the items are, with the last value of each key; or the first fault, or that
+-- of the first rejected event, unless it is `Io` or `OutOfMemory`.
 abbrev pub IsValueOf : List Item → Result Tree Fault → Type 0
 IsValueOf items (Ok tree) = (whole : Tree) × AreItemsOfTree items whole × (tree ≡ last_wins whole)
 IsValueOf items (Err fault) = MatchFault fault.kind ⊤ ⊤ (IsFirstFault items fault)
 
--- the same of items that may not be known
+-- the result is the value of the items, if they are known
 abbrev pub IsReadIfKnown : Option (List Item) → Result Tree Fault → Type 0
 IsReadIfKnown items answer = IfSome items (λ all. IsValueOf all answer)
 
--- the value of the items that known bytes have
+-- the result is the value of the items of known bytes
 abbrev pub ReadsItems : (List ℕ → List Item) → (known : Option (List ℕ)) → Result Value Error
     → Type 0
 ReadsItems items_of known answer =
     IfSome known (λ bytes. IsValueOf (items_of bytes) (built_tree answer))
 
--- The item is the first of those that are seen to come, and there is none only where none is seen.
--- A device's fault and lack of memory may come anywhere.
+-- The item is the first of those that are foreseen, and there is none only if none is foreseen.
+-- `Io` and `OutOfMemory` are always possible.
 abbrev pub BeginsWith : (before : List Item) → Option Item → (after : List Item) → Type 0
 BeginsWith before None after = before ≡ []
 BeginsWith before (Some (Ok event)) after = before ≡ Ok event ∷ after
 BeginsWith before (Some (Err fault)) after = MatchFault fault.kind ⊤ ⊤ (before ≡ Err fault ∷ after)
 
--- the same, where the items to come are seen; then those that come afterwards are seen, too
+-- if items are foreseen, this one is the first of them, and then the later ones are foreseen, too
 abbrev pub BeginsWithIfKnown : (before : Option (List Item)) → Option Item
     → (after : Option (List Item))
     → Type 0
 BeginsWithIfKnown before item after =
     IfSome before (λ all. (left : List Item) × (after ≡ Some left) × BeginsWith all item left)
 
--- an iterator's calls give the items that are seen to come, one after the other
+-- an iterator's calls return the foreseen items, one after another
 abbrev pub ForeseesItems : {E I : Type 0} → (plain : E → PlainEvent)
     → (I → Option (Result E Error) → I → Type 0) → (coming : I → Option (List Item)) → Type 0
 ForeseesItems {E} {I} plain next_gives coming =
     (old : I) (item : Option (Result E Error)) (new : I) → next_gives old item new
     → BeginsWithIfKnown (coming old) (option_map (item_by plain) item) (coming new)
 
--- whatever shows the items of an iterator, the answer is that of these items
+-- however an iterator's items are foreseen, the result is their value
 abbrev pub AnswersAsForeseen : {E I : Type 0} → (plain : E → PlainEvent)
     → (I → Option (Result E Error) → I → Type 0) → I → Result Tree Fault → Type 0
 AnswersAsForeseen {E} {I} plain next_gives iter answer =
     (coming : I → Option (List Item)) → ForeseesItems plain next_gives coming → IsReadIfKnown
     (coming iter) answer
 
--- one is made of something: what comes of its items is the answer
+-- for a value that becomes an iterator: the result is what its items are collected to
 abbrev pub CollectsIterable : {E I J : Type 0} → (becomes : J → I → Type 0) → (plain : E → PlainEvent)
     → (I → Option (Result E Error) → I → Type 0) → J → Result Value Error → Type 0
 CollectsIterable {E} {I} {J} becomes plain next_gives made answer =
     (iter : I) × becomes made iter × Collects plain next_gives iter (built_tree answer)
 
--- the same whatever shows its items
+-- for a value that becomes an iterator: however its items are foreseen, the result is their value
 abbrev pub AnswersIterable : {E I J : Type 0} → (becomes : J → I → Type 0) → (plain : E → PlainEvent)
     → (I → Option (Result E Error) → I → Type 0) → J → Result Value Error → Type 0
 AnswersIterable {E} {I} {J} becomes plain next_gives made answer =
     (iter : I) × becomes made iter × AnswersAsForeseen plain next_gives iter (built_tree answer)
 
--- the answer is this tree, but for a device's fault and lack of memory
+-- the result is this tree, unless it is `Io` or `OutOfMemory`
 abbrev pub IsReadBack : Tree → Result Tree Fault → Type 0
 IsReadBack tree (Ok read) = read ≡ tree
 IsReadBack tree (Err fault) = IsIoOrMemory fault.kind
 
--- a tree's events are those of no other tree, whatever their lengths
+-- a tree's events are those of no other tree, whatever their lengths are
 abbrev pub DetermineTrees : Type 0
 DetermineTrees = (left right : Tree) → AreAlike (bracketing left) (bracketing right) → left ≡ right

@@ -9,7 +9,7 @@ use Rattle.plist.specs.LastWins.{last_values}
 use Rattle.plist.specs.declared.value.Value.{Value, fold-Value}
 use Rattle.plist.specs.declared.value.Value.TheOpen.{Dictionary-F, Value-F}
 
--- the tree of a value whose items are trees already, and whose pairs are members
+-- the tree of a value whose items are trees already, and whose pairs are members already
 abbrev pub tree_step : Value-F Tree Members → Tree
 tree_step (Value-F.Array items) = Array (trees_of items.items)
 tree_step (Value-F.Dictionary members) = Dictionary members
@@ -21,7 +21,7 @@ tree_step (Value-F.Integer n) = Leaf (tree.Integer n)
 tree_step (Value-F.String text) = Leaf (tree.String (string_bytes text))
 tree_step (Value-F.Uid n) = Leaf (tree.Uid n)
 
--- the members of a dictionary whose values are trees already; its keys stand once each, so its last
+-- the members of a dictionary whose values are trees already; its keys are distinct, so its last
 -- values are its pairs
 abbrev pub members_step : Dictionary-F Tree Members → Members
 members_step dictionary = members_of (last_values dictionary.pairs)
@@ -34,7 +34,7 @@ tree_of = fold-Value Tree Members tree_step members_step
 abbrev pub item_trees : List Value → Trees
 item_trees items = trees_of (map tree_of items)
 
--- a dictionary's pairs, each value as its tree
+-- a dictionary's pairs, with each value as its tree
 abbrev pub tree_pairs : List (List ℕ × Value) → List (List ℕ × Tree)
 tree_pairs pairs = map (λ p. (p.0, tree_of p.1)) pairs
 

@@ -1,4 +1,4 @@
--- The events that are written: which of them a writer took, and why not the next one.
+-- The events that are written: which of them a writer took, and why it didn't take the next one.
 use Rattle.std.specs.Prelude.{◌≡◌, ◌⊎◌, List, [], ◌∷◌, ◌++◌, Result, Ok, Err}
 use Rattle.plist_base.specs.declared.error.Error.{Error}
 use Rattle.plist_base.specs.Bracketing.{bracketing}
@@ -16,7 +16,7 @@ module _ {S : Type 0} (Step : S → PlainEvent → Answer → S → Type 0) wher
   TakesAll before (event ∷ events) after =
       (between : S) × Step before event (Ok tt) between × TakesAll between events after
 
-  -- the writer refused an event
+  -- the writer rejected an event
   abbrev pub RefusesNext : (before : S) → List PlainEvent → Fault → (after : S) → Type 0
   RefusesNext before [] fault after = ⊥
   RefusesNext before (event ∷ events) fault after = Step before event (Err fault) after
@@ -26,8 +26,8 @@ module _ {S : Type 0} (Step : S → PlainEvent → Answer → S → Type 0) wher
   StopsForMemory before events fault after =
       (fault ≡ fault_nowhere OutOfMemory) × BeginsWithStart events × (after ≡ before)
 
-  -- The writer took all events; or the first of them, and then refused the next, or memory ran out
-  -- at it.
+  -- The writer took all events; or it took the first ones, and then rejected the next one, or
+  -- memory ran out.
   abbrev pub WritesEvents : (before : S) → List PlainEvent → Answer → (after : S) → Type 0
   WritesEvents before events (Ok done) after = TakesAll before events after
   WritesEvents before events (Err fault) after =
@@ -35,12 +35,12 @@ module _ {S : Type 0} (Step : S → PlainEvent → Answer → S → Type 0) wher
       × ((between : S) × TakesAll before taken between
       × (RefusesNext between left fault after ⊎ StopsForMemory between left fault after))
 
-  -- the events of a value
+  -- the events of a value are written
   abbrev pub WritesValue : (before : S) → Value → Result (Unit {0}) Error → (after : S) → Type 0
   WritesValue before value answer after =
       WritesEvents before (bracketing (tree_of value)) (answer_of answer) after
 
-  -- one item
+  -- one item is written
   abbrev pub WritesItem : (before : S) → Item → Answer → (after : S) → Type 0
   WritesItem before (Ok event) answer after = Step before event answer after
   WritesItem before (Err fault) answer after = (answer ≡ Err fault) × (after ≡ before)

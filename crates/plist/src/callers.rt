@@ -1,6 +1,6 @@
-//! Proved callers whose proofs cite lemmas of this crate: values of events, files by way of a
-//! value's events, entries that are written through, and `==` with its laws. Those of pairs stand in `plist_pairs`, and those by
-//! clauses alone in `plist_callers`.
+//! Proved callers whose proofs cite lemmas of this crate: values built from events, files written
+//! by a value's events, entries that are written through, and `==` with its laws. The callers of
+//! pairs are in `plist_pairs`, and those that need only clauses are in `plist_callers`.
 
 ghost use Rattle.std.specs.Prelude.{◌≡◌, IfOk, IfSome, option_map, string_bytes, true};
 ghost use Rattle.std.specs.Map.{lookup};
@@ -23,21 +23,21 @@ pub use plist_pairs::callers::{insert_each, keep_only, of_list};
 use std::alloc::Global;
 use std::mem;
 
-/// The value of a binary property list, from a reader of one's own.
+/// Returns the value of a binary property list, by a reader that the caller makes.
 pub fn value_of_binary<R: Source>(alloc: Global, source: R) -> Result<Value, Error>
     ensures value { ReadsItems items_of_file (R.known source) result }
 {
     Value::from_events(alloc, BinaryReader::new(alloc, source))
 }
 
-/// The value of a value's own events, which is that value.
+/// Returns the value of a value's own events, which is that value.
 pub fn value_again(alloc: Global, value: &Value) -> Result<Value, Error>
     ensures value { IsReadBack (tree_of value.now) (built_tree result) }
 {
     Value::from_events(alloc, value.events(alloc))
 }
 
-/// What a new writer sends of a value's events: a file of its tree, as the sharing says.
+/// Returns what a new writer writes for a value's events: a file of its tree, as the sharing says.
 pub fn file_by_events<S: Sharing>(alloc: Global, value: &Value) -> Result<Vec<u8>, Error>
     ensures file { IfOk result (λ file. S.IsFile (tree_of value.now) file.items) }
 {
@@ -46,9 +46,9 @@ pub fn file_by_events<S: Sharing>(alloc: Global, value: &Value) -> Result<Vec<u8
     Ok(writer.into_inner())
 }
 
-/// Whether two values are equal: whether their trees are the same, whatever the order of a
-/// dictionary's pairs. Sameness is an equivalence; scalars are the same where they are one, and
-/// dictionaries where they have the same at every key.
+/// Returns whether two values are equal, that is, whether their trees are the same up to the order
+/// of a dictionary's pairs. Sameness is an equivalence; scalars are the same if they are equal, and
+/// dictionaries are if they have the same values at all keys.
 #[tactic(auto, using(crate::proofs::SameTrees::sameness))]
 pub fn are_equal(value: &Value, other: &Value) -> bool
     // The answer.
@@ -63,7 +63,7 @@ pub fn are_equal(value: &Value, other: &Value) -> bool
     value == other
 }
 
-/// Whether two dictionaries are equal: whether they are so as values.
+/// Returns whether two dictionaries are equal, that is, whether they are equal as values.
 #[tactic(auto, using(crate::proofs::SameTrees::same_dictionaries))]
 pub fn are_equal_dictionaries(pairs: &Dictionary, others: &Dictionary) -> bool
     ensures same { result ≡ same_members (pair_trees (pairs_of pairs.now))
@@ -74,15 +74,15 @@ pub fn are_equal_dictionaries(pairs: &Dictionary, others: &Dictionary) -> bool
     pairs == others
 }
 
-/// What a key had, and what it had next.
+/// The value of a key, and its next value.
 pub struct Replaced {
-    /// The value that it had.
+    /// The value of the key.
     pub was: Value,
-    /// The value that it had once another was set.
+    /// The value of the key after another was set.
     pub next: Value,
 }
 
-/// Sets the value of a key that is there through its entry, and takes the key out.
+/// Sets the value of a key that is there through its entry, and removes the key.
 pub fn set_and_take(pairs: &mut Dictionary, key: String, value: Value) -> Option<Replaced>
     ensures was { option_map (λ r. r.was) result ≡ lookup (bytes_eq (string_bytes key))
         (pairs_of pairs.old) }
@@ -98,7 +98,7 @@ pub fn set_and_take(pairs: &mut Dictionary, key: String, value: Value) -> Option
     }
 }
 
-/// Writes through the entry of a key that is there, and takes the key out.
+/// Writes through the entry of a key that is there, and removes the key.
 pub fn write_and_take(pairs: &mut Dictionary, key: String, value: Value) -> Option<Replaced>
     ensures was { option_map (λ r. r.was) result ≡ lookup (bytes_eq (string_bytes key))
         (pairs_of pairs.old) }

@@ -1,4 +1,4 @@
-//! A value from the items of an iterator.
+//! Builds a value from the items of an iterator.
 
 ghost use Rattle.std.specs.Iterator.{IsFinite};
 ghost use Rattle.plist.specs.Collecting.{Collects, CollectsTo, built_tree};
@@ -9,8 +9,8 @@ use crate::stream::builder::{AnyEvent, Builder};
 use plist_base::Error;
 use std::alloc::Global;
 
-// The value of the items that an iterator gives, up to the first that is an error or that can't
-// come next, after which none is asked for.
+// Builds a value from an iterator's items, up to the first that is an error or that can't come
+// next. No item after that one is taken.
 fn collect_from<E: AnyEvent, I: Iterator<Item = Result<E, Error>>>(
     alloc: Global,
     rest: &mut I,
@@ -26,8 +26,8 @@ fn collect_from<E: AnyEvent, I: Iterator<Item = Result<E, Error>>>(
     builder.finish()
 }
 
-/// The value of the items that an iterator gives, up to the first that is an error or that can't
-/// come next.
+/// Builds a value from an iterator's items, up to the first that is an error or that can't come
+/// next.
 pub(crate) fn collect<E: AnyEvent, I: Iterator<Item = Result<E, Error>> + Drop>(
     alloc: Global,
     items: I,

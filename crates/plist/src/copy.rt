@@ -8,13 +8,13 @@ use crate::collect::collect;
 use crate::dictionary::TryCopy;
 use std::alloc::{AllocError, Global};
 
-/// The value of a value's events: so it is no recursion, however deep the value is.
+/// Builds a value from the events of another. So it doesn't recurse, however deep the value is.
 pub(crate) fn copy(alloc: Global, value: &Value) -> Result<Value, AllocError>
     ensures { IfOk result (λ copy. tree_of copy ≡ tree_of value.now) }
 {
     match collect(alloc, value.events(alloc)) {
         Ok(copy) => Ok(copy),
-        // these are a value's events, so nothing but memory can be lacking
+        // The events are those of a value, so only an allocation can fail.
         Err(_) => Err(AllocError),
     }
 }

@@ -1,4 +1,4 @@
-//! Dictionaries: pairs of a key and a value, in the order in which the keys came.
+//! Dictionaries: pairs of a key and a value, in the order in which the keys were inserted.
 
 ghost use Rattle.std.specs.Prelude.{◌≡◌, ◌<◌, ◌++◌, ◌∷◌, ◌↔◌, MatchOption, IsTrue, Some, [], length, is_some, string_bytes, IfOk, IfSome, OnOk, IfErr, OnErr, slice_get};
 ghost use Rattle.std.specs.Str.{bytes_eq};
@@ -29,18 +29,19 @@ use plist_pairs::{Pairs, dictionary};
 use std::alloc::Global;
 use std::fmt;
 
-/// The pairs, in their order.
+/// An iterator over the pairs, in their order.
 pub type Iter<'a> = dictionary::Iter<'a, Value>;
 
-/// The values, in the order of the pairs.
+/// An iterator over the values, in the order of the pairs.
 pub type Values<'a> = dictionary::Values<'a, Value>;
 
 /// A dictionary of a property list: pairs of a key and a value, each key once.
 ///
-/// The pairs have an order: a new key goes last, and a key that is there keeps its place. Contracts
-/// see the list of the pairs, a key as its bytes.
+/// The pairs are ordered: a new key is last, and a key that is set again keeps its index. Contracts
+/// see the list of the pairs, with each key as its bytes.
 ///
-/// A dictionary is dropped without recursion and without memory, however deep its values are.
+/// A dictionary is dropped without recursion and without allocating memory, however deep its values
+/// are.
 #[cycle(value)]
 pub struct Dictionary {
     pairs: Pairs<Value>,
@@ -56,7 +57,7 @@ impl Drop for Dictionary {
 impl Dictionary {
     ghost use Rattle.plist.specs.declared.value.Value.{Value as V};
 
-    /// No pairs. It takes no memory before the first insert.
+    /// Creates a dictionary without pairs. It allocates nothing before the first insert.
     pub fn new(alloc: Global) -> Dictionary
         ensures empty { pairs_of result ≡ [] }
     {
@@ -65,7 +66,7 @@ impl Dictionary {
         }
     }
 
-    /// Removes all pairs, and keeps the memory for others. The values are dropped without
+    /// Removes all pairs, and keeps the memory for later ones. The values are dropped without
     /// recursion.
     pub fn clear(&mut self)
         ensures empty { pairs_of self.new ≡ [] }
@@ -73,7 +74,7 @@ impl Dictionary {
         self.pairs.clear();
     }
 
-    /// The value of the key, if it is there.
+    /// Returns the value of the key, or `None` if the key isn't there.
     pub fn get(&self, key: &str) -> Option<&Value>
         ensures value { option_copied result ≡ lookup (bytes_eq key.now) (pairs_of self.now) }
         ensures member { IfSome result (λ value. IsAmong (values_of (pairs_of self.now)) value.now) }
@@ -81,14 +82,14 @@ impl Dictionary {
         self.pairs.get(key)
     }
 
-    /// Whether the key is there.
+    /// Returns whether the key is there.
     pub fn contains_key(&self, key: &str) -> bool
         ensures { result ≡ is_some (lookup (bytes_eq key.now) (pairs_of self.now)) }
     {
         self.pairs.contains_key(key)
     }
 
-    /// The value of the key, to be changed, if it is there.
+    /// Returns a mutable reference to the key's value, or `None` if the key isn't there.
     pub fn get_mut(&mut self, key: &str) -> Option<&mut Value>
         ensures value { option_copied_mut result ≡ lookup (bytes_eq key.now) (pairs_of self.old) }
         ensures member { IfSome result (λ lent. IsAmong (values_of (pairs_of self.old)) lent.now) }
@@ -99,12 +100,12 @@ impl Dictionary {
 
     /// Sets the key's value, and returns the value that it had.
     ///
-    /// A key that is there keeps its place, and a new one goes last.
+    /// A key that is there keeps its index, and a new one is last.
     ///
     /// # Errors
     ///
-    /// If memory runs out, which only a new key can meet, the pairs stay as they are, and the key
-    /// and the value come back.
+    /// If memory runs out, which is only possible for a new key, the pairs are unchanged, and the
+    /// key and the value are returned.
     pub fn insert(&mut self, key: String, value: Value) -> Result<Option<Value>, (String, Value)>
         // The answer.
         ensures old { IfOk result (λ old.
@@ -120,7 +121,8 @@ impl Dictionary {
         self.pairs.insert(key, value)
     }
 
-    // Sets the key's value. The value that it had is dropped, and this one where memory runs out.
+    // Sets the key's value, and drops the value that it had. If memory runs out, the new value is
+    // dropped.
     pub(crate) fn set(&mut self, key: String, value: Value) -> Result<(), Error>
         ensures pairs { OnOk result (IsSetAt (pairs_of self.old) (string_bytes key) value
             (pairs_of self.new)) }
@@ -128,9 +130,9 @@ impl Dictionary {
         self.pairs.set(key, value)
     }
 
-    /// Removes the key, and returns its value, if it is there.
+    /// Removes the key and returns its value, or returns `None` if the key isn't there.
     ///
-    /// The last pair moves to the place of the one that was removed.
+    /// The last pair moves to the index of the removed one.
     pub fn remove(&mut self, key: &str) -> Option<Value>
         ensures value { result ≡ lookup (bytes_eq key.now) (pairs_of self.old) }
         ensures pairs { IsTakenAt (pairs_of self.old) key.now (pairs_of self.new) }
@@ -138,21 +140,21 @@ impl Dictionary {
         self.pairs.remove(key)
     }
 
-    /// The number of pairs.
+    /// Returns the number of pairs.
     pub fn len(&self) -> usize
         ensures { result ≡ length (pairs_of self.now) }
     {
         self.pairs.len()
     }
 
-    /// Whether there are no pairs.
+    /// Returns whether there are no pairs.
     pub fn is_empty(&self) -> bool
         ensures { IsTrue result ↔ (pairs_of self.now ≡ []) }
     {
         self.pairs.is_empty()
     }
 
-    /// The pairs, in their order.
+    /// Returns an iterator over the pairs, in their order.
     pub fn iter(&self) -> Iter<'_>
         ensures rest { result ≡ pairs_of self.now }
         ensures runs { ShowsInOrder (shown_pair {V = V}) }
@@ -162,7 +164,7 @@ impl Dictionary {
         self.pairs.iter()
     }
 
-    /// The keys, in the order of the pairs.
+    /// Returns an iterator over the keys, in the order of the pairs.
     pub fn keys(&self) -> Keys<'_>
         ensures rest { result ≡ keys_of (pairs_of self.now) }
         ensures runs { ShowsInOrder shown_key }
@@ -171,7 +173,7 @@ impl Dictionary {
         self.pairs.keys()
     }
 
-    /// The values, in the order of the pairs.
+    /// Returns an iterator over the values, in the order of the pairs.
     pub fn values(&self) -> Values<'_>
         ensures rest { result ≡ values_of (pairs_of self.now) }
         ensures runs { ShowsInOrder (deref {X = V}) }
@@ -179,7 +181,7 @@ impl Dictionary {
         self.pairs.values()
     }
 
-    // The pairs, which aren't dropped as a dictionary is.
+    // Returns the pairs, which aren't dropped as a dictionary is.
     fn into_pairs(self) -> Pairs<Value>
         ensures { result ≡ pairs_of self }
     {
@@ -187,19 +189,19 @@ impl Dictionary {
         pairs
     }
 
-    /// The values, without their keys, in the order of the pairs.
+    /// Returns the values, without their keys, in the order of the pairs.
     pub fn into_items(self) -> Vec<Value>
         ensures { result.items ≡ values_of (pairs_of self) }
     {
         self.into_pairs().into_items()
     }
 
-    /// Where the pairs are stored.
+    /// Returns the allocator of the pairs.
     pub fn allocator(&self) -> Global {
         self.pairs.allocator()
     }
 
-    /// The number of pairs, whose keys are distinct.
+    /// Returns the number of pairs, whose keys are distinct.
     pub fn pair_count(&self) -> usize
         ensures count { result ≡ length (pairs_of self.now) }
         ensures distinct { IsDistinct bytes_eq (keys_of (pairs_of self.now)) }
@@ -207,7 +209,7 @@ impl Dictionary {
         self.pairs.pair_count()
     }
 
-    /// The pair at an index.
+    /// Returns the pair at an index.
     pub fn pair_at(&self, index: usize) -> (&str, &Value)
         requires { index < length (pairs_of self.now) }
         ensures { slice_get (pairs_of self.now) index ≡ Some (result.0.now, result.1.now) }
@@ -216,7 +218,7 @@ impl Dictionary {
     }
 }
 
-// Pairs by their indices, for entries, which look a key up once.
+// Pairs by their indices, for entries, which look up a key only once.
 impl Dictionary {
     fn index_of(&self, key: &str) -> Option<usize>
         ensures { MatchOption result (HasNone key.now (pairs_of self.now))
@@ -232,7 +234,7 @@ impl Dictionary {
         self.pairs.key_at(index)
     }
 
-    // The value at an index, to be changed.
+    // Returns a mutable reference to the value at an index.
     fn value_at(&mut self, index: usize) -> &mut Value
         requires { index < length (pairs_of self.old) }
         ensures value { slice_get (values_of (pairs_of self.old)) index ≡ Some result.now }
@@ -241,7 +243,7 @@ impl Dictionary {
         self.pairs.value_at(index)
     }
 
-    // Adds a pair whose key isn't there.
+    // Adds a pair whose key must not be there.
     fn push(&mut self, key: String, value: Value) -> Result<(), (String, Value)>
         requires { IsAbsent (string_bytes key) (pairs_of self.old) }
         ensures pairs { OnOk result (pairs_of self.new
@@ -252,7 +254,7 @@ impl Dictionary {
         self.pairs.push(key, value)
     }
 
-    // Takes the pair at an index; the last one moves there.
+    // Removes the pair at an index, to which the last pair moves, and returns its value.
     fn swap_remove_at(&mut self, index: usize) -> Value
         requires { index < length (pairs_of self.old) }
         ensures value { slice_get (values_of (pairs_of self.old)) index ≡ Some result }
@@ -262,7 +264,7 @@ impl Dictionary {
     }
 }
 
-/// The pairs, in their order.
+/// Iterates over the pairs, in their order.
 impl<'a> IntoIterator for &'a Dictionary {
     ghost use Rattle.plist.specs.declared.value.Value.{Value as V};
 
@@ -279,7 +281,7 @@ impl<'a> IntoIterator for &'a Dictionary {
     }
 }
 
-/// A map of the pairs, in their order.
+/// Formats the pairs as a map, in their order.
 impl fmt::Debug for Dictionary {
     #[cycle(value)]
     fn fmt<W: fmt::Write>(&self, f: &mut fmt::Formatter<W>) -> fmt::Result {
@@ -287,7 +289,8 @@ impl fmt::Debug for Dictionary {
     }
 }
 
-/// Equal values at each key of either, whatever the order.
+/// Dictionaries are equal if both have equal values at each key of either. Their order doesn't
+/// matter.
 impl PartialEq for Dictionary {
     ghost use Rattle.std.specs.Cmp.{partial_equiv_from_equiv};
     ghost use Rattle.plist.specs.inner.PutOff.{same_values_at};

@@ -1,8 +1,8 @@
-//! When values are equal.
+//! Equality of values.
 //!
-//! Values are compared by the call stack down to some levels; a pair that lies deeper is put off,
-//! and compared once the others are. So equality takes no more of the call stack than these levels
-//! do, however deep the values are, unless memory for the pairs is refused.
+//! Values are compared on the call stack down to a fixed number of levels; a pair that is deeper is
+//! deferred, and compared after the others. So a comparison needs no more of the call stack than
+//! these levels do, however deep the values are, unless memory for the pairs can't be allocated.
 
 ghost use Rattle.std.specs.Prelude.{◌≡◌, ◌-◌};
 ghost use Rattle.plist_base.specs.Trees.{Dictionary};
@@ -14,13 +14,14 @@ ghost use Rattle.plist.specs.ValueTrees.{tree_of};
 use crate::{Dictionary, Value};
 use std::alloc::Global;
 
-// How many levels are compared before a pair is put off.
+// The number of levels that are compared before a pair is deferred.
 const LEVELS: u32 = 128;
 
-/// Equal kinds with the same content: arrays by place, dictionaries by key, whatever the order.
+/// Two values are equal if they are of one kind and have equal content: arrays index by index,
+/// dictionaries key by key, in any order.
 ///
-/// It takes no memory for values of at most 128 levels. Where it needs some for deeper ones and
-/// none is found, it takes more of the call stack.
+/// A comparison allocates no memory for values of at most 128 levels. If it needs memory for deeper
+/// values and the allocation fails, it uses more of the call stack.
 impl PartialEq for Value {
     ghost use Rattle.std.specs.Cmp.{partial_equiv_from_equiv};
     ghost use Rattle.plist.specs.inner.Sameness.{same_by_equiv};
@@ -50,21 +51,21 @@ impl Eq for Value {
     ghost laws = { same_by_equiv tree_of };
 }
 
-// Two values that are still to be compared.
+// Two values that have to be compared.
 #[derive(Drop)]
 struct Pair<'a> {
     value: &'a Value,
     other: &'a Value,
 }
 
-// The pairs that are still to be compared.
+// The pairs that have to be compared.
 #[derive(Drop)]
 struct Later<'a> {
     pairs: Option<Vec<Pair<'a>>>,
 }
 
 impl<'a> Later<'a> {
-    // The pair that was put off last.
+    // Removes and returns the pair that was deferred last.
     fn pop(&mut self) -> Option<Pair<'a>>
         ensures { TakesLast self.old result self.new }
     {
@@ -74,7 +75,7 @@ impl<'a> Later<'a> {
         }
     }
 
-    // The list of the pairs that were put off, of which none are then.
+    // Returns the list of the deferred pairs, and leaves none.
     fn take(&mut self, alloc: Global) -> Vec<Pair<'a>>
         ensures { result.items ≡ waiting self.old }
     {
@@ -84,7 +85,7 @@ impl<'a> Later<'a> {
         }
     }
 
-    // Puts a pair off, if it is one of collections and memory is found for it.
+    // Defers a pair, if it is one of collections and memory for it can be allocated.
     #[tactic(auto, using(crate::proofs::Comparing::put_off))]
     fn put_off(&mut self, value: &'a Value, other: &'a Value) -> bool
         ensures { PutsOff value.now other.now self.old result self.new }
@@ -98,7 +99,7 @@ impl<'a> Later<'a> {
         done
     }
 
-    // Whether two values are equal, but for pairs that are put off.
+    // Returns whether two values are equal, apart from pairs that are deferred.
     #[cycle(same)]
     fn compare(&mut self, value: &'a Value, other: &'a Value, levels: u32) -> bool
         ensures { ComparesValues value.now other.now self.old result self.new }
@@ -112,7 +113,8 @@ impl<'a> Later<'a> {
         self.compare_content(value, other, 0)
     }
 
-    // The same, where the two aren't put off themselves.
+    // Returns whether two values, which aren't deferred themselves, are equal apart from pairs that
+    // are.
     #[cycle(same)]
     fn compare_content(&mut self, value: &'a Value, other: &'a Value, levels: u32) -> bool
         ensures { ComparesContent value.now other.now self.old result self.new }
@@ -175,7 +177,7 @@ impl<'a> Later<'a> {
         }
     }
 
-    // Whether two arrays are equal, likewise.
+    // Returns whether two arrays are equal, apart from pairs that are deferred.
     #[cycle(same)]
     fn compare_items(&mut self, items: &'a Vec<Value>, others: &'a Vec<Value>, levels: u32) -> bool
         ensures { ComparesItems items.now.items others.now.items self.old result self.new }
@@ -191,7 +193,7 @@ impl<'a> Later<'a> {
         true
     }
 
-    // Whether two dictionaries are equal, likewise.
+    // Returns whether two dictionaries are equal, apart from pairs that are deferred.
     #[cycle(same)]
     fn compare_pairs(&mut self, pairs: &'a Dictionary, others: &'a Dictionary, levels: u32) -> bool
         ensures { ComparesPairs (pairs_of pairs.now) (pairs_of others.now) self.old result self.new }

@@ -21,8 +21,8 @@ use std::io::Write;
 use std::rt::Files;
 use std::{fs, io};
 
-/// A file that is created, or cut, at its first write. Where nothing is written, it stays as it
-/// was.
+/// A file that is created, or truncated, at its first write. If nothing is written, it is left as
+/// it was.
 #[derive(Drop)]
 pub struct Output<'a, R: Files> {
     rt: &'a R,
@@ -31,7 +31,7 @@ pub struct Output<'a, R: Files> {
 }
 
 impl<'a, R: Files> Write for Output<'a, R> {
-    // those of the file, once there is one
+    // the bytes of the file, once it is open
     ghost contents = { λ output. contents_of R.File.contents output.file };
 
     fn write(&mut self, buf: &[u8]) -> io::Result<usize>
@@ -61,14 +61,14 @@ impl<'a, R: Files> Write for Output<'a, R> {
     }
 }
 
-// Whether a sync failed in this way since the file has no store: a pipe or a terminal has none, and
-// a regular file has one.
+// Returns whether a sync failed in this way because nothing can be synced: the file is a pipe or a
+// terminal, and not a regular file.
 fn is_without_store<F: OpenFile>(file: &F, kind: io::ErrorKind) -> bool {
     kind == io::ErrorKind::InvalidInput && file.metadata().is_ok_and(|it| !it.is_file())
 }
 
 impl<'a, R: Files> Output<'a, R> {
-    /// The file of this name, which nothing is done to yet.
+    /// Makes an output for the file of this name, without opening it.
     pub fn new(rt: &'a R, path: &'a str) -> Self
         ensures fresh { IsNone result.file }
     {
@@ -79,11 +79,12 @@ impl<'a, R: Files> Output<'a, R> {
         }
     }
 
-    /// Has the system store what was written. A pipe or a terminal has no store: it has it all.
+    /// Has the system store what was written. It succeeds for a pipe or a terminal, which store
+    /// nothing.
     ///
     /// # Errors
     ///
-    /// `Io`, without an offset, where the system fails to.
+    /// `Io`, without an offset, if that fails.
     pub fn sync(&self) -> Result<(), Error>
         ensures { OnlyDevice result }
     {
@@ -97,11 +98,12 @@ impl<'a, R: Files> Output<'a, R> {
         }
     }
 
-    /// Writes a file of the value and has it stored.
+    /// Writes a file of the value and has the system store it.
     ///
     /// # Errors
     ///
-    /// Those of [`Value::to_writer_binary`], for memory and size before a file is created or cut.
+    /// Those of [`Value::to_writer_binary`]. `OutOfMemory` and `PlistTooLarge` are returned before
+    /// a file is created or truncated.
     pub fn store(&mut self, alloc: Global, value: &Value) -> Result<(), Error>
         ensures sent { SendsValue (λ output. contents_of R.File.contents output.file) value.now
             result self.old self.new }
@@ -112,13 +114,13 @@ impl<'a, R: Files> Output<'a, R> {
 }
 
 impl Value {
-    /// The value of the file of this name, binary or in ASCII as [`Value::from_reader`] chooses.
-    /// Each read of the file fills a window of 8 KiB, from which most bytes are taken.
+    /// Reads the value of the file of this name, binary or in ASCII as [`Value::from_reader`]
+    /// chooses. Each read of the file fills a window of 8 KiB, from which most bytes are taken.
     ///
     /// # Errors
     ///
-    /// - `Io` without an offset where the file can't be opened. [`Error::as_io`] has the reason,
-    ///   which the fault's text leaves out.
+    /// - `Io`, without an offset, if the file can't be opened. [`Error::as_io`] returns the reason,
+    ///   which the error's own text leaves out.
     /// - Those of [`Value::from_reader`].
     pub fn from_file<R: Files>(rt: &R, alloc: Global, path: &str) -> Result<Value, Error>
         ensures read { IsReadFromFile R.File Dialect.Lax (built_tree result) }
@@ -127,9 +129,9 @@ impl Value {
         Value::from_file_with_dialect(rt, alloc, path, Dialect::Lax)
     }
 
-    /// Like [`Value::from_file`], but reads a file in ASCII in this dialect. Files that other
-    /// programs write with a value a line, without quotes or `;` between, are read by
-    /// [`Dialect::Tight`].
+    /// Like [`Value::from_file`], but reads a file in ASCII in this dialect. [`Dialect::Tight`]
+    /// reads the files that other programs write with one value a line, without quotes or `;`
+    /// between them.
     ///
     /// # Errors
     ///
@@ -152,12 +154,12 @@ impl Value {
         }
     }
 
-    /// The same, of no more than these limits let come. The value nests at most `limits.depth`
-    /// collections, and came of at most `limits.items` events.
+    /// Like [`Value::from_file`], but fails once a limit is exceeded. The value nests at most
+    /// `limits.depth` collections, and was built from at most `limits.items` events.
     ///
     /// # Errors
     ///
-    /// - `LimitReached`, as [`Value::from_reader_with_limits`].
+    /// - `LimitReached`, as in [`Value::from_reader_with_limits`].
     /// - Those of [`Value::from_file`].
     pub fn from_file_with_limits<R: Files>(
         rt: &R,
@@ -178,15 +180,15 @@ impl Value {
         }
     }
 
-    /// Writes the value as a binary property list to the file of this name, which is created, or
-    /// cut first, and has the system store it.
+    /// Writes the value as a binary property list to the file of this name, and has the system
+    /// store it. The file is created, or truncated first.
     ///
     /// # Errors
     ///
-    /// - `PlistTooLarge` where the file would have 2^64 bytes or more, and `OutOfMemory`: no file
-    ///   was created or cut.
-    /// - `Io` where the file can't be created, and where a write, the flush or the sync fails. The
-    ///   file may then hold a beginning of the property list.
+    /// - `PlistTooLarge` if the file would have 2^64 bytes or more, and `OutOfMemory`: no file is
+    ///   created or truncated.
+    /// - `Io` if the file can't be created, or if a write, the flush or the sync fails. The file
+    ///   may then contain a prefix of the property list.
     pub fn to_file_binary<R: Files>(&self, rt: &R, alloc: Global, path: &str) -> Result<(), Error>
         ensures refused { IfFault result (IsUnstored (tree_of self.now)) }
     {

@@ -1,4 +1,4 @@
-//! Events: what reads, what takes and what gives them.
+//! Events: what reads them, takes them and yields them.
 
 pub mod builder;
 pub mod events;

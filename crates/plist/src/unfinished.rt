@@ -1,4 +1,4 @@
-//! A value that isn't complete yet: the open collections, and at last the root.
+//! A value that isn't complete yet: the open collections, and finally the root.
 
 ghost use Rattle.std.specs.Prelude.{◌≡◌, None, OnOk, option_map};
 ghost use Rattle.plist_base.specs.Events as events;
@@ -20,7 +20,7 @@ pub(crate) enum UnclosedCollection {
     Array(Vec<Value>),
     /// A dictionary with its pairs so far.
     Dictionary(Dictionary),
-    /// A dictionary with its pairs so far, and a key whose value is to come.
+    /// A dictionary with its pairs so far, and a key whose value is next.
     AfterKey(Dictionary, String),
 }
 
@@ -35,8 +35,8 @@ impl UnclosedCollection {
     }
 }
 
-/// The open collections, innermost last, and the root once it is complete. What is stored may be
-/// deep, and is dropped without recursion.
+/// The open collections, innermost last, and the root once it is complete. The values may be deep,
+/// and are dropped without recursion.
 pub(crate) struct UnfinishedValue {
     collections: Vec<UnclosedCollection>,
     root: Option<Value>,
@@ -52,7 +52,7 @@ impl Drop for UnfinishedValue {
     }
 }
 
-// What a refusal says was expected.
+// Returns the kind that an error names as expected.
 fn kind_expected(expect: Expect) -> EventKind
     ensures { result ≡ kind_expected expect }
 {
@@ -62,7 +62,7 @@ fn kind_expected(expect: Expect) -> EventKind
     }
 }
 
-// Why the event can't come where this is expected, if it can't.
+// Returns why the event can't come next where this is expected, or `None` if it can.
 fn refusal_of(expect: Expect, event: &Event<'_>) -> Option<ErrorKind>
     ensures { option_map kind_of result ≡ refusal_of expect (event_of event.now) }
 {
@@ -76,7 +76,7 @@ fn refusal_of(expect: Expect, event: &Event<'_>) -> Option<ErrorKind>
 }
 
 impl UnfinishedValue {
-    /// No events yet.
+    /// Starts without events.
     pub(crate) fn new(alloc: Global) -> UnfinishedValue
         ensures { unfinished_of result ≡ NotBegun }
     {
@@ -86,7 +86,7 @@ impl UnfinishedValue {
         }
     }
 
-    /// Drops what is held.
+    /// Drops the collections and the root.
     pub(crate) fn clear(&mut self)
         ensures { unfinished_of self.new ≡ NotBegun }
     {
@@ -99,7 +99,7 @@ impl UnfinishedValue {
         }
     }
 
-    /// Why the event can't come next, if it can't.
+    /// Returns why the event can't come next, or `None` if it can.
     pub(crate) fn refusal(&self, event: &Event<'_>) -> Option<ErrorKind>
         ensures { IsRefusalOf self.now event.now result }
     {
@@ -124,7 +124,7 @@ impl UnfinishedValue {
         Ok(())
     }
 
-    // Puts a complete value where it belongs.
+    // Adds a complete value to the innermost collection, or makes it the root.
     fn add(&mut self, value: Value) -> Result<(), AllocError>
         requires { self.old.root ≡ None }
         ensures { OnOk result (AddsValue self.old value self.new) }
@@ -149,7 +149,7 @@ impl UnfinishedValue {
                     Ok(()) => {}
                     Err(_) => return Err(AllocError),
                 }
-                // its contract says that no key stands twice
+                // The contract of this call says that the keys are distinct.
                 let _ = pairs.pair_count();
                 self.collections
                     .push_reserved(UnclosedCollection::Dictionary(pairs));
@@ -158,7 +158,7 @@ impl UnfinishedValue {
         Ok(())
     }
 
-    // Ends the innermost collection, which is a value then.
+    // Ends the innermost collection, which becomes a value.
     fn end(&mut self) -> Result<(), AllocError>
         requires order { refusal_at (unfinished_of self.old) events.EndCollection ≡ None }
         requires root { self.old.root ≡ None }
@@ -171,7 +171,7 @@ impl UnfinishedValue {
         }
     }
 
-    // Puts a text where it belongs, as a key or as a value.
+    // Adds a string, as a key or as a value.
     fn add_text(&mut self, text: String) -> Result<(), AllocError>
         requires { self.old.root ≡ None }
         ensures { OnOk result (TakesText self.old text self.new) }
@@ -190,9 +190,9 @@ impl UnfinishedValue {
         }
     }
 
-    /// Adds an event that can come next to what is held.
+    /// Adds an event that can come next.
     ///
-    /// After a failure what is held isn't known.
+    /// After a failure the contents are unspecified.
     pub(crate) fn take(&mut self, alloc: Global, event: Event<'_>) -> Result<(), AllocError>
         requires { refusal_at (unfinished_of self.old) (event_of event) ≡ None }
         ensures { OnOk result (AddsEvent self.old (event_of event.entry) self.new) }
@@ -213,7 +213,7 @@ impl UnfinishedValue {
         }
     }
 
-    /// Takes the root out, if it is complete; nothing is held then.
+    /// Removes and returns the root, if it is complete. Then nothing is left.
     pub(crate) fn take_root(&mut self) -> Option<Value>
         ensures root { option_map tree_of result ≡ complete_tree (unfinished_of self.old) }
         ensures left { RootIsTaken self.old result self.new }

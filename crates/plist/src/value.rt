@@ -39,8 +39,8 @@ use std::io::Write;
 
 /// A property list: a scalar, an array, or a dictionary.
 ///
-/// A value is dropped by recursion over arrays that lie within one another, and so needs the more of
-/// the call stack the deeper they nest; [`Value::destroy`] needs none. What lies in a dictionary is
+/// Arrays that are nested in one another are dropped recursively, so the deeper they nest, the more
+/// of the call stack a drop needs; [`Value::destroy`] needs none. The values in a dictionary are
 /// dropped without recursion.
 #[cycle(value)]
 #[derive(Debug, Drop)]
@@ -49,17 +49,17 @@ pub enum Value {
     Array(Vec<Value>),
     /// Values under keys.
     Dictionary(Dictionary),
-    /// A truth value.
+    /// A Boolean.
     Boolean(bool),
-    /// Bytes.
+    /// Data.
     Data(Vec<u8>),
-    /// A moment.
+    /// A date.
     Date(Date),
     /// The bytes of a real.
     Real(RealBits),
-    /// A whole number.
+    /// An integer.
     Integer(Integer),
-    /// A text.
+    /// A string.
     String(String),
     /// The number of an object in a keyed archive.
     Uid(Uid),
@@ -68,7 +68,7 @@ pub enum Value {
 impl Value {
     ghost use Rattle.plist.specs.declared.value.Value.TheVariants as made;
 
-    /// The array, if the value is one.
+    /// Returns the array, or `None` if the value isn't one.
     pub fn into_array(self) -> Option<Vec<Value>>
         ensures value { option_map (λ a. item_trees a.items) result ≡ array_in (tree_of self) }
         ensures made { IfSome result (λ items. self ≡ made.Array items) }
@@ -82,7 +82,7 @@ impl Value {
         }
     }
 
-    /// The dictionary, if the value is one.
+    /// Returns the dictionary, or `None` if the value isn't one.
     pub fn into_dictionary(self) -> Option<Dictionary>
         ensures value { option_map (λ pairs. pair_trees (pairs_of pairs)) result
             ≡ dictionary_in (tree_of self) }
@@ -97,7 +97,7 @@ impl Value {
         }
     }
 
-    /// The bytes of data, if the value is data.
+    /// Returns the bytes of data, or `None` if the value isn't data.
     pub fn into_data(self) -> Option<Vec<u8>>
         ensures value { option_map (λ bytes. bytes.items) result ≡ data_in (tree_of self) }
         ensures made { IfSome result (λ bytes. self ≡ made.Data bytes) }
@@ -111,7 +111,7 @@ impl Value {
         }
     }
 
-    /// The text, if the value is one.
+    /// Returns the string, or `None` if the value isn't one.
     pub fn into_string(self) -> Option<String>
         ensures value { option_map string_bytes result ≡ text_in (tree_of self) }
         ensures made { IfSome result (λ text. self ≡ made.String text) }
@@ -125,7 +125,7 @@ impl Value {
         }
     }
 
-    /// The events of the value, depth first.
+    /// Returns an iterator over the events of the value, depth first.
     #[tactic(auto, using(crate::proofs::Itself::itself))]
     pub fn events(&self, alloc: Global) -> Events<'_>
         ensures items { remaining_events result ≡ bracketing (tree_of self.now) }
@@ -134,10 +134,10 @@ impl Value {
         Events::new(alloc, self)
     }
 
-    /// The value of these events. A key that comes again keeps its first place and takes its last
-    /// value; lengths decide nothing.
+    /// Builds a value from these events. A key that is repeated keeps its first position and takes
+    /// its last value; the lengths of starts decide nothing.
     ///
-    /// It takes items up to the first one that is an error, or that can't come next.
+    /// Items are taken up to the first one that is an error, or that can't come next.
     ///
     /// # Errors
     ///
@@ -165,11 +165,12 @@ impl Value {
         collect(alloc, events.into_iter())
     }
 
-    /// The value of a source, binary or in ASCII as [`Reader`] chooses. A key that comes again
-    /// keeps its first place and takes its last value. A binary file that is written of a value
-    /// gives that value, in order.
+    /// Reads the value of a source, binary or in ASCII as [`Reader`] chooses. A key that is
+    /// repeated keeps its first position and takes its last value. A binary file that was written
+    /// of a value is read back as that value, in order.
     ///
-    /// A source is a slice of bytes, a vector, or anything to read and seek, as a file:
+    /// A source is a slice of bytes, a vector, or anything that can be read and sought, such as a
+    /// file:
     ///
     /// ```text
     /// Value::from_reader(alloc, bytes.as_slice())
@@ -177,13 +178,13 @@ impl Value {
     /// Value::from_reader(alloc, Seeking::new(file))
     /// ```
     ///
-    /// ASCII is read in the lax dialect, in which a bare text doesn't end at a line end: a file
-    /// with one value a line and no `;` or quotes between gives other texts than it seems to.
-    /// [`Value::from_reader_with_dialect`] reads such files.
+    /// ASCII is read in the lax dialect, in which a bare string doesn't end at the end of a line.
+    /// In a file with one value per line, without `;` or quotes between them, the ends of lines can
+    /// therefore become part of strings. [`Value::from_reader_with_dialect`] reads such files.
     ///
     /// # Errors
     ///
-    /// - The first fault of the source's items: those of [`Reader`].
+    /// - The first error among the source's items: the errors of [`Reader`].
     /// - `UnexpectedEventType` for an event that can't come next, and `ExpectedEndOfEventStream`
     ///   for one after a whole value.
     /// - `UnexpectedEndOfEventStream` if the items end before the value does.
@@ -217,19 +218,20 @@ impl Value {
     }
 
     /// Like [`Value::from_reader`], but fails once a limit is exceeded. The value nests at most
-    /// `limits.depth` collections, and has and came of at most `limits.items` events.
+    /// `limits.depth` collections. It has at most `limits.items` events, and was built from at most
+    /// as many.
     ///
     /// ```text
     /// Value::from_reader_with_limits(alloc, bytes, Limits { depth: 64, items: 100_000 })
     /// ```
     ///
-    /// The limits don't bound the bytes of strings and data, which a small file may refer to again
-    /// and again: [`Value::from_reader_within`] does.
+    /// The limits don't bound the bytes of strings and data, to which a small file may refer again
+    /// and again; [`Value::from_reader_within`] bounds them.
     ///
     /// # Errors
     ///
-    /// - `LimitReached` in the place of the first event that is one too many, or else of a start
-    ///   that would open one collection too many, unless an earlier item was rejected.
+    /// - `LimitReached` in place of the first event that is one too many, or else of a start that
+    ///   would open one collection too many, unless an earlier item was rejected.
     /// - Those of [`Value::from_reader`].
     pub fn from_reader_with_limits<R: Source>(
         alloc: Global,
@@ -246,16 +248,16 @@ impl Value {
     }
 
     /// Like [`Value::from_reader_with_limits`], but fails also once the strings, keys among them,
-    /// and the data have more than this many bytes together. A string counts by its bytes in
-    /// UTF-8, and counts again wherever the source refers to it again.
+    /// and the data have more than this many bytes together. A string counts by its bytes in UTF-8,
+    /// and counts again for each further reference to it.
     ///
-    /// Use it for files of strangers: the value has no more events, levels and bytes than the
-    /// caller allows, whatever the source says.
+    /// Use it for untrusted files: the value has no more events, levels and bytes than the caller
+    /// allows, whatever the source contains.
     ///
     /// # Errors
     ///
-    /// - `OutOfMemory`, also where the memory that the caller allows is used up: in the place of
-    ///   the first string or data that has a byte too many, unless an earlier item was rejected.
+    /// - `OutOfMemory`, also if the memory that the caller allows is used up: in place of the first
+    ///   string or data that exceeds it, unless an earlier item was rejected.
     /// - Those of [`Value::from_reader_with_limits`].
     pub fn from_reader_within<R: Source>(
         alloc: Global,
@@ -274,14 +276,14 @@ impl Value {
         collect(alloc, Limited::within_bytes(limited, bytes))
     }
 
-    /// The value of an ASCII property list, by the rules of [`Value::from_reader`]. Bytes past the
-    /// first 2^64 - 1 aren't read.
+    /// Reads the value of an ASCII property list, by the rules of [`Value::from_reader`]. Bytes
+    /// past the first 2^64 - 1 aren't read.
     ///
-    /// It asks the reader for one byte at a time: wrap a plain file in a buffer.
+    /// It reads one byte at a time, so a plain file should be wrapped in a buffer.
     ///
     /// # Errors
     ///
-    /// Those of [`Value::from_reader`], with the faults of [`AsciiReader`].
+    /// Those of [`Value::from_reader`], with the errors of [`AsciiReader`].
     pub fn from_reader_ascii<R: ByteReader + Drop>(alloc: Global, reader: R) -> Result<Value, Error>
         ensures value { ReadsItems (items_of_text lax_stops) (R.remaining reader) result }
         ensures read { IsReadAsAscii R.remaining R.failures reader Dialect.Lax (built_tree result) }
@@ -289,8 +291,8 @@ impl Value {
         Value::from_reader_ascii_with_dialect(alloc, reader, Dialect::Lax)
     }
 
-    /// The same of an ASCII property list of this dialect. `{a=b}` is no value in the lax dialect,
-    /// and in the tight one a dictionary.
+    /// Like [`Value::from_reader_ascii`], but reads an ASCII property list in this dialect. `{a=b}`
+    /// isn't a value in the lax dialect, and is a dictionary in the tight one.
     ///
     /// # Errors
     ///
@@ -306,7 +308,7 @@ impl Value {
         collect(alloc, AsciiReader::with_dialect(alloc, reader, dialect))
     }
 
-    /// A copy: the same content, dictionaries in the same order.
+    /// Copies the value. The copy has the same content, with dictionaries in the same order.
     ///
     /// # Errors
     ///
@@ -318,7 +320,7 @@ impl Value {
         Ok(copy(alloc, self)?)
     }
 
-    /// The value of a text.
+    /// Makes a value from a string.
     ///
     /// # Errors
     ///
@@ -330,14 +332,15 @@ impl Value {
         Ok(Value::String(String::from_str(alloc, text)?))
     }
 
-    /// Writes the value as a binary property list, after what was written before, and flushes.
+    /// Writes the value as a binary property list, after what was written before, and flushes the
+    /// writer.
     ///
     /// # Errors
     ///
-    /// - `PlistTooLarge` where the file would have 2^64 bytes or more, and `OutOfMemory`: nothing
-    ///   of it went out, and the writer is as it was.
-    /// - `Io` where a write failed, `Interrupted` or not, or took no byte, and where the flush
-    ///   failed: a beginning of the file went out, all of it where the flush failed.
+    /// - `PlistTooLarge` if the file would have 2^64 bytes or more, and `OutOfMemory`: nothing of
+    ///   it is written, and the writer is unchanged.
+    /// - `Io` if a write fails, for `Interrupted` too, or takes no byte, or if the flush fails: a
+    ///   prefix of the file is written, and all of it if the flush failed.
     pub fn to_writer_binary<W: Write>(&self, alloc: Global, writer: &mut W) -> Result<(), Error>
         ensures sent { SendsValue W.contents self.now result writer.old writer.new }
     {
@@ -346,7 +349,7 @@ impl Value {
     }
 }
 
-/// The kind of the value's first event: the scalar's own, or the start of the collection.
+/// Returns the kind of the value's first event: the scalar's own, or the start of the collection.
 pub fn kind_of_value(value: &Value) -> EventKind
     ensures { result ≡ kind_of_tree (tree_of value.now) }
 {

@@ -1,4 +1,4 @@
-//! Values as the events that a writer takes.
+//! Writes the events of values to a writer.
 
 ghost use Rattle.std.specs.Prelude.{◌≡◌, IfOk};
 ghost use Rattle.plist_base.specs.Bracketing.{lengthless};
@@ -14,7 +14,7 @@ use plist_base::{Error, Event, Writer};
 use plist_binwrite::EventTable;
 use std::alloc::Global;
 
-// Writes an item's event, or passes its fault on.
+// Writes an item's event, or returns its error.
 fn write_item<W: Writer>(writer: &mut W, item: Result<Event<'_>, Error>) -> Result<(), Error>
     ensures { WritesItem W.Step writer.old (item_of item.entry) (answer_of result) writer.new }
 {
@@ -26,8 +26,8 @@ fn write_item<W: Writer>(writer: &mut W, item: Result<Event<'_>, Error>) -> Resu
 ///
 /// # Errors
 ///
-/// The writer's first refusal, after which nothing more is written; and `OutOfMemory` in the place
-/// of a start, where the iterator over the events finds no memory.
+/// The writer's first error, after which nothing more is written; and `OutOfMemory`, in place of a
+/// start, if the iterator over the events runs out of memory.
 pub fn write_value<W: Writer>(alloc: Global, value: &Value, writer: &mut W) -> Result<(), Error>
     ensures written { WritesValue W.Step writer.old value.now result writer.new }
 {
@@ -38,7 +38,8 @@ pub fn write_value<W: Writer>(alloc: Global, value: &Value, writer: &mut W) -> R
     Ok(())
 }
 
-/// The events of the value, in order, each different scalar once. Texts and data are borrowed.
+/// Returns the events of the value, in order, with each different scalar once. Strings and data are
+/// borrowed.
 ///
 /// # Errors
 ///

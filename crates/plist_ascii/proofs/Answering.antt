@@ -1,4 +1,4 @@
--- How the answers of the parts of a token make the answer of the whole.
+-- How the results of a token's parts make up the result of the whole.
 use Rattle.std.proofs.Common.{◌≡◌, ℕ, Bool, true, false, None, Some, sym, ap, subst, ◌∙◌, rules, suc, ◌+◌, ◌≤◌, List, [], ◌∷◌, length, drop, Option, Result, Ok, Err, refl, arith}
 use Rattle.std.specs.Option.{option_map}
 use Rattle.std.specs.Result.{IsErrAnd, IfErr}
@@ -9,7 +9,7 @@ use Rattle.plist_ascii.specs.Kinds.{IsFaultOfBytes}
 use Rattle.plist_ascii.specs.Unread.{IsFaultAt, is_io_or_memory, IfKnown, FirstIsTaken, TakesFront, GivesFront}
 use Rattle.plist_ascii.specs.Taken.{Taken, taken, past_one, past_outcome, followed, front, front_gives, needs}
 
--- what is so of a fault that is passed on is so of the answer
+-- what is true of an error that is passed on is true of the result's error
 pub passed_on : {X : Type 0} (P : Error → Type 0) (r : Result X Error) (f : Error)
     → IsErrAnd r (λ e. e ≡ f) → P f → IfErr r P
 passed_on P (Ok x) f h k = tt
@@ -20,12 +20,12 @@ pub inside_has : (kind : FaultKind) (A B C : Type 0) → is_io_or_memory kind �
     → MatchFault kind A B C → C
 inside_has kind A B C e h = search rules
 
--- and what is enough for it
+-- what suffices for a fault in the bytes
 pub inside_gets : (kind : FaultKind) (A B C : Type 0) → is_io_or_memory kind ≡ false → C
     → MatchFault kind A B C
 inside_gets kind A B C e h = search rules
 
--- what is enough for a device's fault or lack of memory
+-- what suffices for `Io` or `OutOfMemory`
 pub outside_gets : (kind : FaultKind) (A B C : Type 0) → is_io_or_memory kind ≡ true → A
     → (kind ≡ OutOfMemory → B) → MatchFault kind A B C
 outside_gets kind A B C e a b = search rules
@@ -42,7 +42,7 @@ pub is_at_inside : (f : Error) (kind : FaultKind) (place : ℕ) → fault_of f �
 is_at_inside f kind place e i =
     let P : Fault → Type 0 = λ fault. IsFaultAt fault place in subst P (sym e) (at_inside kind _ i)
 
--- the place of a fault in the bytes
+-- the offset of a fault in the bytes
 fault_by : (fault : Fault) (place : ℕ) → fault.offset ≡ Some place
     → fault ≡ fault_at fault.kind place
 fault_by fault place e = ap (λ o. record { kind = fault.kind; offset = o }) e
@@ -55,7 +55,7 @@ inside_is f place i h =
 no_both : (b : Bool) → b ≡ true → b ≡ false → ⊥
 no_both b t f = cc
 
--- a device's fault says nothing of the bytes, nor does lack of memory
+-- `Io` says nothing of the bytes
 pub io_outside : (f : Error) (place : ℕ) → fault_of f ≡ fault_at Io place
     → IsFaultAt (fault_of f) place × (is_io_or_memory (kind_of (error_kind_of f)) ≡ true)
 io_outside f place e = (
@@ -70,13 +70,13 @@ memory_outside f place e = (
   ap (λ (fault : Fault). is_io_or_memory fault.kind) e,
 )
 
--- it doesn't say that the input ended where a byte had to be taken
+-- `Io` doesn't say that the input ended where a byte was required
 pub io_unclosed : (f : Error) (place : ℕ) → fault_of f ≡ fault_at Io place → {P : Type 0}
     → IsFaultAt (fault_of f) place × (is_io_or_memory (kind_of (error_kind_of f)) ≡ false → P)
 io_unclosed f place e =
     let o = io_outside f place e in (o.0, λ d. absurd (no_both _ o.1 d))
 
--- several bytes that must be there
+-- several bytes that are required
 
 front_past : {A : Type 0} (n left c : ℕ) (o : Option (List ℕ))
     (meaning : List ℕ → Result A FaultKind)
@@ -90,7 +90,7 @@ needs_past : {A : Type 0} (n c : ℕ) (ys : List ℕ) (meaning : List ℕ → Re
 needs_past n c ys meaning = front_past n (length ys) c (front n ys) meaning
 
 module _ {X A : Type 0} (view : X → A) where
-  -- a fault is passed on
+  -- an error is passed on
   pub answers_passed : (front : List ℕ → Taken A) (old : Option (List ℕ)) (p : ℕ)
       (new : Option (List ℕ)) (q : ℕ) (r : Result X Error) (f : Error)
       → IsErrAnd r (λ e. e ≡ f) → GivesFront view front old p new q (Err f)
@@ -99,7 +99,7 @@ module _ {X A : Type 0} (view : X → A) where
   answers_passed front old p new q (Err e) f h a =
       subst (λ e. GivesFront view front old p new q (Err e)) (sym h) a
 
-  -- a device's fault or lack of memory says nothing of the bytes
+  -- `Io` and `OutOfMemory` say nothing of the bytes
   pub answers_outside : (front : List ℕ → Taken A) (old : Option (List ℕ)) (p : ℕ)
       (new : Option (List ℕ)) (q : ℕ) (f : Error)
       → IsFaultAt (fault_of f) q × (is_io_or_memory (kind_of (error_kind_of f)) ≡ true) → p ≤ q
@@ -130,7 +130,7 @@ module _ {X A : Type 0} (view : X → A) where
   front_at front back g new p m q c xs ys e h s f =
       let place = f.2 in rw (e, h) (f.0, f.1, omega arith)
 
-  -- a byte was taken, and then what is after it
+  -- a byte was taken, and then what follows it
   pub answers_past : (front back : List ℕ → Taken A) (old mid : Option (List ℕ)) (c p m : ℕ)
       (new : Option (List ℕ)) (q : ℕ) (r : Result X Error)
       → FirstIsTaken old c mid → m ≡ p + 1 → ((ys : List ℕ) → front (c ∷ ys) ≡ past_one (back ys))
@@ -171,7 +171,7 @@ module _ {X A : Type 0} (view : X → A) where
       answers_fault front old p old p f k s i (omega arith)
       (λ xs e. rw (h xs) (refl, e, omega arith))
 
-  -- the input ended where a byte had to be taken
+  -- the input ended where a byte was required
   pub answers_unclosed : (front : List ℕ → Taken A) (old : Option (List ℕ)) (p : ℕ)
       (new : Option (List ℕ)) (q : ℕ) (f : Error)
       → IsFaultAt (fault_of f) q × (is_io_or_memory (kind_of (error_kind_of f)) ≡ false
@@ -188,7 +188,7 @@ module _ {X A : Type 0} (view : X → A) where
         (ap Err (kind_said f _ q b.0), cc, omega arith),
   )
 
-  -- of the bytes that must be there one was taken, and then what is after it
+  -- of the bytes that are required one was taken, and then what follows it
   pub answers_one : (n c : ℕ) (meaning : List ℕ → Result A FaultKind)
       (old mid : Option (List ℕ)) (p m : ℕ) (new : Option (List ℕ)) (q : ℕ) (r : Result X Error)
       → FirstIsTaken old c mid → m ≡ p + 1
@@ -198,7 +198,7 @@ module _ {X A : Type 0} (view : X → A) where
       answers_past (λ ys. needs (suc n) ys meaning) (λ ys. needs n ys (λ ds. meaning (c ∷ ds)))
       old mid c p m new q r t s (λ ys. needs_past n c ys meaning) a
 
-  -- and one wasn't there
+  -- a byte that is required isn't there
   pub answers_none : (n : ℕ) (meaning : List ℕ → Result A FaultKind) (old : Option (List ℕ))
       (p : ℕ) (new : Option (List ℕ)) (q : ℕ) (f : Error)
       → IsFaultAt (fault_of f) q × (is_io_or_memory (kind_of (error_kind_of f)) ≡ false

@@ -1,4 +1,4 @@
--- What ends a bare text is nothing to any other token.
+-- Only bare strings depend on what ends a bare string.
 use Rattle.std.proofs.Common.{◌≡◌, ◌⊎◌, inl, inr, ℕ, Bool, true, false, List, [], ◌∷◌, refl, rules}
 use Rattle.std.specs.Prelude.{◌==◌}
 use Rattle.plist_ascii.specs.declared.token.Lead.{Lead}
@@ -7,13 +7,13 @@ use Rattle.plist_ascii.specs.Taken.{past_one}
 use Rattle.plist_ascii.specs.Texts.{bare, lax_stops}
 use Rattle.plist_ascii.specs.Ascii.{lead_of, token, token_by, OnlyBareTextsDiffer}
 
--- the token that c begins is the same, or a bare text
+-- the token that c begins doesn't depend on the stops, or is a bare string
 abbrev Alike : Lead → ℕ → List ℕ → Type 0
 Alike l c rest =
     ((stops : ℕ → Bool) → past_one (token_by stops l c rest) ≡ past_one (token_by lax_stops l c rest))
     ⊎ ((stops : ℕ → Bool) → past_one (token_by stops l c rest) ≡ past_one (bare stops c rest))
 
--- a slash begins a comment, which is the same, or a bare text
+-- a slash begins a comment, which doesn't depend on the stops, or a bare string
 behind_slash : (rest : List ℕ) → Alike lead.Slash 47 rest
 behind_slash [] = inl (λ stops. refl)
 behind_slash (c ∷ rest) = by_test _ _ refl refl

@@ -44,7 +44,7 @@ items_cons stops c cs p q e =
     ∙ ap (λ q. item_then (lead_of c) q b.gives
     (items_in stops (length (drop b.bytes cs)) (drop b.bytes cs) q)) (sym e)
 
--- from xs and place p on the items are those from ys and place q on
+-- the items from xs and offset p on are those from ys and offset q on
 pub record Going (stops : ℕ → Bool) (xs : List ℕ) (p : ℕ) (ys : List ℕ) (q : ℕ) : Type 0 where
   pub rises : p ≤ q
   pub all : placed_items stops xs p ≡ placed_items stops ys q
@@ -81,13 +81,13 @@ module _ {stops : ℕ → Bool} {xs : List ℕ} {p : ℕ} {ys : List ℕ} {m c :
       → placed_items stops xs p ≡ item_then (lead_of c) q token_here.gives (behind q)
   going_all q s = cc (items_cons _ c cs m q s)
 
-  -- whatever the token takes
+  -- if the token is a string, the first item is one
   pub going_text : IsTextToken token_here.gives → BeginsWithText (items_of_ascii stops xs p)
   going_text w =
       let P : List PlacedItem → Type 0 = λ is. BeginsWithText (map (λ i. i.item) is) in
       subst P (sym (going_all _ refl)) (text_first _ _ token_here.gives _ w)
 
-  -- its first byte ends at n, and it at q
+  -- the first byte ends at n, and the token at q
   module _ {n q : ℕ} (t : n ≡ m + 1) (s : q ≡ n + token_here.bytes) where
     going_by : (g : Result (Option PlainEvent) FaultKind) → token_here.gives ≡ g
         → placed_items stops xs p ≡ item_then (lead_of c) q g (behind q)
@@ -117,7 +117,7 @@ module _ {stops : ℕ → Bool} {xs : List ℕ} {p : ℕ} {ys : List ℕ} {m c :
     going_fault i g = begins stops xs p _ _ _ q
         (going_by _ g ∙ ap (λ f. placed (lead_of c) q (Err f) ∷ behind q) (sym i)) going_rest
 
-    -- a quoted text comes first only where a quote stands here
+    -- the first item is a quoted string only if it begins with a quote
     pub going_quoted : {x : PlainEvent} → token_here.gives ≡ Ok (Some x)
         → FirstIsQuoted (placed_items stops xs p) → lead_of c ≡ lead.Quote
     going_quoted g first = subst FirstIsQuoted (going_by _ g) first

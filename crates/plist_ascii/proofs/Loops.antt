@@ -1,4 +1,4 @@
--- What loops over an input keep: over runs and comments, byte by byte.
+-- What loops over an input maintain: over runs and comments, byte by byte.
 use Rattle.std.proofs.Common.{◌≡◌, ℕ, ◌+◌, ◌≤◌, List, drop, Option, Some, Result, refl, ap, ◌∙◌, arith, suc, Bool, false, cond, [], ◌∷◌, ◌++◌, length, take, sym, append_assoc, true, None, Ok, Err, rules}
 use Rattle.std.proofs.lemmas.List.{drop-drop}
 use Rattle.plist_base.specs.Faults.{FaultKind, IncompleteComment}
@@ -13,8 +13,8 @@ use Rattle.std.specs.Option.{option_map}
 use Rattle.plist_ascii.specs.Comments.{close_at, begins_with, block_comment, block_comment_to}
 use Rattle.plist_ascii.specs.Texts.{Token}
 
--- no byte came back and no failure counted, and P tells of the bytes that were to be taken, of
--- those that are, and of their places
+-- no byte was given back and no failure counted, and P relates the bytes that were left, those that
+-- are, and their offsets
 pub record Since {R : Type 0} (known : R → Option (List ℕ)) (failures : R → Option ℕ)
     (old new : Input R) (P : List ℕ → ℕ → List ℕ → ℕ → Type 0) : Type 0 where
   pub rises : old.taken ≤ new.taken
@@ -39,7 +39,7 @@ module _ {R : Type 0} {known : R → Option (List ℕ)} {failures : R → Option
     goes = λ xs e. let i = s.goes xs e in h xs i.0 i.2 i.1;
   }
 
--- k bytes were taken, and what the whole gives is what follows them
+-- k bytes were taken, and the whole is what follows them
 pub record Behind {A : Type 0} (whole : List ℕ → Taken A) (follows : ℕ → List ℕ → Taken A)
     (xs : List ℕ) (p : ℕ) (ys : List ℕ) (q : ℕ) : Type 0 where
   pub k : ℕ
@@ -54,7 +54,7 @@ behind_start e = record { k = 0; place = omega arith; all = e; rest = refl }
 module _ {A : Type 0} {whole : List ℕ → Taken A} {follows : ℕ → List ℕ → Taken A} {xs : List ℕ}
     {p : ℕ} {ys : List ℕ} {q : ℕ} (h : Behind whole follows xs p ys q) (n r : ℕ) (s : r ≡ q + n)
   where
-    -- n more are taken
+    -- n more bytes are taken
     pub behind_more : {next : ℕ → List ℕ → Taken A} → follows h.k ys ≡ next (h.k + n) (drop n ys)
         → Behind whole next xs p (drop n ys) r
     behind_more e = record {
@@ -70,20 +70,20 @@ module _ {A : Type 0} {whole : List ℕ → Taken A} {follows : ℕ → List ℕ
     behind_ends e u = rw (h.all, e)
         (refl, u ∙ ap Some (cc (drop-drop n h.k xs)), omega arith)
 
--- from xs, text and place p on the run goes on as from ys, more and q on
+-- the run from xs, text and offset p on continues as from ys, more and q on
 pub record RunsOn (stop : ℕ → Bool) (old more xs : List ℕ) (p : ℕ) (ys : List ℕ) (q : ℕ) : Type 0
   where
     pub text : more ++ take (run stop ys) ys ≡ old ++ take (run stop xs) xs
     pub rest : drop (run stop ys) ys ≡ drop (run stop xs) xs
     pub place : q + run stop ys ≡ p + run stop xs
 
--- no stop is among the first bytes
+-- the first bytes contain no stop
 run_behind : (stop : ℕ → Bool) (part zs : List ℕ) → run stop part ≡ length part
     → run stop (part ++ zs) ≡ length part + run stop zs
 run_behind stop part zs h =
     cc (prefix_len-append _ part zs, eq-eqb _ _ h)
 
--- a byte that is no stop was taken, and then a part
+-- a byte that isn't a stop was taken, and then a part
 pub runs_round : {stop : ℕ → Bool} {old more xs : List ℕ} {p : ℕ} {ys : List ℕ} {q : ℕ}
     → RunsOn stop old more xs p ys q → {c m r : ℕ} {zs longer all : List ℕ}
     {new : Option (List ℕ)} → (text : List ℕ) → ys ≡ c ∷ zs → stop c ≡ false
@@ -110,7 +110,7 @@ runs_round {stop} {more} {ys} on {c} text e h s k is =
       },
     )
 
--- what is left of a comment, where the last byte was a star or not
+-- the rest of a comment, given whether the last byte was a star
 abbrev pub close_from : Bool → List ℕ → Token
 close_from star [] = taken 0 (Err IncompleteComment)
 close_from star (c ∷ xs) =
@@ -124,7 +124,7 @@ after_star c xs b o = search rules
 abbrev star_first : List ℕ → Token
 star_first xs = cond (begins_with 47 xs) (taken 1 (Ok None)) (block_comment xs)
 
--- after c, which is a star or not
+-- the byte c, which may be a star
 step : (c : ℕ) (star : Bool) (xs : List ℕ) → block_comment xs ≡ close_from false xs
     → star_first xs ≡ close_from true xs
     → block_comment_to (c ∷ xs)

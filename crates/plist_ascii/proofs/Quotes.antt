@@ -1,4 +1,4 @@
--- A quoted text, part by part.
+-- A quoted string, part by part.
 use Rattle.std.proofs.Common.{◌≡◌, ℕ, zero, suc, ◌+◌, ◌<◌, ◌≤◌, false, cond, List, [], ◌∷◌, ◌++◌, length, take, drop, Option, Some, Result, Ok, Err, refl, ap, ◌∙◌, arith, rules, append_assoc, append-nil, length-drop}
 use Rattle.std.specs.Prelude.{◌==◌}
 use Rattle.std.proofs.lemmas.List.{drop-drop}
@@ -59,7 +59,7 @@ part_goes_on quote n xs part h more =
     ∙ behind_behind m n (take m xs) part (more _)
     ∙ ap (λ zs. piece_then (m + n) (take m xs ++ part) (more zs)) (drop-drop n m xs)
 
--- room
+-- the meaning doesn't depend on the fuel, if that is at least the number of bytes
 
 then_same : (n : ℕ) (r : Result (List ℕ) FaultKind) (f g : ℕ → Taken (List ℕ)) → f n ≡ g n
     → escape_then n r f ≡ escape_then n r g
@@ -103,7 +103,7 @@ quoted_opens quote (c ∷ xs) =
     by_same quote (quoted_in _ _) (quoted quote) (c ∷ xs)
     (λ ys h. quoted_fuel quote (length xs) (length ys) ys (omega arith) (omega arith))
 
--- the text so far
+-- the string so far
 abbrev pub Quoting : (quote : ℕ) (text xs : List ℕ) → ℕ → List ℕ → ℕ → Type 0
 Quoting quote text = Behind (quoted quote) (λ k ys. piece_then k text (quoted quote ys))
 

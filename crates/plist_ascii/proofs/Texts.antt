@@ -1,4 +1,4 @@
--- What texts give, which tokens are texts, and what a slash begins.
+-- The meaning of strings, which tokens are strings, and what a slash begins.
 use Rattle.std.proofs.Common.{◌≡◌, ℕ, ◌+◌, List, true, false, Option, Some, Ok, Err, refl, ◌<◌, None, ap, sym, subst, ◌∙◌, arith, zero, suc, Bool, cond, [], ◌∷◌, ◌++◌, take, drop, Result, ◌≢◌, vec_items}
 use Rattle.std.specs.declared.alloc.Global.{Global}
 use Rattle.std.specs.declared.vec.Vec.{Vec}
@@ -42,7 +42,7 @@ pub to_char : (r : Option ℕ) (n : ℕ) → n < 512 → SomeIff r (IsScalar n) 
 to_char None n l h = absurd (h (low_scalar n (omega arith)))
 to_char (Some x) n l h = ap Some h.1
 
--- only faults of a text
+-- the only faults are those of a string
 abbrev pub InText : {A : Type 0} → Result A FaultKind → Type 0
 InText (Ok a) = ⊤
 InText (Err kind) = IsTextFault kind
@@ -63,7 +63,7 @@ bare_wants stops c xs =
     let text = c ∷ take (run stops xs) xs in
     utf8_wants _ _ _ refl (number_wants _ _)
 
--- ---- the parts of a quoted text
+-- ---- the parts of a quoted string
 
 needs_in : {A : Type 0} (n : ℕ) (xs : List ℕ) (o : Option (List ℕ))
     (meaning : List ℕ → Result A FaultKind) → ((ds : List ℕ) → InText (meaning ds))
@@ -172,7 +172,7 @@ outcome_wants (Err fault) h = h
 pub quoted_wants : (quote : ℕ) (xs : List ℕ) → IsTextToken (quoted_token quote xs).gives
 quoted_wants quote xs = outcome_wants (quoted quote xs).gives (quoted_in_text _ _ xs)
 
--- where the next byte begins no comment, a bare text begins
+-- a bare string begins unless the next byte begins a comment
 pub bare_looked : (stops : ℕ → Bool) (old mid : Option (List ℕ)) (o : Option ℕ) (c : ℕ)
     → o ≡ Some c → IfKnown old (λ xs. (mid ≡ Some xs) × (o ≡ first xs)) → c ≢ 47 → c ≢ 42
     → IfKnown old (λ xs. (mid ≡ Some xs) × (slash stops xs ≡ bare stops 47 xs))
@@ -184,9 +184,9 @@ pub slash_wants : (stops : ℕ → Bool) (xs : List ℕ) → slash stops xs ≡ 
     → IsTextToken (slash stops xs).gives
 slash_wants stops xs e = rw e (bare_wants _ 47 xs)
 
--- ---- what the parts of a text make of it
+-- ---- what the parts of a string make of it
 
--- a bare text is its first byte and the run after it
+-- a bare string is its first byte and the run after it
 pub bare_taken : (stops : ℕ → Bool) (c : ℕ) (none one text : List ℕ)
     (g : Result (Option PlainEvent) FaultKind) (new : Option (List ℕ)) (p q : ℕ) (xs : List ℕ)
     → none ≡ [] → one ≡ none ++ c ∷ [] → bare_event text ≡ g
@@ -197,14 +197,14 @@ bare_taken stops c none one text g new p q xs z o m h =
     ∙ ap (λ front. front ++ take (run stops xs) xs) (o ∙ ap (λ z. z ++ c ∷ []) z) in
     (ap bare_event (sym all) ∙ m, h.1, h.2)
 
--- a quoted text means what its bytes do
+-- the meaning of a quoted string is that of its bytes
 pub quoted_means : (quote : ℕ) (text : List ℕ) (g : Result (Option PlainEvent) FaultKind)
     (new : Option (List ℕ)) (p q : ℕ) (xs : List ℕ) → quoted_event text ≡ g
     → TakesFront (quoted quote xs) (Ok text) new p q xs
     → TakesFront (quoted_token quote xs) g new p q xs
 quoted_means quote text g new p q xs m h = (ap quoted_outcome h.0 ∙ m, h.1, h.2)
 
--- and has its faults
+-- the faults of a quoted string are those of its bytes
 pub quoted_stops : (quote : ℕ) (old : Option (List ℕ)) (p : ℕ) (new : Option (List ℕ)) (q : ℕ)
     (f : Error) → GivesFront {X = Vec ℕ Global} vec_items (quoted quote) old p new q (Err f)
     → GivesFront {X = Event} (λ e. Some (event_of e)) (quoted_token quote) old p new q (Err f)
@@ -220,14 +220,14 @@ pub led_by : (stops : ℕ → Bool) (byte : ℕ) (lead is : Lead) → lead ≡ l
     → (xs : List ℕ) → token_by stops (lead_of byte) byte xs ≡ token_by stops is byte xs
 led_by stops byte lead is e f xs = ap (λ l. token_by stops l byte xs) (sym e ∙ f)
 
--- where the token is a text, memory may be wanted
+-- if the token is a string, memory may be needed
 pub wants_led : (stops : ℕ → Bool) (byte : ℕ) (lead is : Lead) → lead ≡ lead_of byte → lead ≡ is
     → (xs : List ℕ) → IsTextToken (token_by stops is byte xs).gives
     → IsTextToken (token_by stops (lead_of byte) byte xs).gives
 wants_led stops byte lead is e f xs h =
     subst (λ (t : Token). IsTextToken t.gives) (sym (led_by stops byte lead is e f xs)) h
 
--- ---- texts among the events
+-- ---- strings among the events
 
 text_is_ascii : (event : PlainEvent) → IsTextEvent event → IsAsciiEvent event
 text_is_ascii (StartArray length) h = absurd h
@@ -255,7 +255,7 @@ texts_no_bracket (Ok (Some e)) behind h = text_no_bracket (event_of e) behind h
 texts_no_bracket (Ok None) behind h = tt
 texts_no_bracket (Err f) behind h = tt
 
--- what is made of a text that was read, quoted or bare
+-- what a quoted or bare string becomes after it was read
 pub ruleset texts = (text_gives, text_fails)
 
 pub ruleset bare_texts = (text_gives, text_fails, number_is_text)

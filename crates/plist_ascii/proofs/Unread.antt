@@ -1,4 +1,4 @@
--- What looking at a byte and taking it do to the bytes that are left.
+-- How looking at a byte and taking it change the bytes that are left.
 use Rattle.std.proofs.Common.{◌≡◌, ℕ, suc, ◌+◌, ◌-◌, ◌^◌, ◌<◌, ◌≤◌, Bool, true, false, List, [], ◌∷◌, ◌++◌, length, take, drop, Option, None, Some, refl, sym, ap, ◌∙◌, rules, arith}
 use Rattle.std.specs.Prelude.{is_some, IfSome}
 use Rattle.std.specs.Option.{option_map}
@@ -49,7 +49,7 @@ one_unread None now c t xs h g = cc
 one_unread (Some a) None c t xs h g = absurd h
 one_unread (Some a) (Some b) c t xs h g = rw (← h) g
 
--- what `peek` and `take` say
+-- `peek` and `take`
 
 abbrev pub Looks : Option (List ℕ) → Option ℕ → List ℕ → Type 0
 Looks now o xs = (now ≡ Some xs) × (o ≡ first xs)
@@ -140,7 +140,7 @@ part_unread k now e (Some b) t n part xs h q l room c g = cc
 part_unread k now true None t n part xs h q l room c g = cc
 part_unread k now false None t n part xs h q l room c g = known_behind k _ t n _ xs l room c g
 
--- bytes at hand were taken, and stand after the text
+-- buffered bytes were taken, and appended to the text
 pub part_taken : (stop : ℕ → Bool) (hand : List ℕ) (k now : Option (List ℕ)) (e : Bool)
     (p : Option ℕ) (t n : ℕ) (text longer xs : List ℕ) → e ≡ false → is_some p ≡ false
     → n ≤ length hand → t + n ≤ 2 ^ 64 - 1 → run stop (take n hand) ≡ n
@@ -151,18 +151,18 @@ part_taken stop hand k now e p t n text longer xs h q most room runs c is g =
     let left = part_unread k _ e p t n _ xs h q len room c g in
     (take n _, left.0, left.1, cc, is, left.2, omega arith)
 
--- what a reader has before its first byte
+-- what is left to a reader before its first byte
 pub new_unread : {R : Type 0} (known : R → Option (List ℕ)) (r inner : R) (e : Bool) (p : Option ℕ)
     (t : ℕ) → r ≡ inner → p ≡ None → t ≡ 0 → e ≡ false
     → unread_of (known r) e p t ≡ option_map (λ xs. take (2 ^ 64 - 1) xs) (known inner)
 unfolding unread_of
 new_unread known r inner e p t i n z g = rw (i, n, z, g) refl
 
--- and where it goes on
+-- what is left to a reader that hasn't ended
 pub going_unread : (k : Option (List ℕ)) (e : Bool) (p : Option ℕ) (t : ℕ) → (e ≡ true → ⊥)
     → IfSome k (λ xs. unread_of k e p t ≡ Some (readable_with p t xs))
 unfolding unread_of
 going_unread k e p t h = search rules
 
--- what a look finds
+-- what looking at a byte finds
 pub ruleset looks = (none_looks, ended_unread, full_unread, held_looks)

@@ -1,4 +1,4 @@
--- The tokens of an old-style ASCII property list, and the items that they give.
+-- The tokens of an old-style ASCII property list, and their items.
 use Rattle.std.specs.Prelude.{◌≡◌, ◌⊎◌, ℕ, zero, suc, ◌+◌, Bool, cond, ◌||◌, ◌==◌, List, [], ◌∷◌, length, drop, map, Option, None, Some, Result, Ok, Err, ⊤}
 use Rattle.std.specs.List.{list_any}
 use Rattle.plist_base.specs.Faults.{FaultKind, UnclosedString, InvalidUtf8AsciiStream, InvalidOctalString, InvalidUtf16String, fault_at}
@@ -11,8 +11,8 @@ use Rattle.plist_ascii.specs.Texts.{Token, bare, lax_stops}
 use Rattle.plist_ascii.specs.Quoted.{quoted_token}
 use Rattle.plist_ascii.specs.Comments.{slash}
 
--- what a byte begins: ( and { a start, ) and } an end, the separators and white space nothing,
--- quotes and / a text or a comment, and all else a bare text
+-- what a byte begins: ( and { a start, ) and } an end, separators and white space nothing, quotes
+-- and / a string or a comment, and all other bytes a bare string
 abbrev pub lead_of : ℕ → Lead
 lead_of c =
     cond (c == 40) lead.ArrayStart (cond (c == 123) lead.DictionaryStart
@@ -38,13 +38,13 @@ token_by stops lead.Bare c rest = bare stops c rest
 unfoldable pub token : (stops : ℕ → Bool) → ℕ → List ℕ → Token
 token stops c rest = past_one (token_by stops (lead_of c) c rest)
 
--- Whatever ends a bare text, a token is the same; or it is a bare text, whatever ends it.
+-- A token doesn't depend on what ends a bare string, or else it is a bare string.
 abbrev pub OnlyBareTextsDiffer : Type 0
 OnlyBareTextsDiffer =
     (c : ℕ) (rest : List ℕ) → ((stops : ℕ → Bool) → token stops c rest ≡ token lax_stops c rest)
     ⊎ ((stops : ℕ → Bool) → token stops c rest ≡ past_one (bare stops c rest))
 
--- an item, what its first byte begins, and how many bytes are taken up to its end
+-- an item, what its first byte begins, and the offset of its end
 pub record PlacedItem : Type 0 where
   pub lead : Lead
   pub end : ℕ
@@ -53,7 +53,7 @@ pub record PlacedItem : Type 0 where
 abbrev pub placed : Lead → ℕ → Item → PlacedItem
 placed lead end item = record { lead = lead; end = end; item = item }
 
--- a token's item, if it gives one, and then the others; a fault stands at the token's end
+-- a token's item, if it has one, and then the others; the offset of a fault is the token's end
 abbrev pub item_then : Lead → ℕ → Result (Option PlainEvent) FaultKind → List PlacedItem
     → List PlacedItem
 item_then lead end (Ok None) more = more
@@ -69,17 +69,17 @@ items_in stops (suc fuel) (c ∷ rest) place =
     item_then (lead_of c) (place + t.bytes) t.gives
     (items_in stops fuel (drop t.bytes (c ∷ rest)) (place + t.bytes))
 
--- the items of some bytes, with their leads and ends, where the first byte stands at this place
+-- the items of some bytes, with their leads and ends, if the first byte is at this offset
 abbrev pub placed_items : (stops : ℕ → Bool) → List ℕ → (place : ℕ) → List PlacedItem
 placed_items stops bytes place = items_in stops (length bytes) bytes place
 
--- the items of some bytes, where the first byte stands at this place
+-- the items of some bytes, if the first byte is at this offset
 abbrev pub items_of_ascii : (stops : ℕ → Bool) → List ℕ → (place : ℕ) → List Item
 items_of_ascii stops bytes place = map (λ p. p.item) (placed_items stops bytes place)
 
 -- ---- where memory may run out
 
--- a fault of a text
+-- a fault of a string
 abbrev pub IsTextFault : FaultKind → Type 0
 IsTextFault UnclosedString = ⊤
 IsTextFault InvalidUtf8AsciiStream = ⊤
@@ -87,23 +87,23 @@ IsTextFault InvalidOctalString = ⊤
 IsTextFault InvalidUtf16String = ⊤
 IsTextFault kind = ⊥
 
--- a token is a bare or a quoted text
+-- a token is a bare or a quoted string
 abbrev pub IsTextToken : Result (Option PlainEvent) FaultKind → Type 0
 IsTextToken (Ok (Some (ScalarEvent (String text)))) = ⊤
 IsTextToken (Ok (Some (ScalarEvent (Integer number)))) = ⊤
 IsTextToken (Err kind) = IsTextFault kind
 IsTextToken outcome = ⊥
 
--- the first item is a text, a number or a text's fault
+-- the first item is a string, an integer or a string's fault
 abbrev pub BeginsWithText : List Item → Type 0
 BeginsWithText (Ok (ScalarEvent (String text)) ∷ items) = ⊤
 BeginsWithText (Ok (ScalarEvent (Integer number)) ∷ items) = ⊤
 BeginsWithText (Err fault ∷ items) = IsTextFault fault.kind
 BeginsWithText items = ⊥
 
--- ---- what stands after an item
+-- ---- what follows an item
 
--- the first item is a quoted text
+-- the first item is a quoted string
 abbrev pub FirstIsQuoted : List PlacedItem → Type 0
 FirstIsQuoted [] = ⊥
 FirstIsQuoted (p ∷ items) = p.lead ≡ lead.Quote

@@ -1,11 +1,11 @@
--- What a slash begins, from the byte after it on: a comment or a bare text.
+-- What a slash begins, from the byte after it on: a comment or a bare string.
 use Rattle.std.specs.Prelude.{ℕ, suc, Bool, false, cond, ◌&&◌, ◌==◌, List, [], ◌∷◌, length, Option, None, Some, Ok, Err}
 use Rattle.std.specs.Option.{option_map}
 use Rattle.plist_base.specs.Faults.{IncompleteComment}
 use Rattle.plist_ascii.specs.Taken.{taken, past_one, run}
 use Rattle.plist_ascii.specs.Texts.{Token, bare}
 
--- up to, not including, LF
+-- up to LF, which isn't taken
 abbrev pub line_comment : List ℕ → Token
 line_comment rest = taken (run (λ c. c == 10) rest) (Ok None)
 
@@ -14,18 +14,18 @@ abbrev pub begins_with : ℕ → List ℕ → Bool
 begins_with c [] = false
 begins_with c (d ∷ rest) = d == c
 
--- the place of the first `*/`
+-- the offset of the first `*/`
 abbrev pub close_at : List ℕ → Option ℕ
 close_at [] = None
 close_at (c ∷ rest) =
     cond ((c == 42) && begins_with 47 rest) (Some 0) (option_map suc (close_at rest))
 
--- up to and with the `*/` at this place
+-- up to and including the `*/` at this offset
 abbrev pub block_comment_to : List ℕ → Option ℕ → Token
 block_comment_to rest (Some place) = taken (suc (suc place)) (Ok None)
 block_comment_to rest None = taken (length rest) (Err IncompleteComment)
 
--- up to and with the first `*/`
+-- up to and including the first `*/`
 abbrev pub block_comment : List ℕ → Token
 block_comment rest = block_comment_to rest (close_at rest)
 

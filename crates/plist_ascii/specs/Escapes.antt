@@ -1,4 +1,4 @@
--- What an escape in a quoted text stands for, from the byte after its backslash on.
+-- What an escape in a quoted string stands for, from the byte after its backslash on.
 use Rattle.std.specs.Prelude.{ℕ, ◌-◌, Bool, cond, ◌&&◌, ◌||◌, ◌==◌, nat_lt, nat_le, List, [], ◌∷◌, slice_index, Option, None, Some, Result, Ok, Err, encode_utf8}
 use Rattle.std.specs.List.{list_all}
 use Rattle.std.specs.Char.{is_digit}
@@ -17,7 +17,7 @@ simple_escape c =
     (cond (c == 102) (Some 12) (cond (c == 110) (Some 10)
     (cond (c == 114) (Some 13) (cond (c == 116) (Some 9) (cond (c == 118) (Some 11) None)))))))
 
--- a letter stands for its byte, or for nothing
+-- a letter stands for its byte, or is invalid
 abbrev pub simple : Option ℕ → Taken (List ℕ)
 simple (Some byte) = taken 0 (Ok (byte ∷ []))
 simple None = taken 0 (Err InvalidUtf8AsciiStream)
@@ -44,7 +44,7 @@ nextstep =
     0xF6 ∷ 0xE6 ∷ 0xF9 ∷ 0xFA ∷ 0xFB ∷ 0x131 ∷ 0xFC ∷ 0xFD ∷ 0x142 ∷ 0xF8 ∷ 0x153 ∷ 0xDF ∷ 0xFE
     ∷ 0xFF ∷ 0xFFFD ∷ 0xFFFD ∷ []
 
--- the character of an octal number: NeXTSTEP's from 128 to 255, else the one of that number
+-- the character of an octal number: NeXTSTEP's from 128 to 255, and else Unicode's
 unfoldable pub octal_char : ℕ → ℕ
 octal_char n = cond (nat_le 128 n && nat_lt n 256) (slice_index nextstep (n - 128)) n
 
@@ -54,7 +54,7 @@ octal_text digits =
     cond (list_all (λ c. is_digit c 8) digits)
     (Ok (encode_utf8 (octal_char (digits_value 8 digits)))) (Err InvalidOctalString)
 
--- the digit c, and two more bytes
+-- the digit c, and the two bytes after it
 abbrev pub octal : ℕ → List ℕ → Taken (List ℕ)
 octal c rest = needs 2 rest (λ digits. octal_text (c ∷ digits))
 
@@ -64,18 +64,18 @@ octal c rest = needs 2 rest (λ digits. octal_text (c ∷ digits))
 abbrev pub unit_of : List ℕ → Option ℕ
 unit_of digits = cond (list_all (λ c. is_digit c 16) digits) (Some (digits_value 16 digits)) None
 
--- four bytes, which are a unit's digits or not
+-- four bytes, and the unit that they spell, if they are digits
 abbrev pub unit : List ℕ → Taken (Option ℕ)
 unit rest = needs 4 rest (λ digits. Ok (unit_of digits))
 
 abbrev pub is_surrogate : ℕ → Bool
 is_surrogate u = is_high_surrogate u || is_low_surrogate u
 
--- no unit, after n bytes
+-- n bytes without a valid unit
 abbrev pub bad_unit : ℕ → Taken (List ℕ)
 bad_unit n = taken n (Err InvalidUtf16String)
 
--- the character of a high and then a low surrogate
+-- the character of a high surrogate followed by a low one
 abbrev pub pair_text : ℕ → Option ℕ → Result (List ℕ) FaultKind
 pair_text high (Some low) =
     cond (is_high_surrogate high && is_low_surrogate low)
@@ -86,7 +86,7 @@ pair_text high None = Err InvalidUtf16String
 abbrev pub second_digits : ℕ → List ℕ → Taken (List ℕ)
 second_digits high rest = followed rest (unit rest) (λ low _. taken 0 (pair_text high low))
 
--- the letter of the second unit, which is only looked at unless it is `u` or `U`
+-- the letter of the second unit, which is taken only if it is `u` or `U`
 abbrev pub second_letter : ℕ → List ℕ → Taken (List ℕ)
 second_letter high [] = bad_unit 0
 second_letter high (c ∷ rest) =
@@ -108,12 +108,12 @@ unicode rest = followed rest (unit rest) first_unit
 
 -- ---- all escapes
 
--- what an escape stands for whose first byte is c
+-- what an escape with the first byte c stands for
 abbrev pub escape_by : ℕ → List ℕ → Taken (List ℕ)
 escape_by c rest =
     cond (c == 85) (unicode rest) (cond (is_digit c 8) (octal c rest) (simple (simple_escape c)))
 
--- the bytes of the text that an escape stands for
+-- the bytes that an escape stands for
 unfoldable pub escape : List ℕ → Taken (List ℕ)
 escape [] = taken 0 (Err UnclosedString)
 escape (c ∷ rest) = past_one (escape_by c rest)

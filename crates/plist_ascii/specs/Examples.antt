@@ -1,4 +1,4 @@
--- Worked examples: short texts and the items that they give.
+-- Worked examples: short texts and their items.
 use Rattle.std.specs.Prelude.{◌≡◌, ℕ, Bool, List, [], ◌∷◌, map, pos, None, Ok, Err, refl, codes}
 use Prim.Native.String.{String}
 use Rattle.std.specs.Str.{is_utf8, chars}
@@ -30,89 +30,89 @@ close = Ok EndCollection
 abbrev refused : FaultKind → (place : ℕ) → Item
 refused kind place = Err (fault_at kind place)
 
--- each of these texts, a byte for a character, gives the items beside it
+-- each of these texts, one byte a character, has the items beside it
 abbrev AreRead : (stops : ℕ → Bool) → List (String × List Item) → Type 0
 AreRead stops rows =
     map (λ row. items_of_ascii stops (codes row.0) 0) rows ≡ map (λ row. row.1) rows
 
 bare_texts : AreRead lax_stops (
-    -- a slash opens a bare text
+    -- a slash begins a bare string
     ("/abc", text "/abc" ∷ [])
-    -- a slash alone is one
+    -- a slash alone is a bare string
     ∷ ("/ a", text "/" ∷ text "a" ∷ [])
     -- the shortest comment
     ∷ ("/**/a", text "a" ∷ [])
-    -- a star doesn't open and close at once
+    -- one star can't both open and close a comment
     ∷ ("/*/", refused IncompleteComment 3 ∷ [])
-    -- the first star and slash close
+    -- the first star that a slash follows closes the comment
     ∷ ("/* * */z", text "z" ∷ [])
     -- nothing after a slash
     ∷ ("/", refused IncompleteComment 1 ∷ [])
-    -- a comment up to the end
+    -- a line comment up to the end of the input
     ∷ ("//x", [])
-    -- no comment inside a text
+    -- a bare string contains no comments
     ∷ ("a/*x*/ b", text "a/*x*/" ∷ text "b" ∷ [])
-    -- a bare text goes on over = and }
+    -- = and } don't end a bare string
     ∷ ("{a=b}", dictionary ∷ text "a=b}" ∷ [])
-    -- and over LF
+    -- LF doesn't end a bare string
     ∷ ("(a\n)", array ∷ text "a\n" ∷ close ∷ [])
     -- numbers
     ∷ ("(42, 0x10)", array ∷ number 42 ∷ number 16 ∷ close ∷ [])
-    -- data of other readers is a text
+    -- the data of other readers is a string
     ∷ ("(<00ff>)", array ∷ text "<00ff>" ∷ close ∷ [])
-    -- no UTF-8
+    -- invalid UTF-8
     ∷ ("ÿ", refused InvalidUtf8AsciiStream 1 ∷ [])
-    -- nothing
+    -- empty input
     ∷ ("", []) ∷ [])
 unfolding items_in token bare_event integer_of_text quoted_in quoted_event escape octal_char is_utf8
     chars encode
 bare_texts = refl
 
 quoted_texts : AreRead lax_stops (
-    -- the end in a text
+    -- the input ends in a string
     ("\"ab", refused UnclosedString 3 ∷ [])
-    -- three digits are taken before they are judged
+    -- three digits are taken before they are checked
     ∷ ("\"\\12\"", refused InvalidOctalString 5 ∷ [])
-    -- an escape of nothing
+    -- an undefined escape
     ∷ ("\"\\9\"", refused InvalidUtf8AsciiStream 3 ∷ refused UnclosedString 4 ∷ [])
-    -- NeXTSTEP from 128 to 255, Unicode above
+    -- NeXTSTEP's characters from 128 to 255, Unicode above
     ∷ ("\"\\200\\377\\400\"", text "Â\u{a0}ï¿½Ä\u{80}" ∷ [])
-    -- a plus sign is no digit
+    -- a plus sign isn't a digit
     ∷ ("\"\\U+123\"", refused InvalidUtf16String 7 ∷ refused UnclosedString 8 ∷ [])
     -- a surrogate pair
     ∷ ("\"\\UD83D\\UDCA9\"", text "ð\u{9f}\u{92}©" ∷ [])
-    -- its second unit by a small letter
+    -- the second unit begins with a small letter
     ∷ ("\"\\UD83D\\uDCA9\"", text "ð\u{9f}\u{92}©" ∷ [])
-    -- no second unit
+    -- the second unit is missing
     ∷ ("\"\\UD83Dx\"", refused InvalidUtf16String 8 ∷ refused UnclosedString 9 ∷ [])
-    -- a pair in the wrong order is taken whole
+    -- a pair in the wrong order is taken as a whole
     ∷ ("\"\\UDCA9\\UD83D\"", refused InvalidUtf16String 13 ∷ refused UnclosedString 14 ∷ [])
-    -- the end among the digits
+    -- the input ends among the digits
     ∷ ("\"\\U12", refused UnclosedString 5 ∷ [])
-    -- no letter after the backslash
+    -- the letter after the backslash is missing
     ∷ ("\"\\UD83D\\", refused InvalidUtf16String 8 ∷ [])
-    -- a small letter alone is no escape
+    -- a small letter begins no escape
     ∷ ("\"\\u0080\"", refused InvalidUtf8AsciiStream 3 ∷ text "0080\"" ∷ [])
-    -- letters
+    -- escapes of letters
     ∷ ("'it\\'s\\n'", text "it's\n" ∷ []) ∷ [])
 unfolding items_in token bare_event integer_of_text quoted_in quoted_event escape octal_char
     octal_text is_utf8 chars encode
 quoted_texts = refl
 
 tight_texts : AreRead tight_stops (
-    -- = and } end a bare text
+    -- = and } end a bare string
     ("{a=b}", dictionary ∷ text "a" ∷ text "b" ∷ close ∷ [])
-    -- and LF does
+    -- LF ends a bare string
     ∷ ("(a\n)", array ∷ text "a" ∷ close ∷ [])
     -- numbers
     ∷ ("{k=0x10}", dictionary ∷ text "k" ∷ number 16 ∷ close ∷ [])
     -- a slash before a stop
     ∷ ("/=", text "/" ∷ [])
-    -- a quoted text goes on over all of them
+    -- =, } and LF don't end a quoted string
     ∷ ("'=}\n'", text "=}\n" ∷ [])
-    -- and so does one that isn't closed
+    -- = and } don't end a quoted string that isn't closed
     ∷ ("'=}", refused UnclosedString 3 ∷ [])
-    -- and a comment
+    -- = and } don't end a comment
     ∷ ("/*=}*/ //=}", []) ∷ [])
 unfolding items_in token bare_event integer_of_text quoted_in quoted_event escape octal_char is_utf8
     chars encode

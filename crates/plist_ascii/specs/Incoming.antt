@@ -1,41 +1,41 @@
--- What a read of a byte leaves, and what becomes of the count of failures.
+-- What is left after a read of a byte, and how the count of failures changes.
 use Rattle.std.specs.Prelude.{◌≡◌, ℕ, List, [], ◌∷◌, take, Option, None, Some, Result, MatchOption, MatchResult, ⊤}
 use Rattle.std.specs.Io.KnownBytes.{Consumes, IsAtEnd}
 use Rattle.plist_base.specs.declared.error.Error.{Error}
 use Rattle.plist_base.specs.Faults.{MatchFault, kind_of, error_kind_of}
 use Rattle.plist_base.specs.Sources.{Rises}
 
--- known bytes lose the one that came; none came only at their end
+-- the known bytes lose the byte that was returned; none is returned only at their end
 abbrev pub GivesByte : Option (List ℕ) → Option ℕ → Option (List ℕ) → Type 0
 GivesByte old None new = Consumes old new [] × IsAtEnd new
 GivesByte old (Some byte) new = Consumes old new (byte ∷ [])
 
--- known bytes lose the first `count` of those that are buffered
+-- the known bytes lose the first `count` of the buffered ones
 abbrev pub LosesFirst : (count : ℕ) → (held : List ℕ) → Option (List ℕ) → Option (List ℕ) → Type 0
 LosesFirst count held old new = Consumes old new (take count held)
 
--- the count of failures rose, or stands at its top, where there is one
+-- if failures are counted, their count rose or is at its maximum
 abbrev pub RisesIfCounted : Option ℕ → Option ℕ → Type 0
 RisesIfCounted None new = ⊤
 RisesIfCounted (Some old) None = ⊥
 RisesIfCounted (Some old) (Some new) = Rises old new
 
--- `Ok` leaves the count of failures, and `Err` raises it
+-- `Ok` leaves the count of failures as it was, and `Err` raises it
 abbrev pub CountsFailureIfCounted : {A E : Type 0} → Result A E → Option ℕ → Option ℕ → Type 0
 CountsFailureIfCounted answer old new = MatchResult answer (λ _. new
     ≡ old) (λ _. RisesIfCounted old new)
 
--- `Io` only where the count of failures rose; whatever else came, it is as it was
+-- the count of failures rose if the error is `Io`, and is unchanged after any other error
 abbrev pub CountsIoIfCounted : Error → Option ℕ → Option ℕ → Type 0
 CountsIoIfCounted error old new =
     MatchFault (kind_of (error_kind_of error)) (RisesIfCounted old new) (new ≡ old) (new ≡ old)
 
--- the same of a call's answer
+-- the count of failures rose if the call returned `Io`, and else is unchanged
 abbrev pub AnswersIoIfCounted : {A : Type 0} → Result A Error → Option ℕ → Option ℕ → Type 0
 AnswersIoIfCounted answer old new = MatchResult answer (λ _. new ≡ old)
     (λ error. CountsIoIfCounted error old new)
 
--- the same of an iterator's item
+-- the count of failures rose if the iterator yielded `Io`, and else is unchanged
 abbrev pub ItemCountsIoIfCounted : {A : Type 0} → Option (Result A Error) → Option ℕ → Option ℕ
     → Type 0
 ItemCountsIoIfCounted item old new = MatchOption item (new ≡ old)

@@ -1,4 +1,4 @@
--- Which events and which faults can come at all.
+-- Which events and which faults the reader can yield at all.
 use Rattle.std.specs.Prelude.{Option, None, Result, MatchOption, MatchResult, ⊤}
 use Rattle.plist_base.specs.declared.error.Error.{Error}
 use Rattle.plist_base.specs.declared.event.Event.{Event}
@@ -15,17 +15,17 @@ IsFaultOfBytes InvalidOctalString = ⊤
 IsFaultOfBytes InvalidUtf16String = ⊤
 IsFaultOfBytes kind = ⊥
 
--- a device's fault, lack of memory, or one that the bytes can have
+-- `Io`, `OutOfMemory`, or a fault that the bytes can have
 abbrev pub IsAsciiFault : FaultKind → Type 0
 IsAsciiFault kind = MatchFault kind ⊤ ⊤ (IsFaultOfBytes kind)
 
--- a text, or a number
+-- a string, or an integer
 abbrev pub IsTextEvent : PlainEvent → Type 0
 IsTextEvent (ScalarEvent (String text)) = ⊤
 IsTextEvent (ScalarEvent (Integer number)) = ⊤
 IsTextEvent event = ⊥
 
--- a text, a number, an end, or a start without a length
+-- a string, an integer, an end, or a start without a length
 abbrev pub IsAsciiEvent : PlainEvent → Type 0
 IsAsciiEvent (StartArray None) = ⊤
 IsAsciiEvent (StartDictionary None) = ⊤
@@ -38,14 +38,14 @@ IsAsciiItem item =
     MatchOption item ⊤ (λ answer. MatchResult answer (λ event. IsAsciiEvent (event_of event))
     (λ error. IsAsciiFault (kind_of (error_kind_of error))))
 
--- this holds, if the event is a start or an end
+-- if the event is a start or an end, `behind` is true
 abbrev pub IfBracket : PlainEvent → (behind : Type 0) → Type 0
 IfBracket (StartArray length) behind = behind
 IfBracket (StartDictionary length) behind = behind
 IfBracket EndCollection behind = behind
 IfBracket (ScalarEvent scalar) behind = ⊤
 
--- the same of an item
+-- if the item is a start or an end, `behind` is true
 abbrev pub IfBracketItem : Option (Result Event Error) → (behind : Type 0) → Type 0
 IfBracketItem item behind =
     MatchOption item ⊤ (λ answer. MatchResult answer

@@ -1,4 +1,4 @@
--- Quoted texts, from the byte after the opening quote on.
+-- Quoted strings, from the byte after the opening quote on.
 use Rattle.std.specs.Prelude.{ℕ, zero, suc, ◌+◌, Bool, cond, ◌||◌, ◌==◌, List, [], ◌∷◌, ◌++◌, length, take, drop, Option, Result, Ok, Err}
 use Rattle.plist_base.specs.Faults.{FaultKind, UnclosedString}
 use Rattle.plist_base.specs.Events.{PlainEvent}
@@ -6,20 +6,20 @@ use Rattle.plist_ascii.specs.Taken.{Taken, taken, past_one, run}
 use Rattle.plist_ascii.specs.Texts.{Token, quoted_event}
 use Rattle.plist_ascii.specs.Escapes.{escape}
 
--- ends a run of plain bytes: the quote, or a backslash
+-- the quote and a backslash end a run of plain bytes
 abbrev pub ends_run : ℕ → ℕ → Bool
 ends_run quote c = (c == quote) || (c == 92)
 
--- bytes of a text, and then the rest of it
+-- some bytes of a string, and then the rest of it
 abbrev pub with_front : List ℕ → Result (List ℕ) FaultKind → Result (List ℕ) FaultKind
 with_front front (Ok more) = Ok (front ++ more)
 with_front front (Err fault) = Err fault
 
--- n bytes stand for these, and then comes the rest of the text
+-- n bytes stand for these, followed by the rest of the string
 abbrev pub piece_then : ℕ → List ℕ → Taken (List ℕ) → Taken (List ℕ)
 piece_then n front t = taken (n + t.bytes) (with_front front t.gives)
 
--- an escape's fault, or what it stands for and then the rest after its bytes
+-- an escape's fault, or what it stands for, followed by the rest after its bytes
 abbrev pub escape_then : ℕ → Result (List ℕ) FaultKind → (ℕ → Taken (List ℕ)) → Taken (List ℕ)
 escape_then n (Ok text) more = piece_then n text (more n)
 escape_then n (Err fault) more = taken n (Err fault)
@@ -32,26 +32,26 @@ module _ (quote : ℕ) (more : List ℕ → Taken (List ℕ)) where
       past_one (cond (c == quote) (taken 0 (Ok []))
       (escape_then (escape rest).bytes (escape rest).gives (λ n. more (drop n rest))))
 
-  -- the longest run of plain bytes, and then what ends it
+  -- the longest run of plain bytes, followed by what ends it
   abbrev pub quoted_by : List ℕ → Taken (List ℕ)
   quoted_by bytes =
       piece_then (run (ends_run quote) bytes) (take (run (ends_run quote) bytes) bytes)
       (run_end (drop (run (ends_run quote) bytes) bytes))
 
--- runs and escapes in turn; `fuel` is at least the number of escapes
+-- runs and escapes alternate; `fuel` is at least the number of escapes
 unfoldable pub quoted_in : (quote fuel : ℕ) → List ℕ → Taken (List ℕ)
 quoted_in quote zero bytes = quoted_by quote (λ _. taken 0 (Err UnclosedString)) bytes
 quoted_in quote (suc fuel) bytes = quoted_by quote (quoted_in quote fuel) bytes
 
--- the bytes of a quoted text up to its closing quote, or its first fault
+-- the bytes of a quoted string up to its closing quote, or its first fault
 abbrev pub quoted : (quote : ℕ) → List ℕ → Taken (List ℕ)
 quoted quote bytes = quoted_in quote (length bytes) bytes
 
--- what these bytes mean
+-- the meaning of these bytes
 abbrev pub quoted_outcome : Result (List ℕ) FaultKind → Result (Option PlainEvent) FaultKind
 quoted_outcome (Ok text) = quoted_event text
 quoted_outcome (Err fault) = Err fault
 
--- a quoted text
+-- a quoted string
 abbrev pub quoted_token : ℕ → List ℕ → Token
 quoted_token quote rest = taken (quoted quote rest).bytes (quoted_outcome (quoted quote rest).gives)

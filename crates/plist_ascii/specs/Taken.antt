@@ -1,33 +1,33 @@
--- What stands at the front of some bytes: how many of them are taken, and what they give.
+-- What is at the front of some bytes: how many of them are taken, and their meaning.
 use Rattle.std.specs.Prelude.{ℕ, suc, zero, ◌+◌, Bool, not, List, [], ◌∷◌, length, drop, Option, None, Some, Result, Ok, Err}
 use Rattle.std.specs.List.{prefix_len}
 use Rattle.std.specs.Option.{option_map}
 use Rattle.plist_base.specs.Faults.{FaultKind, UnclosedString}
 
--- the number of bytes taken, and what they give or the fault in them
+-- the number of bytes taken, and their meaning or fault
 pub record Taken (A : Type 0) : Type 0 where
   pub bytes : ℕ
   pub gives : Result A FaultKind
 
--- n bytes are taken
+-- n bytes are taken, with this meaning or fault
 abbrev pub taken : {A : Type 0} → ℕ → Result A FaultKind → Taken A
 taken n outcome = record { bytes = n; gives = outcome }
 
--- one byte, and then these
+-- one byte is taken, and then these
 abbrev pub past_one : {A : Type 0} → Taken A → Taken A
 past_one t = record { bytes = suc t.bytes; gives = t.gives }
 
--- n bytes, and then these
+-- n bytes are taken, and then these
 abbrev pub past : {A : Type 0} → ℕ → Taken A → Taken A
 past n t = record { bytes = n + t.bytes; gives = t.gives }
 
--- after n bytes comes what follows what they gave; a fault ends it
+-- after n bytes, the rest depends on their meaning; a fault is the end
 abbrev pub past_outcome : {A B : Type 0} → List ℕ → ℕ → Result A FaultKind → (A → List ℕ → Taken B)
     → Taken B
 past_outcome bytes n (Ok a) next = past n (next a (drop n bytes))
 past_outcome bytes n (Err fault) next = taken n (Err fault)
 
--- one part, and then what follows it
+-- one part is taken, and then what follows it
 abbrev pub followed : {A B : Type 0} → List ℕ → Taken A → (A → List ℕ → Taken B) → Taken B
 followed bytes t next = past_outcome bytes t.bytes t.gives next
 
@@ -37,17 +37,17 @@ front zero bytes = Some []
 front (suc n) [] = None
 front (suc n) (c ∷ bytes) = option_map (λ cs. c ∷ cs) (front n bytes)
 
--- what the front gives; where it isn't there, the n bytes that are left are taken, and the text is
--- unclosed
+-- the meaning of the front; if there are fewer bytes, all that are left are taken, and the string
+-- is unclosed
 abbrev pub front_gives : {A : Type 0} → ℕ → ℕ → Option (List ℕ) → (List ℕ → Result A FaultKind)
     → Taken A
 front_gives count left (Some digits) meaning = taken count (meaning digits)
 front_gives count left None meaning = taken left (Err UnclosedString)
 
--- this many bytes must be taken, and mean this
+-- this many bytes must be there, and have this meaning
 abbrev pub needs : {A : Type 0} → ℕ → List ℕ → (List ℕ → Result A FaultKind) → Taken A
 needs count bytes meaning = front_gives count (length bytes) (front count bytes) meaning
 
--- how many bytes stand before the first stop
+-- how many bytes precede the first stop
 abbrev pub run : (stops : ℕ → Bool) → List ℕ → ℕ
 run stops bytes = prefix_len (λ c. not (stops c)) bytes

@@ -1,4 +1,4 @@
--- What bare and quoted texts mean.
+-- The meaning of bare and quoted strings.
 use Rattle.std.specs.Prelude.{ℕ, ℤ, Bool, cond, ◌==◌, List, [], ◌∷◌, take, Option, None, Some, Result, Ok, Err}
 use Rattle.std.specs.List.{list_any}
 use Rattle.std.specs.Str.{is_utf8}
@@ -10,15 +10,15 @@ use Rattle.plist_ascii.specs.declared.dialect.Dialect.{Dialect}
 use Rattle.plist_ascii.specs.declared.dialect.Dialect.TheVariants as dialect
 use Rattle.plist_ascii.specs.Taken.{Taken, taken, run}
 
--- a token gives an event, or nothing
+-- a token has an event, or none
 abbrev pub Token : Type 0
 Token = Taken (Option PlainEvent)
 
--- ends a bare text: space, `)`, CR, tab, `;`, `,`
+-- the bytes that end a bare string in the lax dialect: space, `)`, CR, tab, `;`, `,`
 abbrev pub lax_stops : ℕ → Bool
 lax_stops c = list_any (λ d. c == d) (32 ∷ 41 ∷ 13 ∷ 9 ∷ 59 ∷ 44 ∷ [])
 
--- the same, and LF, `}`, `=`
+-- the bytes that end a bare string in the tight dialect: those of the lax one, and LF, `}`, `=`
 abbrev pub tight_stops : ℕ → Bool
 tight_stops c = list_any (λ d. c == d) (32 ∷ 41 ∷ 13 ∷ 9 ∷ 59 ∷ 44 ∷ 10 ∷ 125 ∷ 61 ∷ [])
 
@@ -27,28 +27,28 @@ abbrev pub ends_bare : Dialect → ℕ → Bool
 ends_bare dialect.Lax c = lax_stops c
 ends_bare dialect.Tight c = tight_stops c
 
--- a number where the text spells one, else the text
+-- the number if the string spells one, and else the string
 abbrev pub number_or_text : List ℕ → Option ℤ → Scalar
 number_or_text text (Some number) = Integer number
 number_or_text text None = String text
 
--- the same, by the text alone
+-- the scalar of a bare string
 abbrev pub scalar_of_text : List ℕ → Scalar
 scalar_of_text text = number_or_text text (integer_of_text text)
 
--- what a text gives, which must be UTF-8
+-- the event of a string, which must be UTF-8
 abbrev pub utf8_or_fault : List ℕ → Scalar → Result (Option PlainEvent) FaultKind
 utf8_or_fault text scalar =
     cond (is_utf8 text) (Ok (Some (ScalarEvent scalar))) (Err InvalidUtf8AsciiStream)
 
--- what a bare text means
+-- the meaning of a bare string
 unfoldable pub bare_event : List ℕ → Result (Option PlainEvent) FaultKind
 bare_event text = utf8_or_fault text (scalar_of_text text)
 
--- what a quoted text means
+-- the meaning of a quoted string
 unfoldable pub quoted_event : List ℕ → Result (Option PlainEvent) FaultKind
 quoted_event text = utf8_or_fault text (String text)
 
--- a bare text: its first byte, and the longest run after it without a stop
+-- a bare string: its first byte, and the longest run after it without a stop
 abbrev pub bare : (stops : ℕ → Bool) → ℕ → List ℕ → Token
 bare stops c rest = taken (run stops rest) (bare_event (c ∷ take (run stops rest) rest))

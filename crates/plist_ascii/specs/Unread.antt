@@ -1,4 +1,4 @@
--- The bytes that are still to be taken, and what taking a part of a token makes of them.
+-- The bytes that are left to be taken, and what is left after a part of a token.
 use Rattle.std.specs.Prelude.{◌≡◌, ℕ, ◌+◌, ◌-◌, ◌^◌, ◌≤◌, Bool, true, false, ◌==◌, List, [], ◌∷◌, ◌++◌, length, take, drop, Option, None, Some, Result, Ok, Err, MatchResult, slice_get}
 use Rattle.std.specs.List.{cons_option}
 use Rattle.std.specs.Option.{option_map}
@@ -15,42 +15,42 @@ use Rattle.plist_ascii.specs.Taken.{Taken, run}
 use Rattle.plist_ascii.specs.Texts.{ends_bare}
 use Rattle.plist_ascii.specs.Quoted.{ends_run}
 
--- a byte that was looked at, and the bytes after it: no input is longer than 2^64 - 1 bytes
+-- a byte that was looked at, and the bytes after it; no input is longer than 2^64 - 1 bytes
 abbrev pub readable_with : Option ℕ → (taken : ℕ) → List ℕ → List ℕ
 readable_with peeked taken bytes = take (2 ^ 64 - 1 - taken) (cons_option peeked bytes)
 
--- the bytes not taken, where they are known; none once the input has ended
+-- the bytes not taken yet, if they are known; none after the input has ended
 unfoldable pub unread_of : Option (List ℕ) → (ended : Bool) → Option ℕ → (taken : ℕ)
     → Option (List ℕ)
 unread_of known true peeked taken = Some []
 unread_of known false peeked taken = option_map (λ bytes. readable_with peeked taken bytes) known
 
--- the same of an input
+-- the bytes that an input hasn't taken yet
 abbrev pub unread : {R : Type 0} → (R → Option (List ℕ)) → Input R → Option (List ℕ)
 unread known input = unread_of (known input.inner) input.ended input.peeked input.taken
 
--- a fact of the bytes, where they are known
+-- a fact about the bytes, if they are known
 abbrev pub IfKnown : Option (List ℕ) → (List ℕ → Type 0) → Type 0
 IfKnown known P = (bytes : List ℕ) → known ≡ Some bytes → P bytes
 
--- the first byte, if there is one
+-- the first byte, or none if there are no bytes
 abbrev pub first : List ℕ → Option ℕ
 first bytes = slice_get bytes 0
 
--- what ends a run
+-- the bytes that end a run
 abbrev pub stops : Stop → ℕ → Bool
 stops (stop.Bare dialect) c = ends_bare dialect c
 stops stop.LineEnd c = c == 10
 stops (stop.Quoted quote) c = ends_run quote c
 
--- a device's fault, or lack of memory, which says nothing of the bytes
+-- `Io` or `OutOfMemory`, which say nothing of the bytes
 abbrev pub is_io_or_memory : FaultKind → Bool
 is_io_or_memory Io = true
 is_io_or_memory OutOfMemory = true
 is_io_or_memory kind = false
 
--- a device's fault or one of the bytes stands where the bytes taken end; lack of memory has no
--- place
+-- the offset of `Io` and of a fault in the bytes is the number of bytes taken; `OutOfMemory` has
+-- none
 abbrev pub IsFaultAt : Fault → ℕ → Type 0
 IsFaultAt fault place =
     MatchFault fault.kind (fault.offset ≡ Some place) (fault.offset ≡ None)
@@ -61,22 +61,22 @@ abbrev pub FirstIsTaken : Option (List ℕ) → ℕ → Option (List ℕ) → Ty
 FirstIsTaken old c new = IfKnown old (λ bytes. (rest : List ℕ) × (bytes ≡ c ∷ rest)
     × (new ≡ Some rest))
 
--- from place p to place q some of the first bytes were taken, which no stop is among, and stand
--- after the text
+-- from offset p to offset q some of the first bytes were taken, without a stop among them, and
+-- appended to the text
 abbrev pub TakesPart : (stops : ℕ → Bool) → (p : ℕ) → (text : List ℕ) → (new : Option (List ℕ))
     → (q : ℕ) → (longer : List ℕ) → List ℕ → Type 0
 TakesPart stops p text new q longer bytes =
     (part : List ℕ) × (rest : List ℕ) × (bytes ≡ part ++ rest) × (run stops part ≡ length part)
     × (longer ≡ text ++ part) × (new ≡ Some rest) × (q ≡ p + length part)
 
--- from place p to place q these bytes were taken, and gave this
+-- from offset p to offset q these bytes were taken, with this meaning or fault
 abbrev pub TakesFront : {A : Type 0} → Taken A → Result A FaultKind → (new : Option (List ℕ))
     → (p q : ℕ) → List ℕ → Type 0
 TakesFront t outcome new p q bytes =
     (t.gives ≡ outcome) × (new ≡ Some (drop t.bytes bytes)) × (q ≡ p + t.bytes)
 
--- From place p to place q, what stands at the front of the old bytes was taken, and gave what the
--- answer says, seen by view. A device's fault or lack of memory says nothing of the bytes.
+-- From offset p to offset q, what is at the front of the old bytes was taken, and its meaning or
+-- fault is the result, seen by view. `Io` and `OutOfMemory` say nothing of the bytes.
 abbrev pub GivesFront : {X A : Type 0} → (view : X → A) → (front : List ℕ → Taken A)
     → (old : Option (List ℕ)) → (p : ℕ) → (new : Option (List ℕ)) → (q : ℕ) → Result X Error
     → Type 0
@@ -86,7 +86,7 @@ GivesFront view front old p new q answer = MatchResult answer
     → IfKnown old (λ bytes.
     TakesFront (front bytes) (Err (kind_of (error_kind_of e))) new p q bytes)))
 
--- what a text means, as an event or a fault's kind
+-- the meaning of a string, as an event or the kind of a fault
 abbrev pub Means : Result Event ErrorKind → Result (Option PlainEvent) FaultKind → Type 0
 Means answer outcome = MatchResult answer
     (λ event. (outcome ≡ Ok (Some (event_of event))) × IsTextEvent (event_of event))

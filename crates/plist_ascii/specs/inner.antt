@@ -1,3 +1,3 @@
--- What bodies and proofs speak of, and no public clause.
+-- What bodies and proofs use, but no public clause.
 pub mod Parts
 pub mod Inputs

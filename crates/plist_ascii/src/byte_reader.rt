@@ -1,4 +1,4 @@
-//! Where the bytes come from.
+//! The readers from which bytes are taken.
 
 ghost use Rattle.std.specs.Prelude.{◌≡◌, ◌≤◌, ℕ, List, [], length, Option, None, IfOk};
 ghost use Rattle.plist_ascii.specs.Incoming.{GivesByte, CountsFailureIfCounted, LosesFirst};
@@ -6,28 +6,29 @@ ghost use Rattle.plist_ascii.specs.Incoming.{GivesByte, CountsFailureIfCounted, 
 use std::io;
 use std::io::Read;
 
-/// Bytes that come one by one, or several in one go where they are buffered.
+/// A reader from which bytes are taken one by one, or several together if they are buffered.
 ///
-/// Every `Read` is one, which counts no failures and has nothing buffered. What counts its failures
-/// may be one, too.
+/// Every `Read` is a `ByteReader` that counts no failures and buffers nothing. A reader that counts
+/// its failures may implement it, too.
 pub trait ByteReader {
-    /// The bytes that are still to come, where they are known.
+    /// The remaining bytes, if they are known.
     ghost remaining: { Self → Option (List ℕ) };
-    /// How many reads failed, where they are counted.
+    /// The number of reads that failed, if they are counted.
     ghost failures: { Self → Option ℕ };
-    /// The bytes that are buffered.
+    /// The buffered bytes.
     ghost held: { Self → List ℕ };
 
-    /// The next byte, or `None` at the end. A read that fails isn't made again, `Interrupted` or
-    /// not.
+    /// Returns the next byte, or `None` at the end. A failed read isn't tried again, not even after
+    /// `Interrupted`.
     ///
     /// # Errors
-    /// What the device said.
+    ///
+    /// Any I/O error.
     fn next_byte(&mut self) -> Result<Option<u8>, io::Error>
         ensures byte { IfOk result (λ b. GivesByte (remaining self.old) b (remaining self.new)) }
         ensures failures { CountsFailureIfCounted result (failures self.old) (failures self.new) };
 
-    /// The bytes that are buffered: they are the next ones, and taking them reads nothing.
+    /// Returns the buffered bytes. They are the next ones, and taking them needs no read.
     fn buffered(&self) -> &[u8]
         ensures { result.now ≡ held self.now };
 
@@ -38,7 +39,7 @@ pub trait ByteReader {
         ensures failures { failures self.new ≡ failures self.old };
 }
 
-/// No failures are counted, and nothing is buffered.
+/// It counts no failures and buffers nothing.
 impl<R: Read> ByteReader for R {
     ghost remaining = { R.remaining };
 

@@ -10,14 +10,14 @@ use crate::byte_reader::ByteReader;
 use crate::input::{Input, Stop};
 use plist_base::{Error, ErrorKind, OwnedEvent};
 
-// Does this byte close a comment?
+// Returns whether this byte closes a comment.
 fn closes(star: bool, byte: u8) -> bool
     ensures { result ≡ star && (byte == 47) }
 {
     star && byte == b'/'
 }
 
-// Is this byte a star?
+// Returns whether this byte is a star.
 fn is_star(byte: u8) -> bool
     ensures { result ≡ (byte == 42) }
 {
@@ -38,7 +38,7 @@ impl<R: ByteReader> Input<R> {
         Ok(())
     }
 
-    /// Takes a comment up to its line's end, whose slashes have been taken.
+    /// Takes a comment up to the end of its line. Its slashes have been taken.
     pub fn line_comment(&mut self) -> Result<Option<OwnedEvent>, Error>
         ensures answers { GivesToken R.remaining line_comment self.old result self.new }
         ensures memory { IfErr result (λ error. kind_of (error_kind_of error) ≢ OutOfMemory) }
@@ -49,8 +49,8 @@ impl<R: ByteReader> Input<R> {
         Ok(None)
     }
 
-    /// Takes a comment up to and with its `*/`, whose opening has been taken. No byte after it is
-    /// looked at.
+    /// Takes a comment up to and including its `*/`. Its opening has been taken, and no byte after
+    /// it is looked at.
     pub fn block_comment(&mut self) -> Result<Option<OwnedEvent>, Error>
         // The answer.
         ensures answers { GivesToken R.remaining block_comment self.old result self.new }

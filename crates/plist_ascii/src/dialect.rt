@@ -1,10 +1,12 @@
-//! How far a bare text goes.
+//! Which bytes end a bare string.
 
-/// What ends a bare text. Quoted texts and comments are the same in both.
+/// Decides which bytes end a bare string. Quoted strings and comments are the same in both
+/// dialects.
 #[derive(Clone, Copy, Debug, PartialEq, Eq)]
 pub enum Dialect {
-    /// Space, tab, CR, `)`, `;` and `,` end a bare text: `{a=b}` is a start and the text `a=b}`.
+    /// Space, tab, CR, `)`, `;` and `,` end a bare string: `{a=b}` is a start and the string
+    /// `a=b}`.
     Lax,
-    /// LF, `}` and `=` end it, too: `{a=b}` is a start, the texts `a` and `b`, and an end.
+    /// LF, `}` and `=` end it, too: `{a=b}` is a start, the strings `a` and `b`, and an end.
     Tight,
 }

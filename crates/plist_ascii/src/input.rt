@@ -1,5 +1,5 @@
-//! Bytes that are taken one by one, with one byte looked at ahead, or in one go where they are
-//! buffered.
+//! The bytes of a reader, taken one by one with one byte of lookahead, or several together if they
+//! are buffered.
 
 ghost use Rattle.std.specs.Prelude.{◌≡◌, ◌+◌, ◌-◌, ◌^◌, ◌<◌, ◌≤◌, [], length, take, None, Some, Ok, true, false, IfOk, IfErr, OnOk, IsSome};
 ghost use Rattle.plist_base.specs.Faults.{Io, UnclosedString, fault_of, fault_at, kind_of};
@@ -13,10 +13,10 @@ use crate::byte_reader::ByteReader;
 use crate::dialect::Dialect;
 use plist_base::{Error, ErrorKind};
 
-/// What ends a run of bytes.
+/// Which bytes end a run of bytes.
 #[derive(Clone, Copy)]
 pub enum Stop {
-    /// What ends a bare text of this dialect.
+    /// The bytes that end a bare string in this dialect.
     Bare(Dialect),
     /// LF.
     LineEnd,
@@ -24,7 +24,7 @@ pub enum Stop {
     Quoted(u8),
 }
 
-// Does this byte end a bare text?
+// Returns whether this byte ends a bare string.
 fn ends_bare(dialect: Dialect, byte: u8) -> bool
     ensures { result ≡ ends_bare dialect byte }
 {
@@ -39,7 +39,7 @@ fn ends_bare(dialect: Dialect, byte: u8) -> bool
     }
 }
 
-/// Does this byte end the run?
+/// Returns whether this byte ends the run.
 pub fn is_stop(stop: Stop, byte: u8) -> bool
     ensures { result ≡ stops stop byte }
 {
@@ -50,7 +50,7 @@ pub fn is_stop(stop: Stop, byte: u8) -> bool
     }
 }
 
-// How many of the first `most` bytes stand before the first that ends the run.
+// Returns how many of the first `most` bytes precede the first byte that ends the run.
 fn run_length(stop: Stop, bytes: &[u8], most: u64) -> usize
     ensures within { result ≤ length bytes.now }
     ensures most { result ≤ most }
@@ -66,20 +66,20 @@ fn run_length(stop: Stop, bytes: &[u8], most: u64) -> usize
     count
 }
 
-/// The bytes of a reader, which are taken in turn. At most one more has been read.
+/// The bytes of a reader, taken one after another. At most one byte more has been read.
 #[derive(Drop)]
 pub struct Input<R> {
     inner: R,
-    // The byte that was read and not yet taken.
+    // The byte that was read but not taken yet.
     peeked: Option<u8>,
     // The number of bytes taken.
     taken: u64,
-    // Nothing more is read.
+    // Whether nothing more is read.
     ended: bool,
 }
 
 impl<R> Input<R> {
-    /// All bytes of a reader.
+    /// Makes an input from a reader.
     pub fn new(inner: R) -> Self
         ensures inner { result.inner ≡ inner }
         ensures fresh { (result.peeked ≡ None) × (result.taken ≡ 0) × (result.ended ≡ false) }
@@ -92,21 +92,21 @@ impl<R> Input<R> {
         }
     }
 
-    /// The reader, without the byte that was looked at.
+    /// Returns the reader, which lacks the byte that was looked at.
     pub fn into_inner(self) -> R
         ensures { result ≡ self.inner }
     {
         self.inner
     }
 
-    /// Has it ended?
+    /// Returns whether the input has ended.
     pub fn has_ended(&self) -> bool
         ensures { result ≡ self.now.ended }
     {
         self.ended
     }
 
-    /// A fault at the end of the bytes taken.
+    /// Makes an error whose offset is the number of bytes taken.
     pub fn fault(&self, kind: ErrorKind) -> Error
         ensures { fault_of result ≡ fault_at (kind_of kind) self.now.taken }
     {
@@ -115,7 +115,7 @@ impl<R> Input<R> {
 }
 
 impl<R: ByteReader> Input<R> {
-    // Reads one byte ahead.
+    // Reads the byte of lookahead.
     fn fetch(&mut self) -> Result<Option<u8>, Error>
         requires going { self.old.ended ≡ false }
         requires countable { self.old.taken < 2 ^ 64 - 1 }
@@ -143,7 +143,7 @@ impl<R: ByteReader> Input<R> {
         }
     }
 
-    /// The next byte, which isn't taken.
+    /// Returns the next byte without taking it.
     #[tactic(auto, using(crate::proofs::Unread::looks))]
     pub fn peek(&mut self) -> Result<Option<u8>, Error>
         // The answer.
@@ -184,7 +184,7 @@ impl<R: ByteReader> Input<R> {
         self.taken += 1;
     }
 
-    /// Takes the next byte, unless it ends the run.
+    /// Takes the next byte unless it ends the run.
     pub fn take_unless(&mut self, stop: Stop) -> Result<Option<u8>, Error>
         // The answer.
         ensures some { IfCame result (λ c. TakesPlain R.remaining stop self.old c self.new) }
@@ -208,7 +208,7 @@ impl<R: ByteReader> Input<R> {
         }
     }
 
-    /// Takes buffered bytes, up to a stop.
+    /// Takes buffered bytes up to a stop.
     pub fn skip_buffered(&mut self, stop: Stop)
         ensures bytes { SkipsSome R.remaining stop self.old self.new }
         ensures place { self.old.taken ≤ self.new.taken }
@@ -225,7 +225,7 @@ impl<R: ByteReader> Input<R> {
         self.taken += count as u64;
     }
 
-    /// Takes buffered bytes, up to a stop, and appends them.
+    /// Takes buffered bytes up to a stop, and appends them.
     pub fn take_buffered(&mut self, stop: Stop, text: &mut Vec<u8>) -> Result<(), Error>
         ensures value { OnOk result (AddsTo R.remaining stop self.old text.old self.new text.new) }
         ensures fault { OnlyMemory result }
@@ -268,7 +268,7 @@ impl<R: ByteReader> Input<R> {
         }
     }
 
-    /// Takes the next byte of a quoted text, which must be there.
+    /// Takes the next byte of a quoted string. Its absence is an error.
     pub fn expect_byte(&mut self) -> Result<u8, Error>
         // The answer.
         ensures value { IfOk result (λ c. TakesByte R.remaining self.old c self.new) }
@@ -286,7 +286,7 @@ impl<R: ByteReader> Input<R> {
         }
     }
 
-    /// Nothing more is read.
+    /// Ends the input, so that nothing more is read.
     #[tactic(auto, unfolding(crate::specs::Unread::unread_of))]
     pub fn end(&mut self)
         ensures unread { unread R.remaining self.new ≡ Some [] }

@@ -1,7 +1,7 @@
 //! Reads old-style ASCII property lists.
 //!
-//! The main contract is that of [`AsciiReader`]: over known bytes each call gives the first of the
-//! items that the bytes not yet taken spell, and takes the bytes up to its end.
+//! The main contract is that of [`AsciiReader`]: over known bytes, each call returns the first of
+//! the items that the remaining bytes spell, and takes the bytes up to its end.
 #![tactic(auto)]
 
 mod byte_reader;

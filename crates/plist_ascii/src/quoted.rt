@@ -1,4 +1,4 @@
-//! Quoted texts.
+//! Quoted strings.
 
 ghost use Rattle.std.specs.Prelude.{◌≡◌, ◌+◌, ◌<◌, ◌++◌, None, Some, Ok, Err, true, false, IfOk, IfErr, OnOk};
 ghost use Rattle.plist_base.specs.Outcomes.{OnlyMemory};
@@ -15,7 +15,7 @@ use crate::unescape::Escaped;
 use plist_base::{Error, OwnedEvent};
 use std::alloc::Global;
 
-// Appends what an escape stands for.
+// Appends the bytes that an escape stands for.
 fn push_escaped(text: &mut Vec<u8>, piece: Escaped) -> Result<(), Error>
     ensures value { OnOk result (text.new.items ≡ text.old.items ++ escaped_bytes piece) }
     ensures fault { OnlyMemory result }
@@ -32,7 +32,7 @@ fn push_escaped(text: &mut Vec<u8>, piece: Escaped) -> Result<(), Error>
 }
 
 impl<R: ByteReader> Input<R> {
-    // Takes what stands after a run of plain bytes: the closing quote, or an escape.
+    // Takes what follows a run of plain bytes: the closing quote, or an escape.
     fn run_end(&mut self, quote: u8) -> Result<Option<Escaped>, Error>
         // The answer.
         ensures value { IfOk result (TakesEnd R.remaining quote self.old self.new) }
@@ -50,7 +50,7 @@ impl<R: ByteReader> Input<R> {
         Ok(Some(piece))
     }
 
-    // Takes a run of plain bytes and what stands after it. Says whether the text is closed.
+    // Takes a run of plain bytes and what follows it. Returns whether the string is closed.
     fn part(&mut self, quote: u8, text: &mut Vec<u8>) -> Result<bool, Error>
         // The answer.
         ensures value { IfOk result (Quotes R.remaining quote self.old text.old self.new text.new) }
@@ -71,7 +71,7 @@ impl<R: ByteReader> Input<R> {
         }
     }
 
-    // Takes the bytes of a text up to and with its closing quote.
+    // Takes the bytes of a string up to and including its closing quote.
     fn quoted(&mut self, alloc: Global, quote: u8) -> Result<Vec<u8>, Error>
         ensures answers { GivesText R.remaining (quoted quote) self.old result self.new }
         ensures peeked { IfOk result (λ _. self.new.peeked ≡ None) }
@@ -85,7 +85,7 @@ impl<R: ByteReader> Input<R> {
         }
     }
 
-    /// Takes a quoted text, whose opening quote has been taken. No byte after it is looked at.
+    /// Takes a quoted string. Its opening quote has been taken, and no byte after it is looked at.
     pub fn quoted_text(&mut self, alloc: Global, quote: u8) -> Result<OwnedEvent, Error>
         ensures answers { GivesOne R.remaining (quoted_token quote) self.old result self.new }
         ensures kinds { IfOk result (λ event. IsTextEvent (event_of event)) }

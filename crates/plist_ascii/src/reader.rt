@@ -13,7 +13,7 @@ use crate::input::{Input, Stop};
 use plist_base::{Error, ErrorKind, OwnedEvent};
 use std::alloc::Global;
 
-// Is it a device's fault, or `OutOfMemory`?
+// Returns whether the error is `Io` or `OutOfMemory`.
 fn is_io_or_memory(error: &Error) -> bool
     ensures { result ≡ is_io_or_memory (kind_of (error_kind_of error.now)) }
 {
@@ -21,7 +21,7 @@ fn is_io_or_memory(error: &Error) -> bool
 }
 
 impl<R: ByteReader> Input<R> {
-    // Takes tokens up to the first that gives an item.
+    // Takes tokens up to the first that is an item.
     fn item(&mut self, alloc: Global, stop: Stop) -> Option<Result<OwnedEvent, Error>>
         // The answer.
         ensures items { GivesToStop R.remaining stop self.old result self.new }
@@ -68,21 +68,22 @@ impl<R: ByteReader> Input<R> {
 
 /// Reads an ASCII property list as events, from its first byte on.
 ///
-/// Brackets open and close collections, quotes and other bytes open texts, and what stands between
-/// them is passed over; nesting isn't checked. A bare text that spells an integer is one; the
-/// [`Dialect`] says what ends it. It looks at one byte after an item only where that byte decides
-/// the item's end. At most 2^64 - 1 bytes are taken.
+/// Brackets open and close collections, quotes and other bytes begin strings, and separators are
+/// skipped; nesting isn't checked. A bare string that spells an integer is an integer; the
+/// [`Dialect`] decides where it ends. The reader looks at one byte after an item only if that byte
+/// decides where the item ends. At most 2^64 - 1 bytes are taken.
 ///
-/// The offset of a fault is the number of bytes taken; `OutOfMemory` has none.
+/// The offset of an error is the number of bytes taken; `OutOfMemory` has none.
 ///
-/// `{ a = (1, 'b'); }` gives a dictionary's start, `a`, an array's start, the number 1, `b` and two
-/// ends. Starts have no length.
+/// `{ a = (1, 'b'); }` yields the start of a dictionary, `a`, the start of an array, the integer 1,
+/// `b` and two ends. Starts have no length.
 ///
 /// # Errors
+///
 /// `UnclosedString`, `IncompleteComment`, `InvalidUtf8AsciiStream`, `InvalidOctalString` and
-/// `InvalidUtf16String` of the bytes: the reader goes on at the next byte not taken. `Io` where a
-/// read failed, and `OutOfMemory` in a text: the reader has ended. After that, and after its last
-/// item, it answers `None` for good.
+/// `InvalidUtf16String` are errors in the bytes: the reader continues at the next byte. `Io`, if a
+/// read fails, and `OutOfMemory`, which occurs only in a string, end the reader. Then, and after
+/// its last item, it returns `None` for good.
 #[derive(Drop)]
 pub struct AsciiReader<R> {
     input: Input<R>,
@@ -95,7 +96,7 @@ impl<R: ByteReader> AsciiReader<R> {
     ghost use Rattle.plist_ascii.specs.Ascii.{OnlyBareTextsDiffer};
     ghost use Rattle.plist_ascii.specs.AsciiReader.{untaken_bytes, dialect_of, device_of, peeked_byte, place_of, HasEndedAscii};
 
-    /// A lax reader over a device's bytes. It reads nothing before its first item is asked for.
+    /// Creates a lax reader. Nothing is read before the first call of `next`.
     pub fn new(alloc: Global, inner: R) -> Self
         // The answer.
         ensures bytes { untaken_bytes R.remaining result ≡ readable (R.remaining inner) }
@@ -108,10 +109,9 @@ impl<R: ByteReader> AsciiReader<R> {
         AsciiReader::with_dialect(alloc, inner, Dialect::Lax)
     }
 
-    /// A reader of this dialect over a device's bytes. It reads nothing before its first item is
-    /// asked for.
+    /// Creates a reader of this dialect. Nothing is read before the first call of `next`.
     ///
-    /// In the tight dialect `{a=b}` gives a dictionary's start, `a`, `b` and an end.
+    /// In the tight dialect `{a=b}` yields the start of a dictionary, `a`, `b` and an end.
     #[tactic(auto, using(crate::proofs::Unread::new_unread))]
     pub fn with_dialect(alloc: Global, inner: R, dialect: Dialect) -> Self
         // The answer.
@@ -131,9 +131,9 @@ impl<R: ByteReader> AsciiReader<R> {
         }
     }
 
-    /// The device, from which at most one byte past the last item has been read.
+    /// Returns the inner reader, of which at most one byte past the last item has been read.
     ///
-    /// That byte is lost. After a bracket or a quoted text none is.
+    /// That byte is lost. After a bracket or a quoted string there is no such byte.
     #[tactic(auto, using(crate::proofs::Unread::going_unread))]
     pub fn into_inner(self) -> R
         ensures bytes { (HasEndedAscii self → ⊥) → HoldsLeft self R.remaining result }

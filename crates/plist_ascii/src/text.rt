@@ -1,4 +1,4 @@
-//! Bare texts, and what texts mean.
+//! Bare strings, and the meaning of strings.
 
 ghost use Rattle.std.specs.Prelude.{◌≡◌, ◌+◌, ◌≤◌, [], ◌∷◌, ◌++◌, Some, Ok, Err, IfOk, IfErr, OnOk, string_bytes};
 ghost use Rattle.plist_base.specs.Faults.{InvalidUtf8AsciiStream};
@@ -25,7 +25,7 @@ pub fn push_byte(text: &mut Vec<u8>, byte: u8) -> Result<(), Error>
     Ok(())
 }
 
-// The text of these bytes.
+// Returns the string of these bytes, which must be UTF-8.
 fn text_of(bytes: Vec<u8>) -> Result<String, ErrorKind>
     ensures value { IfOk result (IsTextOf bytes.items) }
     ensures fault { IfErr result (IsNoText bytes.items) }
@@ -36,7 +36,7 @@ fn text_of(bytes: Vec<u8>) -> Result<String, ErrorKind>
     }
 }
 
-// The number that a text spells, or the text.
+// Returns the integer that a string spells, or else the string.
 fn number_or_text(text: String) -> OwnedEvent
     ensures { event_of result ≡ ScalarEvent (scalar_of_text (string_bytes text)) }
 {
@@ -46,7 +46,7 @@ fn number_or_text(text: String) -> OwnedEvent
     }
 }
 
-/// What the bytes of a bare text mean.
+/// Returns the event of a bare string with these bytes.
 #[tactic(auto, unfolding(crate::specs::Texts::bare_event), using(crate::proofs::Texts::bare_texts))]
 pub fn bare_event(bytes: Vec<u8>) -> Result<OwnedEvent, ErrorKind>
     ensures { Means result (bare_event bytes.items) }
@@ -55,7 +55,7 @@ pub fn bare_event(bytes: Vec<u8>) -> Result<OwnedEvent, ErrorKind>
     Ok(number_or_text(text))
 }
 
-/// What the bytes of a quoted text mean.
+/// Returns the event of a quoted string with these bytes.
 #[tactic(auto, unfolding(crate::specs::Texts::quoted_event), using(crate::proofs::Texts::texts))]
 pub fn quoted_event(bytes: Vec<u8>) -> Result<OwnedEvent, ErrorKind>
     ensures { Means result (quoted_event bytes.items) }
@@ -79,7 +79,7 @@ impl<R: ByteReader> Input<R> {
         Ok(())
     }
 
-    /// Takes a bare text, whose first byte has been taken.
+    /// Takes a bare string. Its first byte has been taken.
     pub fn bare(&mut self, alloc: Global, stop: Stop, first: u8) -> Result<OwnedEvent, Error>
         ensures answers { GivesOne R.remaining (bare_until stop first) self.old result self.new }
         ensures kinds { IfOk result (λ event. IsTextEvent (event_of event)) }

@@ -24,15 +24,15 @@ pub enum Lead {
     End,
     /// Nothing: a separator or white space.
     Blank,
-    /// A quoted text.
+    /// A quoted string.
     Quote,
-    /// A comment, or a bare text.
+    /// A comment, or a bare string.
     Slash,
-    /// A bare text.
+    /// A bare string.
     Bare,
 }
 
-// What this byte begins.
+// Returns what this byte begins.
 fn lead_of(byte: u8) -> Lead
     ensures { result ≡ lead_of byte }
 {
@@ -48,7 +48,7 @@ fn lead_of(byte: u8) -> Lead
 }
 
 impl<R: ByteReader> Input<R> {
-    // Takes what a slash begins.
+    // Takes the token that a slash begins.
     fn slash(&mut self, alloc: Global, stop: Stop) -> Result<Option<OwnedEvent>, Error>
         ensures answers { GivesToken R.remaining (slash (stops stop)) self.old result self.new }
         ensures memory { IfErr result (AllocatesForText R.remaining (slash (stops stop)) self.old) }
@@ -72,7 +72,8 @@ impl<R: ByteReader> Input<R> {
         }
     }
 
-    /// Takes the token that a byte begins, which has been taken. It may give nothing.
+    /// Takes the rest of the token that a byte begins. That byte has been taken. Some tokens have
+    /// no event.
     pub fn token_by(
         &mut self,
         alloc: Global,

@@ -1,4 +1,4 @@
-//! Escapes in quoted texts.
+//! Escapes in quoted strings.
 
 ghost use Rattle.std.specs.Prelude.{◌≡◌, ◌+◌, ◌*◌, ◌<◌, ◌≤◌, ◌&&◌, ◌||◌, ◌==◌, [], ◌∷◌, nat_le, nat_lt, None, Some, Ok, Err, true, false, MatchOption};
 ghost use Rattle.std.specs.Char.{is_digit};
@@ -21,7 +21,7 @@ pub enum Escaped {
     Char(char),
 }
 
-// NeXTSTEP's characters 128 to 255.
+// The characters 128 to 255 of NeXTSTEP's encoding.
 const NEXTSTEP: [char; 128] = [
     '\u{A0}', '\u{C0}', '\u{C1}', '\u{C2}', '\u{C3}', '\u{C4}', '\u{C5}', '\u{C7}', '\u{C8}',
     '\u{C9}', '\u{CA}', '\u{CB}', '\u{CC}', '\u{CD}', '\u{CE}', '\u{CF}', '\u{D0}', '\u{D1}',
@@ -40,7 +40,7 @@ const NEXTSTEP: [char; 128] = [
     '\u{153}', '\u{DF}', '\u{FE}', '\u{FF}', '\u{FFFD}', '\u{FFFD}',
 ];
 
-// The byte that a letter stands for.
+// Returns the byte that a letter stands for.
 fn simple_of(byte: u8) -> Option<u8>
     ensures { result ≡ simple_escape byte }
 {
@@ -57,7 +57,7 @@ fn simple_of(byte: u8) -> Option<u8>
     }
 }
 
-// The value of a digit.
+// Returns the value of a digit.
 fn digit(byte: u8, radix: u32) -> Option<u32>
     requires radix { (2 ≤ radix) × (radix ≤ 36) }
     ensures { MatchOption result (is_digit byte radix ≡ false) (IsDigitOf byte radix) }
@@ -65,21 +65,21 @@ fn digit(byte: u8, radix: u32) -> Option<u32>
     char::from(byte).to_digit(radix)
 }
 
-// Is this byte an octal digit?
+// Returns whether this byte is an octal digit.
 fn is_octal(byte: u8) -> bool
     ensures { result ≡ is_digit byte 8 }
 {
     matches!(byte, b'0'..=b'7')
 }
 
-// Is this one of NeXTSTEP's own characters?
+// Returns whether the table of NeXTSTEP's characters has this number.
 fn is_nextstep(number: u32) -> bool
     ensures { result ≡ nat_le 128 number && nat_lt number 256 }
 {
     number >= 128 && number < 256
 }
 
-// The character of a number of three octal digits.
+// Returns the character of a number of three octal digits.
 #[tactic(auto, unfolding(crate::specs::Escapes::octal_char), using(crate::proofs::Texts::to_char))]
 fn octal_char(number: u32) -> Option<char>
     requires { number < 512 }
@@ -91,7 +91,7 @@ fn octal_char(number: u32) -> Option<char>
     char::from_u32(number)
 }
 
-// The character of three octal digits.
+// Returns the character of three octal digits.
 #[tactic(auto, unfolding(crate::specs::Escapes::octal_text))]
 fn octal_of(first: u8, second: u8, third: u8) -> Option<char>
     ensures { IsCharOr InvalidOctalString (octal_text (first ∷ second ∷ third ∷ [])) result }
@@ -102,7 +102,7 @@ fn octal_of(first: u8, second: u8, third: u8) -> Option<char>
     octal_char(a * 64 + b * 8 + c)
 }
 
-// The unit of four hexadecimal digits.
+// Returns the UTF-16 unit of four hexadecimal digits.
 fn unit_of(first: u8, second: u8, third: u8, fourth: u8) -> Option<u16>
     ensures { result ≡ unit_of (first ∷ second ∷ third ∷ fourth ∷ []) }
 {
@@ -113,28 +113,28 @@ fn unit_of(first: u8, second: u8, third: u8, fourth: u8) -> Option<u16>
     Some((a * 4096 + b * 256 + c * 16 + d) as u16)
 }
 
-// The character of a unit, which no surrogate has.
+// Returns the character of a unit, unless it is a surrogate.
 fn lone_char(unit: u16) -> Option<char>
     ensures { MatchOption result (is_surrogate unit ≡ true) (IsCharOfUnit unit) }
 {
     char::from_u32(u32::from(unit))
 }
 
-// Does this byte begin a unit after its backslash?
+// Returns whether this byte begins a unit after its backslash.
 fn is_unit_letter(byte: u8) -> bool
     ensures { result ≡ (byte == 117) || (byte == 85) }
 {
     byte == b'u' || byte == b'U'
 }
 
-// Is this a surrogate pair?
+// Returns whether this is a surrogate pair.
 fn is_pair(high: u16, low: u16) -> bool
     ensures { result ≡ is_high_surrogate high && is_low_surrogate low }
 {
     (0xD800..0xDC00).contains(&high) && (0xDC00..0xE000).contains(&low)
 }
 
-// The character of a surrogate pair, whose low half may be no unit.
+// Returns the character of a surrogate pair. The low half is `None` if its digits are invalid.
 fn pair_char(high: u16, low: Option<u16>) -> Option<char>
     ensures { IsCharOr InvalidUtf16String (pair_text high low) result }
 {
@@ -146,7 +146,7 @@ fn pair_char(high: u16, low: Option<u16>) -> Option<char>
 }
 
 impl<R: ByteReader> Input<R> {
-    /// Takes an escape, whose backslash has been taken.
+    /// Takes an escape. Its backslash has been taken.
     pub fn escape(&mut self) -> Result<Escaped, Error>
         ensures answers { GivesEscaped R.remaining escape self.old result self.new }
         ensures failures { CountsFailed R.failures self.old result self.new }
@@ -155,7 +155,7 @@ impl<R: ByteReader> Input<R> {
         self.escape_by(byte)
     }
 
-    // Takes the rest of an escape, whose first byte has been taken.
+    // Takes the rest of an escape. Its first byte has been taken.
     fn escape_by(&mut self, byte: u8) -> Result<Escaped, Error>
         ensures answers { GivesEscaped R.remaining (escape_by byte) self.old result self.new }
         ensures failures { CountsFailed R.failures self.old result self.new }
@@ -172,7 +172,7 @@ impl<R: ByteReader> Input<R> {
         }
     }
 
-    // Takes the second and third byte of an octal escape.
+    // Takes the second and the third byte of an octal escape.
     fn octal(&mut self, first: u8) -> Result<Escaped, Error>
         ensures answers { GivesEscaped R.remaining (octal first) self.old result self.new }
         ensures failures { CountsFailed R.failures self.old result self.new }
@@ -231,7 +231,7 @@ impl<R: ByteReader> Input<R> {
         Err(self.fault(ErrorKind::InvalidUtf16String))
     }
 
-    // Takes the letter of the second unit if it stands there, and what follows it.
+    // Takes the letter of the second unit, if it is next, and what follows it.
     fn second_letter(&mut self, high: u16) -> Result<Escaped, Error>
         ensures answers { GivesEscaped R.remaining (second_letter high) self.old result self.new }
         ensures failures { CountsFailed R.failures self.old result self.new }

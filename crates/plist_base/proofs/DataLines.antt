@@ -64,7 +64,7 @@ dark-base64 bytes =
 abbrev pub written : List ℕ → ℕ → List ℕ
 written bytes line = encode_of standard (bytes_of_line bytes line)
 
--- without LF between them they stand one after the other
+-- without LF between them, the lines follow one another
 dark-lines : (bytes lines : List ℕ)
     → without_white (join_with_byte 10 (map (written bytes) lines))
     ≡ concat (map (written bytes) lines)
@@ -101,7 +101,7 @@ join-next first (next ∷ lines) line =
     rw (join-next next lines line)
     (sym (append_assoc first (10 ∷ join_with_byte 10 (next ∷ lines)) (10 ∷ line)))
 
--- the bytes of a line, as far as there are some
+-- the bytes of a line, if any are left
 pub line-slice : (bytes : List ℕ) (start end : ℕ) → end ≡ min (length bytes) (start + 51)
     → start ≤ length bytes → take (end - start) (drop start bytes) ≡ take 51 (drop start bytes)
 line-slice bytes start end is fits =
@@ -176,27 +176,27 @@ unfolding data_of_text
 data_decoded text dark bytes is decoded =
     decoded_of-ok _ _ _ (rw is at decoded)
 
--- all lines are the text
+-- all lines together are the text
 pub text_of_lines : (bytes : List ℕ) (count : ℕ) (text : List ℕ)
     → text ≡ join_with_byte 10 (first_lines count bytes) → count ≡ line_count bytes
     → text ≡ data_text bytes
 unfolding data_text
 text_of_lines bytes count text is all = is ∙ ap (λ n. join_with_byte 10 (first_lines n bytes)) all
 
--- what holds of the refusal that was made holds of the answer
+-- what is true of the error that was made is true of the result's error
 pub refused_as : {A : Type 0} (P : InvalidXmlData → Type 0) (made : InvalidXmlData)
     (answer : Result A InvalidXmlData) → IsErrAnd answer (λ refusal. refusal ≡ made) → P made
     → IfErr answer P
 refused_as P made (Ok value) is holds = tt
 refused_as P made (Err refusal) is holds = subst P (sym is) holds
 
--- the fault of a text is that of decoding what is left of it
+-- the error of parsing a text is that of decoding it without white space
 pub fault_of_text : (text dark : List ℕ) (error : DecodeAllocError) → dark ≡ without_white text
     → IsDecodeFailure standard dark error → IsFaultOfText text (refusal_of_decoding error)
 fault_of_text text dark (decoding.DecodeError fault) is refused = rw is at refused
 fault_of_text text dark decoding.OutOfMemory is refused = tt
 
--- no bytes have a text that doesn't decode
+-- a text that can't be decoded has no bytes
 pub no_data : (text dark : List ℕ) (error : DecodeAllocError) → dark ≡ without_white text
     → IsDecodeFailure standard dark error → IsNoData text (refusal_of_decoding error)
 unfolding data_of_text decoded_of

@@ -133,7 +133,7 @@ sum_is n z k e =
 whole_small : (n : ℕ) → Encoded n → whole_bits n < 2 ^ 63
 whole_small n k = omega arith
 
--- the law: these bits are the second's, give it back, and are exactly at it
+-- the law: these bits are those of the second, decode to it, and are exactly at it
 pub record AreWritten (second : ℤ) (bits : ℕ) : Type 0 where
   pub is : AreBitsAt second bits
   pub back : IsWholeAt second bits
@@ -186,7 +186,7 @@ tested : (b : Bool) (z y : ℤ) → ◌≡◌ {A = Option ℤ} (Some y) (cond b 
 tested true z y e = refl
 tested false z y e = absurd (cc)
 
--- the law of a second below zero, and of one from zero on
+-- the law for a negative second, and for any other
 pub below_zero : (z x y : ℤ) (b n : ℕ) → x ≡ z → Some y ≡ if_second_of_date x
     → lt_z x (pos 0) ≡ true → n ≡ unsigned_abs x → b ≡ whole_bits n → AreWritten z (2 ^ 63 + b)
 below_zero z (pos n) y b m same h lt is e = absurd (grind (arith, ints))
@@ -202,7 +202,7 @@ from_zero z (negsuc n) y b m same h le is e = absurd (cc)
 plain_low : (b : ℕ) → b < 2 ^ 63 → eqb b (2 ^ 63) ≡ false
 plain_low b h = grind (arith, nat_tests)
 
--- a second is not written as a zero with a sign
+-- no second is written as the negative zero
 pub plain_bits : (z : ℤ) → is_second_of_date z ≡ true → eqb (second_bits z) (2 ^ 63) ≡ false
 unfolding second_bits whole_bits
 plain_bits (pos zero) h = refl
@@ -222,7 +222,7 @@ plain_bits (negsuc n) h =
 pub bytes_are : (bs : List ℕ) (b : ℕ) → bs ≡ to_be_bytes w64 b → b < 2 ^ 64 → real_bits bs ≡ b
 bytes_are bs b e h = cc (from_be_bytes-to_be_bytes_8 b h)
 
--- bytes that stand for a second, and not for a zero with a sign, are a date's
+-- bytes of a second, but not of the negative zero, are a date's
 pub date_of_second : (second : Option ℤ) (bs : List ℕ) → is_none second ≡ false
     → eqb (real_bits bs) (2 ^ 63) ≡ false → date_if second bs ≡ Some bs
 date_of_second None bs some plain = absurd (cc)

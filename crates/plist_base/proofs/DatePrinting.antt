@@ -1,4 +1,5 @@
--- What is printed of a moment is read as its second, and which seconds lie in the years 0 to 9999.
+-- What is printed for a moment is parsed as its second, and which seconds are in the years 0 to
+-- 9999.
 use Rattle.std.proofs.Common.{◌≡◌, ℕ, ℤ, pos, ◌+ℤ◌, ◌*ℤ◌, ◌<ℤ◌, ◌≤ℤ◌, ◌<◌, inl, inr, refl, arith, ◌+◌, ◌*◌, ◌/◌, ◌%◌, ◌≤◌, true, false, List, [], ◌∷◌, ◌++◌, ◌-ℤ◌, Some, slice_index, sym, ap, subst, ◌∙◌}
 use Rattle.std.specs.Int.{int_div_euclid, IsInRange}
 use Rattle.jiff_core.specs.Calendar.{days_from_civil, IsEpochDay, days_in_month}
@@ -208,7 +209,7 @@ printed date year second is small in_day =
       utc = ap (λ t. slice_index t 19) shown;
     }
 
--- the parts of a text are its second
+-- the second of a text is made of its parts
 pub spelled : (text : List ℕ) (day zone : ℤ) (time : ℕ) → has_separators text ≡ true
     → day_in text ≡ Some day → time_in text ≡ Some time → zone_in text ≡ Some zone
     → unix_second_of_text text ≡ Some ((day *ℤ pos 86400 +ℤ pos time) -ℤ zone)

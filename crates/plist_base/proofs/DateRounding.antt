@@ -37,7 +37,7 @@ neg_times (suc w) d = refl
 bounds_pos : (w l d v : ℕ) → d * w + l ≡ v → l < d → Bounds (pos w) (pos v) d
 bounds_pos w l d v e h = (le_pos _ v (omega arith), lt_pos v _ (omega arith))
 
--- where parts are left
+-- a negative value with parts left over
 bounds_up : (w l d v : ℕ) → d * w + l ≡ v → 0 < l → l < d
     → Bounds (neg_ℤ (pos (suc w))) (neg_ℤ (pos v)) d
 bounds_up w l d v e some h = (
@@ -45,7 +45,7 @@ bounds_up w l d v e some h = (
   rw (neg_next w, neg_times w d) (lt_neg v _ (omega arith)),
 )
 
--- where none are
+-- a negative value without parts left over
 bounds_even : (w d : ℕ) → 0 < d → Bounds (neg_ℤ (pos w)) (neg_ℤ (pos (w * d))) d
 bounds_even zero d h =
     let z : 0 * d ≡ 0 = omega arith in rw z (le_pos 0 0 (omega arith), lt_zero d h)
@@ -93,7 +93,7 @@ in_bounds (negsuc n) h =
     let le : n ≤ 378683423999 = grind (arith, nat_tests) in
     (omega (arith, ints), omega (arith, ints))
 
--- and the other way round
+-- a second that the test rejects isn't one of a date
 pub out_of_bounds : (z : ℤ) → is_second_of_date z ≡ false → IsSecondOfDate z → ⊥
 out_of_bounds (pos n) h k =
     let lt : 252423993599 < n = grind (arith, nat_tests) in let le = k.1 in omega (arith, ints)
@@ -151,7 +151,7 @@ second_is_unique bits s t h k =
     let b = below_next t s _ _ k.0 h.1 in
     omega (arith, ints)
 
--- a real that is refused, though it is a number, has no second in the range of dates
+-- a finite real that is rejected has no second in the range of dates
 pub no_second : (bits : ℕ) → second_of_bits bits ≡ None → is_not_finite bits ≡ false → (second : ℤ)
     → IsSecondOf second bits → IsSecondOfDate second → ⊥
 unfolding second_of_bits
@@ -172,7 +172,7 @@ none_by_test s None b same test is = sym same
 none_by_test s (Some x) true same test is = absurd (cc)
 none_by_test s (Some x) false same test is = absurd (cc)
 
--- zeros are bytes
+-- each element of a list of zeros is a byte
 pub zeros_small : (count place : ℕ) → slice_index (replicate count 0) place < 256
 zeros_small zero place = omega arith
 zeros_small (suc count) zero = omega arith
@@ -197,14 +197,14 @@ text_year date second is year other is_other =
     let same : second -ℤ plist_epoch ≡ other = cc in
     subst HasFourDigitYear (sym (back_to_unix _) ∙ ap (λ s. s +ℤ plist_epoch) same) year
 
--- what is a text of the date is one of its Unix second
+-- a text of the date is a text of its Unix second
 pub text_at : (date text : List ℕ) (second : ℤ)
     → second_of_bytes date ≡ Some (second -ℤ plist_epoch) → IsDateText date text
     → IsTextOfSecond second text
 text_at date text second is text_of =
     subst (λ s. IsTextOfSecond s text) (back_to_unix _) (text_of.2 _ is)
 
--- what is a text of the Unix second, in UTC, is one of a whole date there
+-- a text of the Unix second in UTC is a text of a date there, if it has no fraction
 pub text_in_utc : (date text : List ℕ) (second : ℤ) → IsDate date → IsWhole date
     → second_of_bytes date ≡ Some (second -ℤ plist_epoch) → Some second ≡ unix_second_of_text text
     → IsInUtc text → IsDateText date text
@@ -237,12 +237,12 @@ printed date text is = by_second _ refl
       within = (second_facts (real_bits date) second some).1;
     }
 
--- a text that spells no second is none of a date
+-- a text that spells no second is no date's
 pub not_printed : (date text : List ℕ) → None ≡ unix_second_of_text text → IsDateText date text → ⊥
 not_printed date text none text_of =
     let p = printed date text text_of in let spells = p.spells in cc
 
--- nor is one whose second isn't in range
+-- a text whose second is out of range is no date's
 pub not_ranged : (date text : List ℕ) (second : ℤ) → Some second ≡ unix_second_of_text text
     → (IsSecondOfDate (second -ℤ plist_epoch) → ⊥) → IsDateText date text → ⊥
 not_ranged date text second is out text_of =

@@ -5,13 +5,13 @@ use Rattle.std.proofs.lemmas.Nat.{div-mul-add, mod-mul-add}
 use Rattle.std.proofs.lemmas.Bool.Decides.{nat_tests}
 use Rattle.plist_base.specs.Date.{real_exponent, real_mantissa, real_scale, parts_in_second, parts_of, whole_seconds, parts_left, has_fraction, real_second, rounded_down, is_second_of_date, if_second_of_date, is_negative, second_of_bits}
 
--- a second's parts, by a shift that is part of them
+-- the number of parts in a second, as the product of two powers
 split : (e : ℕ) → e < 1075 → parts_in_second ≡ 2 ^ (1075 - e) * 2 ^ e
 unfolding parts_in_second
 split e h = let s : 1075 ≡ (1075 - e) + e =
     omega arith in ap (λ k. 2 ^ k) s ∙ pow-add 2 _ e
 
--- a quotient and its remainder, where both numbers have a factor
+-- a quotient and its remainder, if both numbers have a common factor
 factored : (m q c : ℕ) → 0 < q → 0 < c → (m * c / (q * c) ≡ m / q) × (m * c % (q * c) ≡ m % q * c)
 factored m q c hq hc =
     let d = div-add-mod m q in
@@ -43,7 +43,7 @@ zero_scaled (suc a) c h =
     ≡ false = grind (arith, nat_tests) in let r : eqb (suc a) 0
     ≡ false = grind (arith, nat_tests) in cc
 
--- whether anything is left does not depend on the scale
+-- whether parts are left doesn't depend on the scale
 pub left_shifted : (m e : ℕ) → e < 1075 → eqb (parts_left m e) 0 ≡ eqb (m % 2 ^ (1075 - e)) 0
 left_shifted m e h = rw (left_scaled m e h) (zero_scaled _ _ (power_pos e))
 
@@ -63,7 +63,7 @@ left_far m e h =
 above : (m k : ℕ) → m < 2 ^ 53 → 53 ≤ k → m < 2 ^ k
 above m k h big = let p = pow-le-pow_right {n = 2} (omega arith) big in omega arith
 
--- a shift past all bits
+-- shifting out all bits
 pub whole_none : (m e : ℕ) → m < 2 ^ 53 → e < 1075 → 64 ≤ 1075 - e → whole_seconds m e ≡ 0
 whole_none m e h lt far = whole_shifted m e lt ∙ div-eq_of_lt (above m _ h (omega arith))
 
@@ -164,7 +164,7 @@ pub second_is : (bits m e w : ℕ) → m ≡ real_mantissa bits → e ≡ real_s
     → if_second_of_date (rounded_down (is_negative bits) w (parts_left m e)) ≡ second_of_bits bits
 second_is bits m e w is_m is_e is_w lt = rw (is_w, is_m, is_e) (second_near _ lt)
 
--- whole seconds, what is left behind them, and whether something is
+-- the whole seconds, the parts that are left, and whether there are any
 pub ruleset whole_parts = (whole_none, whole_shifted, whole_small)
 
 pub ruleset left_parts = (left_all, left_shifted, left_masked)

@@ -39,7 +39,7 @@ value_high (suc e) fraction small =
     + 2 ^ suc e = omega arith in
     rw (value_suc e fraction) (omega arith)
 
--- a greater exponent is a greater value
+-- a greater exponent means a greater value
 value_grows : (e d fraction other : ℕ) → fraction < 2 ^ 52 → e < d
     → value e fraction < value d other
 value_grows e zero fraction other small less = absurd (omega arith)
@@ -87,7 +87,7 @@ pos_once a b same = omega (arith, ints)
 neg_pos : (a b : ℕ) → neg_ℤ (pos a) ≡ pos b → a ≡ 0
 neg_pos a b same = omega (arith, ints)
 
--- bits with the same sign, exponent and fraction
+-- bits with the same sign, exponent and fraction are equal
 bits_same : (a b : ℕ) → a < 2 ^ 64 → b < 2 ^ 64 → is_negative a ≡ is_negative b
     → real_exponent a ≡ real_exponent b → a % 2 ^ 52 ≡ b % 2 ^ 52 → a ≡ b
 unfolding real_exponent
@@ -98,7 +98,7 @@ zero_exponent : 0 ≡ real_exponent (2 ^ 63)
 unfolding real_exponent
 zero_exponent = refl
 
--- a value of no parts is zero with a sign, where it has one
+-- bits with a sign whose value is zero are those of the negative zero
 negative_zero : (a : ℕ) → a < 2 ^ 64 → is_negative a ≡ true
     → value (real_exponent a) (a % 2 ^ 52) ≡ 0 → eqb a (2 ^ 63) ≡ true
 negative_zero a small negative none =
@@ -144,7 +144,7 @@ real_is bits = ap (signed _) (parts_value _)
 
 -- ---- a whole second
 
--- a value with nothing left behind its second is that second
+-- a value without a fraction is its second
 whole_value : (bits : ℕ) (second : ℤ) → has_fraction bits ≡ false
     → second_of_bits bits ≡ Some second → real_parts bits ≡ (second *ℤ pos parts_in_second)
 unfolding has_fraction second_of_bits real_parts real_second whole_seconds parts_left
@@ -171,7 +171,7 @@ bits_small : (bytes : List ℕ) → AreEightBytes bytes → real_bits bytes < 2 
 bits_small bytes are =
     omega (arith, are.1 0, are.1 1, are.1 2, are.1 3, are.1 4, are.1 5, are.1 6, are.1 7)
 
--- a date is no zero with a sign
+-- a date isn't the negative zero
 no_signed_zero : (bytes : List ℕ) → IsDate bytes → eqb (real_bits bytes) (2 ^ 63) ≡ false
 no_signed_zero bytes is = by_test (second_of_bytes bytes) _ bytes refl is.1
   where
@@ -184,7 +184,7 @@ no_signed_zero bytes is = by_test (second_of_bytes bytes) _ bytes refl is.1
         let are : 0 ∷ 0 ∷ 0 ∷ 0 ∷ 0 ∷ 0 ∷ 0 ∷ 0 ∷ [] ≡ bytes = cc in
         sym is ∙ ap (λ list. eqb (real_bits list) (2 ^ 63)) (sym are)
 
--- two dates of one second without a fraction
+-- two dates without a fraction at one second are equal
 pub one_date : (second : ℤ) (date other : List ℕ) → IsDate date → IsDate other
     → IsWhole date → IsWhole other → second_of_bytes date ≡ Some second
     → second_of_bytes other ≡ Some second → other ≡ date

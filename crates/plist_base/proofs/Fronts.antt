@@ -1,4 +1,4 @@
--- What a writer holds after some sends.
+-- A writer's bytes after some writes.
 use Rattle.std.proofs.Common.{◌≡◌, ℕ, ◌+◌, List, [], take, drop, Option, sym, append-nil}
 use Rattle.std.specs.Io.KnownBytes.{Appends, Keeps}
 use Rattle.std.proofs.KnownBytes.{Appends-kept, Appends-trans}
@@ -10,7 +10,7 @@ pub Appends-at : (old new : Option (List ℕ)) (xs ys : List ℕ) → xs ≡ ys 
     → Appends old new ys
 Appends-at old new xs ys same h = rw (← same) h
 
--- ---- a beginning of some bytes
+-- ---- a prefix of some bytes
 
 pub Appends-part : (a b c : Option (List ℕ)) (bytes : List ℕ) (done count : ℕ)
     → Appends a b (take done bytes) → Appends b c (take count (drop done bytes))
@@ -18,7 +18,7 @@ pub Appends-part : (a b c : Option (List ℕ)) (bytes : List ℕ) (done count : 
 Appends-part a b c bytes done count h g =
     Appends-at a c _ _ (sym (take-add _ _ _)) (Appends-trans a b c _ _ h g)
 
--- a write that failed
+-- a write fails
 pub front_kept : (a b c : Option (List ℕ)) (bytes : List ℕ) (done : ℕ)
     → Appends a b (take done bytes) → Keeps b c → AppendsPrefix a c bytes
 front_kept a b c bytes done h kept = (
@@ -29,7 +29,7 @@ front_kept a b c bytes done h kept = (
       (take-append-drop done bytes),
 )
 
--- a write that took nothing
+-- a write takes no byte
 pub front_none : (a b c : Option (List ℕ)) (bytes : List ℕ) (done : ℕ)
     → Appends a b (take done bytes) → Appends b c [] → AppendsPrefix a c bytes
 front_none a b c bytes done h none = (
@@ -40,7 +40,7 @@ front_none a b c bytes done h none = (
   sym (take-append-drop done bytes),
 )
 
--- all of them, and a flush
+-- all bytes are written, and then the writer is flushed
 pub front_whole : (a b c : Option (List ℕ)) (bytes : List ℕ) → Appends a b bytes → Keeps b c
     → AppendsPrefix a c bytes
 front_whole a b c bytes h kept =

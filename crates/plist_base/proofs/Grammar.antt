@@ -1,4 +1,4 @@
--- The stack of what is expected takes exactly the events that can go on to a tree's.
+-- The stack of expectations accepts exactly the events that can be continued to those of a tree.
 use Rattle.std.proofs.Common.{◌≡◌, List, [], ◌∷◌, ◌++◌, Option, Some, None, map, refl, sym, ap, ◌∙◌, append_assoc, append-nil, option_and_then, rules}
 use Rattle.std.proofs.lemmas.List.{map-append}
 use Rattle.std.proofs.lemmas.Option.{option_and_then_some}
@@ -9,7 +9,7 @@ use Rattle.plist_base.specs.declared.expects.Expect.TheVariants.{OneValue}
 use Rattle.plist_base.specs.Expects.{step, steps, expected_after}
 use Rattle.plist_base.proofs.Stacks.{Fills, Stack, all-without_length-twice, filling, run_back, lengthless-is, steps_tree}
 
--- lengths change nothing for the stack
+-- lengths don't matter to the stack
 step_without_length : (s : Stack) (e : PlainEvent) → step s (without_length e) ≡ step s e
 step_without_length s e = search rules
 
@@ -19,15 +19,15 @@ steps_without_length [] s = refl
 steps_without_length (e ∷ es) s =
     λ i. option_and_then (λ u. steps_without_length es u i) (step_without_length s e i)
 
--- after the same events up to lengths the same is expected
+-- after events that are equal up to lengths, the same is expected
 pub wanted_alike : (left right : List PlainEvent) → AreAlike left right
     → expected_after left ≡ expected_after right
 wanted_alike left right p =
     rw (← steps_without_length left, p) (steps_without_length right (OneValue ∷ []))
 
--- ---- where the stack takes an event, it can go on to a tree
+-- ---- if the stack accepts an event, the events can be continued to those of a tree
 
--- what fills the first expectation are a tree's events
+-- what fills the expectation of a value is a tree's events
 filled : (es : List PlainEvent) → Fills (OneValue ∷ []) (map without_length es) → AreTreeEvents es
 filled es (t, left, p, none) = (t, rw (p, none, append-nil, lengthless-is t) refl)
 
@@ -63,7 +63,7 @@ steps_append [] more s = refl
 steps_append (e ∷ es) more s =
     (λ i. option_and_then (λ t. steps_append es more t i) (step s e)) ∙ in_turn _ _ (step s e)
 
--- where it can go on to a tree, the stack takes the event
+-- if the events can be continued to those of a tree, the stack accepts the next one
 pub continues : (held : List PlainEvent) (e : PlainEvent) → CanContinue held e → (t : Stack)
     × (expected_after (held ++ e ∷ []) ≡ Some t)
 continues held e (more, tree, p) =
@@ -81,7 +81,7 @@ pub steps_snoc : (es : List PlainEvent) (s : Stack) (e : PlainEvent)
 steps_snoc es s e =
     steps_append es (e ∷ []) s ∙ (λ i. option_and_then (λ t. only (step t e) i) (steps s es))
 
--- after a tree's events none can come
+-- no event can follow a tree's events
 none_behind : (events : List PlainEvent) → AreTreeEvents events → (e : PlainEvent) → CanContinue events e
     → ⊥
 none_behind events (t, alike) e c =
@@ -94,7 +94,7 @@ complete_of_whole events whole = (whole, none_behind _ whole)
 
 -- ---- lengths decide nothing
 
--- the same events after events that are alike
+-- alike events stay alike when the same events follow them
 pub alike_with : (left right more : List PlainEvent) → AreAlike left right
     → AreAlike (left ++ more) (right ++ more)
 alike_with left right more p =

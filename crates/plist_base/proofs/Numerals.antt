@@ -1,4 +1,4 @@
--- What the parsers of integers say, as tests.
+-- What the parsers of integers return, as Boolean tests.
 use Rattle.std.proofs.Common.{◌≡◌, ℕ, ◌^◌, ◌<◌, Bool, true, false, cond, List, [], ◌∷◌, drop, Option, None, Some, refl, ap, ◌∙◌, arith}
 use Rattle.std.specs.Prelude.{◌==◌, ◌&&◌, ℤ, pos, negsuc, FitsSigned, MatchOption}
 use Rattle.std.proofs.lemmas.Bool.Decides.{nat_tests}
@@ -28,7 +28,7 @@ numeral_true radix ds h = and_from _ _ (lt-ltb _ _ h.0) (all_digits _ ds h.1)
 pub numeral_from : (radix : ℕ) (ds : List ℕ) → is_numeral radix ds ≡ true → IsNumeral radix ds
 numeral_from radix ds h = let s = and_parts _ _ h in (ltb-true _ _ s.0, digits_all _ ds s.1)
 
--- a number is given exactly where a numeral passes a test
+-- a number is returned if and only if the text is a numeral that passes a test
 parsed : (radix : ℕ) (ds : List ℕ) (b : Bool) {P : Type 0} (v n : ℤ) → (P → b ≡ true)
     → (IsNumeral radix ds × P) × (n ≡ v) → Some n ≡ cond (is_numeral radix ds && b) (Some v) None
 parsed radix ds b v n t h = rw (numeral_true radix ds h.0.0, t h.0.1, h.1) refl
@@ -106,7 +106,7 @@ pub integer_unsigned : (text : List ℕ) (o r : Option ℤ)
     → r ≡ unsigned_of_text 10 text → r ≡ integer_of_text text
 integer_unsigned text o r h e i u = rw (integer_plain _ h, ← e, i) u
 
--- the signed number of a text that has one, and else the unsigned one
+-- the signed number that a text spells, or else the unsigned one
 pub integer_either : {Called : Type 0} (text : List ℕ) (o r : Option ℤ)
     → ((rest : List ℕ) → text ≡ 48 ∷ 120 ∷ rest → ⊥) → o ≡ signed_of_text text
     → MatchOption o Called (λ z. r ≡ Some z) → (Called → r ≡ unsigned_of_text 10 text)
@@ -114,7 +114,7 @@ pub integer_either : {Called : Type 0} (text : List ℕ) (o r : Option ℤ)
 integer_either text None r h e m u = integer_unsigned text None r h e refl (u m)
 integer_either text (Some z) r h e m u = m ∙ integer_signed text (Some z) z h e refl
 
--- a signed number's text, and an integer's
+-- rules for signed numbers, and for integers
 pub ruleset signed_texts = (signed_ok, signed_err, signed_back)
 
 pub ruleset integer_texts = (integer_prefixed, integer_signed, integer_unsigned)

@@ -11,7 +11,7 @@ use Rattle.jiff_core.proofs.SignedLemmas.{signed_arith}
 use Rattle.plist_base.specs.UnixSeconds.{day_number, has_separators, moment, of_both, of_three, second_of_day, two_digits_at, two_digits, unix_second_of_text, zone_in, HasFourDigitYear, IsTextOfSecond}
 use Rattle.plist_base.proofs.DatePrinting.{second_in_years, two_text, text_from}
 
--- ---- what an answer was made of
+-- ---- what a result was made of
 
 abbrev IsSome : {A : Type 0} → Option A → A → Type 0
 IsSome {A} option value = ◌≡◌ {A = Option A} option (Some value)
@@ -123,7 +123,7 @@ elements (suc count) (x ∷ text) is =
     ∙ sym (front_after_marker _ 0 x _))
 elements count text is = absurd (omega (arith, is))
 
--- where the separators stand
+-- the separators are at their offsets
 record Marks (text : List ℕ) : Type 0 where
   year : slice_index text 4 ≡ 45
   month : slice_index text 7 ≡ 45
@@ -133,7 +133,7 @@ record Marks (text : List ℕ) : Type 0 where
 marks : (text : List ℕ) → has_separators text ≡ true → Marks text
 marks text is = search rules
 
--- with `Z` in its place, it ends there, in UTC
+-- a text with `Z` as its zone ends there, and is in UTC
 zone_made : (text : List ℕ) (zone : ℤ) → slice_index text 19 ≡ 90 → IsSome (zone_in text) zone
     → (length text ≡ 20) × (zone ≡ pos 0)
 zone_made text zone letter is = search rules
@@ -227,7 +227,7 @@ year_of_text second text is =
     second_in_years _ (date_of _ _ n) _ n.is
     (omega arith) (omega (arith, signed_arith))
 
--- days and seconds of a day are apart
+-- a second determines its day and its second of the day
 apart : (d e : ℤ) (t u : ℕ) (second : ℤ) → t < 86400 → u < 86400
     → (d *ℤ pos 86400 +ℤ pos t) ≡ second → (e *ℤ pos 86400 +ℤ pos u) ≡ second → (d ≡ e) × (t ≡ u)
 apart d e t u second small other is_d is_e =

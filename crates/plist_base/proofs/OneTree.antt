@@ -8,19 +8,19 @@ use Rattle.plist_base.proofs.Stacks.{lengthless-is}
 same_tail : (d e : PlainEvent) (ls rs : List PlainEvent) → d ∷ ls ≡ e ∷ rs → ls ≡ rs
 same_tail d e ls rs p = cc
 
--- the same lists, grouped otherwise
+-- lists that are equal stay equal when they are grouped otherwise
 regroup : (xs ys zs ws ls rs : List PlainEvent) → (xs ++ ys) ++ ls ≡ (zs ++ ws) ++ rs
     → xs ++ (ys ++ ls) ≡ zs ++ (ws ++ rs)
 regroup xs ys zs ws ls rs p = sym (append_assoc xs ys ls) ∙ p ∙ append_assoc zs ws rs
 
--- an end begins no tree
+-- a tree's events don't begin with an end
 no_end : {A : Type 0} (t : Tree) (ls rs : List PlainEvent) → EndCollection ∷ ls
     ≡ lengthless t ++ rs → A
 no_end (Leaf x) ls rs p = absurd (cc)
 no_end (Array ts) ls rs p = absurd (cc)
 no_end (Dictionary ms) ls rs p = absurd (cc)
 
--- lists that begin with one tree's events and another's: the trees are the same, and what is after
+-- if two equal lists begin with the events of two trees, the trees are equal, and so are the rests
 mutual
   pub split : (t u : Tree) (ls rs : List PlainEvent) → lengthless t ++ ls ≡ lengthless u ++ rs
       → (t ≡ u) × (ls ≡ rs)

@@ -1,4 +1,4 @@
--- Which objects are open, and how many: those of a path are different numbers below a count.
+-- Which objects are open, and how many: the numbers of a path differ, and are below a count.
 use Rattle.std.proofs.Common.{◌≡◌, ℕ, suc, ◌<◌, ◌≤◌, inl, inr, true, false, nat_eq, List, [], ◌∷◌, length, refl, arith}
 use Rattle.std.specs.List.{list_any, AllByRecursion, IsDistinct}
 use Rattle.std.proofs.lemmas.Map.Steps.{length-le_from_distinct_below}
@@ -26,12 +26,12 @@ below_cons i n q xs h all any =
       | inr e ↦ all q (rw e.0 at any)
     ]
 
--- nothing is open at first
+-- at first no object is open
 pub path_none : (count : ℕ) → IsPath count []
 unfolding IsDistinct
 path_none count = record { distinct = tt; below = λ q any. absurd (cc) }
 
--- one more object may be opened
+-- one more object is opened
 pub path_push : {count : ℕ} {path : List ℕ} (i : ℕ) → IsPath count path → i < count
     → list_any (nat_eq i) path ≡ false → IsPath count (i ∷ path)
 unfolding IsDistinct
@@ -40,7 +40,7 @@ path_push {count} {path} i o h new = record {
   below = λ q any. below_cons i count q path h o.below any;
 }
 
--- what is left when the innermost one is left
+-- the innermost object is closed
 pub path_pop : {count : ℕ} (i : ℕ) (path : List ℕ) → IsPath count (i ∷ path) → IsPath count path
 unfolding IsDistinct
 path_pop i path o = record {
@@ -48,11 +48,11 @@ path_pop i path o = record {
   below = λ q any. o.below q (or_right (nat_eq q i) (list_any (nat_eq q) path) any);
 }
 
--- no more are open than there are
+-- no more objects are open than there are
 pub path_fuel : {count : ℕ} {path : List ℕ} → IsPath count path → length path ≤ count
 path_fuel {count} {path} o = length-le_from_distinct_below _ _ o.distinct o.below
 
--- there is room for an object that isn't open
+-- fewer objects are open than there are if this one isn't
 pub path_rises : {count : ℕ} {path : List ℕ} (i : ℕ) → IsPath count path → i < count
     → list_any (nat_eq i) path ≡ false → length path < count
 path_rises {count} {path} i o h new =

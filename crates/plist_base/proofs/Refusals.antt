@@ -1,4 +1,4 @@
--- What a fault's kind says.
+-- Facts about the kind of a fault.
 use Rattle.std.proofs.Common.{◌≡◌, subst, sym}
 use Rattle.plist_base.specs.Faults.{FaultKind, Io, OutOfMemory, MatchFault, IsIo}
 
@@ -13,12 +13,12 @@ MatchFault-all Io a b c = a
 MatchFault-all OutOfMemory a b c = b
 MatchFault-all kind a b c = c
 
--- the fact for a kind that is known
+-- the fact for a known kind
 pub MatchFault-at : (kind known : FaultKind) (A B C : Type 0) → kind ≡ known
     → MatchFault known A B C → MatchFault kind A B C
 MatchFault-at kind known A B C is h = subst (λ k. MatchFault k A B C) (sym is) h
 
--- a device's fault is no other
+-- an I/O error needs only the fact for I/O errors
 pub MatchFault-from_io : (kind : FaultKind) (A B C : Type 0) → IsIo kind → A → MatchFault kind A B C
 MatchFault-from_io kind A B C h a =
     MatchFault-weaker kind (λ _. a) (λ none. absurd none) (λ none. absurd none) h

@@ -13,14 +13,14 @@ use Rattle.plist_base.specs.Sinks.{IsSameSink, PutsBytes, PutsNothing, pending, 
 
 -- ---- lists
 
--- what is written of two parts, and what is left of them
+-- what is written of two parts, and what is left of both
 joined : (all xs ys one middle two rest : List ℕ) → all ++ xs ≡ one ++ middle
     → middle ++ ys ≡ two ++ rest → all ++ (xs ++ ys) ≡ (one ++ two) ++ rest
 joined all xs ys one middle two rest e f =
     sym (append_assoc all xs ys) ∙ ap (λ l. l ++ ys) e ∙ append_assoc one middle ys
     ∙ ap (λ l. one ++ l) f ∙ sym (append_assoc one two rest)
 
--- a beginning of some bytes is one of more
+-- a prefix of some bytes is a prefix of more
 pub prefix_more : (a b : Option (List ℕ)) (xs ys : List ℕ) → AppendsPrefix a b xs
     → AppendsPrefix a b (xs ++ ys)
 prefix_more a b xs ys f = (f.0, f.1 ++ ys, f.2, cc (append_assoc f.0 f.1 ys))
@@ -34,7 +34,7 @@ pub same_then : {W : Type 0} {a b c : Sink W} → IsSameSink a b → IsSameSink 
 same_then p q = record { writer = q.writer ∙ p.writer; buffer = q.buffer ∙ p.buffer }
 
 module _ {W : Type 0} {contents : W → Option (List ℕ)} where
-  -- no bytes
+  -- putting no bytes
   pub puts_none : {a : Sink W} → PutsBytes contents a [] (Ok tt) a
   puts_none {a} = record {
     same = same_itself;
@@ -42,7 +42,7 @@ module _ {W : Type 0} {contents : W → Option (List ℕ)} where
     few = λ w. w;
   }
 
-  -- bytes that are pending
+  -- putting bytes that stay pending
   pub puts_pending : {a b : Sink W} {xs : List ℕ} → IsSameSink a b
       → b.writer.now ≡ a.writer.now → pending b ≡ pending a ++ xs
       → length (pending b) ≤ sink_capacity → PutsBytes contents a xs (Ok tt) b
@@ -52,7 +52,7 @@ module _ {W : Type 0} {contents : W → Option (List ℕ)} where
     few = λ w. few;
   }
 
-  -- nothing, and then bytes
+  -- putting nothing, and then bytes
   pub puts_after : {a b c : Sink W} {xs : List ℕ} {answer : Answer} → PutsNothing a b
       → PutsBytes contents b xs answer c → PutsBytes contents a xs answer c
   puts_after {answer = Ok done} n p = record {
@@ -66,7 +66,7 @@ module _ {W : Type 0} {contents : W → Option (List ℕ)} where
     few = λ w. p.few (rw n.pending w);
   }
 
-  -- bytes, and then more
+  -- putting bytes, and then more
   pub puts_then : {a b c : Sink W} {xs ys : List ℕ} {answer : Answer}
       → PutsBytes contents a xs (Ok tt) b → PutsBytes contents b ys answer c
       → PutsBytes contents a (xs ++ ys) answer c
@@ -97,7 +97,7 @@ module _ {W : Type 0} {contents : W → Option (List ℕ)} where
     few = λ w. q.few (p.few w);
   }
 
-  -- what failed fails the whole
+  -- if putting the first bytes fails, so does putting all
   puts_front : {a b : Sink W} {xs : List ℕ} {fault : Fault} (ys : List ℕ)
       → PutsBytes contents a xs (Err fault) b → PutsBytes contents a (xs ++ ys) (Err fault) b
   puts_front {a} {b} {xs} ys p = record {
@@ -110,7 +110,7 @@ module _ {W : Type 0} {contents : W → Option (List ℕ)} where
     few = p.few;
   }
 
-  -- it is what the exit of a `?` passes on
+  -- the call fails with the error that `?` passes on
   pub puts_refused : {a b : Sink W} {xs : List ℕ} (ys : List ℕ)
       (answer : Result (Unit {0}) Error) (error : Error) → IsErrAnd answer (λ e. e ≡ error)
       → PutsBytes contents a xs (Err (fault_of error)) b
@@ -122,7 +122,7 @@ module _ {W : Type 0} {contents : W → Option (List ℕ)} where
       → PutsBytes contents a xs answer b → PutsBytes contents a ys answer b
   puts_as e p = rw (← e) p
 
-  -- what was pending isn't all written
+  -- the writer fails before all that was pending is written
   pub puts_broken : {a b : Sink W} {xs : List ℕ} (answer : Result (Unit {0}) Error) (error : Error)
       → IsErrAnd answer (λ e. e ≡ error) → IsSameSink a b → pending b ≡ pending a
       → fault_of error ≡ fault_nowhere Io
@@ -135,7 +135,7 @@ module _ {W : Type 0} {contents : W → Option (List ℕ)} where
     few = λ w. rw kept w;
   })
 
-  -- what was pending is written, and then bytes are, or a beginning of them
+  -- writing what was pending, and then the bytes or a prefix of them
   pub puts_through : {a b : Sink W} {xs : List ℕ} (middle : Option (List ℕ))
       (answer : Result (Unit {0}) Error) → IsSameSink a b → pending b ≡ []
       → Appends (written contents a) middle (pending a)

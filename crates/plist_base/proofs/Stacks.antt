@@ -1,4 +1,4 @@
--- What fills a stack of expectations, event by event.
+-- Which events fill a stack of expectations.
 use Rattle.std.proofs.Common.{◌≡◌, ℕ, true, List, [], ◌∷◌, ◌++◌, Option, Some, None, map, refl, ap, ◌∙◌, append_assoc, subst, option_and_then, rules}
 use Rattle.std.proofs.lemmas.List.{map-append}
 use Rattle.plist_base.specs.Events.{PlainEvent, StartArray, StartDictionary, EndCollection, ScalarEvent}
@@ -42,7 +42,7 @@ mutual
   lengthless-of-pairs-is (MemberAnd k t ms) = rw
       (map-append without_length, lengthless-is t, lengthless-of-pairs-is ms) refl
 
--- the events give what is expected, and nothing more
+-- the events are what is expected, and nothing more
 abbrev pub Fills : Stack → List PlainEvent → Type 0
 Fills [] es = es ≡ []
 Fills (OneValue ∷ rest) es =
@@ -86,12 +86,12 @@ on_dictionary : (s : Stack) (m : List PlainEvent) → Fills (Pairs ∷ s) m
     → Fills (OneValue ∷ s) (StartDictionary None ∷ m)
 on_dictionary s m f = (Dictionary f.0, f.1, rw (f.2, append_assoc) refl, f.3)
 
--- a value before the other items
+-- a value followed by the other items
 on_item : (s : Stack) (m : List PlainEvent) → Fills (OneValue ∷ Items ∷ s) m → Fills (Items ∷ s) m
 on_item s m f =
     let g = f.3 in (TreeAnd f.0 g.0, g.1, rw (f.2, g.2, append_assoc) refl, g.3)
 
--- a key and a value before the other pairs
+-- a key and a value followed by the other pairs
 on_pair : (k : List ℕ) (s : Stack) (m : List PlainEvent) → Fills (OneValue ∷ Pairs ∷ s) m
     → Fills (Pairs ∷ s) (ScalarEvent (trees.String k) ∷ m)
 on_pair k s m f =
@@ -104,7 +104,7 @@ on_value s (StartDictionary n) t m p f = on_dictionary s m (refill m p f)
 on_value s EndCollection t m p f = no_stack t p
 on_value s (ScalarEvent x) t m p f = (Leaf x, m, refl, refill m p f)
 
--- what fills the stack after a step fills, with the event in front, the stack before it
+-- an event and what fills the stack after it fill the stack before it
 fill_back : (s : Stack) (e : PlainEvent) (t : Stack) (m : List PlainEvent) → step s e ≡ Some t
     → Fills t m → Fills s (without_length e ∷ m)
 fill_back [] e t m p f = no_stack t p
@@ -121,7 +121,7 @@ run_along : (o : Option Stack) (s : Stack) (e : PlainEvent) (t : Stack) (es more
 run_along None s e t es more q p next = no_stack t p
 run_along (Some u) s e t es more q p next = fill_back s e u more q (next u p)
 
--- over a list of events
+-- some events and what fills the stack after them fill the stack before them
 pub run_back : (es more : List PlainEvent) (s t : Stack) → steps s es ≡ Some t
     → Fills t (map without_length more) → Fills s (map without_length (es ++ more))
 run_back [] more s t p f = refill (map without_length more) p f
@@ -129,7 +129,7 @@ run_back (e ∷ es) more s t p f =
     run_along (step s e) s e t es (map without_length (es ++ more)) refl p
     (λ u q. run_back es more u t q f)
 
--- ---- a tree's events fill one expectation, and nothing more
+-- ---- a tree's events fill the expectation of one value, and nothing more
 
 item_begins : (t : Tree) (s : Stack) (es : List PlainEvent)
     → steps (Items ∷ s) (bracketing t ++ es) ≡ steps (OneValue ∷ Items ∷ s) (bracketing t ++ es)

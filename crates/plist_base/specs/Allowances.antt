@@ -1,4 +1,4 @@
--- Items as far as they are allowed, by whatever judges an event.
+-- Items as far as an allowance admits them.
 use Rattle.std.specs.Prelude.{◌≡◌, Bool, true, false, cond, List, [], ◌∷◌, Option, None, Some, Result, Ok, Err, MatchBool, MatchOption, MatchResult}
 use Rattle.plist_base.specs.declared.error.Error.{Error}
 use Rattle.plist_base.specs.declared.event.Event.{Event}
@@ -6,35 +6,35 @@ use Rattle.plist_base.specs.declared.limited.Limited.{Limited}
 use Rattle.plist_base.specs.Faults.{Fault, fault_of}
 use Rattle.plist_base.specs.Events.{PlainEvent, Item, event_of}
 
--- the iterator inside
+-- the inner iterator
 abbrev pub iterator_of : {I A : Type 0} → Limited I A → I
 iterator_of limited = limited.inner
 
--- nothing more comes
+-- the iterator has ended
 abbrev pub HasEndedLimited : {I A : Type 0} → Limited I A → Type 0
 HasEndedLimited limited = limited.ended ≡ true
 
--- `lets` gives the items that an allowance lets come of others, and `may_reach` the faults that may
--- take an event's place
+-- `lets` is what an allowance leaves of a list of items, and `may_reach` says which faults may
+-- replace an event
 module _ {A : Type 0} (lets : A → List Item → List Item) (may_reach : Fault → Type 0) where
-  -- a fault comes in the place of an event, and nothing after it
+  -- the event is replaced by a fault, and no item follows it
   abbrev pub RefusesEvent : A → PlainEvent → Fault → Type 0
   RefusesEvent allowance event fault =
       may_reach fault × ((items : List Item) → lets allowance (Ok event ∷ items) ≡ Err fault ∷ [])
 
 module _ {A : Type 0} (lets : A → List Item → List Item) where
-  -- an event comes, and then the others
+  -- the event is admitted, and what follows it is decided by the new allowance
   abbrev pub AdmitsEvent : (old : A) → PlainEvent → (new : A) → Type 0
   AdmitsEvent old event new =
       (items : List Item) → lets old (Ok event ∷ items) ≡ Ok event ∷ lets new items
 
-  -- of the items that the iterator inside has to come, those that come
+  -- what is left of the inner iterator's items
   abbrev pub items_allowed : {I : Type 0} → Limited I A → List Item → List Item
   items_allowed limited items = cond limited.ended [] (lets limited.limiter items)
 
 module _ {A : Type 0} (lets : A → List Item → List Item) (may_reach : Fault → Type 0) where
-  -- what comes of an item of the iterator inside: an event that is admitted is given, a fault comes
-  -- in the place of another, and a fault stays; after a fault nothing more comes
+  -- what is yielded for an item of the inner iterator: an admitted event as it is, a fault in place
+  -- of any other event, and a fault as it is; a fault ends the iterator
   abbrev pub Passes : (old : A) → (asked given : Result Event Error) → (new : A) → (ended : Bool)
       → Type 0
   Passes old (Ok event) given new ended = MatchResult given
@@ -42,16 +42,16 @@ module _ {A : Type 0} (lets : A → List Item → List Item) (may_reach : Fault 
       (λ error. RefusesEvent lets may_reach old (event_of event) (fault_of error) × (ended ≡ true))
   Passes old (Err error) given new ended = (given ≡ Err error) × (ended ≡ true)
 
-  -- what comes when the iterator inside is asked for its next item: at its end nothing comes, and
-  -- nothing more comes after it
+  -- what is yielded when the inner iterator is called: its `None` is passed on, and ends the
+  -- iterator
   abbrev pub PassesNext : (old : A) → (asked given : Option (Result Event Error)) → (new : A)
       → (ended : Bool) → Type 0
   PassesNext old None given new ended = (given ≡ None) × (new ≡ old) × (ended ≡ true)
   PassesNext old (Some asked) given new ended =
       MatchOption given ⊥ (λ item. Passes old asked item new ended)
 
-  -- one call of `next`: what comes of the next item of the iterator inside, which is asked no more
-  -- after a fault or `None`
+  -- one call of `next`: after the end `None`, and else what is yielded for the next item of the
+  -- inner iterator
   abbrev pub GivesAllowed : {I : Type 0} → (I → Option (Result Event Error) → I → Type 0)
       → Limited I A → Option (Result Event Error) → Limited I A → Type 0
   GivesAllowed inner_gives old item new = MatchBool old.ended

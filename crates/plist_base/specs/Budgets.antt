@@ -1,4 +1,4 @@
--- Items under a budget of bytes, which all strings and data have together.
+-- Items within a budget of bytes, which all strings and data share.
 use Rattle.std.specs.Prelude.{◌≡◌, ℕ, ◌+◌, ◌-◌, nat_lt, cond, length, List, [], ◌∷◌, Option, Result, Ok, Err}
 use Rattle.plist_base.specs.declared.byte_budget.ByteBudget.{ByteBudget}
 use Rattle.plist_base.specs.declared.error.Error.{Error}
@@ -8,17 +8,17 @@ use Rattle.plist_base.specs.Allowances.{AdmitsEvent, GivesAllowed, RefusesEvent,
 use Rattle.plist_base.specs.Faults.{Fault, OutOfMemory, fault_nowhere}
 use Rattle.plist_base.specs.Events.{PlainEvent, Item, text_or_data}
 
--- how many bytes an event's string or data has
+-- the number of bytes in an event's string or data
 abbrev pub bytes_in : PlainEvent → ℕ
 bytes_in event = length (text_or_data event)
 
--- how many bytes the strings and data of these events have
+-- the number of bytes in the strings and data of these events
 abbrev pub total_bytes : List PlainEvent → ℕ
 total_bytes [] = 0
 total_bytes (event ∷ events) = bytes_in event + total_bytes events
 
--- The items up to their first fault. The first string or data that has more bytes than are left is
--- replaced by `OutOfMemory`, which ends them.
+-- The items up to their first fault. The first event whose string or data has more bytes than are
+-- left is replaced by `OutOfMemory`, which ends the items.
 abbrev pub within_bytes : (left : ℕ) → List Item → List Item
 within_bytes left [] = []
 within_bytes left (Ok event ∷ items) =
@@ -26,13 +26,13 @@ within_bytes left (Ok event ∷ items) =
     (Ok event ∷ within_bytes (left - bytes_in event) items)
 within_bytes left (Err fault ∷ items) = Err fault ∷ []
 
--- ---- what a budget makes of the items
+-- ---- what a budget leaves of the items
 
--- the items that are still to come, of these
+-- what is left of these items
 abbrev pub within_budget : ByteBudget → List Item → List Item
 within_budget budget = within_bytes budget.left
 
--- the fault that takes an event's place
+-- the fault that replaces an event
 abbrev pub IsBudgetUsedUp : Fault → Type 0
 IsBudgetUsedUp fault = fault ≡ fault_nowhere OutOfMemory
 
@@ -42,7 +42,7 @@ AdmitsWithin = AdmitsEvent within_budget
 abbrev pub RefusesWithin : ByteBudget → PlainEvent → Fault → Type 0
 RefusesWithin = RefusesEvent within_budget IsBudgetUsedUp
 
--- of the items that the iterator inside has to come, those that come
+-- what is left of the inner iterator's items
 abbrev pub items_within_budget : {I : Type 0} → Limited I ByteBudget → List Item → List Item
 items_within_budget = items_allowed within_budget
 

@@ -1,4 +1,4 @@
--- The text of data: lines of base64 (RFC 4648, section 4).
+-- The text form of data: lines of base64 (RFC 4648, section 4).
 use Rattle.std.specs.Prelude.{◌≡◌, ◌↔◌, ℕ, ◌*◌, not, List, [], length, map, take, drop, replicate, ◌++◌, ◌∷◌, Option, None, Some, Err, String, string_bytes, refl, codes, ⊤}
 use Rattle.std.specs.declared.alloc.Global.{Global}
 use Rattle.std.specs.List.{filter, join_with_byte, range_with_len}
@@ -14,34 +14,34 @@ use Rattle.plist_base.specs.contracts.data.Data.{the_row}
 use Rattle.plist_base.specs.declared.data.InvalidXmlData.{InvalidXmlData}
 use Rattle.plist_base.specs.declared.data.InvalidXmlData.TheVariants.{Decode, OutOfMemory}
 
--- data once new bytes are written over its own: just these, since there are as many
+-- data after new bytes are written over its own: just the new bytes, if there are as many
 abbrev pub overwritten : (bytes new : List ℕ) → List ℕ
 overwritten bytes new = take (length bytes) (new ++ drop (length new) bytes)
 
--- the data ends with the last bytes behind the reference in the place of its own
+-- when the reference ends, the data consists of the last bytes behind it
 abbrev pub LendsBytes : MutBor (List ℕ) → MutBor (List ℕ) → Fml
 LendsBytes bytes lent = Lends the_row (Array u8 0) bytes lent (overwritten bytes.now)
 
--- nothing of the data is left
+-- none of the old bytes is left
 abbrev pub IsAllNew : (bytes new : List ℕ) → Type 0
 IsAllNew bytes new = overwritten bytes new ≡ new
 
 -- ---- what is written
 
--- the bytes of a line, counted from 0: 51, but in the last line fewer where fewer are left
+-- the bytes of a line, counted from 0: 51, or fewer in the last line
 abbrev pub bytes_of_line : List ℕ → ℕ → List ℕ
 bytes_of_line bytes line = take 51 (drop (line * 51) bytes)
 
--- the first lines' base64
+-- the base64 of the first lines
 abbrev pub first_lines : ℕ → List ℕ → List (List ℕ)
 first_lines count bytes =
     map (λ line. encode_of standard (bytes_of_line bytes line)) (range_with_len 0 count)
 
--- how many lines the bytes fill or begin
+-- the number of lines
 abbrev pub line_count : List ℕ → ℕ
 line_count bytes = div_ceil (length bytes) 51
 
--- all lines, with LF between
+-- all lines, separated by LF
 unfoldable pub data_text : List ℕ → List ℕ
 data_text bytes = join_with_byte 10 (first_lines (line_count bytes) bytes)
 
@@ -51,36 +51,36 @@ data_text bytes = join_with_byte 10 (first_lines (line_count bytes) bytes)
 abbrev pub without_white : List ℕ → List ℕ
 without_white text = filter (λ byte. not (is_ascii_whitespace byte)) text
 
--- the bytes whose padded base64 that is, or none
+-- the bytes whose padded base64 is the text without white space, or none
 unfoldable pub data_of_text : List ℕ → Option (List ℕ)
 data_of_text text = decoded_of standard (without_white text)
 
--- the text is read as these bytes exactly where it is their base64, but for white space
+-- the text is read as these bytes if and only if it is their base64 up to white space
 abbrev pub IsReadWhereSpelled : (text bytes : List ℕ) → Type 0
 IsReadWhereSpelled text bytes =
     (data_of_text text ≡ Some bytes) ↔ (without_white text ≡ encode_of standard bytes)
 
--- these bytes stand after the text
+-- the string grows at its end by these bytes
 abbrev pub GrowsByBytes : List ℕ → (old new : String Global) → Type 0
 GrowsByBytes bytes old new = string_bytes new ≡ string_bytes old ++ bytes
 
--- the refusal of a text: the fault of decoding it, whose places count what is left without white
+-- the error of parsing a text is that of decoding it; offsets count what is left without white
 -- space
 abbrev pub IsFaultOfText : List ℕ → InvalidXmlData → Type 0
 IsFaultOfText text (Decode fault) = decode_of standard (without_white text) ≡ Err fault
 IsFaultOfText text OutOfMemory = ⊤
 
--- a text is refused by such a fault only where no bytes have it
+-- if parsing fails by such an error, no bytes have the text
 abbrev pub IsNoData : List ℕ → InvalidXmlData → Type 0
 IsNoData text (Decode fault) = data_of_text text ≡ None
 IsNoData text OutOfMemory = ⊤
 
--- the refusal that an error of the decoder is
+-- the error of parsing for an error of the decoder
 abbrev pub refusal_of_decoding : DecodeAllocError → InvalidXmlData
 refusal_of_decoding (decoding.DecodeError fault) = Decode fault
 refusal_of_decoding decoding.OutOfMemory = OutOfMemory
 
--- the text of a refusal
+-- the printed form of the error
 abbrev pub refusal_text : InvalidXmlData → List ℕ
 refusal_text (Decode fault) = codes "Invalid XML data"
 refusal_text OutOfMemory = codes "OutOfMemory"
@@ -92,7 +92,7 @@ written : (data_text [] ≡ []) × (data_text (replicate 51 0) ≡ replicate 68 
 unfolding base64_on_literals data_text
 written = (refl, refl, refl)
 
--- white space, short padding, and bits that are left
+-- white space, short padding, and bits that are left over
 read : (data_of_text (codes "A A\n==") ≡ Some (0 ∷ [])) × (data_of_text (codes "AA=") ≡ None)
     × (data_of_text (codes "AB==") ≡ None)
 unfolding base64_on_literals data_of_text

@@ -20,31 +20,31 @@ abbrev pub HasTextYear : List ℕ → Type 0
 HasTextYear date =
     (second : ℤ) → second_of_bytes date ≡ Some second → HasFourDigitYear (second +ℤ plist_epoch)
 
--- the year of its second is another
+-- the year of a date's second isn't one from 0 to 9999
 abbrev pub HasOtherYear : List ℕ → Type 0
 HasOtherYear date = ¬ (HasTextYear date)
 
--- the text of a date: it is whole, and the text is that of its second
+-- the text of a date: the date has no fraction, and the text is that of its second
 abbrev pub IsDateText : (date text : List ℕ) → Type 0
 IsDateText date text =
     IsDate date × IsWhole date × ((second : ℤ) → second_of_bytes date ≡ Some second
     → IsTextOfSecond (second +ℤ plist_epoch) text)
 
--- with `T`, and with `Z` in the zone's place
+-- the text has `T` before the time, and `Z` as its zone
 abbrev pub IsInUtc : List ℕ → Type 0
 IsInUtc text = (slice_index text 10 ≡ 84) × (slice_index text 19 ≡ 90)
 
--- the answer of reading a text that a date prints: just this date
+-- parsing a text that a date prints returns just this date
 abbrev pub ReadsAs : {E : Type 0} → List ℕ → Result (List ℕ) E → Type 0
 ReadsAs date (Ok read) = read ≡ date
 ReadsAs date (Err error) = ⊥
 
--- the answer is this fault, without an offset
+-- the call returned an error of this kind, without an offset
 abbrev pub IsRefused : {A : Type 0} → FaultKind → Result A Error → Type 0
 IsRefused kind (Ok value) = ⊥
 IsRefused kind (Err error) = fault_of error ≡ fault_nowhere kind
 
--- no other text is printed; lack of memory may always be the answer
+-- this text is the only one that is printed; `OutOfMemory` may always be returned
 abbrev pub PrintsOnly : List ℕ → Result (String Global) Error → Type 0
 PrintsOnly text answer = MatchResult answer (λ printed. string_bytes printed ≡ text)
     (λ error. fault_of error ≡ fault_nowhere OutOfMemory)

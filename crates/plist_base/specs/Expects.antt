@@ -1,4 +1,4 @@
--- What is still to come after some events: a stack by which an event is accepted or refused.
+-- What is expected after some events: a stack that decides which event is accepted next.
 use Rattle.std.specs.Prelude.{List, [], ◌∷◌, Option, Some, None, option_and_then}
 use Rattle.plist_base.specs.Events.{PlainEvent, EndCollection, ScalarEvent, shape_of}
 use Rattle.plist_base.specs.Trees.{String}
@@ -9,27 +9,27 @@ use Rattle.plist_base.specs.declared.expects.Expect.TheVariants.{OneValue, Items
 use Rattle.plist_base.specs.declared.expects.Change.{Change}
 use Rattle.plist_base.specs.declared.expects.Change.TheVariants.{Refused, Popped, Kept, Pushed, Replaced}
 
--- what an event of this shape does where a value is to come
+-- how an event of this shape changes the expectation of a value
 abbrev pub change_of_value : EventShape → Change
 change_of_value shape.StartArray = Replaced Items
 change_of_value shape.StartDictionary = Replaced Pairs
 change_of_value shape.EndCollection = Refused
 change_of_value shape.Scalar = Popped
 
--- where the items of an array or its end are to come
+-- how an event of this shape changes the expectation of an array's remaining items and its end
 abbrev pub change_of_items : EventShape → Change
 change_of_items shape.StartArray = Pushed Items
 change_of_items shape.StartDictionary = Pushed Pairs
 change_of_items shape.EndCollection = Popped
 change_of_items shape.Scalar = Kept
 
--- what an event does where the pairs of a dictionary or its end are to come
+-- how an event changes the expectation of a dictionary's remaining pairs and its end
 abbrev pub change_of_pairs : PlainEvent → Change
 change_of_pairs EndCollection = Popped
 change_of_pairs (ScalarEvent (String text)) = Pushed OneValue
 change_of_pairs event = Refused
 
--- what an event does to the topmost expectation
+-- how an event changes the topmost expectation
 abbrev pub change_of : Expect → PlainEvent → Change
 change_of OneValue event = change_of_value (shape_of event)
 change_of Items event = change_of_items (shape_of event)
@@ -43,16 +43,16 @@ changed Kept top rest = Some (top ∷ rest)
 changed (Pushed expect) top rest = Some (expect ∷ top ∷ rest)
 changed (Replaced expect) top rest = Some (expect ∷ rest)
 
--- the stack after an event, unless it is refused
+-- the stack after an event, or none if the event is rejected
 abbrev pub step : List Expect → PlainEvent → Option (List Expect)
 step [] event = None
 step (top ∷ rest) event = changed (change_of top event) top rest
 
--- the stack after some events, unless one is refused
+-- the stack after some events, or none if one is rejected
 abbrev pub steps : List Expect → List PlainEvent → Option (List Expect)
 steps expects [] = Some expects
 steps expects (event ∷ events) = option_and_then (λ after. steps after events) (step expects event)
 
--- what is still to come after these events, from the start of a tree
+-- what is expected after these events, from the start of a tree
 abbrev pub expected_after : List PlainEvent → Option (List Expect)
 expected_after events = steps (OneValue ∷ []) events

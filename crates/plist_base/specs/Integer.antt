@@ -1,4 +1,4 @@
--- The whole number that an `Integer` holds, how it holds it, and how two stand to each other.
+-- The value of an `Integer`, how it is stored, and the order of two values.
 use Rattle.std.specs.Prelude.{◌≡◌, ◌-◌, ◌^◌, ◌≤ℤ◌, ◌<ℤ◌, ℤ, pos, negsuc}
 use Rattle.std.specs.Ordering.{MatchOrdering}
 use Rattle.std.specs.declared.cmp.Ordering.{Ordering}
@@ -13,12 +13,12 @@ abbrev pub number_for : ℤ → Number
 number_for (pos n) = number.Unsigned n
 number_for (negsuc n) = number.Negative (negsuc n)
 
--- the number in the one form that it has, within the bounds of an integer
+-- the value is within the bounds of an integer, and stored in the one form that it has
 abbrev pub IsNumberOf : ℤ → Number → Type 0
 IsNumberOf z held =
     (negsuc (2 ^ 63 - 1) ≤ℤ z) × (z <ℤ pos (2 ^ 64)) × (number_for z ≡ held)
 
--- how two whole numbers stand to each other
+-- how two integers compare
 abbrev pub IsOrderOf : (left right : ℤ) → Ordering → Type 0
 IsOrderOf left right order =
     MatchOrdering order (left <ℤ right) (left ≡ right) (right <ℤ left)

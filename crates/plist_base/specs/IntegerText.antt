@@ -1,4 +1,4 @@
--- The whole number that a text spells: hexadecimal after `0x`, or decimal.
+-- The integer that a text spells: hexadecimal after `0x`, or decimal.
 use Prim.Native.String.{String}
 use Rattle.std.specs.Prelude.{map, ◌≡◌, ℕ, ◌-◌, ◌^◌, Bool, false, cond, ◌&&◌, ◌==◌, nat_lt, List, [], ◌∷◌, length, ℤ, pos, negsuc, Option, None, Some, Result, refl, codes, MatchResult}
 use Rattle.std.specs.List.{list_all}
@@ -21,14 +21,14 @@ without_prefixes (a ∷ b ∷ rest) =
 abbrev pub is_numeral : (radix : ℕ) → List ℕ → Bool
 is_numeral radix digits = nat_lt 0 (length digits) && list_all (λ c. is_digit c radix) digits
 
--- an unsigned number of 64 bits, with an optional plus
+-- an unsigned number of 64 bits, with an optional plus sign
 abbrev pub unsigned_of_text : (radix : ℕ) → List ℕ → Option ℤ
 unsigned_of_text radix text =
     let digits = without_leading_plus text in
     cond (is_numeral radix digits && nat_lt (digits_value radix digits) (2 ^ 64))
     (Some (pos (digits_value radix digits))) None
 
--- does the number fit 64 signed bits?
+-- does the number fit into 64 signed bits?
 abbrev pub fits_signed : ℤ → Bool
 fits_signed (pos n) = nat_lt n (2 ^ 63)
 fits_signed (negsuc n) = nat_lt n (2 ^ 63)
@@ -39,7 +39,7 @@ signed_of_text text =
     cond (is_numeral 10 (without_leading_sign text) && fits_signed (signed_digits_value 10 text))
     (Some (signed_digits_value 10 text)) None
 
--- the first, or where there is none the second
+-- the first value or, if it is none, the second
 abbrev pub or_else : {A : Type 0} → Option A → Option A → Option A
 or_else (Some x) other = Some x
 or_else None other = other
@@ -50,7 +50,7 @@ integer_of_text text =
     cond (has_prefix text) (unsigned_of_text 16 (without_prefixes text))
     (or_else (signed_of_text text) (unsigned_of_text 10 text))
 
--- the answer is the number that the text spells, and `Err` where it spells none
+-- the result is the number that the text spells, or `Err` if it spells none
 abbrev pub SpellsInteger : {E : Type 0} → List ℕ → Result ℤ E → Type 0
 SpellsInteger text answer =
     MatchResult answer (λ number. integer_of_text text ≡ Some number)

@@ -1,36 +1,36 @@
--- Words for what a call answers: which faults alone it refuses with, and what it makes of known
+-- Words for the result of a call: the only errors that it returns, and what it says about known
 -- bytes.
 use Rattle.std.specs.Prelude.{◌≡◌, ℕ, List, Option, Result, IfOk, IfErr, IfSome}
 use Rattle.plist_base.specs.declared.error.Error.{Error}
 use Rattle.plist_base.specs.Faults.{Fault, Io, OutOfMemory, fault_nowhere, fault_of}
 
--- this is so of the fault, where it is refused
+-- if the call failed, this is true of its fault
 abbrev pub IfFault : {A : Type 0} → Result A Error → (Fault → Type 0) → Type 0
 IfFault answer says = IfErr answer (λ error. says (fault_of error))
 
--- the only refusal is this fault
+-- if the call failed, the error is this fault
 abbrev pub OnlyFault : {A : Type 0} → Result A Error → Fault → Type 0
 OnlyFault answer fault = IfErr answer (λ error. fault_of error ≡ fault)
 
--- the only refusal is lack of memory
+-- if the call failed, the error is `OutOfMemory`, without an offset
 abbrev pub OnlyMemory : {A : Type 0} → Result A Error → Type 0
 OnlyMemory answer = OnlyFault answer (fault_nowhere OutOfMemory)
 
--- the only refusal is a device's, without a place
+-- if the call failed, the error is `Io`, without an offset
 abbrev pub OnlyDevice : {A : Type 0} → Result A Error → Type 0
 OnlyDevice answer = OnlyFault answer (fault_nowhere Io)
 
--- where the bytes are known, this is so of them and of what was answered
+-- if the call succeeded and the bytes are known, this is true of them and of the value
 abbrev pub IfRead : {A E : Type 0} → Result A E → (known : Option (List ℕ)) → (List ℕ → A → Type 0)
     → Type 0
 IfRead answer known P = IfOk answer (λ value. IfSome known (λ bytes. P bytes value))
 
--- where the bytes are known, they mean what was answered
+-- if the call succeeded and the bytes are known, it returned their meaning
 abbrev pub DecodesBy : {A E : Type 0} → Result A E → (known : Option (List ℕ)) → (List ℕ → A)
     → Type 0
 DecodesBy answer known meaning = IfRead answer known (λ bytes value. value ≡ meaning bytes)
 
--- where the bytes are known, this is so of them and of the fault
+-- if the call failed and the bytes are known, this is true of them and of the fault
 abbrev pub IfRefused : {A : Type 0} → Result A Error → (known : Option (List ℕ))
     → (List ℕ → Fault → Type 0) → Type 0
 IfRefused answer known P = IfErr answer (λ error. IfSome known (λ bytes. P bytes (fault_of error)))

@@ -1,8 +1,8 @@
--- What a writer holds after some of the bytes were sent.
+-- A writer's bytes after a prefix of some bytes was written.
 use Rattle.std.specs.Prelude.{◌≡◌, ℕ, List, ◌++◌, Option}
 use Rattle.std.specs.Io.KnownBytes.{Appends}
 
--- known bytes grew by a beginning of `all`
+-- the known bytes grew by a prefix of `all`
 abbrev pub AppendsPrefix : Option (List ℕ) → Option (List ℕ) → (all : List ℕ) → Type 0
 AppendsPrefix old new all =
     (sent : List ℕ) × (more : List ℕ) × Appends old new sent × (all ≡ sent ++ more)

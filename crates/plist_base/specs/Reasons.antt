@@ -1,4 +1,4 @@
--- The text of an error with the reason that the system gave.
+-- The text of an error with the reason that the system reported.
 use Rattle.std.specs.Prelude.{ℕ, List, Option, None, Some}
 use Rattle.plist_base.specs.Faults.{FaultKind, Io, error_kind_of, fault_of, fault_text, kind_of}
 use Rattle.plist_base.specs.declared.error.Error.{Error}
@@ -8,12 +8,13 @@ use Rattle.plist_base.specs.declared.reason.Reason.{Reason}
 abbrev pub error_of_reason : Reason → Error
 error_of_reason reason = reason.error.now
 
--- what the system says is open; any other error has the text alone that it has by itself
+-- the text of an I/O error is left open, since it has what the system reported; any other error has
+-- its own text alone
 abbrev pub text_unless_io : FaultKind → List ℕ → Option (List ℕ)
 text_unless_io Io text = None
 text_unless_io kind text = Some text
 
--- the text
+-- the text that is printed, unless it is left open
 abbrev pub reason_text : Reason → Option (List ℕ)
 reason_text reason =
     text_unless_io (kind_of (error_kind_of (error_of_reason reason))) (fault_text (fault_of (error_of_reason reason)))

@@ -1,4 +1,4 @@
--- Whether two scalars are the same, and what one feeds to a hasher.
+-- Equality of scalars, and what a scalar writes to a hasher.
 use Rattle.std.proofs.Common.{◌≡◌, ℕ, ◌==◌, Bool, true, false, not, cond, List, [], ◌∷◌, refl, ap, subst}
 use mathlib.Core.HLevel.{Stable, Stable-paths→set}
 use Rattle.std.specs.Hash as fed
@@ -11,13 +11,13 @@ use Rattle.plist_base.specs.declared.real.RealBits.{RealBits}
 use Rattle.plist_base.specs.declared.real.RealBits.TheVariants.{Four, Eight}
 use Rattle.plist_base.specs.Trees.{Scalar, Boolean, Data, Date, Integer, Real, String, Uid}
 
--- reals of one width with the same bytes
+-- reals of one width with the same bytes are equal
 abbrev pub real_eq : RealBits → RealBits → Bool
 real_eq (Four a) (Four b) = bytes_eq a b
 real_eq (Eight a) (Eight b) = bytes_eq a b
 real_eq _ _ = false
 
--- scalars of one kind with the same content
+-- scalars of one kind with the same content are equal
 abbrev pub scalar_eq : Scalar → Scalar → Bool
 scalar_eq (Boolean a) (Boolean b) = cond a b (not b)
 scalar_eq (Data a) (Data b) = bytes_eq a b
@@ -28,7 +28,7 @@ scalar_eq (String a) (String b) = bytes_eq a b
 scalar_eq (Uid a) (Uid b) = a == b
 scalar_eq _ _ = false
 
--- what one feeds to a hasher: one write of its content
+-- what a scalar writes to a hasher: its content, in one write
 abbrev pub writes_of_scalar : Scalar → List (List ℕ)
 writes_of_scalar (Boolean value) = fed.u8 (cond value 1 0)
 writes_of_scalar (Data bytes) = bytes ∷ []
@@ -39,7 +39,7 @@ writes_of_scalar (Real (Eight bytes)) = bytes ∷ []
 writes_of_scalar (String text) = text ∷ []
 writes_of_scalar (Uid number) = fed.u64 number
 
--- ---- the test tells whether they are one
+-- ---- the test decides whether two are equal
 
 pub bytes_is : (k l : List ℕ) → bytes_eq k l ≡ true → k ≡ l
 bytes_is k l h = (bytes_eq-Decides k l).0 h
@@ -84,7 +84,7 @@ scalar_refl (Real a) = real_refl a
 scalar_refl (String a) = bytes_refl a
 scalar_refl (Uid a) = (Decides-eqb a a).1 refl
 
--- ---- an equation between two has one proof at most
+-- ---- an equation between two scalars has at most one proof
 
 scalar_stable : (x y : Scalar) (same : Bool) → scalar_eq x y ≡ same → Stable (x ≡ y)
 scalar_stable x y true is apart = scalar_is x y is

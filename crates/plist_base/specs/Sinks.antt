@@ -11,7 +11,7 @@ use Rattle.plist_base.specs.Writing.{Answer, answer_of}
 abbrev pub pending : {W : Type 0} → Sink W → List ℕ
 pending sink = sink.buffer.now.items
 
--- how many bytes are pending at most
+-- the greatest number of pending bytes
 abbrev pub sink_capacity : ℕ
 sink_capacity = 2 ^ 16
 
@@ -26,17 +26,17 @@ pub record PutsNothing {W : Type 0} (old new : Sink W) : Type 0 where
   pub writer : new.writer.now ≡ old.writer.now
   pub pending : new.buffer.now.items ≡ old.buffer.now.items
 
--- of the bytes `all`, known bytes grew by a beginning, and the rest is pending
+-- a prefix of the bytes `all` was appended to the known bytes, and the rest is pending
 abbrev pub WritesBut : (old new : Option (List ℕ)) → (all rest : List ℕ) → Type 0
 WritesBut old new all rest = (written : List ℕ) × Appends old new written × (all ≡ written ++ rest)
 
 module _ {W : Type 0} (contents : W → Option (List ℕ)) where
-  -- the bytes of the writer, where they are known
+  -- the writer's bytes, if they are known
   abbrev pub written : Sink W → Option (List ℕ)
   written sink = contents sink.writer.now
 
-  -- the bytes follow what was pending: a beginning of both is written, and the rest is pending; or
-  -- a write failed, and a beginning of both is written
+  -- the bytes follow what was pending: a prefix of both is written, and the rest is pending; or a
+  -- write failed, and a prefix of both is written
   abbrev pub Follows : (old : Sink W) → (bytes : List ℕ) → Answer → (new : Sink W) → Type 0
   Follows old bytes (Ok done) new =
       WritesBut (written old) (written new) (pending old ++ bytes) (pending new)
@@ -44,7 +44,7 @@ module _ {W : Type 0} (contents : W → Option (List ℕ)) where
       (fault ≡ fault_nowhere Io)
       × AppendsPrefix (written old) (written new) (pending old ++ bytes)
 
-  -- what a call does that puts these bytes
+  -- what a call that puts these bytes does
   pub record PutsBytes (old : Sink W) (bytes : List ℕ) (answer : Answer) (new : Sink W) : Type 0
     where
       pub same : IsSameSink old new

@@ -1,4 +1,4 @@
--- The Unix second that the text of a date spells. The text is a profile of RFC 3339, as
+-- The Unix second that the text of a date spells. The text is in a profile of RFC 3339, such as
 -- `2001-01-01T00:00:00Z` or `2001-01-01 01:30:00+01:30`.
 use Rattle.std.specs.Prelude.{◌≡◌, ℕ, ◌+◌, ◌-◌, ◌*◌, nat_le, nat_lt, Bool, cond, ◌&&◌, ◌||◌, ◌==◌, List, length, slice_index, ℤ, pos, neg_ℤ, ◌+ℤ◌, ◌-ℤ◌, ◌*ℤ◌, ◌≤ℤ◌, ◌<ℤ◌, Option, None, Some, refl, codes}
 use Rattle.std.specs.Char.{is_ascii_digit}
@@ -12,30 +12,30 @@ unfoldable pub two_digits : (tens ones : ℕ) → Option ℕ
 two_digits tens ones =
     cond (is_ascii_digit tens && is_ascii_digit ones) (Some ((tens - 48) * 10 + (ones - 48))) None
 
--- the number of two digits at a place of a text
+-- the number of the two digits at an offset of a text
 abbrev pub two_digits_at : (text : List ℕ) (place : ℕ) → Option ℕ
 two_digits_at text place = two_digits (slice_index text place) (slice_index text (place + 1))
 
--- what two numbers make, where both are there
+-- what is made of two numbers, if both exist
 abbrev pub of_both : {A : Type 0} → Option ℕ → Option ℕ → (ℕ → ℕ → Option A) → Option A
 of_both (Some a) (Some b) make = make a b
 of_both None b make = None
 of_both (Some a) None make = None
 
--- what three numbers make, where all are there
+-- what is made of three numbers, if all exist
 abbrev pub of_three : {A : Type 0} → Option ℕ → Option ℕ → Option ℕ → (ℕ → ℕ → ℕ → Option A)
     → Option A
 of_three (Some a) b c make = of_both b c (make a)
 of_three None b c make = None
 
--- the number of four digits at a place of a text
+-- the number of the four digits at an offset of a text
 abbrev pub four_digits_at : (text : List ℕ) (place : ℕ) → Option ℕ
 four_digits_at text place =
     of_both (two_digits_at text place) (two_digits_at text (place + 2)) (λ high low. Some (high * 100 + low))
 
 -- ---- the parts
 
--- the days from 1970-01-01 to a date, where the calendar has it
+-- the days from 1970-01-01 to a date, or none if the calendar doesn't have it
 unfoldable pub day_number : (year month day : ℕ) → Option ℤ
 day_number year month day =
     cond (is_in_range 1 12 month && is_in_range 1 (days_in_month (pos year) month) day)
@@ -47,7 +47,7 @@ second_of_day hour minute second =
     cond (nat_lt hour 24 && nat_lt minute 60 && nat_lt second 60)
     (Some (hour * 3600 + minute * 60 + second)) None
 
--- how many seconds a zone is before UTC
+-- how many seconds a zone is ahead of UTC
 abbrev pub offset : (sign hours minutes : ℕ) → Option ℤ
 offset sign hours minutes =
     cond (nat_lt hours 24 && nat_lt minutes 60)
@@ -57,7 +57,7 @@ offset sign hours minutes =
 
 -- ---- the text
 
--- it isn't too short, with `-` in the day, `:` in the time, and one of `T`, `t` and the space
+-- the text is long enough, with `-` in the date, `:` in the time, and one of `T`, `t` and the space
 -- between them
 abbrev pub has_separators : List ℕ → Bool
 has_separators text =
@@ -73,7 +73,7 @@ day_in text = of_three (four_digits_at text 0) (two_digits_at text 5) (two_digit
 abbrev pub time_in : List ℕ → Option ℕ
 time_in text = of_three (two_digits_at text 11) (two_digits_at text 14) (two_digits_at text 17) second_of_day
 
--- at the end `Z` or `z`, or a sign with HH:MM
+-- the zone at the end: `Z` or `z`, or a sign with HH:MM
 abbrev pub zone_in : List ℕ → Option ℤ
 zone_in text =
     cond (length text == 20) (cond ((slice_index text 19 == 90) || (slice_index text 19 == 122))
@@ -81,7 +81,7 @@ zone_in text =
     (cond ((length text == 25) && (slice_index text 22 == 58))
     (of_both (two_digits_at text 20) (two_digits_at text 23) (offset (slice_index text 19))) None)
 
--- the moment that day, time and zone make, as a Unix second
+-- the Unix second of a day, a time and a zone
 abbrev pub moment : Option ℤ → Option ℕ → Option ℤ → Option ℤ
 moment (Some day) (Some time) (Some offset) = Some ((day *ℤ pos 86400 +ℤ pos time) -ℤ offset)
 moment (Some day) (Some time) None = None
@@ -93,13 +93,13 @@ unfoldable pub unix_second_of_text : List ℕ → Option ℤ
 unix_second_of_text text =
     cond (has_separators text) (moment (day_in text) (time_in text) (zone_in text)) None
 
--- a text that is written: it spells this second, with `T` and `Z`
+-- a text as it is printed: it spells this second, with `T` and `Z`
 pub record IsTextOfSecond (second : ℤ) (text : List ℕ) : Type 0 where
   pub spells : unix_second_of_text text ≡ Some second
   pub letter : slice_index text 10 ≡ 84
   pub utc : slice_index text 19 ≡ 90
 
--- a second of the years from 0 to 9999
+-- a second of the years 0 to 9999
 abbrev pub HasFourDigitYear : ℤ → Type 0
 HasFourDigitYear second =
     ((days_from_civil (pos 0) 1 1 *ℤ pos 86400) ≤ℤ second)

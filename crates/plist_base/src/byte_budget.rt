@@ -1,4 +1,4 @@
-//! How many bytes of strings and data are read.
+//! A budget for the bytes of strings and data.
 
 ghost use Rattle.std.specs.Prelude.{◌≡◌, OnOk};
 ghost use Rattle.plist_base.specs.Events.{event_of};
@@ -7,17 +7,17 @@ ghost use Rattle.plist_base.specs.Budgets.{AdmitsWithin, RefusesWithin, within_b
 
 use crate::{Allowance, Error, ErrorKind, Event};
 
-/// How many bytes all strings, keys among them, and all data may still have together.
+/// The number of bytes that all strings, keys among them, and all data may still have together.
 ///
-/// A string counts by its bytes in UTF-8, also where the file has it in UTF-16, and counts again
-/// wherever the file refers to it again.
+/// A string counts by its bytes in UTF-8, even if the file stores it in UTF-16, and it counts again
+/// for each further reference to it.
 #[derive(Clone, Copy)]
 pub struct ByteBudget {
     left: u64,
 }
 
 impl ByteBudget {
-    /// A budget of this many bytes.
+    /// Creates a budget of this many bytes.
     pub fn new(bytes: u64) -> ByteBudget
         ensures items { within_budget result ≡ within_bytes bytes }
     {
@@ -32,11 +32,12 @@ impl Allowance for ByteBudget {
 
     ghost may_reach = { IsBudgetUsedUp };
 
-    /// Takes the bytes of the event's string or data from the budget.
+    /// Subtracts the bytes of the event's string or data from the budget.
     ///
     /// # Errors
     ///
-    /// `OutOfMemory`, without an offset, if more bytes are needed than are left. These stay.
+    /// `OutOfMemory`, without an offset, if more bytes are needed than are left. The budget is
+    /// unchanged then.
     fn admit(&mut self, event: &Event<'_>) -> Result<(), Error>
         ensures admitted { OnOk result (AdmitsWithin self.old (event_of event.now) self.new) }
         ensures refused { IfFault result (RefusesWithin self.old (event_of event.now)) }

@@ -1,4 +1,4 @@
-//! Data of a property list by itself, and its text: lines of base64.
+//! Data by itself, and its text form: lines of base64.
 
 ghost use Rattle.std.specs.Prelude.{◌≡◌, List, ℕ, length, Some, Ok, IfOk, IfErr, OnOk, string_bytes};
 ghost use Rattle.std.specs.Borrow.{sem};
@@ -15,10 +15,10 @@ use std::alloc::{AllocError, Global};
 use std::fmt;
 use std::marker::Model;
 
-// A line of text has 68 characters.
+// A full line has 68 characters of base64.
 const BYTES_A_LINE: usize = 51;
 
-/// Data of a property list: a list of bytes.
+/// The data of a property list: a list of bytes.
 #[derive(Drop)]
 pub struct Data {
     bytes: Vec<u8>,
@@ -35,29 +35,30 @@ impl Model for Data {
     ghost view = { λ a. a.bytes.items };
 }
 
-/// Why a text isn't data.
+/// The error of parsing data.
 #[derive(Clone, Copy, Debug, PartialEq, Eq)]
 pub enum InvalidXmlData {
-    /// No bytes have this text. Places in the fault count the text without white space.
+    /// The text isn't the base64 of any bytes. Offsets in the error count the text without its
+    /// white space.
     Decode(DecodeError),
-    /// A growth was refused.
+    /// An allocation failed.
     OutOfMemory,
 }
 
 impl Data {
-    /// The data of some bytes.
+    /// Makes data from bytes.
     pub fn new(bytes: Vec<u8>) -> Data
         ensures { result ≡ bytes.items }
     {
         Data { bytes }
     }
 
-    /// Reads the text of data: base64 in the standard alphabet, with padding. The bytes 09, 0A,
-    /// 0C, 0D and 20 may stand anywhere in it.
+    /// Parses data: base64 in the standard alphabet, with padding. The bytes 09, 0A, 0C, 0D and 20
+    /// are ignored wherever they are.
     ///
     /// # Errors
     ///
-    /// [`InvalidXmlData::Decode`] if, without these bytes, it isn't the base64 of any bytes, and
+    /// [`InvalidXmlData::Decode`] if the other bytes aren't the base64 of any bytes, and
     /// [`InvalidXmlData::OutOfMemory`] if memory runs out.
     pub fn from_xml_format(alloc: Global, text: &str) -> Result<Data, InvalidXmlData>
         ensures data { IfOk result (λ found. data_of_text text.now ≡ Some found) }
@@ -70,8 +71,8 @@ impl Data {
         Ok(Data::new(bytes))
     }
 
-    /// The text of this data: base64 in lines of 68 characters, which stand for 51 bytes, with LF
-    /// between them and none at the end.
+    /// Formats this data as base64 in lines of 68 characters, which encode 51 bytes. The last line
+    /// may be shorter. Lines are separated by LF, and there is none at the end.
     ///
     /// # Errors
     ///
@@ -84,14 +85,14 @@ impl Data {
         text_of(alloc, self.bytes.as_slice())
     }
 
-    /// The bytes.
+    /// Returns the bytes.
     pub fn as_ref(&self) -> &[u8]
         ensures { result.now ≡ self.now }
     {
         &self.bytes
     }
 
-    /// The bytes, to be changed.
+    /// Returns the bytes as a mutable slice.
     pub fn as_mut(&mut self) -> &mut [u8]
         ensures value { result.now ≡ self.old }
         ensures new_bytes { (new : List ℕ) → length new ≡ length self.old → IsAllNew self.old new }
@@ -107,7 +108,7 @@ impl Data {
         self.bytes
     }
 
-    /// The same bytes again.
+    /// Copies the data.
     ///
     /// # Errors
     ///
@@ -121,7 +122,7 @@ impl Data {
     }
 }
 
-// A text without its white space.
+// Returns a string's bytes without its white space.
 #[tactic(auto, using(crate::proofs::DataLines::spelled))]
 fn dark_bytes(alloc: Global, text: &str) -> Result<Vec<u8>, AllocError>
     ensures bytes { IfOk result (λ dark. dark.items ≡ without_white text.now) }
@@ -133,7 +134,7 @@ fn dark_bytes(alloc: Global, text: &str) -> Result<Vec<u8>, AllocError>
     Ok(bytes)
 }
 
-// The bytes that some base64 stands for.
+// Decodes base64.
 fn decoded(alloc: Global, symbols: &[u8]) -> Result<Vec<u8>, DecodeAllocError>
     ensures bytes { IfOk result (λ bytes. decode_of standard symbols.now ≡ Ok bytes.items) }
     ensures refused { IfErr result (λ error. IsDecodeFailure standard symbols.now error) }
@@ -141,14 +142,14 @@ fn decoded(alloc: Global, symbols: &[u8]) -> Result<Vec<u8>, DecodeAllocError>
     STANDARD.decode(alloc, symbols)
 }
 
-// Puts the base64 of some bytes after a text.
+// Appends the base64 of some bytes to a string.
 fn push_base64(text: &mut String, bytes: &[u8]) -> Result<(), AllocError>
     ensures { OnOk result (GrowsByBytes (encode_of standard bytes.now) text.old text.new) }
 {
     STANDARD.encode_string(bytes, text)
 }
 
-// The lines of base64 of some bytes.
+// Returns the lines of base64 of some bytes.
 fn text_of(alloc: Global, bytes: &[u8]) -> Result<String, Error>
     ensures text { IfOk result (λ text. string_bytes text ≡ data_text bytes.now) }
     ensures back { IfOk result (λ text. data_of_text (string_bytes text) ≡ Some bytes.now) }
@@ -166,7 +167,7 @@ fn text_of(alloc: Global, bytes: &[u8]) -> Result<String, Error>
     Ok(text)
 }
 
-/// The data of the bytes.
+/// Makes data from bytes.
 impl From<Vec<u8>> for Data {
     ghost from_gives = { λ bytes made. made ≡ bytes.items };
 
@@ -175,7 +176,7 @@ impl From<Vec<u8>> for Data {
     }
 }
 
-/// The bytes of the data.
+/// Returns the bytes of the data.
 impl From<Data> for Vec<u8> {
     ghost from_gives = { λ from bytes. bytes.items ≡ from };
 
@@ -184,7 +185,7 @@ impl From<Data> for Vec<u8> {
     }
 }
 
-/// Equal if the bytes are.
+/// Two values are equal if their bytes are.
 impl PartialEq for Data {
     ghost use Rattle.std.specs.Prelude.{nat_eq};
     ghost use Rattle.std.specs.Cmp.Lexicographic.{pointwise};
@@ -207,7 +208,7 @@ impl Eq for Data {
     ghost laws = { Prim.search (comparing, rules) };
 }
 
-/// A list of the bytes in decimal.
+/// Formats the bytes as a list of decimal numbers.
 impl fmt::Debug for Data {
     fn fmt<W: fmt::Write>(&self, f: &mut fmt::Formatter<W>) -> fmt::Result {
         fmt::Debug::fmt(self.bytes.as_slice(), f)

@@ -10,10 +10,11 @@ use std::marker::Model;
 // 2001-01-01T00:00:00Z in Unix seconds.
 const PLIST_EPOCH: i64 = 978_307_200;
 
-/// A moment from -9999-01-01T00:00:00Z to 9999-12-31T23:59:59Z, as the eight bytes of a real: the
-/// seconds from 2001-01-01T00:00:00Z on, with a fraction.
+/// A point in time from -9999-01-01T00:00:00Z to 9999-12-31T23:59:59Z, stored as the eight bytes of
+/// a real: the seconds since 2001-01-01T00:00:00Z, with a fraction.
 ///
-/// Two are equal if their bytes are, so two of the same second may differ in their fractions.
+/// Two dates are equal if their bytes are, so two dates in one second may differ in their
+/// fractions.
 #[derive(Clone, Copy, Debug, PartialEq, Eq, Hash)]
 pub struct Date {
     bytes: [u8; 8],
@@ -33,15 +34,15 @@ impl Model for Date {
 }
 
 impl Date {
-    /// The date of the eight bytes of a `binary64`, the highest first: seconds from
-    /// 2001-01-01T00:00:00Z on.
+    /// Makes a date from the eight bytes of a `binary64`, the highest first: seconds since
+    /// 2001-01-01T00:00:00Z.
     ///
-    /// The fraction is kept, and a zero's sign is dropped.
+    /// The fraction is kept, and the sign of a zero is dropped.
     ///
     /// # Errors
     ///
-    /// [`ErrorKind::OverflowOrNanDate`] if the real is infinite or no number, or its second lies
-    /// outside the range of dates.
+    /// [`ErrorKind::OverflowOrNanDate`] if the real is infinite or a NaN, or its second is outside
+    /// the range of dates.
     pub fn from_plist_real(bytes: [u8; 8]) -> Result<Date, ErrorKind>
         // The answer.
         ensures date { IfOk result (λ date. date_of_bytes bytes ≡ Some date) }
@@ -61,7 +62,7 @@ impl Date {
         Ok(Date { bytes })
     }
 
-    /// The eight bytes of the date's `binary64`, the highest first.
+    /// Returns the eight bytes of the date's `binary64`, the highest first.
     pub fn to_plist_real(&self) -> [u8; 8]
         ensures bytes { result ≡ self.now }
         ensures back { date_of_bytes result ≡ Some self.now }
@@ -70,8 +71,8 @@ impl Date {
         self.bytes
     }
 
-    /// The date of a second from 2001-01-01T00:00:00Z on, without a fraction, or `None` if it
-    /// lies outside the range of dates.
+    /// Converts a second since 2001-01-01T00:00:00Z to a date without a fraction. Returns `None` if
+    /// the second is outside the range of dates.
     pub fn from_plist_secs(second: i64) -> Option<Date>
         // The answer.
         ensures second { IfSome result (λ date. second_of_bytes date ≡ Some second) }
@@ -89,8 +90,8 @@ impl Date {
         })
     }
 
-    /// The date of a Unix second, without a fraction, or `None` if it lies outside the range of
-    /// dates.
+    /// Converts a Unix second to a date without a fraction. Returns `None` if the second is outside
+    /// the range of dates.
     pub fn from_unix_secs(second: i64) -> Option<Date>
         // The answer.
         ensures second { IfSome result (λ d. second_of_bytes d ≡ Some (second -ℤ plist_epoch)) }
@@ -105,7 +106,7 @@ impl Date {
         Date::from_plist_secs(second.checked_sub(PLIST_EPOCH)?)
     }
 
-    /// The greatest second, from 2001-01-01T00:00:00Z on, that isn't after this date.
+    /// Returns the greatest second since 2001-01-01T00:00:00Z that isn't after this date.
     pub fn plist_secs(&self) -> i64
         ensures second { second_of_bytes self.now ≡ Some result }
         ensures greatest { IsSecondOf result (real_bits self.now) }
@@ -118,7 +119,7 @@ impl Date {
         }
     }
 
-    /// The greatest Unix second that isn't after this date.
+    /// Returns the greatest Unix second that isn't after this date.
     pub fn unix_secs(&self) -> i64
         ensures second { second_of_bytes self.now ≡ Some (result -ℤ plist_epoch) }
         ensures greatest { IsSecondOf (result -ℤ plist_epoch) (real_bits self.now) }
@@ -127,7 +128,7 @@ impl Date {
         self.plist_secs() + PLIST_EPOCH
     }
 
-    /// Whether this date lies between two seconds.
+    /// Returns whether this date lies between two seconds.
     pub fn has_fraction(&self) -> bool
         ensures { result ≡ has_fraction (real_bits self.now) }
     {
@@ -157,7 +158,7 @@ fn mantissa_of(bits: u64, exponent: u64) -> u64
     }
 }
 
-// A real that is below 2^52 without its sign.
+// A real whose absolute value is below 2^52.
 #[derive(Clone, Copy)]
 struct Small {
     mantissa: u64,
@@ -168,7 +169,7 @@ struct Small {
 }
 
 impl Small {
-    // `None` where it is 2^52 or more, infinite or no number.
+    // Returns `None` if the absolute value is 2^52 or more, or the real is infinite or a NaN.
     #[tactic(auto, using(crate::proofs::DateShifts::scale_is))]
     fn from_bits(bits: u64) -> Option<Small>
         ensures range { IsNoneFrom 1075 (real_exponent bits) result }
@@ -185,7 +186,7 @@ impl Small {
         })
     }
 
-    // Its whole seconds.
+    // Returns the whole seconds of the absolute value.
     #[tactic(auto, using(crate::proofs::DateShifts::whole_parts))]
     fn whole(self) -> u64
         ensures is { result ≡ whole_seconds self.mantissa self.scale }
@@ -199,7 +200,7 @@ impl Small {
         }
     }
 
-    // Whether something is left behind them.
+    // Returns whether the absolute value has a fraction.
     #[tactic(auto, using(crate::proofs::DateShifts::left_parts))]
     fn is_left(self) -> bool
         ensures { result ≡ not (parts_left self.mantissa self.scale == 0) }
@@ -213,7 +214,7 @@ impl Small {
     }
 }
 
-// Whether the value lies between two seconds. One of 2^52 or more doesn't.
+// Returns whether the value lies between two seconds. No value of 2^52 or more does.
 #[tactic(auto, using(crate::proofs::DateShifts::fraction_parts))]
 fn is_fractional(bits: u64) -> bool
     ensures { result ≡ has_fraction bits }
@@ -245,7 +246,7 @@ fn in_range(second: i64) -> Option<i64>
     }
 }
 
-// The greatest second that isn't above the value.
+// Returns the greatest second that isn't above the value, if it is in the range of dates.
 #[tactic(auto, using(crate::proofs::DateShifts::second_far))]
 fn second_of_bits(bits: u64) -> Option<i64>
     ensures { result ≡ second_of_bits bits }

@@ -1,4 +1,4 @@
-//! The second that a date's text spells.
+//! Parses dates to Unix seconds.
 
 ghost use Rattle.std.specs.Prelude.{◌≡◌, ◌==◌, ◌+◌, ◌+ℤ◌, ◌-ℤ◌, ◌*ℤ◌, ◌<◌, ◌≤◌, cond, length, neg_ℤ, ℤ, pos, IsTrue, Some, None, IfSome};
 ghost use Rattle.jiff_core.specs.Calendar.{IsEpochDay, IsWithin};
@@ -6,7 +6,7 @@ ghost use Rattle.plist_base.specs.UnixSeconds as spec;
 
 use jiff_core::civil::Date;
 
-// The number of two digits at a place.
+// Parses the two digits at an offset.
 #[tactic(auto, unfolding(crate::specs::UnixSeconds::two_digits))]
 fn two_digits_at(text: &[u8], place: usize) -> Option<u8>
     requires { place + 1 < length text.now }
@@ -21,7 +21,7 @@ fn two_digits_at(text: &[u8], place: usize) -> Option<u8>
     }
 }
 
-// The number of four digits at a place.
+// Parses the four digits at an offset.
 fn four_digits_at(text: &[u8], place: usize) -> Option<u16>
     requires { place + 3 < length text.now }
     ensures is { result ≡ spec.four_digits_at text.now place }
@@ -32,14 +32,14 @@ fn four_digits_at(text: &[u8], place: usize) -> Option<u16>
     Some(u16::from(high) * 100 + u16::from(low))
 }
 
-// The days from 1970-01-01 to a date, where the calendar has it.
+// Returns the days from 1970-01-01 to a date, or `None` if the calendar doesn't have it.
 #[tactic(auto, unfolding(crate::specs::UnixSeconds::day_number))]
 fn day_number(year: u16, month: u8, day: u8) -> Option<i32>
     requires { year < 10000 }
     ensures is { result ≡ spec.day_number year month day }
     ensures bound { IfSome result (λ n. IsEpochDay n) }
 {
-    // So that both fit the calendar's signed parameters.
+    // Both must fit the calendar's signed parameters.
     if month > 12 || day > 31 {
         return None;
     }
@@ -49,7 +49,7 @@ fn day_number(year: u16, month: u8, day: u8) -> Option<i32>
     }
 }
 
-// YYYY-MM-DD.
+// Parses YYYY-MM-DD.
 fn day_in(text: &[u8]) -> Option<i32>
     requires { 10 ≤ length text.now }
     ensures is { result ≡ spec.day_in text.now }
@@ -65,7 +65,7 @@ fn day_in(text: &[u8]) -> Option<i32>
     }
 }
 
-// The second of a day.
+// Returns the second of a day, or `None` if a part is out of range.
 #[tactic(auto, unfolding(crate::specs::UnixSeconds::second_of_day))]
 fn second_of_day(hour: u8, minute: u8, second: u8) -> Option<u32>
     ensures is { result ≡ spec.second_of_day hour minute second }
@@ -78,7 +78,7 @@ fn second_of_day(hour: u8, minute: u8, second: u8) -> Option<u32>
     }
 }
 
-// HH:MM:SS.
+// Parses HH:MM:SS.
 fn time_in(text: &[u8]) -> Option<u32>
     requires { 19 ≤ length text.now }
     ensures is { result ≡ spec.time_in text.now }
@@ -94,7 +94,7 @@ fn time_in(text: &[u8]) -> Option<u32>
     }
 }
 
-// Whether the separators stand where a date has them.
+// Returns whether the separators are at their offsets.
 fn has_separators(text: &[u8]) -> bool
     ensures is { result ≡ spec.has_separators text.now }
     ensures long { IsTrue result → 20 ≤ length text.now }
@@ -107,7 +107,7 @@ fn has_separators(text: &[u8]) -> bool
         && text[16] == b':'
 }
 
-// This many seconds, with this sign.
+// Applies a sign, `+` or `-`, to a number of seconds.
 fn signed(sign: u8, seconds: u32) -> Option<i32>
     requires { seconds < 86400 }
     ensures is { result ≡ cond (sign == 43) (Some (pos seconds))
@@ -121,7 +121,7 @@ fn signed(sign: u8, seconds: u32) -> Option<i32>
     }
 }
 
-// How many seconds hours and minutes after this sign are before UTC.
+// Returns how many seconds a zone is ahead of UTC, from its sign, hours and minutes.
 fn offset(sign: u8, hours: u8, minutes: u8) -> Option<i32>
     ensures is { result ≡ spec.offset sign hours minutes }
     ensures bound { IfSome result (λ n. IsWithin 86399 n) }
@@ -132,7 +132,7 @@ fn offset(sign: u8, hours: u8, minutes: u8) -> Option<i32>
     signed(sign, u32::from(hours) * 3600 + u32::from(minutes) * 60)
 }
 
-// `Z`, `z`, or a sign with HH:MM: how many seconds the zone is before UTC.
+// Parses `Z`, `z`, or a sign with HH:MM: how many seconds the zone is ahead of UTC.
 fn zone_in(text: &[u8]) -> Option<i32>
     requires { 20 ≤ length text.now }
     ensures is { result ≡ spec.zone_in text.now }
@@ -153,7 +153,7 @@ fn zone_in(text: &[u8]) -> Option<i32>
     offset(text[19], hours, minutes)
 }
 
-// The Unix second of a day's second in a zone.
+// Returns the Unix second of a second of a day in a zone.
 fn unix_second(day: i32, time: u32, zone: i32) -> i64
     requires day { IsEpochDay day }
     requires time { time < 86400 }
@@ -163,10 +163,10 @@ fn unix_second(day: i32, time: u32, zone: i32) -> i64
     i64::from(day) * 86_400 + i64::from(time) - i64::from(zone)
 }
 
-/// The Unix second that a text spells, or `None` if it isn't the text of a date.
+/// Returns the Unix second that a string spells, or `None` if it isn't a date.
 ///
-/// It is `YYYY-MM-DD`, one of `T`, `t` and the space, `HH:MM:SS`, and `Z`, `z` or a sign with
-/// `HH:MM`, of the years 0 to 9999. The day is one of the calendar, and there is no second 60.
+/// The form is `YYYY-MM-DD`, one of `T`, `t` and the space, `HH:MM:SS`, and `Z`, `z` or a sign with
+/// `HH:MM`, in the years 0 to 9999. The calendar must have the day, and there is no second 60.
 #[tactic(auto, unfolding(crate::specs::UnixSeconds::unix_second_of_text))]
 pub fn unix_second_of_text(text: &str) -> Option<i64>
     ensures is { result ≡ spec.unix_second_of_text text.now }

@@ -1,4 +1,4 @@
-//! The texts of dates.
+//! Parses and prints dates.
 
 ghost use Rattle.std.specs.Prelude.{◌≡◌, ◌↔◌, ℕ, List, codes, Some, None, Ok, IsErr, IfOk, string_bytes};
 ghost use Rattle.plist_base.specs.Outcomes.{OnlyMemory};
@@ -12,20 +12,20 @@ use crate::{Date, Error, ErrorKind};
 use std::alloc::Global;
 use std::fmt;
 
-/// A text that isn't that of a date.
+/// The error of parsing a string that isn't a date.
 #[derive(Clone, Copy, Debug, PartialEq, Eq)]
 pub struct InvalidXmlDate;
 
 impl Date {
-    /// Reads the text of a date, as `2001-01-01T00:00:00Z`.
+    /// Parses a date, such as `2001-01-01T00:00:00Z`.
     ///
-    /// It is a year of four digits, `-MM-DD`, one of `T`, `t` and the space, `HH:MM:SS`, and `Z`,
-    /// `z` or a sign with `HH:MM`. It has no fraction and no second 60.
+    /// The form is a year of four digits, `-MM-DD`, one of `T`, `t` and the space, `HH:MM:SS`, and
+    /// `Z`, `z` or a sign with `HH:MM`. It has no fraction and no second 60.
     ///
     /// # Errors
     ///
-    /// [`InvalidXmlDate`] exactly where the text isn't such a text, the calendar hasn't the day, or
-    /// the moment in UTC lies outside the range of dates.
+    /// [`InvalidXmlDate`] if and only if the string doesn't have this form, the calendar doesn't
+    /// have the day, or the date in UTC is outside the range of dates.
     pub fn from_xml_format(text: &str) -> Result<Date, InvalidXmlDate>
         // The answer.
         ensures second { IfOk result (λ date. second_of_bytes date ≡ second_of_text text.now) }
@@ -45,12 +45,12 @@ impl Date {
         }
     }
 
-    /// The text of this date: `YYYY-MM-DDTHH:MM:SSZ`.
+    /// Formats this date as `YYYY-MM-DDTHH:MM:SSZ`.
     ///
     /// # Errors
     ///
     /// [`ErrorKind::FractionalDate`] if it lies between two seconds, else
-    /// [`ErrorKind::YearOutOfRange`] if its year isn't one from 0 to 9999, else
+    /// [`ErrorKind::YearOutOfRange`] if its year isn't from 0 to 9999, else
     /// [`ErrorKind::OutOfMemory`] if memory runs out.
     pub fn to_xml_format(&self, alloc: Global) -> Result<String, Error>
         // The answer.
@@ -85,7 +85,7 @@ impl fmt::Display for InvalidXmlDate {
 
 impl std::error::Error for InvalidXmlDate {}
 
-/// [`ErrorKind::InvalidDateString`], without an offset.
+/// Converts to [`ErrorKind::InvalidDateString`], without an offset.
 impl From<InvalidXmlDate> for Error {
     ghost from_gives = { λ _ e. fault_of e ≡ fault_nowhere InvalidDateString };
 

@@ -9,29 +9,29 @@ use std::alloc::Global;
 use std::borrow::{CowSlice, CowStr};
 use std::hash::{Hash, Hasher};
 
-/// An event of a property list. A text and data may be borrowed.
+/// An event of a property list. Strings and data may be borrowed.
 ///
-/// Two are equal if they are of one kind and their contents are, borrowed or not; a length is
-/// part of a start.
+/// Two events are equal if they are of one kind and have equal contents, borrowed or not. The
+/// length of a start is part of its contents.
 #[derive(Debug, Drop, PartialEq, Eq)]
 pub enum Event<'a> {
     /// An array begins. Its length is a hint.
     StartArray(Option<u64>),
-    /// A dictionary begins; a key and a value follow in turn. Its length is a hint, in pairs.
+    /// A dictionary begins; keys and values follow in turn. Its length, in pairs, is a hint.
     StartDictionary(Option<u64>),
     /// The innermost array or dictionary ends.
     EndCollection,
-    /// A truth value.
+    /// A Boolean.
     Boolean(bool),
     /// Bytes.
     Data(CowSlice<'a, u8>),
-    /// A moment.
+    /// A date.
     Date(Date),
-    /// A whole number.
+    /// An integer.
     Integer(Integer),
     /// The bytes of a real.
     Real(RealBits),
-    /// A text, which is also what a key is.
+    /// A string. Keys are strings, too.
     String(CowStr<'a>),
     /// The number of an object in a keyed archive.
     Uid(Uid),
@@ -40,7 +40,7 @@ pub enum Event<'a> {
 /// An event that owns its content.
 pub type OwnedEvent = Event<'static>;
 
-/// What an event does to the collections that are open: it opens one, ends one, or stands in one.
+/// How an event affects the open collections: it opens one, closes one, or leaves them as they are.
 #[derive(Clone, Copy, Debug, PartialEq, Eq)]
 pub enum EventShape {
     /// An array begins.
@@ -49,16 +49,16 @@ pub enum EventShape {
     StartDictionary,
     /// The innermost array or dictionary ends.
     EndCollection,
-    /// A scalar of any kind. A text may be a key.
+    /// A scalar of any kind. A string may be a key.
     Scalar,
 }
 
 impl<'a> Event<'a> {
-    /// The same event, which owns its content. A borrowed text or borrowed data is copied.
+    /// Converts the event into one that owns its content. Borrowed strings and data are copied.
     ///
     /// # Errors
     ///
-    /// `OutOfMemory`, without an offset, where a copy was refused; the event is dropped.
+    /// `OutOfMemory`, without an offset, if the copy can't be allocated. The event is dropped then.
     pub fn into_owned(self, alloc: Global) -> Result<OwnedEvent, Error>
         ensures event { IfOk result (λ owned. event_of owned ≡ event_of self.entry) }
         ensures memory { OnlyMemory result }
@@ -78,7 +78,7 @@ impl<'a> Event<'a> {
         })
     }
 
-    /// The same event, whose text or data is borrowed from this one.
+    /// Returns this event with its string or data borrowed from it.
     #[inline(always)]
     pub fn as_borrowed(&self) -> Event<'_>
         ensures { event_of result ≡ event_of self.now }
@@ -97,7 +97,7 @@ impl<'a> Event<'a> {
         }
     }
 
-    /// What the event does to the collections that are open.
+    /// Returns how the event affects the open collections.
     #[inline(always)]
     pub fn shape(&self) -> EventShape
         ensures { result ≡ shape_of (event_of self.now) }
@@ -116,7 +116,7 @@ impl<'a> Event<'a> {
         }
     }
 
-    /// The bytes of a text or data, which may be any number, and none of another event.
+    /// Returns the bytes of a string or of data, and an empty slice for any other event.
     #[inline(always)]
     pub fn text_or_data(&self) -> &[u8]
         ensures { result.now ≡ text_or_data (event_of self.now) }
@@ -135,11 +135,11 @@ impl<'a> Event<'a> {
         }
     }
 
-    /// A copy of the event, which owns its content.
+    /// Copies the event into one that owns its content.
     ///
     /// # Errors
     ///
-    /// `OutOfMemory`, without an offset, where a copy was refused.
+    /// `OutOfMemory`, without an offset, if the copy can't be allocated.
     pub fn clone(&self, alloc: Global) -> Result<OwnedEvent, Error>
         ensures event { IfOk result (λ copy. event_of copy ≡ event_of self.now) }
         ensures memory { OnlyMemory result }
@@ -148,7 +148,7 @@ impl<'a> Event<'a> {
     }
 }
 
-/// The content is fed in one write, texts and data whole; a start and an end feed nothing.
+/// Writes the content to the hasher in one call; starts and ends write nothing.
 impl Hash for Event<'_> {
     ghost use Rattle.plist_base.specs.inner.Hashing.{same_writes, writes_of};
 

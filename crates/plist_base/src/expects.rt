@@ -1,4 +1,4 @@
-//! What may come next among a property list's events, and what an event changes in that.
+//! Which events may come next in a property list, and how an event changes that.
 
 ghost use Rattle.std.specs.Prelude.{◌≡◌};
 ghost use Rattle.plist_base.specs.Events.{event_of};
@@ -6,33 +6,33 @@ ghost use Rattle.plist_base.specs.Expects.{change_of, change_of_value, change_of
 
 use crate::{Event, EventShape};
 
-/// What is still to come.
+/// What the next events must be.
 #[derive(Clone, Copy, Drop)]
 pub enum Expect {
     /// A value.
     OneValue,
-    /// The items of an array, and its end.
+    /// The remaining items of an array, and its end.
     Items,
-    /// The pairs of a dictionary, and its end.
+    /// The remaining pairs of a dictionary, and its end.
     Pairs,
 }
 
-/// What an event does to the topmost expectation of a stack.
+/// How an event changes the topmost expectation of a stack.
 #[derive(Clone, Copy, Drop)]
 pub enum Change {
-    /// The event can't come here.
+    /// The event isn't allowed here.
     Refused,
-    /// It has come, and leaves the stack.
+    /// The expectation is met, and leaves the stack.
     Popped,
-    /// It stays.
+    /// The expectation stays.
     Kept,
-    /// It stays, and this one comes on top of it.
+    /// The expectation stays, and this one is pushed on top of it.
     Pushed(Expect),
-    /// This one takes its place.
+    /// This expectation replaces it.
     Replaced(Expect),
 }
 
-// What an event of this shape does where a value is to come.
+// Returns how an event of this shape changes the expectation of a value.
 fn change_of_value(shape: EventShape) -> Change
     ensures { result ≡ change_of_value shape }
 {
@@ -44,7 +44,7 @@ fn change_of_value(shape: EventShape) -> Change
     }
 }
 
-// What it does among the items of an array.
+// Returns how an event of this shape changes the expectation of an array's items.
 fn change_of_items(shape: EventShape) -> Change
     ensures { result ≡ change_of_items shape }
 {
@@ -56,7 +56,7 @@ fn change_of_items(shape: EventShape) -> Change
     }
 }
 
-// What an event does among the pairs of a dictionary.
+// Returns how an event changes the expectation of a dictionary's pairs.
 fn change_of_pairs(event: &Event<'_>) -> Change
     ensures { result ≡ change_of_pairs (event_of event.now) }
 {
@@ -72,7 +72,7 @@ fn change_of_pairs(event: &Event<'_>) -> Change
 }
 
 impl Expect {
-    /// What an event does to it.
+    /// Returns how an event changes this expectation.
     #[inline(always)]
     pub fn change_by(self, event: &Event<'_>) -> Change
         ensures { result ≡ change_of self (event_of event.now) }

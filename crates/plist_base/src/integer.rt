@@ -1,4 +1,4 @@
-//! Whole numbers.
+//! Integers.
 
 ghost use Rattle.std.specs.Prelude.{◌≡◌, pos, negsuc, codes, ◌-◌, ◌^◌, ◌≤◌, ◌≤ℤ◌, ◌<ℤ◌, ◌↔◌, IsSome, IfSome, Some};
 ghost use Rattle.std.specs.Fmt.{signed_decimal, styled_signed_decimal};
@@ -9,18 +9,17 @@ use std::fmt;
 use std::marker::Model;
 use std::str::FromStr;
 
-// A whole number in 64 bits, and whether it is negative. A value in 128 bits would lie at a
-// multiple of 16 bytes, and so would every event.
+// An integer in 64 bits, and whether it is negative. A value in 128 bits would be aligned to 16
+// bytes, and so would every event.
 #[derive(Clone, Copy, PartialEq, Eq, Hash)]
 enum Number {
     Negative(i64),
     Unsigned(u64),
 }
 
-/// A whole number from `i64::MIN` to `u64::MAX`.
+/// An integer from `i64::MIN` to `u64::MAX`.
 ///
-/// Two are equal, and one stands before another, as the whole numbers are: it doesn't matter from
-/// which type a number was made.
+/// Integers are compared by their values: it doesn't matter from which type one was made.
 #[derive(Clone, Copy, Eq, Hash)]
 pub struct Integer {
     number: Number,
@@ -43,9 +42,9 @@ impl Model for Integer {
 }
 
 impl Integer {
-    /// The same number as an `i64`, or `None` if it is above `i64::MAX`.
+    /// Returns the value as an `i64`, or `None` if it is above `i64::MAX`.
     ///
-    /// No `Integer` lies below `i64::MIN`.
+    /// No `Integer` is below `i64::MIN`.
     pub fn as_signed(self) -> Option<i64>
         ensures fits { IsSome result ↔ (self <ℤ pos (2 ^ 63)) }
         ensures value { IfSome result (λ n. n ≡ self) }
@@ -57,9 +56,9 @@ impl Integer {
         }
     }
 
-    /// The same number as a `u64`, or `None` if it is negative.
+    /// Returns the value as a `u64`, or `None` if it is negative.
     ///
-    /// No `Integer` lies above `u64::MAX`.
+    /// No `Integer` is above `u64::MAX`.
     pub fn as_unsigned(self) -> Option<u64>
         ensures fits { IsSome result ↔ (pos 0 ≤ℤ self) }
         ensures value { IfSome result (λ n. pos n ≡ self) }
@@ -71,15 +70,16 @@ impl Integer {
         }
     }
 
-    /// Reads the number that a text spells.
+    /// Parses an integer.
     ///
-    /// A text that begins with `0x` loses every leading `0x`; the rest is hexadecimal with an
-    /// optional `+`, and at most `u64::MAX`. Any other text is decimal with an optional sign, from
-    /// `i64::MIN` to `u64::MAX`. Digits are required, and leading zeros are allowed. Nothing else
-    /// may stand in the text, nor a blank at its ends.
+    /// If the string begins with `0x`, every leading `0x` is removed; the rest is hexadecimal with
+    /// an optional `+`, and at most `u64::MAX`. Any other string is decimal with an optional sign,
+    /// from `i64::MIN` to `u64::MAX`. At least one digit is required, and leading zeros are
+    /// allowed. No other characters are allowed, not even blanks at the ends.
     ///
     /// # Errors
-    /// [`InvalidInteger`] exactly where the text spells no such number.
+    ///
+    /// [`InvalidInteger`] if and only if the string spells no such integer.
     pub fn from_str(text: &str) -> Result<Integer, InvalidInteger>
         ensures number { SpellsInteger text.now result }
     {
@@ -89,7 +89,7 @@ impl Integer {
         }
     }
 
-    // The same number in 128 bits.
+    // Returns the value in 128 bits.
     pub(crate) fn widened(self) -> i128
         ensures { result ≡ self }
     {
@@ -114,7 +114,7 @@ impl PartialEq for Integer {
     }
 }
 
-/// In the order of the whole numbers.
+/// Orders integers by their values.
 impl Ord for Integer {
     ghost use Rattle.std.specs.Prelude.{refl};
     ghost use Rattle.std.specs.Cmp.{int_cmp_total};
@@ -137,7 +137,7 @@ impl Ord for Integer {
     }
 }
 
-/// In the order of the whole numbers.
+/// Orders integers by their values.
 impl PartialOrd for Integer {
     ghost use Rattle.std.specs.Cmp.{signed_po};
     ghost use Rattle.std.specs.Ordering.{int_cmp};
@@ -222,7 +222,7 @@ impl From<u8> for Integer {
     }
 }
 
-/// The decimal text, with a `-` before a negative number.
+/// Formats the value in decimal, with a `-` before a negative one.
 impl fmt::Display for Integer {
     ghost output = { λ integer. Some (signed_decimal integer) };
 
@@ -233,7 +233,7 @@ impl fmt::Display for Integer {
     }
 }
 
-/// The same decimal text.
+/// Formats the value in decimal.
 impl fmt::Debug for Integer {
     ghost debug_output = { λ integer. Some (signed_decimal integer) };
 
@@ -242,7 +242,7 @@ impl fmt::Debug for Integer {
     }
 }
 
-/// A text that spells no [`Integer`].
+/// The error of parsing a string that spells no [`Integer`].
 #[derive(Clone, Copy, Debug, PartialEq, Eq)]
 pub struct InvalidInteger;
 
@@ -256,7 +256,7 @@ impl fmt::Display for InvalidInteger {
 
 impl std::error::Error for InvalidInteger {}
 
-// A signed decimal number, with an optional sign.
+// Parses a signed decimal number with an optional sign.
 #[tactic(auto, using(crate::proofs::Numerals::signed_texts))]
 fn signed(text: &str) -> Option<Integer>
     ensures { result ≡ signed_of_text text.now }
@@ -267,7 +267,7 @@ fn signed(text: &str) -> Option<Integer>
     }
 }
 
-// An unsigned number, with an optional plus.
+// Parses an unsigned number with an optional plus sign.
 #[tactic(auto, using(crate::proofs::Numerals::unsigned_ok, crate::proofs::Numerals::unsigned_err))]
 fn unsigned(text: &str, radix: u32) -> Option<Integer>
     requires radix { (2 ≤ radix) × (radix ≤ 36) }
@@ -279,7 +279,7 @@ fn unsigned(text: &str, radix: u32) -> Option<Integer>
     }
 }
 
-// The text after every leading `0x`.
+// Returns the string without its leading `0x`s.
 fn strip_prefixes(text: &str) -> &str
     ensures { result.now ≡ without_prefixes text.now }
 {
@@ -290,7 +290,7 @@ fn strip_prefixes(text: &str) -> &str
     rest
 }
 
-// The number that a text spells.
+// Returns the integer that a string spells.
 #[tactic(auto, using(crate::proofs::Numerals::integer_texts))]
 fn number_in(text: &str) -> Option<Integer>
     ensures { result ≡ integer_of_text text.now }

@@ -1,4 +1,4 @@
-//! Items as far as they are allowed.
+//! An iterator that yields another iterator's items as far as they are allowed.
 
 ghost use Rattle.std.specs.Prelude.{◌≡◌, false, OnOk};
 ghost use Rattle.plist_base.specs.Allowances.{AdmitsEvent, Passes, RefusesEvent, iterator_of};
@@ -9,48 +9,48 @@ ghost use Rattle.plist_base.specs.Outcomes.{IfFault};
 
 use crate::{ByteBudget, Error, Event, Limiter, Limits, OwnedEvent};
 
-/// What is still allowed of a property list: it admits events one after another, up to the first
-/// that isn't allowed.
+/// Admits the events of a property list one after another, up to the first that isn't allowed.
 ///
-/// A [`Limiter`] counts events and levels, a [`ByteBudget`] the bytes of strings and data.
+/// A [`Limiter`] counts events and open collections, a [`ByteBudget`] the bytes of strings and
+/// data.
 pub trait Allowance: Drop {
     ghost use Rattle.std.specs.Prelude.{List};
     ghost use Rattle.plist_base.specs.Events.{Item};
     ghost use Rattle.plist_base.specs.Faults.{Fault};
 
-    // the items that are allowed, of those of an iterator
+    // what the allowance leaves of an iterator's items
     ghost lets: { Self → List Item → List Item };
 
-    // the faults that may take an event's place
+    // the faults that may replace an event
     ghost may_reach: { Fault → Type 0 };
 
     /// Admits an event.
     ///
     /// # Errors
     ///
-    /// The error that takes the event's place, if the event isn't allowed.
+    /// The error that replaces the event, if the event isn't allowed.
     fn admit(&mut self, event: &Event<'_>) -> Result<(), Error>
         ensures admitted { OnOk result (AdmitsEvent lets self.old (event_of event.now) self.new) }
         ensures refused { IfFault result (RefusesEvent lets may_reach self.old
             (event_of event.now)) };
 }
 
-/// The items of another iterator up to their first fault, as far as they are allowed: by [`Limits`]
-/// ([`Limited::new`]), or by a budget of bytes ([`Limited::within_bytes`]).
+/// Yields the items of another iterator up to its first error, as far as they are allowed: by
+/// [`Limits`] ([`Limited::new`]), or by a budget of bytes ([`Limited::within_bytes`]).
 ///
-/// The first event that isn't allowed is replaced by an error without an offset. A fault stays that
-/// fault. After either, and after the other iterator's `None`, the iterator has ended, and the
-/// other isn't asked again.
+/// The first event that isn't allowed is replaced by an error without an offset. An error of the
+/// other iterator is yielded as it is. After either, and after the other iterator's `None`, this
+/// iterator has ended, and the other isn't called again.
 #[derive(Drop)]
 pub struct Limited<I, A = Limiter> {
     inner: I,
     limiter: A,
-    // An error was yielded, or the other iterator's `None`.
+    // Whether an error was yielded, or the other iterator returned `None`.
     ended: bool,
 }
 
 impl<I> Limited<I, Limiter> {
-    /// Items under limits: the first event that is one too many, or else opens one collection too
+    /// Limits the items: the first event that is one too many, or else opens one collection too
     /// many, is replaced by `LimitReached`.
     pub fn new(inner: I, limits: Limits) -> Self
         ensures items { items_admitted result ≡ limited_items limits }
@@ -65,9 +65,9 @@ impl<I> Limited<I, Limiter> {
 }
 
 impl<I> Limited<I, ByteBudget> {
-    /// Items whose strings, keys among them, and data have at most this many bytes together: the
-    /// first that has a byte too many is replaced by `OutOfMemory`, since the memory that the
-    /// caller allows is used up. A string counts by its bytes in UTF-8.
+    /// Limits the bytes that strings, keys among them, and data have together: the first event that
+    /// exceeds the budget is replaced by `OutOfMemory`, since the memory that the caller allows is
+    /// used up. A string counts by its bytes in UTF-8.
     pub fn within_bytes(inner: I, bytes: u64) -> Self
         ensures items { items_within_budget result ≡ within_bytes bytes }
         ensures inner { iterator_of result ≡ inner }
@@ -81,7 +81,7 @@ impl<I> Limited<I, ByteBudget> {
 }
 
 impl<I, A: Allowance> Limited<I, A> {
-    // What is yielded for an item of the iterator inside.
+    // Decides what to yield for an item of the inner iterator.
     fn pass(&mut self, item: Result<OwnedEvent, Error>) -> Result<OwnedEvent, Error>
         requires going { self.old.ended ≡ false }
         ensures passes { Passes A.lets A.may_reach self.old.limiter item.entry result

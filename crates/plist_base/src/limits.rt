@@ -1,4 +1,4 @@
-//! How much of a property list is read.
+//! Limits on how much of a property list is read.
 
 ghost use Rattle.std.specs.Prelude.{◌≡◌, IfOk, IfErr, OnOk};
 ghost use Rattle.plist_base.specs.Events.{event_of};
@@ -8,16 +8,16 @@ ghost use Rattle.plist_base.specs.Limits.{Admits, Refuses, RefusesBy, level_afte
 
 use crate::{Allowance, Error, ErrorKind, Event, EventShape};
 
-/// The most that is read of a property list.
+/// Limits on how much of a property list is read.
 ///
 /// ```text
 /// Limits { depth: 64, items: 100_000 }
 /// ```
 #[derive(Clone, Copy, Debug, PartialEq, Eq)]
 pub struct Limits {
-    /// How many collections may be open at once.
+    /// The greatest number of collections that may be open at once.
     pub depth: u64,
-    /// How many events there may be.
+    /// The greatest number of events.
     pub items: u64,
 }
 
@@ -31,7 +31,7 @@ pub enum Limit {
 }
 
 impl Limit {
-    // The variant's name.
+    // Returns the variant's name.
     pub(crate) fn name(self) -> &'static str
         ensures { result.now ≡ limit_name self }
     {
@@ -42,7 +42,7 @@ impl Limit {
     }
 }
 
-// How many collections are open after an event, where `level` were open before it.
+// Returns how many collections are open after an event, given how many were open before it.
 fn level_after(depth: u64, level: u64, shape: EventShape) -> Result<u64, Limit>
     ensures value { IfOk result (IsLevelAfter depth level shape) }
     ensures refused { IfErr result (IsTooDeep depth level shape) }
@@ -63,14 +63,14 @@ fn level_after(depth: u64, level: u64, shape: EventShape) -> Result<u64, Limit>
 #[derive(Clone, Copy)]
 pub struct Limiter {
     limits: Limits,
-    // How many events were admitted.
+    // The number of events admitted so far.
     came: u64,
-    // How many collections are open.
+    // The number of open collections.
     level: u64,
 }
 
 impl Limiter {
-    /// Limits under which nothing has been admitted yet.
+    /// Creates a limiter that has admitted nothing yet.
     pub fn new(limits: Limits) -> Limiter
         ensures items { limited_by result ≡ limited_items limits }
     {
@@ -81,7 +81,8 @@ impl Limiter {
         }
     }
 
-    // The limit that the event reaches, if it reaches one: that of the items before the depth.
+    // Counts the event, or returns the limit that it exceeds. The limit of items is checked before
+    // the depth.
     fn count(&mut self, event: &Event<'_>) -> Result<(), Limit>
         ensures admitted { OnOk result (Admits self.old (event_of event.now) self.new) }
         ensures refused { IfErr result (RefusesBy self.old (event_of event.now)) }
@@ -106,8 +107,8 @@ impl Allowance for Limiter {
     ///
     /// # Errors
     ///
-    /// `LimitReached`, without an offset, if the event is one too many or opens one collection too
-    /// many. The counts stay as they were.
+    /// `LimitReached`, without an offset, if the event is one too many, or else opens one
+    /// collection too many. The counts are unchanged then.
     fn admit(&mut self, event: &Event<'_>) -> Result<(), Error>
         ensures admitted { OnOk result (Admits self.old (event_of event.now) self.new) }
         ensures refused { IfFault result (Refuses self.old (event_of event.now)) }

@@ -1,4 +1,4 @@
-//! Moments, and their texts.
+//! Seconds in UTC, by their calendar parts, and how they are printed.
 
 ghost use Rattle.std.specs.Prelude.{◌↔◌, List, ℕ, ◌<◌, ◌≤ℤ◌, ◌+ℤ◌, ◌*ℤ◌, pos, Some, IsSome, IfSome};
 ghost use Rattle.jiff_core.specs.Date.{epoch_day};
@@ -14,7 +14,7 @@ const SECONDS_A_DAY: i64 = 86_400;
 #[derive(Clone, Copy)]
 pub struct Moment {
     century: u8,
-    // Of the century.
+    // The year within the century.
     year: u8,
     month: u8,
     day: u8,
@@ -24,7 +24,7 @@ pub struct Moment {
 }
 
 impl Moment {
-    /// The moment of a Unix second, or `None` if its year isn't one from 0 to 9999.
+    /// Returns the moment of a Unix second, or `None` if its year isn't from 0 to 9999.
     pub fn from_unix_secs(second: i64) -> Option<Moment>
         ensures year { IsSome result ↔ HasFourDigitYear second }
         ensures text { IfSome result (λ moment. IsTextOfSecond second (moment_text moment)) }
@@ -40,7 +40,7 @@ impl Moment {
     }
 }
 
-// The moment of a second of a day.
+// Returns the moment of a second of a day.
 fn moment_of(date: Date, second: u32) -> Moment
     requires year { pos 0 ≤ℤ date.year }
     requires second { second < 86400 }
@@ -58,7 +58,7 @@ fn moment_of(date: Date, second: u32) -> Moment
     }
 }
 
-/// `YYYY-MM-DDTHH:MM:SSZ`.
+/// Formats the moment as `YYYY-MM-DDTHH:MM:SSZ`.
 impl fmt::Display for Moment {
     ghost output = { λ moment. Some (moment_text moment) };
 

@@ -6,15 +6,15 @@ ghost use Rattle.plist_base.specs.Reals.{number_of_real, real_of};
 use std::num::{f32_from_bits_with_nan, f64_from_bits_with_nan, f64_to_bits_with_nan};
 
 /// The bytes of a binary real, the highest first: four of a `binary32`, or eight of a `binary64`.
-/// [`RealBits::to_f64`] is their number, and [`RealBits::from_f64`] makes a real of one:
+/// [`RealBits::to_f64`] returns their number, and [`RealBits::from_f64`] encodes a number:
 ///
 /// ```text
 /// let number = value.as_real()?.to_f64();
 /// let value = Value::Real(RealBits::from_f64(number));
 /// ```
 ///
-/// Two are equal if their widths and all their bytes are. So a zero isn't equal to the zero of
-/// the other sign, nor a real to one of the other width, and a NaN is equal to itself.
+/// Two reals are equal if they have the same width and the same bytes. So the two zeros differ,
+/// reals of different widths differ, and a NaN is equal to itself.
 #[derive(Clone, Copy, Debug, PartialEq, Eq, Hash)]
 pub enum RealBits {
     /// A `binary32`.
@@ -24,9 +24,10 @@ pub enum RealBits {
 }
 
 impl RealBits {
-    /// The number of these bytes, exactly: each number of four bytes is one of eight.
+    /// Returns the number of these bytes. It is exact, since every `binary32` number is a
+    /// `binary64` number.
     ///
-    /// Bytes of a NaN give a NaN, of which nothing else is kept.
+    /// The bytes of a NaN become a NaN, of which nothing else is kept.
     pub fn to_f64(self) -> f64
         ensures value { result ≡ number_of_real self }
     {
@@ -36,7 +37,7 @@ impl RealBits {
         }
     }
 
-    /// The real of eight bytes of this number. All NaNs give the same one.
+    /// Encodes a number in eight bytes. All NaNs have the same encoding.
     pub fn from_f64(number: f64) -> RealBits
         ensures value { result ≡ real_of number }
     {

@@ -1,9 +1,9 @@
-//! The text of an error, with the reason that the system gave.
+//! Prints an error with the reason that the system reported.
 
 use crate::{Error, ErrorKind};
 use std::fmt;
 
-/// An error whose text has the system's reason too. [`Error::reason`] makes one.
+/// An error that prints the system's reason, too. [`Error::reason`] makes one.
 #[derive(Drop)]
 pub struct Reason<'a> {
     error: &'a Error,
@@ -13,8 +13,8 @@ impl Error {
     ghost use Rattle.std.specs.Prelude.{◌≡◌};
     ghost use Rattle.plist_base.specs.Reasons.{error_of_reason};
 
-    /// Returns this error for printing with its reason: its kind and its offset, and for a failed
-    /// device what the system said, after a colon. The error's own text leaves that out.
+    /// Returns this error for printing with its reason: its kind and its offset and, for an I/O
+    /// error, what the system reported, after a colon. The error's own `Display` leaves that out.
     ///
     /// ```text
     /// Io (offset 4096): Input/output error (os error 5)
@@ -27,7 +27,7 @@ impl Error {
     }
 }
 
-/// The text of the error, and after `: ` that of the system's error where there is one.
+/// Formats the error and, if it is an I/O error, the system's error after `: `.
 impl<'a> fmt::Display for Reason<'a> {
     ghost use Rattle.plist_base.specs.Reasons.{reason_text};
 

@@ -1,4 +1,4 @@
-//! Sends bytes to a writer.
+//! Writes bytes to a writer.
 
 ghost use Rattle.std.specs.Prelude.{OnOk};
 ghost use Rattle.plist_base.specs.Outcomes.{OnlyDevice};
@@ -10,10 +10,12 @@ use crate::{Error, ErrorKind};
 use std::io;
 use std::io::Write;
 
-/// Sends all the bytes. A write that failed isn't tried again, also after `Interrupted`.
+/// Writes all the bytes. A failed write isn't tried again, not even after `Interrupted`.
 ///
 /// # Errors
-/// `Io` without an offset where a write fails or takes no byte; a beginning of the bytes was sent.
+///
+/// `Io`, without an offset, if a write fails or takes no byte. A prefix of the bytes is written
+/// then.
 pub fn send<W: Write>(writer: &mut W, bytes: &[u8]) -> Result<(), Error>
     ensures sent { OnOk result (Appends (W.contents writer.old) (W.contents writer.new) bytes.now) }
     ensures fault { OnlyDevice result }
@@ -33,10 +35,11 @@ pub fn send<W: Write>(writer: &mut W, bytes: &[u8]) -> Result<(), Error>
     Ok(())
 }
 
-/// Has the writer pass on what it holds back.
+/// Flushes the writer.
 ///
 /// # Errors
-/// `Io` without an offset where that fails.
+///
+/// `Io`, without an offset, if the flush fails.
 pub fn flush<W: Write>(writer: &mut W) -> Result<(), Error>
     ensures fault { OnlyDevice result }
     ensures unchanged { Keeps (W.contents writer.old) (W.contents writer.new) }
@@ -47,11 +50,12 @@ pub fn flush<W: Write>(writer: &mut W) -> Result<(), Error>
     }
 }
 
-/// Sends all the bytes, and then has the writer pass on what it holds back.
+/// Writes all the bytes, and then flushes the writer.
 ///
 /// # Errors
-/// `Io` without an offset where a write fails or takes no byte, and a beginning of the bytes was
-/// sent; or where the flush fails, and all of them were.
+///
+/// `Io`, without an offset, if a write fails or takes no byte, and a prefix of the bytes is
+/// written; or if the flush fails, and all of them are.
 #[tactic(auto, using(crate::proofs::Fronts::front_whole))]
 pub fn send_and_flush<W: Write>(writer: &mut W, bytes: &[u8]) -> Result<(), Error>
     ensures sent { OnOk result (Appends (W.contents writer.old) (W.contents writer.new) bytes.now) }

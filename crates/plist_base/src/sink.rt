@@ -28,8 +28,9 @@ pub const SINK_CAPACITY: usize = 1 << 16;
 /// ```
 ///
 /// # Errors
+///
 /// Each call returns `Io`, without an offset, if a write fails or takes no byte. A failed write
-/// isn't tried again, not even after `Interrupted`. A beginning of all the bytes that were put is
+/// isn't tried again, not even after `Interrupted`. A prefix of all the bytes that were put is
 /// written then, and the sink is of no further use.
 #[derive(Drop)]
 pub struct Sink<'s, W> {
@@ -40,6 +41,7 @@ pub struct Sink<'s, W> {
 /// Allocates the buffer of a [`Sink`].
 ///
 /// # Errors
+///
 /// `OutOfMemory`, without an offset.
 pub fn new_buffer(alloc: Global) -> Result<Vec<u8>, Error>
     ensures empty { IfOk result (λ buffer. buffer.items ≡ []) }
@@ -157,8 +159,9 @@ impl<'s, W: Write> Sink<'s, W> {
     /// Writes what is pending, and then flushes the writer once.
     ///
     /// # Errors
-    /// `Io`, without an offset, if a write fails or takes no byte, and a beginning of what is
-    /// pending is written; or if the flush fails, and all of it is.
+    ///
+    /// `Io`, without an offset, if a write fails or takes no byte, and a prefix of what is pending
+    /// is written; or if the flush fails, and all of it is.
     pub fn finish(&mut self) -> Result<(), Error>
         ensures sent { OnOk result (Appends (written W.contents self.old)
             (written W.contents self.new) (pending self.old)) }

@@ -1,4 +1,4 @@
-//! Where a reader takes its bytes from.
+//! Where readers take their bytes from.
 
 ghost use Rattle.std.specs.Prelude.{◌≡◌, ℕ, ◌+◌, ◌-◌, ◌^◌, ◌<◌, ◌≤◌, List, length, drop, Some, Option, IfOk, IfSome, OnOk};
 ghost use Rattle.plist_base.specs.Sources.{CountsFailure, GivesAt, LiesAt, AnswersIo, FailsReading, FillsUpTo, EndsTooEarly, IsIoWithin};
@@ -7,10 +7,10 @@ ghost use Rattle.plist_base.specs.Outcomes.{DecodesBy, IfFault, IfRead, IfRefuse
 use crate::{Error, ErrorKind};
 use std::io;
 
-/// Bytes that can be read at any place.
+/// A source of bytes that can be read at any offset.
 ///
-/// A source says whether its bytes are known, and counts its failures. It is a slice, a vector or
-/// a file:
+/// Its contract says whether its bytes are known, and counts its failures. Slices, vectors and
+/// files are sources:
 ///
 /// ```text
 /// Value::from_reader(alloc, bytes.as_slice())
@@ -18,34 +18,38 @@ use std::io;
 /// Value::from_reader(alloc, Seeking::new(file))
 /// ```
 pub trait Source: Drop {
-    /// The bytes, where they are known.
+    /// The bytes, if they are known.
     ghost known: { Self → Option (List ℕ) };
-    /// How many calls failed; it stays at `u64::MAX`.
+    /// The number of calls that failed. It stays at `u64::MAX`.
     ghost failures: { Self → ℕ };
 
-    /// The number of bytes.
+    /// Returns the number of bytes.
     ///
     /// # Errors
-    /// What the device said. It isn't asked again, also after `Interrupted`; known bytes stay.
+    ///
+    /// Any I/O error. The call isn't tried again, not even after `Interrupted`. Known bytes don't
+    /// change.
     fn size(&mut self) -> Result<u64, io::Error>
         ensures length { DecodesBy result (known self.old) length }
         ensures unchanged { known self.new ≡ known self.old }
         ensures failures { CountsFailure result (failures self.old) (failures self.new) };
 
-    /// Fills a beginning of the buffer with the bytes from `place` on, and answers how many. It may
-    /// give fewer than there are, but none only where the buffer is empty or no byte is left.
+    /// Reads bytes from offset `place` on into the front of the buffer, and returns how many. It
+    /// may read fewer than there are, but reads none only if the buffer is empty or no byte is
+    /// left.
     ///
     /// # Errors
-    /// What the device said. It isn't asked again, also after `Interrupted`; what the buffer holds
-    /// then isn't known.
+    ///
+    /// Any I/O error. The call isn't tried again, not even after `Interrupted`. The contents of the
+    /// buffer are unspecified then.
     fn read_at(&mut self, place: u64, buf: &mut [u8]) -> Result<usize, io::Error>
         ensures bound { IfOk result (λ count. count ≤ length buf.new) }
         ensures bytes { IfRead result (known self.old) (λ bytes n. GivesAt bytes place n buf.new) }
         ensures unchanged { known self.new ≡ known self.old }
         ensures failures { CountsFailure result (failures self.old) (failures self.new) };
 
-    /// The bytes from `place` on that the source holds and lends without a read: as many as it
-    /// happens to have there, often none. By default it lends nothing.
+    /// Returns bytes from offset `place` on that the source has in memory, without a read: as many
+    /// as happen to be there, often none. By default it returns none.
     fn buffered(&self, place: u64) -> &[u8]
         ensures bytes { IfSome (known self.now) (λ bytes. LiesAt bytes place result.now) }
     {
@@ -53,7 +57,7 @@ pub trait Source: Drop {
     }
 }
 
-// What lies from a place on.
+// Returns the bytes from an offset on.
 pub(crate) fn rest_from(bytes: &[u8], place: u64) -> &[u8]
     ensures bytes { result.now ≡ drop place bytes.now }
 {
@@ -63,7 +67,7 @@ pub(crate) fn rest_from(bytes: &[u8], place: u64) -> &[u8]
     &bytes[place as usize..]
 }
 
-// Copies what lies from a place on, as much as the buffer takes.
+// Copies the bytes from an offset on, as many as fit into the buffer, and returns how many.
 pub(crate) fn copy_at(bytes: &[u8], place: u64, buf: &mut [u8]) -> usize
     ensures bound { result ≤ length buf.new }
     ensures bytes { GivesAt bytes.now place result buf.new }
@@ -94,7 +98,7 @@ impl<'a> Source for &'a [u8] {
         Ok(copy_at(self, place, buf))
     }
 
-    /// All bytes from there on.
+    /// Returns all bytes from that offset on.
     fn buffered(&self, place: u64) -> &[u8]
         ensures bytes { IfSome (Some self.now.now) (λ bytes. LiesAt bytes place result.now) }
         ensures whole { result.now ≡ drop place self.now.now }
@@ -117,7 +121,7 @@ impl Source for Vec<u8> {
         Ok(copy_at(self.as_slice(), place, buf))
     }
 
-    /// All bytes from there on.
+    /// Returns all bytes from that offset on.
     fn buffered(&self, place: u64) -> &[u8]
         ensures bytes { IfSome (Some self.now.items) (λ bytes. LiesAt bytes place result.now) }
         ensures whole { result.now ≡ drop place self.now.items }
@@ -126,12 +130,13 @@ impl Source for Vec<u8> {
     }
 }
 
-/// Fills the buffer with the bytes from `place` on, asking again while some come. A read that
-/// failed isn't tried again, also after `Interrupted`.
+/// Fills the buffer with the bytes from offset `place` on, by as many reads as it takes. A failed
+/// read isn't tried again, not even after `Interrupted`.
 ///
 /// # Errors
-/// `Io` where a read fails, `UnexpectedEof` where the bytes end too early, each with the place of
-/// that read. The buffer then holds the bytes before that place.
+///
+/// `Io` if a read fails and `UnexpectedEof` if the bytes end too early, each with the offset of
+/// that read. The buffer then contains the bytes that precede this offset.
 pub fn read_exact_at<S: Source>(source: &mut S, place: u64, buf: &mut [u8]) -> Result<(), Error>
     requires { place + length buf.old < 2 ^ 64 }
     // The answer.

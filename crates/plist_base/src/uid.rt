@@ -5,7 +5,7 @@ ghost use Rattle.std.specs.Prelude.{◌≡◌, Some, decimal};
 use std::fmt;
 use std::marker::Model;
 
-/// The number by which one value of an archive names another.
+/// The number by which one value of an archive refers to another.
 ///
 /// It is a type of its own, so that it isn't taken for an [`Integer`](crate::Integer).
 #[derive(Clone, Copy, PartialEq, Eq, Hash)]
@@ -26,14 +26,14 @@ impl Model for Uid {
 }
 
 impl Uid {
-    /// The identifier of this number.
+    /// Makes the identifier with this number.
     pub fn new(number: u64) -> Uid
         ensures { result ≡ number }
     {
         Uid { number }
     }
 
-    /// The identifier's number.
+    /// Returns the identifier's number.
     pub fn get(self) -> u64
         ensures { result ≡ self }
     {
@@ -41,7 +41,7 @@ impl Uid {
     }
 }
 
-/// The number's decimal text.
+/// Formats the number in decimal.
 impl fmt::Debug for Uid {
     ghost debug_output = { λ uid. Some (decimal uid) };
 

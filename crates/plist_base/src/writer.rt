@@ -1,4 +1,4 @@
-//! What takes the events of a property list.
+//! The trait of writers, which take the events of a property list.
 
 ghost use Rattle.std.specs.Prelude.{◌≡◌, Bool, List, Err, false, true};
 ghost use Rattle.plist_base.specs.Faults.{WriterFailed, fault_nowhere};
@@ -6,17 +6,17 @@ ghost use Rattle.plist_base.specs.Faults.{WriterFailed, fault_nowhere};
 use crate::{Date, Error, Event, Integer, RealBits, Uid};
 use std::borrow::{CowSlice, CowStr};
 
-/// Keeps [`Writer`] to the crates of this repository.
+/// Keeps implementations of [`Writer`] within the crates of this repository.
 pub trait Sealed {}
 
-/// Takes the events of a property list, one by one.
+/// A writer takes the events of a property list, one by one.
 ///
-/// While a writer hasn't failed, it accepts an event exactly where the events that it holds can
-/// go on with it to those of a property list. An event that is refused for its place
-/// (`UnexpectedEventType`, `ExpectedEndOfEventStream`) changes nothing. Any other refusal
-/// (`OutOfMemory`, `Io`, `PlistTooLarge`) comes only for an event that could come next, and the
-/// writer has failed then: each later call answers `WriterFailed` and changes nothing. No fault of
-/// a writer has an offset. Lengths of starts are hints, which decide nothing.
+/// Until a writer fails, it accepts an event only if the events that it keeps (`held`) and this one
+/// can be continued to those of a property list. It rejects an event (`UnexpectedEventType`,
+/// `ExpectedEndOfEventStream`) only if they can't, and then nothing has changed. Any other error
+/// (`OutOfMemory`, `Io`, `PlistTooLarge`) is returned only for an event that can come next, and the
+/// writer has failed then: each later call returns `WriterFailed` and changes nothing. No error of
+/// a writer has an offset. The lengths of starts are hints, which decide nothing.
 pub trait Writer: Sealed {
     ghost use Rattle.plist_base.specs.Events.{EndCollection, PlainEvent, StartArray, StartDictionary, event_of};
     ghost use Rattle.plist_base.specs.Writing.{Answer, AnswersByOrder, answer_of};
@@ -27,12 +27,14 @@ pub trait Writer: Sealed {
 
     ghost Step: { Self → PlainEvent → Answer → Self → Type 0 };
 
-    /// Writes an event. Each other call writes the event that it names, and fails as this one.
+    /// Writes an event. Each of the other methods writes the event that it names, and fails as this
+    /// one does.
     ///
     /// # Errors
-    /// `UnexpectedEventType` and `ExpectedEndOfEventStream` for an event that can't come here:
-    /// nothing has changed. `OutOfMemory`, `Io` and `PlistTooLarge` for one that can, and
-    /// `WriterFailed` after these three: the writer has failed.
+    ///
+    /// `UnexpectedEventType` and `ExpectedEndOfEventStream` if the event can't come next: nothing
+    /// has changed. `OutOfMemory`, `Io` and `PlistTooLarge` if it can, and `WriterFailed` after one
+    /// of these three: the writer has failed.
     fn write(&mut self, event: Event<'_>) -> Result<(), Error>
         ensures { Step self.old (event_of event.entry) (answer_of result) self.new };
 
@@ -57,28 +59,28 @@ pub trait Writer: Sealed {
         self.write(Event::EndCollection)
     }
 
-    /// Writes a truth value.
+    /// Writes a Boolean.
     fn write_boolean(&mut self, value: bool) -> Result<(), Error>
         ensures { Step self.old (event_of (Event.Boolean value)) (answer_of result) self.new }
     {
         self.write(Event::Boolean(value))
     }
 
-    /// Writes bytes.
+    /// Writes data.
     fn write_data(&mut self, bytes: CowSlice<'_, u8>) -> Result<(), Error>
         ensures { Step self.old (event_of (Event.Data bytes.entry)) (answer_of result) self.new }
     {
         self.write(Event::Data(bytes))
     }
 
-    /// Writes a moment.
+    /// Writes a date.
     fn write_date(&mut self, date: Date) -> Result<(), Error>
         ensures { Step self.old (event_of (Event.Date date)) (answer_of result) self.new }
     {
         self.write(Event::Date(date))
     }
 
-    /// Writes a whole number.
+    /// Writes an integer.
     fn write_integer(&mut self, value: Integer) -> Result<(), Error>
         ensures { Step self.old (event_of (Event.Integer value)) (answer_of result) self.new }
     {
@@ -92,7 +94,7 @@ pub trait Writer: Sealed {
         self.write(Event::Real(bits))
     }
 
-    /// Writes a text, or a key.
+    /// Writes a string, which may be a key.
     fn write_string(&mut self, text: CowStr<'_>) -> Result<(), Error>
         ensures { Step self.old (event_of (Event.String text.entry)) (answer_of result) self.new }
     {
@@ -106,12 +108,12 @@ pub trait Writer: Sealed {
         self.write(Event::Uid(uid))
     }
 
-    // While it hasn't failed, its answer is decided by what it holds and the event.
+    // What a call returns and leaves while the writer hasn't failed.
     ghost law: { (before : Self) (event : PlainEvent) (answer : Answer) (after : Self)
         → Step before event answer after → failed before ≡ false
         → AnswersByOrder (held before) event answer (held after) (failed after) (after ≡ before) };
 
-    // Once failed, each call says so, and changes nothing.
+    // After a failure, each call returns `WriterFailed` and changes nothing.
     ghost law_of_failed: { (before : Self) (event : PlainEvent) (answer : Answer) (after : Self)
         → Step before event answer after → failed before ≡ true
         → (answer ≡ Err (fault_nowhere WriterFailed)) × (after ≡ before) };

@@ -1,4 +1,4 @@
--- What may come after the held events, and how one more event changes that.
+-- What is expected after the buffered events, and how one more event changes that.
 use Rattle.std.proofs.Common.{◌≡◌, ◌⊎◌, inl, inr, List, [], ◌∷◌, ◌++◌, Option, IfSome, map, option_and_then, None, Some, false, refl, sym, ap, ◌∙◌, subst}
 use Rattle.std.specs.Option.{is_none}
 use Rattle.plist_base.specs.Bracketing.{without_length, CanContinue}
@@ -17,7 +17,7 @@ use Rattle.plist_binwrite.specs.inner.Expected.{OpenKind, OpenArray, OpenDiction
 
 -- ---- open collections
 
--- what is to come, without the value behind a key
+-- what is expected, without the value after a key
 abbrev inside_of : List Expect → List Expect
 inside_of (OneValue ∷ rest) = rest
 inside_of expects = expects
@@ -46,7 +46,7 @@ open_alike (ScalarEvent x) kinds = refl
 
 -- ---- one more event
 
--- what is to come then
+-- what is expected after the event
 abbrev Goes : Option Expect → (kinds : List OpenKind) → (after : List Expect) → Type 0
 Goes next kinds after = (map expects_in kinds ≡ inside_of after) × (next ≡ innermost after)
 
@@ -81,7 +81,7 @@ all_again (OneValue ∷ rest) = refl
 all_again (Items ∷ rest) = refl
 all_again (Pairs ∷ rest) = refl
 
--- the changes that are no refusal
+-- the changes of events that aren't rejected
 abbrev IsAccepted : Change → Type 0
 IsAccepted c = (c ≡ change.Popped) ⊎ ((c ≡ change.Kept)
     ⊎ (((w : Expect) × (c ≡ change.Pushed w)) ⊎ ((w : Expect) × (c ≡ change.Replaced w))))
@@ -97,7 +97,7 @@ changed_some : (c : Change) (top : Expect) (rest : List Expect) → (c ≡ Refus
 changed_some Refused top rest n = absurd (n refl)
 changed_some c top rest n = (_, refl)
 
--- nothing more is expected exactly after a tree's events
+-- nothing is expected if and only if the events are a tree's
 tests_whole : (es : List PlainEvent) (expects : List Expect) → expected_after es ≡ Some expects
     → TestsWhole (is_none (innermost expects)) es
 tests_whole es [] w = complete_of_whole es (bracketed es w)
@@ -105,12 +105,12 @@ tests_whole es (x ∷ rest) w = λ whole.
     let q
     = sym (all_taken es _ whole.1) ∙ w in cc
 
--- the length of a start decides nothing
+-- the length of a start doesn't matter
 same_wants : (es : List PlainEvent) (e : PlainEvent)
     → expected_after (es ++ without_length e ∷ []) ≡ expected_after (es ++ e ∷ [])
 same_wants es e = wanted_alike _ _ (alike_last es e)
 
--- a change is refused just where the event can't follow
+-- an event is rejected if and only if it can't follow
 module _ (s : EventBuffer) (e : PlainEvent) (still : is_whole s ≡ false) where
   abbrev held : List PlainEvent
   held = buffered_events s
@@ -153,7 +153,7 @@ module _ (s : EventBuffer) (e : PlainEvent) (still : is_whole s ≡ false) where
   can_take accepted =
       let f = changed_some _ top rest (not_refused _ accepted) in can_continue _ e f.0 (after ∙ f.1)
 
-  -- what may come then
+  -- what is expected after the event
   module _ (can : CanContinue held e) where
     abbrev new : List Expect
     new = (continues _ e can).0
@@ -183,7 +183,7 @@ module _ (s : EventBuffer) (e : PlainEvent) (still : is_whole s ≡ false) where
     goes_on = subst (λ o. IfSome o GoesOn)
         (ap (λ c. changed c top rest) (sym changes) ∙ sym after ∙ is_new) (goes top rest e kinds inside)
 
-    -- where these events are held, and this was found
+    -- these events are buffered, and this was computed for them
     module _ {events : List PlainEvent} {c : Change} {next : Option Expect} (m : events ≡ more)
         (is : c ≡ change_on s.expects e)
         (found : next ≡ next_expected c s.expects (innermost (expected_inside events))) where

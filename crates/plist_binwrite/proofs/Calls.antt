@@ -1,4 +1,4 @@
--- Each way through a call of a writer.
+-- The paths through a call of a writer.
 use Rattle.std.proofs.Common.{◌≡◌, inl, ℕ, Bool, true, false, MatchBool, List, [], ◌∷◌, ◌++◌, Option, Ok, Err, refl}
 use Rattle.std.proofs.Props.{props}
 use Rattle.std.specs.declared.io.traits.Write.{Ghosts}
@@ -21,14 +21,14 @@ still : (b : Bool) (x y : Type 0) → b ≡ false → y → MatchBool b x y
 still true x y e h = cc
 still false x y e h = h
 
--- the events held with one more are those handed in, but for a length
+-- the buffered events and one more are those of the tree, up to a length
 last_alike : (held events : List PlainEvent) (event : PlainEvent)
     → events ≡ held ++ without_length event ∷ [] → AreAlike events (held ++ event ∷ [])
 last_alike held events event is = cc (alike_last held event)
 
 module _ {W : Type 0} (IsFile : Tree → List ℕ → Type 0) (size : Tree → ℕ)
     (contents : W → Option (List ℕ)) where
-  -- a kind by which sending fails is one by which the writer does
+  -- an error of writing the file is one by which the writer fails
   failing : (kind : FaultKind) (events : List PlainEvent) (old new : W) (refused lost : Type 0)
       → lost → FailsAs IsFile size contents kind events old new → MatchKind kind refused lost ⊥
   failing Io events old new refused lost f h = f
@@ -48,7 +48,7 @@ module _ {W : Type 0} (IsFile : Tree → List ℕ → Type 0) (size : Tree → �
 
     module _ (events : List PlainEvent) (can : CanContinue (open_events before) event)
         (are : events ≡ open_events before ++ without_length event ∷ []) where
-      -- so is what sending them does
+      -- what writing the events does depends on them only up to lengths
       sent : (answer : Answer)
           → SendsAs IsFile size contents events answer (sink_of before) (sink_of after)
           → SendsAs IsFile size contents (open_events before ++ event ∷ []) answer (sink_of before)
@@ -74,7 +74,7 @@ module _ {W : Type 0} (IsFile : Tree → List ℕ → Type 0) (size : Tree → �
       takes_whole on none sends =
           still _ _ _ up (can, on, inl (sent (Ok tt) sends, none))
 
--- a writer whose held events are given back is the same
+-- a writer is unchanged if its buffered events are
 pub same_state : {W S : Type 0} {g : Ghosts W} {h : SharingGhosts S}
     (before : FileWriter W S g h) (pending : EventBuffer) (is : pending ≡ before.pending)
     (between : before.has_failed ≡ false → is_whole pending ≡ false)

@@ -8,7 +8,7 @@ use Rattle.plist_binwrite.specs.declared.kinds.EntryKind.TheVariants as kind
 use Rattle.plist_binwrite.proofs.Skipping.{starts_array, starts_dictionary, stands_single}
 use Rattle.plist_binwrite.proofs.Occurring.{occurs_items, occurs_pairs}
 
--- what holds anyhow holds where there is a value
+-- what is always true is true of a value
 pub always : {T E P : Type 0} (r : Result T E) → P → OnOk r P
 always (Ok x) p = p
 always (Err x) p = tt

@@ -36,7 +36,7 @@ module _ {es : List PlainEvent} {class : ℕ → ℕ} (c : AreClasses es class) 
       (same : (t u : Tree) (p q : ℕ) → OccursAt es t p → OccursAt es u q → class p ≡ class q
       → num p ≡ num q) where
     mutual
-      -- indices of one class have one tree, and one object by the numbers, too
+      -- indices of one class have the same tree, and so the same object by the numbers
       pub one_object : (t u : Tree) (p q : ℕ) → OccursAt es t p → OccursAt es u q
           → class p ≡ class q
           → (t ≡ u) × (object_of num t p ≡ object_of num u q)
@@ -88,7 +88,7 @@ module _ {es : List PlainEvent} {class : ℕ → ℕ} (c : AreClasses es class) 
   pub sound : (t u : Tree) (p q : ℕ) → OccursAt es t p → OccursAt es u q → class p ≡ class q → t ≡ u
   sound t u p q s r e = (one_object _ (λ t u p q s r e. e) t u p q s r e).0
 
--- what a plan says of the numbers: the objects, and the sizes of their trees
+-- what a plan says of the numbers: their objects, and the sizes of their trees
 pub record Numbered (es : List PlainEvent) (numbers : List ℕ) : Type 0 where
   pub rank : ℕ → ℕ
   pub ranked : (t : Tree) (p : ℕ) → OccursAt es t p → rank (nth_number numbers p) ≡ event_count t
@@ -109,7 +109,7 @@ module _ {es : List PlainEvent} {plan : Plan} (planned : IsPlanned es plan) wher
     first_class : (t : Tree) (p : ℕ) → OccursAt es t p → class (first (num p)) ≡ class p
     first_class t p s = goes.same p (occurs_in s) (number_below t p s)
 
-    -- indices of one number have one class, and indices of one class one number
+    -- indices of one number have one class, and indices of one class have one number
     pub number_apart : (t u : Tree) (p q : ℕ) → OccursAt es t p → OccursAt es u q → num p ≡ num q
         → class p ≡ class q
     number_apart t u p q s r e =

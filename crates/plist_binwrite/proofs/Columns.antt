@@ -9,7 +9,7 @@ use Rattle.plist_binwrite.specs.inner.Columns.{kind_in, number_in, scalar_named,
 use Rattle.plist_binwrite.specs.inner.Entries.{entry_at, is_leaf, event_of_entry}
 use Rattle.plist_base.specs.Events.{PlainEvent}
 
--- an entry is that of its kind and its number
+-- an entry is made up of its kind and its number
 pub same_entry : (e : EventEntry) → entry_of (kind_in e) (number_in e) ≡ e
 same_entry entry.End = refl
 same_entry e = refl
@@ -65,7 +65,7 @@ number_read kinds numbers p same =
     ap (λ k. entry_of k (get_or numbers p 0))
     (ap kind_in there ∙ same_kind (get_or kinds p kind.End) (get_or numbers p 0)) ∙ sym there
 
--- what is read of an entry whose kind is known, and of one whose number is read
+-- reading an entry whose kind is known, and one whose number is read
 pub of_kind : {A : Type 0} (f : EventEntry → A) (e : EventEntry) {k read : EntryKind} → read ≡ k
     → read ≡ kind_in e
     → f (entry_of k (number_in e)) ≡ f e
@@ -76,7 +76,7 @@ pub of_number : {A : Type 0} (f : EventEntry → A) {e : EventEntry} {k read : E
     → read ≡ kind_in e → entry_of (kind_in e) n ≡ e → f (entry_of k n) ≡ f e
 of_number f n is given number = rw (sym is ∙ given) (ap f number)
 
--- the scalar that is named
+-- the scalar that an entry refers to
 pub named : (e : EventEntry) (k : ℕ) → scalar_named e ≡ Some k → e ≡ entry.Scalar k
 named entry.End k is = cc
 named e k is = cc
@@ -86,7 +86,7 @@ pub unnamed : (scalars : List PlainEvent) (e : EventEntry) → scalar_named e �
 unnamed scalars (entry.Scalar index) is = cc
 unnamed scalars e is = refl
 
--- one more
+-- one more entry
 pub entries_more : (kinds : List EntryKind) (numbers : List ℕ) (e : EventEntry)
     → length kinds ≡ length numbers
     → entries_from (kinds ++ kind_in e ∷ []) (numbers ++ number_in e ∷ [])
@@ -97,7 +97,7 @@ entries_more (k ∷ kinds) [] e same = absurd (omega arith)
 entries_more (k ∷ kinds) (n ∷ numbers) e same =
     ap (λ l. entry_of k n ∷ l) (entries_more kinds _ e (omega (arith, same)))
 
--- another one in the place of one
+-- another entry at an index
 pub entries_set : (kinds : List EntryKind) (numbers : List ℕ) (p : ℕ) (e : EventEntry)
     → entries_from (set kinds p (kind_in e)) (set numbers p (number_in e))
     ≡ set (entries_from kinds numbers) p e
@@ -109,7 +109,7 @@ entries_set (k ∷ kinds) (n ∷ numbers) zero e =
 entries_set (k ∷ kinds) (n ∷ numbers) (suc p) e =
     ap (λ l. entry_of k n ∷ l) (entries_set kinds numbers p e)
 
--- the first ones
+-- the first entries
 pub entries_first : (count : ℕ) (kinds : List EntryKind) (numbers : List ℕ)
     → entries_from (take count kinds) (take count numbers) ≡ take count (entries_from kinds numbers)
 entries_first zero kinds numbers = refl

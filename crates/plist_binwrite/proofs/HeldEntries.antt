@@ -1,4 +1,4 @@
--- What the entries of held events tell, and how each call keeps it.
+-- The events that the entries of a table stand for, and how each call maintains them.
 use Rattle.std.proofs.Common.{◌≡◌, eqb, ◌⊎◌, inl, inr, ℕ, zero, suc, ◌+◌, ◌^◌, ◌<◌, ◌≤◌, Bool, true, false, if◌then◌else◌, None, Some, Result, Ok, Err, OnOk, OnErr, List, [], ◌∷◌, ◌++◌, length, set, slice_get, reverse, refl, ap, sym, ◌∙◌, subst, arith}
 use Rattle.std.proofs.Math.ListN.{get_or-append}
 use Rattle.std.proofs.Math.Seq.{get_or-append_seam, map-set_same}
@@ -24,7 +24,7 @@ use Rattle.plist_binwrite.proofs.Columns.{unnamed}
 use Rattle.plist_binwrite.proofs.Opened as opened
 use Rattle.plist_binwrite.proofs.Opened.{open_more, skip_more, skip_ends, skip_forward, innermost_starts}
 
--- ---- what entries show
+-- ---- the events of entries
 
 pub long_shown : (scalars : List PlainEvent) (es : List EventEntry)
     → length (events_of_entries scalars es) ≡ length es
@@ -41,13 +41,13 @@ entry_before es e p lt = get_or-append es _ _ p lt
 entry_last : (es : List EventEntry) (e : EventEntry) → entry_at (es ++ e ∷ []) (length es) ≡ e
 entry_last es e = get_or-append_seam es e [] _
 
--- that a scalar is named stays so
+-- a scalar that an entry refers to stays referred to
 named_more : (i : ℕ) (es : List EventEntry) (e : EventEntry) → list_any (names i) es ≡ true
     → list_any (names i) (es ++ e ∷ []) ≡ true
 named_more i es e h =
     cc (list_any-append (names i) es (e ∷ []))
 
--- an index where a test finds an event that passes is one of the list
+-- an index at which a test finds an event that passes is within the list
 pub below : (f : PlainEvent → Bool) (es : List PlainEvent) (i : ℕ) → f EndCollection ≡ false
     → f (event_at es i) ≡ true → i < length es
 below f es i none h = elim (leb_tells (length es) i) [
@@ -59,7 +59,7 @@ leaf_is : (e : PlainEvent) → is_leaf e ≡ true → (x : Scalar) × (e ≡ Sca
 leaf_is (ScalarEvent x) h = (x, refl)
 leaf_is e h = cc
 
--- a scalar that stands at an index is one of the list
+-- a scalar at an index is in the list
 pub leaf_stored : (scalars : List PlainEvent) (i : ℕ) → is_leaf (event_at scalars i) ≡ true
     → slice_get scalars i ≡ Some (event_at scalars i)
 leaf_stored scalars i leaf =
@@ -68,7 +68,7 @@ leaf_stored scalars i leaf =
 leaf_without_length : (e : PlainEvent) → is_leaf e ≡ true → without_length e ≡ e
 leaf_without_length e h = let f = leaf_is e h in rw f.1 refl
 
--- more scalars change nothing that was shown
+-- more scalars change no event of the entries
 module _ (old more : List PlainEvent) where
   one_kept : (e : EventEntry) → is_sound old e ≡ true → (is_sound (old ++ more) e ≡ true)
       × (event_of_entry (old ++ more) e ≡ event_of_entry old e)
@@ -111,11 +111,11 @@ module _ {scalars : List PlainEvent} {es : List EventEntry} {unclosed : List ℕ
   long : length events ≡ length es
   long = long_shown _ es
 
-  -- the event at an index is what the entry shows
+  -- the event at an index is that of the entry
   shown_at : (p : ℕ) → p < length es → event_at events p ≡ event_of_entry scalars (entry_at es p)
   shown_at p lt = get_or-map _ es p _ _ lt
 
-  -- entries that show one more
+  -- entries with one more event
   entries_by : (now : List EventEntry) (after : List ℕ) (e : PlainEvent)
       → events_of_entries scalars now ≡ events ++ e ∷ []
       → ((p : ℕ) → p < length now → is_sound scalars (entry_at now p) ≡ true)
@@ -149,7 +149,7 @@ module _ {scalars : List PlainEvent} {es : List EventEntry} {unclosed : List ℕ
         ];
       }
 
-  -- one that ends no other
+  -- an entry that closes no other
   entries_more : (e : EventEntry) (after : List ℕ) → is_sound scalars e ≡ true
       → index_after_entry (length es) e ≡ length es + 1
       → reverse after ≡ unclosed_after_event (event_of_entry scalars e) (length es) (unclosed_after events)
@@ -181,7 +181,7 @@ module _ {scalars : List PlainEvent} {es : List EventEntry} {unclosed : List ℕ
       by (entry.Dictionary k) s b = entries_more (entry.Dictionary k) _ refl b opens (λ p k. refl)
       by e s b = cc
 
-  -- an end where nothing is begun
+  -- an end while nothing is open
   entries_stray : unclosed ≡ [] → AreEntriesOf scalars (es ++ entry.End ∷ []) []
   entries_stray none =
       let nothing : unclosed_after events ≡ [] = sym t.starts ∙ ap reverse none in
@@ -208,7 +208,7 @@ module _ {scalars : List PlainEvent} {es : List EventEntry} {unclosed : List ℕ
     within : start < length ended
     within = omega (arith, start_within, length-append es (entry.End ∷ []))
 
-    -- closing a start changes nothing but what is after it
+    -- closing a start changes nothing but the index after it
     closing_same : {A : Type 0} (f : EventEntry → A)
         → ((m n : ℕ) → f (entry.Array m) ≡ f (entry.Array n))
         → ((m n : ℕ) → f (entry.Dictionary m) ≡ f (entry.Dictionary n))
@@ -275,7 +275,7 @@ module _ {scalars : List PlainEvent} {es : List EventEntry} {unclosed : List ℕ
 
 -- ---- the calls
 
--- an entry came, or none for lack of memory
+-- an entry was appended, or none if an allocation failed
 pub either_few : {T E : Type 0} (r : Result T E) (es now : List EventEntry)
     → OnOk r (length now < 2 ^ 63) → OnErr r (now ≡ es) → length es < 2 ^ 63 → length now < 2 ^ 63
 either_few (Ok x) es now small same few = small
@@ -313,7 +313,7 @@ module _ {scalars : List PlainEvent} {es : List EventEntry} {unclosed : List ℕ
     entries_are = entries_end kept.entries_are start outer is;
   }
 
-  -- a scalar, where the different scalars may have become one more
+  -- a scalar, after which there may be one more different scalar
   module _ (more : List PlainEvent) {new : List PlainEvent} (grown : new ≡ scalars ++ more) where
     grown_shown : events_of_entries new es ≡ events_of_entries scalars es
     grown_shown = cc (shown_kept scalars more es kept.entries_are.sound)
@@ -327,7 +327,7 @@ module _ {scalars : List PlainEvent} {es : List EventEntry} {unclosed : List ℕ
       scalar_shown = shown_more new es (entry.Scalar i)
           ∙ (λ j. grown_shown j ++ (ap without_length at ∙ leaf_without_length e leaf) j ∷ [])
 
-      -- each scalar was there, and then it is named, or it is the one that came
+      -- each scalar was there and is referred to, or is the new one
       pub kept_scalar : AreDistinct new
           → ((j : ℕ) → j < length new → (j < length scalars) ⊎ (slice_get new j ≡ Some e))
           → IsValidTable new (es ++ entry.Scalar i ∷ []) unclosed

@@ -16,7 +16,7 @@ module _ {es scalars : List PlainEvent} {top index : ℕ} (cs : List ℕ) (v : �
       → P (nth_number (set cs index v) q)
   at_write q P same other = at_set cs _ v 0 q P lt same other
 
-  -- a scalar's is its index among the different ones, and another event's is new
+  -- a scalar's class is its index among the different scalars, and any other event's is new
   pub one_more : (new : ℕ) → top ≤ new
       → ((x : Scalar) → event_at es index ≡ ScalarEvent x → slice_get scalars v ≡ Some (ScalarEvent x))
       → (is_leaf (event_at es index) ≡ false → (top ≤ v) × (v < new) × (length scalars ≤ v))

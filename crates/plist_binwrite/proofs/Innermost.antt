@@ -1,4 +1,4 @@
--- The innermost start that has no end yet says what may come in its collection.
+-- The innermost open start decides what is expected in its collection.
 use Rattle.std.proofs.Common.{◌≡◌, ◌⊎◌, inl, inr, ℕ, ◌-◌, ◌<◌, true, List, [], ◌∷◌, length, get_or, slice_get, reverse, drop, map, Option, None, Some, refl, sym, ap, ◌∙◌, arith}
 use Rattle.std.proofs.lemmas.List.{length-reverse, get_or-reverse}
 use Rattle.std.proofs.lemmas.Option.{slice_get_within, get_or_from_slice_get, slice_get-get_or}
@@ -16,7 +16,7 @@ use Rattle.plist_binwrite.proofs.Occurring.{past_one}
 use Rattle.plist_binwrite.proofs.Opened.{is_start, innermost_starts}
 use Rattle.plist_binwrite.proofs.Skipping.{first_event}
 
--- ---- starts without an end, and the collections that they open
+-- ---- open starts, and the collections that they begin
 
 abbrev expect_of : PlainEvent → Expect
 expect_of (StartDictionary hint) = Pairs
@@ -69,7 +69,7 @@ none_last [] is = refl
 none_last (x ∷ xs) is =
     let n = length (x ∷ xs) - 1 in cc (slice_get-get_or (x ∷ xs) n x (omega arith))
 
--- ---- what the table answers
+-- ---- what the table returns
 
 abbrev pub expect_of_kind : EntryKind → Option Expect
 expect_of_kind kind.Array = Some Items
@@ -99,7 +99,7 @@ module _ (table : EventTable) {unclosed : List ℕ} (same : unclosed ≡ table.u
     pub last_within : q < length events
     last_within = below is_start events q refl starts_here
 
-    -- the kinds that are no start don't occur
+    -- kinds other than those of starts don't occur
     pub last_expects : (k : EntryKind) → k ≡ entry_kind_of (event_at events q)
         → expect_of_kind k ≡ innermost (expected_inside events)
     last_expects k k_is =

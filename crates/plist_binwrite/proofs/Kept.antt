@@ -1,4 +1,5 @@
--- The classes of a tree's positions are the numbers of a plan: as many, and of as many bytes.
+-- The classes of a tree's positions correspond to the numbers of a plan: there are as many, with as
+-- many bytes.
 use Rattle.std.proofs.Common.{◌≡◌, ℕ, ◌<◌, true, eqb, List, length, get_or, map, ap, sym, ◌∙◌}
 use Rattle.std.specs.List.{AllByRecursion}
 use Rattle.std.specs.Set.{is_member, unique_keys}
@@ -38,7 +39,7 @@ module _ {es : List PlainEvent} {plan : Plan} (planned : IsPlanned es plan) {cla
   abbrev given : List ℕ
   given = map number (positions whole 0)
 
-  -- they are those below the count
+  -- a plan's numbers are those below the count
   total_numbers : (w : ℕ → ℕ) → total w (unique_keys eqb given) ≡ total_below w (count_of plan)
   total_numbers w =
       total_all w (count_of plan) (unique_keys eqb given) (unique_distinct eqb eqb_tells given)
@@ -54,7 +55,7 @@ module _ {es : List PlainEvent} {plan : Plan} (planned : IsPlanned es plan) {cla
       (get_or (firsts_of plan) q 0) f.0 f.2 in
       unique_member eqb eqb_tells given q ∙ ap (λ k. is_member eqb given k) (sym f.1) ∙ m)
 
-  -- and one for each class of a position
+  -- there is one number for each class of a position
   kept_numbers : map number (representatives class whole)
       ≡ unique_keys eqb given
   kept_numbers =
@@ -65,7 +66,7 @@ module _ {es : List PlainEvent} {plan : Plan} (planned : IsPlanned es plan) {cla
       (number_apart planned goes a.1 b.1 a.0 b.0 s r))
       (positions whole 0) stand
 
-  -- as many objects as classes
+  -- there are as many objects as classes
   pub planned_count : count_of plan ≡ count_by class whole
   planned_count =
       sym (count_below (count_of plan)) ∙ sym (total_numbers (λ x. 1))
@@ -73,7 +74,7 @@ module _ {es : List PlainEvent} {plan : Plan} (planned : IsPlanned es plan) {cla
       ∙ ap length (sym kept_numbers) ∙ length-map (representatives class whole)
       number
 
-  -- and their bytes
+  -- the objects of a plan have as many bytes as the classes
   pub planned_size : (w : ℕ) (objects : ℕ → Object) → Describes es (numbers_of plan) objects
       → (order : List ℕ) → AllOnce (count_of plan) order
       → length (object_table w objects order) ≡ objects_by class w whole

@@ -1,4 +1,4 @@
--- Stamps on the keys of a dictionary: where one that is met has the stamp, it stood there before.
+-- Stamps on the keys of a dictionary: a key that has the stamp already occurred before.
 use Rattle.std.proofs.Common.{◌≡◌, ◌≢◌, inl, inr, ℕ, ◌+◌, ◌<◌, false, Some, List, length, get_or, set, refl, ap, sym, ◌∙◌, subst, arith}
 use Rattle.std.specs.List.{AllByRecursion}
 use Rattle.std.specs.Prelude.{slice_get}
@@ -30,12 +30,12 @@ abbrev pub IsStamped : (scalars : List PlainEvent) (mark : ℕ) (stamps : List �
 IsStamped scalars mark stamps key =
     (s : ℕ) × (slice_get scalars s ≡ Some (ScalarEvent (String key))) × (get_or stamps s 0 ≡ mark)
 
--- no key of these pairs has it
+-- no key of these pairs has the stamp
 abbrev pub AreFresh : (scalars : List PlainEvent) (mark : ℕ) (stamps : List ℕ) → Members → Type 0
 AreFresh scalars mark stamps ms =
     (key : List ℕ) → IsStamped scalars mark stamps key → Lacks key ms
 
--- the pairs that are left tell whether all keys are different
+-- the pairs that are left decide whether all keys differ
 pub record Tells (scalars : List PlainEvent) (mark : ℕ) (stamps : List ℕ) (all left : Members)
     (q : ℕ) : Type 0 where
   pub down : HasDistinctKeys all → HasDistinctKeys left × AreFresh scalars mark stamps left
@@ -75,14 +75,14 @@ module _ {scalars : List PlainEvent} {mark : ℕ} {es : List PlainEvent} {stamps
 
       module _ (s : ℕ) (apart : AreDistinct scalars) (here : slice_get scalars s ≡ Some (event_at es q))
         where
-          -- a key that has the stamp stood there before
+          -- a key that has the stamp occurred before
           pub walked_repeats : is_end (event_at es q) ≡ false → get_or stamps s 0 ≡ mark
               → HasDistinctKeys all → ⊥
           walked_repeats h is d =
               let f = pairs_first w h in
               ((f.goes.down d).1 f.key (s, here ∙ ap Some (key_is f), is)).0 refl
 
-          -- a key that hasn't gets it
+          -- a key that doesn't have the stamp gets it
           pub walked_next : (next : ℕ) → get_or stamps s 0 ≢ mark → s < length stamps
               → is_end (event_at es q) ≡ false
               → EndsTree es (q + 1) next
@@ -122,7 +122,7 @@ below_set n stamps s mark lt all i h =
 
 -- ---- all dictionaries
 
--- a dictionary's own keys are different
+-- a dictionary's own keys differ
 abbrev IfDictionary : Tree → Type 0
 IfDictionary (Dictionary ms) = HasDistinctKeys ms
 IfDictionary t = Unit {0}
@@ -153,13 +153,13 @@ module _ (es : List PlainEvent) where
             (occurs_next_pair s),
       )
 
-  -- where each dictionary has different keys
+  -- in each dictionary the keys differ
   pub all_once : (t : Tree) → es ≡ lengthless t
       → ((p : ℕ) (ms : Members) → OccursAt es (Dictionary ms) p → HasDistinctKeys ms)
       → HasKeysOnce t
   all_once t is each = once_tree each t 0 (occurs_whole is)
 
-  -- of all positions of such a tree each dictionary has
+  -- at each position of such a tree, the keys of a dictionary differ
   abbrev Once : ℕ → Type 0
   Once p = (t : Tree) × OccursAt es t p × IfDictionary t
 
@@ -189,7 +189,7 @@ module _ (es : List PlainEvent) where
           (pairs_positions ms (p + 1 + event_count t) (occurs_next_pair s) h.1),
     )
 
-  -- one dictionary whose keys aren't different
+  -- in one dictionary some keys are equal
   pub one_repeats : (t : Tree) (p : ℕ) → es ≡ lengthless t → p < length es
       → entry_kind_of (event_at es p) ≡ kind.Dictionary
       → ((ms : Members) → OccursAt es (Dictionary ms) p → HasDistinctKeys ms → ⊥)

@@ -1,4 +1,4 @@
--- Keys of a set: equal ones show the same.
+-- Keys of a set: equal keys have the same view.
 use Rattle.std.proofs.Common.{◌≡◌, ◌⊎◌, inl, inr, ℕ, zero, suc, ◌+◌, ◌<◌, ◌≤◌, Bool, true, false, if◌then◌else◌, List, [], ◌∷◌, ◌++◌, length, map, take, position, Some, refl, sym, ap, ◌∙◌, arith, rules, append-nil}
 use Rattle.std.proofs.Math.Seq.{take-append_seam, take-length}
 use Rattle.std.proofs.lemmas.List.{length-append, map-append}
@@ -24,7 +24,7 @@ module _ {T P : Type 0} (eq_of_events : T → T → Bool) (view : T → P) where
   key_at cs i x y same_key h s =
       cc (slice_get-map view cs i, same_key s)
 
-  -- the keys once one has come: one more at most
+  -- the keys after one was inserted: at most one more
   grown : (b : Bool) (old new : List T) (x : T) → new ≡ (if b then old else old ++ x ∷ [])
       → (map view new ≡ map view old) ⊎ (map view new ≡ map view old ++ view x ∷ [])
   grown true old new x e = inl (ap (map _) e)
@@ -38,7 +38,7 @@ module _ {T P : Type 0} (eq_of_events : T → T → Bool) (view : T → P) where
       | inr g ↦ (view x ∷ [], g)
     ]
 
-    -- it changes none before it
+    -- inserting a key changes no key before it
     pub keys_kept : (i : ℕ) → i < length (map view old)
         → slice_get (map view new) i ≡ slice_get (map view old) i
     keys_kept i h =
@@ -58,7 +58,7 @@ module _ {T P : Type 0} (eq_of_events : T → T → Bool) (view : T → P) where
           | inr g ↦ let n = ap length g in (omega (arith, n, one), omega (arith, n, one))
         ]
 
-    -- a key is one of those before, or the one that came
+    -- a key is one of those before, or the one that was inserted
     pub key_came : (i : ℕ) → i < length (map view new)
         → (i < length (map view old)) ⊎ (slice_get (map view new) i ≡ Some (view x))
     key_came i h = elim (grown b old new x e) [
@@ -76,7 +76,7 @@ module _ {T P : Type 0} (eq_of_events : T → T → Bool) (view : T → P) where
           | inr r ↦ inr r
         ]
 
-  -- the key that a search finds
+  -- the key that a look-up finds
   pub key_found : (cs : List T) (i : ℕ) (x : T)
       → ((y : T) → eq_of_events x y ≡ true → view x ≡ view y) → position (eq_of_events x) cs
       ≡ Some i
@@ -85,7 +85,7 @@ module _ {T P : Type 0} (eq_of_events : T → T → Bool) (view : T → P) where
       let f = position-Some _ cs i x h in
       key_at cs i x _ (same_key _) (slice_get-get_or cs i x f.0) f.1
 
-  -- the keys once the one that came is dropped
+  -- the keys after the inserted one is removed
   pub keys_back : (b : Bool) (old new : List T) (x : T) → new ≡ (if b then old else old ++ x ∷ [])
       → take (length old) new ≡ old
   keys_back true old new x e = cc (take-length old)
@@ -102,7 +102,7 @@ module _ {T P : Type 0} (eq_of_events : T → T → Bool) (view : T → P) where
         never b p q = cc
     no_key x (y ∷ cs) (suc j) a h = no_key x cs j a.1 h
 
-    -- keys that are apart show different things
+    -- different keys have different views
     pub keys_apart : (cs : List T) → IsDistinct eq_of_events cs → AreDistinct (map view cs)
     unfolding IsDistinct
     keys_apart [] d i j k p q = cc
@@ -111,7 +111,7 @@ module _ {T P : Type 0} (eq_of_events : T → T → Bool) (view : T → P) where
     keys_apart (x ∷ cs) d (suc i) zero k p q = absurd (no_key x cs i d.0 (cc))
     keys_apart (x ∷ cs) d (suc i) (suc j) k p q = ap suc (keys_apart cs d.1 i j k p q)
 
--- the derived test of events tells whether they show the same
+-- the derived test of events decides whether they have the same content
 pub event_same : (x y : Event) → event_of x ≡ event_of y → eq_of_events x y ≡ true
 event_same (event.Data a) (event.Data b) h = (same_list _ _).1
     (let e : cow_slice_items a ≡ cow_slice_items b = cc in e)

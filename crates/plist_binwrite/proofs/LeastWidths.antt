@@ -31,7 +31,7 @@ width_8 n l =
 
 pub ruleset widths = (width_1, width_2, width_4, width_8)
 
--- what holds of 1, 2, 4 and 8, each where it is wide enough, holds of the least width
+-- what is true of 1, 2, 4 and 8, each if it is wide enough, is true of the least width
 pub at_width : (n : ℕ) (P : ℕ → Type 0) → (n < 256 ^ 1 → P 1) → (n < 256 ^ 2 → P 2)
     → (n < 256 ^ 4 → P 4) → P 8 → P (least_width n)
 at_width n P one two four eight =
@@ -88,7 +88,7 @@ number_after (suc w) m n =
     ≡ m * 256 ^ suc w + n % 256 ^ suc w = rw (power)
     (let s = rw power at split in omega (arith, s)) in e)
 
--- what is written is read
+-- a number that is written is read back
 pub number_back : (w n : ℕ) → n < 256 ^ w → number_of (big_endian w n) ≡ n
 number_back w n h =
     let small = mod-eq_of_lt h in

@@ -1,4 +1,4 @@
--- Held events are those of a tree without their lengths.
+-- Buffered events are those of a tree without their lengths.
 use Rattle.std.proofs.Common.{◌≡◌, List, [], ◌∷◌, map, refl, sym, ◌∙◌}
 use Rattle.plist_base.specs.Bracketing.{bracketing, lengthless, without_length, AreAlike, AreTreeEvents}
 use Rattle.plist_base.specs.Events.{PlainEvent}
@@ -21,7 +21,7 @@ all_twice scalars [] = refl
 all_twice scalars (e ∷ es) =
     cc (shown_twice scalars e, all_twice scalars es)
 
--- nothing is left to strike out
+-- no lengths are left to remove
 pub plain_twice : (held : EventTable) → map without_length (plain_events held) ≡ plain_events held
 plain_twice held = all_twice _ _
 

@@ -1,4 +1,4 @@
--- Numbers of four bytes and those after them, as one list.
+-- Numbers of four bytes, followed by those of eight, as one list.
 use Rattle.std.proofs.Common.{◌≡◌, ℕ, zero, suc, ◌-◌, ◌^◌, ◌<◌, List, [], ◌∷◌, ◌++◌, length, map, replicate, set, refl, ap, arith}
 use Rattle.std.proofs.lemmas.List.{map-set, set-append_left, length-map}
 use Rattle.plist_binwrite.specs.inner.Narrow.{wide_of}
@@ -9,7 +9,7 @@ pub marks_wide : (count : ℕ)
 marks_wide zero = refl
 marks_wide (suc count) = ap (λ xs. (2 ^ 64 - 1) ∷ xs) (marks_wide count)
 
--- one of four bytes is set among them all
+-- a number of four bytes is set among all of them
 pub set_narrow : (narrow wide : List ℕ) (i stored : ℕ) → i < length narrow
     → map wide_of (set narrow i stored) ++ wide
     ≡ set (map wide_of narrow ++ wide) i (wide_of stored)

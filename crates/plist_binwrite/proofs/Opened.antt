@@ -1,4 +1,4 @@
--- What is begun after some events, and where the tree that begins at an index ends.
+-- Which starts are open after some events, and where the tree that begins at an index ends.
 use Rattle.std.proofs.Common.{◌≡◌, ◌≢◌, ℕ, suc, ◌+◌, ◌<◌, ◌≤◌, Bool, true, false, if◌then◌else◌, List, [], ◌∷◌, ◌++◌, length, drop, take, refl, ap, sym, ◌∙◌, subst, arith, length-append, length-drop, add-zero}
 use Rattle.std.specs.List.{AllByRecursion}
 use Rattle.std.proofs.lemmas.Bool.{eq-eqb, ne_eqb}
@@ -46,7 +46,7 @@ skip_more es e q =
 -- ---- trees
 
 mutual
-  -- a tree leaves nothing begun
+  -- after a tree's events the same starts are open
   open_tree : (t : Tree) (p : ℕ) (unclosed : List ℕ) → unclosed_from (lengthless t) p unclosed ≡ unclosed
   open_tree (Leaf x) p unclosed = refl
   open_tree (Array ts) p unclosed =
@@ -77,7 +77,7 @@ mutual
       ∙ open_pairs ms (p + 1 + event_count t) (unclosed_from (lengthless t) (p + 1) unclosed)
       ∙ open_tree t (p + 1) unclosed
 
--- and its end is that of its start
+-- a tree's end is that of its start
 skip_end : (body : List PlainEvent) (q given : ℕ) (unclosed : List ℕ)
     → unclosed_from body (q + 1) (q ∷ unclosed) ≡ q ∷ unclosed
     → skip_from (body ++ EndCollection ∷ []) (q + 1) (q ∷ unclosed) q given
@@ -97,7 +97,7 @@ skip_tree (Array ts) q unclosed =
 skip_tree (Dictionary ms) q unclosed =
     skip_end _ q _ unclosed (open_pairs ms (q + 1) (q ∷ unclosed))
 
--- ---- an index that isn't begun
+-- ---- an index at which no open tree begins
 
 abbrev Lacks : ℕ → List ℕ → Type 0
 Lacks q indices = AllByRecursion (λ index. index ≢ q) indices
@@ -110,7 +110,7 @@ one_apart EndCollection p q given (i ∷ outer) off l =
 one_apart (ScalarEvent x) p q given unclosed off l = (l, refl)
 one_apart e p q given unclosed off l = ((off, l), refl)
 
--- no other events begin it, or end what begins there
+-- no other event begins the tree at this index, or ends it
 apart : (es : List PlainEvent) (p q given : ℕ) (unclosed : List ℕ)
     → ((k : ℕ) → k < length es → p + k ≢ q) → Lacks q unclosed
     → Lacks q (unclosed_from es p unclosed) × (skip_from es p unclosed q given ≡ given)
@@ -131,7 +131,7 @@ module _ (es : List PlainEvent) (q : ℕ) (le : q ≤ length es) where
   before_apart =
       apart (take q es) 0 q (q + 1) [] (λ k lt h. omega (arith, lt, h, length-take-le q es le)) tt
 
-  -- only the events from q on say where it ends
+  -- only the events from q on say where the tree ends
   from_there : skip_after es q ≡ skip_from (drop q es) q before q (q + 1)
   from_there =
       let z : 0 + length (take q es) ≡ q = omega (arith, length-take-le q es le) in
@@ -174,7 +174,7 @@ skip_forward es q lt =
     (all_within (drop q es) q q (q + 1) (length es) (before es q le) (omega arith)
     (omega (arith, length-drop q es)) (omega arith) (omega arith))
 
--- ---- what is begun is a start
+-- ---- an open index is that of a start
 
 abbrev pub is_start : PlainEvent → Bool
 is_start (StartArray hint) = true

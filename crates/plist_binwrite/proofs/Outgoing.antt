@@ -1,4 +1,4 @@
--- Lists of numbers that are put one after the other.
+-- Lists of numbers that are put one after another.
 use Rattle.std.proofs.Common.{◌≡◌, ◌+◌, ◌<◌, ℕ, List, ◌++◌, length, get_or, map, take, drop, Option, refl, ap, ◌∙◌, append-nil}
 use Rattle.std.specs.List.{flat_map}
 use Rattle.std.proofs.lemmas.Grind.{flat_map-append}
@@ -8,7 +8,7 @@ use Rattle.plist_base.specs.Sinks.{PutsBytes}
 use Rattle.plist_base.specs.Writing.{Answer}
 use Rattle.plist_binwrite.specs.Forms.{table_form}
 
--- all is put, where the numbers at these indices are yet
+-- all is put once the numbers at these indices are
 abbrev pub PutsRest : {W : Type 0} (contents : W → Option (List ℕ)) (number : ℕ → ℕ) (width : ℕ)
     (a : Sink W) (all : List ℕ) (b : Sink W) (indices : List ℕ) → Type 0
 PutsRest {W} contents number width a all b indices = (answer : Answer) (c : Sink W)

@@ -34,7 +34,7 @@ owner_is (Leaf x) p s = ap (λ e. identity_of e p) (stands_single s)
 owner_is (Array ts) p s = ap (λ e. identity_of e p) (starts_array s)
 owner_is (Dictionary ms) p s = ap (λ e. identity_of e p) (starts_dictionary s)
 
--- trees of one owner have one object
+-- trees with one owner share an object
 same_owner : {es : List PlainEvent} (num : ℕ → ℕ) (u v : Tree) (p q : ℕ)
     → own_tree v q ≡ own_tree u p → OccursAt es u p → OccursAt es v q
     → object_of num v q ≡ object_of num u p
@@ -69,7 +69,7 @@ One = ℕ × Tree
 abbrev owned_eq : One → One → Bool
 owned_eq a b = owner_eq (own_tree a.1 a.0) (own_tree b.1 b.0)
 
--- the indices rise, from a bound on
+-- the indices rise, starting at a bound
 abbrev Rise : ℕ → List One → Type 0
 Rise low [] = Unit {0}
 Rise low (one ∷ ones) = (low ≤ one.0) × Rise (one.0 + 1) ones

@@ -1,4 +1,4 @@
--- Walks along the children of a collection, with what holds of those that are left.
+-- Walks along the children of a collection, and what is true of those that are left.
 use Rattle.std.proofs.Common.{◌≡◌, inl, inr, ℕ, ◌+◌, ◌≤◌, Bool, true, false, List, length, ap, arith}
 use Rattle.plist_base.specs.Events.{PlainEvent, EndCollection}
 use Rattle.plist_base.specs.Trees as trees
@@ -8,7 +8,7 @@ use Rattle.plist_binwrite.specs.EventTable.{is_end, event_at, key_or_value_at, E
 use Rattle.plist_binwrite.proofs.Occurring.{occurs_item, occurs_next, occurs_key, occurs_value, occurs_next_pair}
 use Rattle.plist_binwrite.proofs.Skipping.{first_event, begins, occurs_in}
 
--- an item stands where a tree does
+-- an item is where a tree is
 lacks_none : {es : List PlainEvent} (t : Tree) (q : ℕ) → OccursAt es t q → LacksItem es q → ⊥
 lacks_none t q s (inl h) = cc (begins t q s)
 lacks_none t q s (inr h) = absurd (omega (arith, occurs_in s))
@@ -20,7 +20,7 @@ pub record Left {L : Type 0} (AllOccurAt : List PlainEvent → L → ℕ → Typ
   pub occurs : AllOccurAt es left q
   pub goes : Goes left q
 
--- a tree stands at p, and the other children after it
+-- a tree is at p, and the other children follow it
 pub record First {L : Type 0} (AllOccurAt : List PlainEvent → L → ℕ → Type 0) (es : List PlainEvent)
     (Goes : Tree → L → Type 0) (p : ℕ) : Type 0 where
   pub tree : Tree
@@ -29,7 +29,7 @@ pub record First {L : Type 0} (AllOccurAt : List PlainEvent → L → ℕ → Ty
   pub occurs : AllOccurAt es rest (p + event_count tree)
   pub goes : Goes tree rest
 
--- past it the walk goes on
+-- the walk continues after it
 pub onward : {L : Type 0} {AllOccurAt : List PlainEvent → L → ℕ → Type 0} {es : List PlainEvent}
     {Goes : Tree → L → Type 0} {More : L → ℕ → Type 0} {p next : ℕ} (f : First AllOccurAt es Goes p)
     → EndsTree es p next → (Goes f.tree f.rest → More f.rest (p + event_count f.tree))
@@ -42,7 +42,7 @@ onward f skip goes =
 module _ {es : List PlainEvent} {Goes : Trees → ℕ → Type 0} {q : ℕ}
     (i : Left ItemsOccurAt es Goes q)
   where
-    -- where no end stands, the walk goes on
+    -- unless an end is at q, the walk continues
     pub items_first : is_end (event_at es q) ≡ false
         → First ItemsOccurAt es (λ t ts. Goes (TreeAnd t ts) q) q
     items_first h = by i.left i.occurs i.goes
@@ -53,7 +53,7 @@ module _ {es : List PlainEvent} {Goes : Trees → ℕ → Type 0} {q : ℕ}
         by (TreeAnd t ts) s g =
             record { tree = t; rest = ts; here = occurs_item s; occurs = occurs_next s; goes = g }
 
-    -- where one does, or no event, nothing is left
+    -- if an end or no event is at q, nothing is left
     pub items_stop : LacksItem es q → Goes NoTrees q
     items_stop lacks = by i.left i.occurs i.goes
       where
@@ -63,7 +63,7 @@ module _ {es : List PlainEvent} {Goes : Trees → ℕ → Type 0} {q : ℕ}
 
 -- ---- dictionaries
 
--- a key stands at q, and its value after it
+-- a key is at q, and its value after it
 pub record FirstPair (es : List PlainEvent) (Goes : Members → ℕ → Type 0) (q : ℕ) : Type 0 where
   pub key : List ℕ
   pub named : OccursAt es (Leaf (trees.String key)) q
@@ -92,11 +92,11 @@ module _ {es : List PlainEvent} {Goes : Members → ℕ → Type 0} {q : ℕ}
               };
             }
 
-    -- a key has its value after it
+    -- a key is followed by its value
     pub pairs_within : {A : Type 0} → is_end (event_at es q) ≡ false → length es ≤ q + 1 → A
     pairs_within h end = absurd (omega (arith, occurs_in (pairs_first h).here, end))
 
-    -- no end stands at either
+    -- neither is an end
     pub stands : (b : Bool) → is_end (event_at es q) ≡ false
         → is_end (event_at es (key_or_value_at b q)) ≡ false
     stands true h = begins _ (q + 1) (pairs_first h).here

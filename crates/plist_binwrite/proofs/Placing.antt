@@ -1,4 +1,4 @@
--- Objects that lie back to back: their order, their places and their sizes.
+-- Objects that lie back to back: their order, their offsets and their sizes.
 use Rattle.std.proofs.Common.{◌≡◌, ◌≢◌, ◌⊎◌, inl, inr, ℕ, ◌+◌, ◌<◌, ◌≤◌, true, false, ◌||◌, eqb, List, [], ◌∷◌, ◌++◌, length, get_or, set, refl, ap, sym, ◌∙◌, arith, append_assoc, length-append, take, Option, Some, None, IfSome, subst}
 use Rattle.std.specs.List.{list_any, IsDistinct}
 use Rattle.std.proofs.lemmas.Bool.{eqb-true, eqb-false, or_cases, or_parts, false_from_ne_true, true_from_ne_false, eq-eqb, ne_eqb}
@@ -31,7 +31,7 @@ use Rattle.plist_binwrite.proofs.Unfold.{length-references, length-pairs}
 pub length-magic : (xs : List ℕ) → length (magic ++ xs) ≡ 8 + length xs
 length-magic xs = length-append magic xs
 
--- object k among bytes that lie at a place
+-- object k, among bytes that lie at an offset
 pub record Lies (w : ℕ) (objects : ℕ → Object) (places bytes : List ℕ) (at k : ℕ) : Type 0 where
   pub before : List ℕ
   pub after : List ℕ
@@ -70,7 +70,7 @@ module _ (w : ℕ) (objects : ℕ → Object) where
 
   module _ (order places : List ℕ) (k : ℕ) (l : Laid w objects places order 8)
       (any : list_any (eqb k) order ≡ true) where
-    -- where something is appended, object k is still there
+    -- object k stays where it is when something is appended
     pub object_there : (more : List ℕ)
         → Lies w objects places (laid_out w objects order ++ more) 0 k
     object_there more =
@@ -86,7 +86,7 @@ module _ (w : ℕ) (objects : ℕ → Object) where
           good = f.good;
         }
 
-    -- its place lies in the file
+    -- its offset is within the file
     pub found_place : get_or places k 0 ≤ length (laid_out w objects order)
     found_place =
         let f = found places order 8 k l any in
@@ -116,7 +116,7 @@ module _ (w : ℕ) (objects : ℕ → Object) where
         )
       ]
 
--- any of the numbers, or the one after them
+-- a test of any number in a list, or of the one that is appended
 any_snoc : (q : ℕ) (xs : List ℕ) (y : ℕ)
     → list_any (eqb q) (xs ++ y ∷ []) ≡ list_any (eqb q) xs || eqb q y
 any_snoc q xs y = or_push (list_any _) _ refl (λ x l. refl) xs y
@@ -176,14 +176,14 @@ module _ {count : ℕ} {order marks : List ℕ} (k : ℕ) (o : IsOrder count ord
         get_or-set_other marks k q 1 0 (eqb-false q k n.1) ∙ o.others q n.0;
   }
 
--- what is marked is in the order
+-- an object with a mark is in the order
 pub in_order : {count : ℕ} {order marks : List ℕ} (k : ℕ) → IsOrder count order marks
     → get_or marks k 0 ≢ 0 → list_any (eqb k) order ≡ true
 in_order k o n = true_from_ne_false _ (λ e. n (o.others k e))
 
 -- ---- the bytes of objects
 
--- the bytes of the objects, by number
+-- the number of bytes of the objects, by number
 length-bodies : (w : ℕ) (objects : ℕ → Object) (order : List ℕ)
     → length (object_table w objects order) ≡ total (λ k. length (form w (objects k))) order
 length-bodies w objects [] = refl
@@ -194,7 +194,7 @@ length-bodies w objects (k ∷ order) =
       length-bodies w objects order,
     )
 
--- in whatever order they stand
+-- the number of bytes doesn't depend on the order
 pub total_bodies : (w : ℕ) (objects : ℕ → Object) (order : List ℕ) (count : ℕ)
     → AllOnce count order
     → length (object_table w objects order) ≡ total_below (λ k. length (form w (objects k))) count
@@ -211,7 +211,7 @@ form_size w num (Array ts) p = simp (length-append, length-table, length-referen
 form_size w num (Dictionary ms) p =
     simp (length-append, length-table, length-keys_of, length-values_of, length-pairs)
 
--- ---- a place of an order
+-- ---- an offset in an order
 
 pub any_at : (xs : List ℕ) (i : ℕ) → i < length xs → list_any (eqb (get_or xs i 0)) xs ≡ true
 any_at xs i h = list_any_at _ xs i 0 h (eq-eqb _ _ refl)
@@ -225,9 +225,9 @@ not_before xs i d h =
     ne_eqb _ _ (λ e. eqb-false _ _ (apart_from_distinct eqb xs k i 0 d before h)
     (sym (get_or-take i xs k 0 before) ∙ sym e)))
 
--- ---- one more place
+-- ---- one more offset
 
--- what is given of the place so far
+-- what is known of the offset so far
 pub record Along (w : ℕ) (objects : ℕ → Object) (order places : List ℕ) (i : ℕ)
     (at : Option ℕ) : Type 0 where
   pub given : IsSizeOrNone at (8 + length (object_table w objects (take i order)))

@@ -1,4 +1,5 @@
--- A planned file is its tree's, with one object for each class, and sending it sends that file.
+-- A planned file is that of its tree, with one object for each class, and sending it writes that
+-- file.
 use Rattle.std.proofs.Common.{◌≡◌, ℕ, ◌+◌, ◌-◌, ◌*◌, ◌^◌, ◌<◌, List, [], ◌++◌, length, take, drop, get_or, map, Some, Ok, refl, ap, sym, ◌∙◌, arith, append_assoc, ◌≤◌, Option, None, Result, Err, OnOk, IfSome, subst}
 use Rattle.std.specs.List.{slice_get}
 use Rattle.std.specs.Prelude.{⊤}
@@ -54,7 +55,7 @@ module _ {es : List PlainEvent} {plan : Plan} (planned : IsPlanned es plan) {cla
     (goes : IsPlanByClass es class plan) (t : Tree) (e : es ≡ lengthless t) (objects : ℕ → Object)
     (describes : Describes es (numbers_of plan) objects) (order : List ℕ)
     (all : AllOnce (count_of plan) order) where
-  -- how long the magic and the objects are
+  -- the length of the magic and the objects
   pub laid_length : length (laid_out (reference_width (count_of plan)) objects order)
       ≡ 8 + objects_by class (reference_width (count_by class t)) t
   laid_length =
@@ -93,7 +94,7 @@ module _ {es : List PlainEvent} {plan : Plan} (planned : IsPlanned es plan) {cla
     whole : AllOnce (length places) order
     whole = rw long all
 
-    -- ---- what the file's own table holds
+    -- ---- the contents of the file's offset table
 
     abbrev before : List ℕ
     before = take (last body places) (with_table_and_trailer file places)
@@ -200,7 +201,7 @@ module _ {es : List PlainEvent} {plan : Plan} {order marks : List ℕ} (given : 
     abbrev size_of_all : ℕ
     size_of_all = objects_by class (reference_width (count_by class t)) t
 
-    -- where the offset table lies
+    -- the offset of the offset table
     table_told : IsSizeOrNone given (8 + size_of_all)
     table_told =
         let of = numbered p in
@@ -209,7 +210,7 @@ module _ {es : List PlainEvent} {plan : Plan} {order marks : List ℕ} (given : 
         ∙ laid_length p goes t e of.objects of.describes order once)
         (size of.objects of.describes)
 
-    -- how many objects there are
+    -- the number of objects
     count_told : count ≡ count_by class t
     count_told = n ∙ planned_count p goes t e
 
@@ -219,7 +220,7 @@ module _ {es : List PlainEvent} {plan : Plan} {order marks : List ℕ} (given : 
     too_large (Some table) exceeds is =
         subst (λ k. 2 ^ 64 ≤ size_with k size_of_all) count_told (exceeds size_of_all is)
 
-  -- where the file doesn't fit, by any classes
+  -- the file doesn't fit, for any classes
   pub oversized : IfSome given (λ table. ExceedsWith table count) → {class : ℕ → ℕ}
       → IsPlanByClass es class plan → IsOversized class es
   oversized exceeds {class} goes t e = too_large goes t e given exceeds (table_told goes t e)
@@ -250,13 +251,13 @@ module _ {es : List PlainEvent} {plan : Plan} {order marks : List ℕ} (given : 
           long (all_fit class goes t e);
     }
 
--- it is too long by the same number of objects
+-- it is too large for the same number of objects
 pub exceeds_same : (given : Option ℕ) {count other : ℕ} → count ≡ other
     → IfSome given (λ table. ExceedsWith table count)
     → IfSome given (λ table. ExceedsWith table other)
 exceeds_same given same exceeds = subst (λ k. IfSome given (λ table. ExceedsWith table k)) same exceeds
 
--- the parts that are put, one after the other
+-- the parts are put one after another
 pub file_is : (objects : ℕ → Object) (order places : List ℕ) (table width : ℕ)
     → width ≡ reference_width (length places)
     → table ≡ length (laid_out (reference_width (length places)) objects order)
@@ -279,7 +280,7 @@ sends_end contents es ready old middle new empty (Ok done) sent prefix failed pu
 sends_end contents es ready old middle new empty (Err error) sent prefix failed put =
     (failed, λ objects d. sent_part _ empty (put objects d) prefix)
 
--- ---- what goes out
+-- ---- what is written
 
 module _ {W : Type 0} (contents : W → Option (List ℕ)) (events : EventTable) (old new : W)
     (whole : AreTreeEvents (plain_events events)) {class : ℕ → ℕ} {ready : Ready}
@@ -303,7 +304,7 @@ module _ {W : Type 0} (contents : W → Option (List ℕ)) (events : EventTable)
     ready_sends (Err fault) s =
         rw s.0 (refl, (file_of ready of.objects, is_file, s.1 of.objects of.describes))
 
--- sending it wants no memory
+-- writing it needs no memory
 pub ready_needs_none : {W : Type 0} (contents : W → Option (List ℕ)) (es : List PlainEvent)
     (ready : Ready) (answer : Result (Unit {0}) Error) (old new : W)
     → SendsReady contents es ready (answer_of answer) old new → IfFault answer NeedsNoMemory

@@ -1,4 +1,4 @@
--- The units of a text, and each form read as its object, whatever follows.
+-- The units of a string, and each form read back as its object, whatever follows.
 use Rattle.std.proofs.Common.{◌≡◌, inl, inr, ℕ, ◌+◌, ◌-◌, ◌/◌, ◌%◌, ◌≤◌, List, [], ◌++◌, length, flat_map, chars, encode_utf8, IsUtf8, ap, sym, ◌∙◌, arith, length-append, suc, ◌*◌, ◌^◌, ◌<◌, true, false, not, cond, ◌∷◌, map, Some, refl, is_some}
 use Rattle.std.specs.Char.Escape.{encode_utf16}
 use Rattle.std.specs.Char.{len_utf8}
@@ -54,7 +54,7 @@ few_units c =
         rw (le-ltb c 0x80 (omega arith), le-ltb c 0x800 (omega arith), le-ltb c _ h)
         (omega arith)
 
--- ---- texts
+-- ---- strings
 
 unit_bounds : (c : ℕ) → scalar c ≡ true → AllFit 2 (encode_utf16 c)
 unit_bounds c s =

@@ -24,7 +24,7 @@ take_front xs rest n e = rw (← e) (take-append_seam xs _)
 pub drop_front : (xs rest : List ℕ) (n : ℕ) → length xs ≡ n → drop n (xs ++ rest) ≡ rest
 drop_front xs rest n e = rw (← e) (drop-append_seam xs _)
 
--- what is made of it and of the rest
+-- what is made of the front and of the rest
 parted : {A : Type 0} (f : List ℕ → List ℕ → A) (none : A) (xs rest : List ℕ) (n : ℕ)
     → length xs ≡ n → cond (nat_le n (length (xs ++ rest)))
     (f (take n (xs ++ rest)) (drop n (xs ++ rest))) none ≡ f xs rest
@@ -88,7 +88,7 @@ uid_read width n rest h =
 
 -- ---- lengths
 
--- a length that follows is read
+-- a length that follows a marker is read back
 follows : (n : ℕ) (rest : List ℕ) → n < 2 ^ 64
     → length_that_follows (unsigned_form n ++ rest) ≡ Some (n, rest)
 follows n rest h =
@@ -104,7 +104,7 @@ follows n rest h =
         parted (λ a b. Some (number_of a, b)) _ (big_endian w n) rest w (length-big_endian w n)
         ∙ ap (λ k. Some (k, rest)) (number_back w n small)
 
--- an object of this many elements
+-- an object with this many elements is read back
 pub counted : {size : ℕ} {meaning : ℕ → List ℕ → Object} (width high count : ℕ)
     (content rest : List ℕ)
     → ((m : ℕ) → high * 16 ≤ m → m ≤ high * 16 + 15 → layout_of width m ≡ Counted size meaning)
@@ -134,7 +134,7 @@ counted {size} {meaning} width high count content rest layout small len =
           ) read
     ]
 
--- ---- numbers one after the other
+-- ---- numbers one after another
 
 pub length-table : (w : ℕ) (xs : List ℕ) → length (flat_map (big_endian w) xs) ≡ length xs * w
 length-table w [] = omega arith
@@ -219,7 +219,7 @@ module _ (body places : List ℕ) where
       trailer_form wide (reference_width (length places)) (length places)
       (length file)
 
-  -- where the trailer begins
+  -- the offset of the trailer
   abbrev pub last : ℕ
   last = length file + length places * wide
 

@@ -1,4 +1,4 @@
--- What sending a file does.
+-- What writing a file does.
 use Rattle.std.proofs.Common.{◌≡◌, ℕ, ◌^◌, ◌<◌, List, Option, Ok, Err, ◌∙◌, subst, refl}
 use Rattle.plist_binwrite.specs.declared.event_table.EventTable.{EventTable}
 use Rattle.plist_base.specs.Bracketing.{bracketing, lengthless, AreAlike, AreTreeEvents, AreComplete}
@@ -18,7 +18,7 @@ use Rattle.plist_binwrite.proofs.Owned.{owned_count, owned_size, entered_once}
 use Rattle.plist_binwrite.proofs.Occurring.{occurs_whole}
 use Rattle.plist_binwrite.proofs.Lengthless.{plain_lengthless}
 
--- a file of one kind is one of another, and has its size; and the events are alike
+-- a file of one kind is one of another, with its size, for events that are alike
 module _ (One Other : Tree → List ℕ → Type 0) (size other : Tree → ℕ) (xs ys : List PlainEvent)
     (p : AreAlike xs ys)
     (to : (tree : Tree) → AreAlike ys (bracketing tree) → (file : List ℕ) → One tree file
@@ -50,14 +50,14 @@ module _ (One Other : Tree → List ℕ → Type 0) (size other : Tree → ℕ) 
     sends_as (Ok done) old new (file, of, all) = (file, file_as file of, all)
     sends_as (Err fault) old new (nowhere, fails) = (nowhere, fails_as _ old new fails)
 
--- without memory nothing goes out
+-- if an allocation fails, nothing is written
 pub sends_nothing : {W : Type 0} (contents : W → Option (List ℕ)) (class : ℕ
     → ℕ) (events : EventTable)
     (fault : Fault) (old new : W) → fault ≡ fault_nowhere OutOfMemory → new ≡ old
     → SendsBy class contents (plain_events events) (Err fault) old new
 sends_nothing contents class events fault old new is same = rw is (refl, same)
 
--- a file that is too large isn't sent
+-- a file that is too large isn't written
 pub sends_too_large : {W : Type 0} (contents : W → Option (List ℕ)) (class : ℕ
     → ℕ) (events : EventTable)
     (fault : Fault) (old new : W) → fault ≡ fault_nowhere PlistTooLarge

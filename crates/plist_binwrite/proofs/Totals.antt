@@ -1,4 +1,4 @@
--- Totals over keys that stand once.
+-- Totals over distinct keys.
 use Rattle.std.proofs.Common.{◌≡◌, ◌⊎◌, inl, inr, ℕ, zero, suc, ◌+◌, ◌<◌, ◌≤◌, Bool, true, false, not, cond, ◌||◌, ◌&&◌, eqb, List, [], ◌∷◌, length, map, refl, ap, sym, ◌∙◌, subst, arith}
 use Rattle.std.specs.List.{AllByRecursion, IsDistinct, filter}
 use Rattle.std.specs.Set.{is_member, unique_keys}
@@ -19,7 +19,7 @@ pub count_below : (n : ℕ) → total_below (λ x. 1) n ≡ n
 count_below zero = refl
 count_below (suc n) = omega (arith, count_below n)
 
--- the numbers of a list without this one
+-- the numbers of a list except this one
 abbrev others : ℕ → List ℕ → List ℕ
 others x ys = filter (λ y. not (eqb x y)) ys
 
@@ -55,7 +55,7 @@ module _ (w : ℕ → ℕ) where
             rw f.0 (omega arith)
       ]
 
-  -- numbers that stand once, and are all those below a count, weigh what these do
+  -- distinct numbers that are all those below a count have the same total as these
   pub total_all : (n : ℕ) (xs : List ℕ) → IsDistinct eqb xs
       → ((q : ℕ) → is_member eqb xs q ≡ true → q < n)
       → ((q : ℕ) → q < n → is_member eqb xs q ≡ true) → total w xs ≡ total_below w n
@@ -76,7 +76,7 @@ module _ (w : ℕ → ℕ) where
       left q = is_member-filter nat_eq_equiv (λ y. not _) q
           (λ x e. ap (λ k. not (eqb n k)) (eqb-true q x e)) xs
 
--- each key once
+-- the keys are distinct
 module _ {K : Type 0} (eq : K → K → Bool) (tells : (a b : K)
     → ((eq a b ≡ true) × (a ≡ b)) ⊎ ((eq a b ≡ false) × (a ≡ b → ⊥))) where
   member_one : (xs : List K) (x q : K) (b : Bool) → is_member eq xs x ≡ b
@@ -113,7 +113,7 @@ module _ {K : Type 0} (eq : K → K → Bool) (tells : (a b : K)
   unique_distinct [] = tt
   unique_distinct (x ∷ xs) = distinct_one xs x _ refl (unique_distinct xs)
 
-  -- keys below a count, and no number stands for two
+  -- the keys have numbers below a count, and no two have the same number
   module _ (count : ℕ) (At : K → ℕ → Type 0)
       (one : (a b : K) (n : ℕ) → At a n → At b n → a ≡ b) where
     record Numbers (xs : List K) : Type 0 where
@@ -145,14 +145,14 @@ module _ {K : Type 0} (eq : K → K → Bool) (tells : (a b : K)
           );
         }
 
-    -- as many as the count at most
+    -- there are at most as many keys as the count
     pub pigeons : (xs : List K) → AllByRecursion (λ x. (n : ℕ) × (n < count) × At x n) xs
         → IsDistinct eq xs → length xs ≤ count
     pigeons xs a d =
         let r = numbered xs a d in
         omega (arith, few_below _ _ r.below r.distinct)
 
--- ---- lists that weigh the same
+-- ---- lists with the same total
 
 pub total-map : {A B : Type 0} (f : A → B) (w : B → ℕ) (xs : List A)
     → total w (map f xs) ≡ total (λ a. w (f a)) xs

@@ -19,7 +19,7 @@ use Rattle.plist_binwrite.proofs.ReadingNumbers.{length-table}
 use Rattle.plist_binwrite.proofs.Uniques.{all_from}
 use Rattle.plist_binwrite.proofs.Unfold.{length-references, length-pairs}
 
--- the keys and the values of a dictionary are twice its pairs
+-- a dictionary has twice as many keys and values as pairs
 twice : (ms : Members) → number_of_trees (as_items ms) ≡ 2 * number_of_members ms
 twice NoMembers = refl
 twice (MemberAnd k t ms) = omega (arith, twice ms)
@@ -64,7 +64,7 @@ module _ (es : List PlainEvent) (numbers : List ℕ) (count w : ℕ)
       = omega (arith, twice ms, length-pairs (nth_number numbers) ms (p + 1)) in
       let fit = pairs_fit ms _ (occurs_pairs s) in (small, fit.0, fit.1)
 
--- ---- by the kind of the event here
+-- ---- by the kind of the event at an index
 
 -- a scalar has no length
 scalar_is : (e : PlainEvent) (x : Scalar) → without_length e ≡ ScalarEvent x → e ≡ ScalarEvent x
@@ -87,7 +87,7 @@ module _ {es : List PlainEvent} {k : EntryKind} {p : ℕ} (at : k ≡ entry_kind
   of_dictionary is h (Array ts) s = cc (ap entry_kind_of (starts_array s))
   of_dictionary is h (Dictionary ms) s = h ms (occurs_pairs s)
 
-  -- no collection begins
+  -- no collection begins at this index
   module _ (other : (k ≡ kind.Scalar) ⊎ (k ≡ kind.End)) where
     neither : ((x : Scalar) → event_at es p ≡ ScalarEvent x → P (Leaf x)) → (t : Tree) → OccursAt es t p
         → P t
@@ -102,7 +102,7 @@ module _ {es : List PlainEvent} {k : EntryKind} {p : ℕ} (at : k ≡ entry_kind
         neither (λ x single. subst (λ d. IfScalar d (λ x. P (Leaf x)))
         (scalar_is e x (cc)) h)
 
-    -- nor does a scalar stand there
+    -- neither a collection nor a scalar is at this index
     pub of_nothing : is_leaf (event_at es p) ≡ false → (t : Tree) → OccursAt es t p → P t
     of_nothing n = neither (λ x single. cc (ap is_leaf single))
 
@@ -163,7 +163,7 @@ wide_length text wide =
     (flat_map (big_endian 2) (units_of text)) in
     rw (wide) (omega (arith, head, length-table 2 (units_of text)))
 
--- in the events of a tree, each that isn't an end begins one
+-- in a tree's events, each event that isn't an end begins a tree
 pub occurs_at : (es : List PlainEvent) → IsBracketed es → (p : ℕ) → p < length es
     → is_end (event_at es p) ≡ false → (u : Tree) × OccursAt es u p
 occurs_at es (t, e) p lt b =

@@ -30,7 +30,7 @@ pub length-pairs : (num : ℕ → ℕ) (ms : Members) (q : ℕ)
 length-pairs num NoMembers q = refl
 length-pairs num (MemberAnd k t ms) q = omega (arith, length-pairs num ms (q + 1 + event_count t))
 
--- ---- what is shown of some trees: their events, and the numbers of their collections
+-- ---- the view of some trees: their events, and the numbers of their collections
 
 module _ (num : ℕ → ℕ) where
   abbrev numbers : List (ℕ × Tree) → List ℕ
@@ -54,7 +54,7 @@ module _ (num : ℕ → ℕ) where
         ) refl;
   }
 
-  -- a collection shows what is in it between its start and its end
+  -- a collection's view is that of its contents, between its start and its end
   shows_within : {i : List Item} {v : List ℕ} {es : List PlainEvent} {ones : List (ℕ × Tree)}
       (start : PlainEvent) (one : ℕ × Tree) → collection_of one ≡ one ∷ [] → Shows i v es ones
       → Shows (Ok start ∷ (i ++ Ok EndCollection ∷ [])) (num one.0 ∷ v)
@@ -71,7 +71,7 @@ module _ (table : List TableEntry) (es : List PlainEvent) (num rank : ℕ → �
       place = place;
       object = object_of num t p;
     }))) where
-  -- what an object unfolds to inside those of the path, and what is entered
+  -- what an object within those of the path unfolds to, and which numbers are entered
   abbrev items_in : List ℕ → ℕ → ℕ → List Item
   items_in path at i = unfolding_of table (length table - length path) path at i
 
@@ -86,12 +86,12 @@ module _ (table : List TableEntry) (es : List PlainEvent) (num rank : ℕ → �
   ShowsAll path at is events ones =
       Shows num (flat_map (items_in path at) is) (flat_map (visits_in path) is) events ones
 
-  -- the objects that are open are of trees of m events and more
+  -- the open objects are those of trees of at least m events
   record Path (m : ℕ) (path : List ℕ) : Type 0 where
     is : IsPath (length table) path
     above : AllByRecursion (λ x. m ≤ rank x) path
 
-  -- so an object of a tree of fewer isn't
+  -- an object of a tree of fewer events isn't open
   not_on_path : (m i : ℕ) (path : List ℕ) → rank i < m → AllByRecursion (λ x. m ≤ rank x) path
       → list_any (eqb i) path ≡ false
   not_on_path m i [] h a = refl
@@ -99,7 +99,7 @@ module _ (table : List TableEntry) (es : List PlainEvent) (num rank : ℕ → �
       rw (ne_eqb i x (λ e. let k = ap rank e in omega (arith, a.0)))
       (not_on_path m i path h a.1)
 
-  -- it is entered, and shows what is in it
+  -- it is entered, and its view is that of its contents
   entered : (t : Tree) (p at : ℕ) {m : ℕ} {path : List ℕ} → OccursAt es t p → event_count t < m
       → Path m path
       → ((place : ℕ) → Path (event_count t) (num p ∷ path) → Shows num

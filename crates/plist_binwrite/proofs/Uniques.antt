@@ -1,4 +1,4 @@
--- Lists of which one of each kind is kept, seen through a function; and facts that hold all along a
+-- Lists of which one of each kind is kept, seen through a function; and facts about all items of a
 -- list.
 use Rattle.std.proofs.Common.{◌≡◌, inl, inr, ℕ, ◌<◌, ◌≤◌, Bool, true, false, cond, ◌||◌, eqb, List, [], ◌∷◌, ◌++◌, length, map, refl, ap}
 use Rattle.std.specs.List.{list_any, AllByRecursion, IsDistinct}
@@ -38,7 +38,7 @@ module _ {A : Type 0} (P : A → Type 0) where
   all_kept true x xs p a = a
   all_kept false x xs p a = (p, a)
 
-  -- what is kept is of the list
+  -- what is kept is in the list
   pub all_unique : (eq : A → A → Bool) (xs : List A) → AllByRecursion P xs
       → AllByRecursion P (unique_keys eq xs)
   all_unique eq [] a = tt
@@ -47,7 +47,7 @@ module _ {A : Type 0} (P : A → Type 0) where
 
 -- ---- numbers in a list
 
--- what holds of each number of a list holds of one that is in it
+-- what is true of all numbers of a list is true of one in it
 pub any_has : (P : ℕ → Type 0) (xs : List ℕ) (q : ℕ) → AllByRecursion P xs
     → list_any (eqb q) xs ≡ true → P q
 any_has P [] q a h = cc
@@ -57,7 +57,7 @@ any_has P (x ∷ xs) q a h =
       | inr d ↦ any_has P xs q a.1 (cc)
     ]
 
--- there are no more different numbers below a count than it says
+-- a list of different numbers below a count is no longer than the count
 pub few_below : (count : ℕ) (xs : List ℕ) → AllByRecursion (λ x. x < count) xs → IsDistinct eqb xs
     → length xs ≤ count
 few_below count xs a d =
@@ -102,7 +102,7 @@ module _ {A B : Type 0} (eqa : A → A → Bool) (eqb : B → B → Bool) (f : A
   seen_cond false false us x vs e h = ap (λ l. f x ∷ l) h
   seen_cond b c us x vs e h = cc
 
-  -- where two tests agree, they keep the same
+  -- two tests that agree keep the same items
   pub unique_seen : (xs : List A) → AllByRecursion P xs
       → map f (unique_keys eqa xs) ≡ unique_keys eqb (map f xs)
   unique_seen [] a = refl

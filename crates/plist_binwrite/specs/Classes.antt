@@ -1,4 +1,4 @@
--- Classes of the indices where trees begin, and a file that has one object for each class.
+-- Classes of the indices at which trees begin, and a file that has one object for each class.
 use Rattle.std.specs.Prelude.{◌≡◌, ℕ, ◌^◌, ◌<◌, ◌≤◌, Bool, List, length, map, nat_eq, Option}
 use Rattle.std.specs.Set.{unique_keys}
 use Rattle.plist_base.specs.Bracketing.{lengthless}
@@ -14,7 +14,7 @@ use Rattle.plist_binwrite.specs.Occurrences.{OccursAt, positions}
 use Rattle.plist_binwrite.specs.Widths.{reference_width}
 use Rattle.plist_binwrite.specs.Written.{IsWrittenAs}
 
--- indices of one class have one object, whose references are the classes of its children
+-- indices of one class share an object, whose references are the classes of its children
 pub record AreClasses (es : List PlainEvent) (class : ℕ → ℕ) : Type 0 where
   pub object : (t u : Tree) (p q : ℕ) → OccursAt es t p → OccursAt es u q → class p ≡ class q
       → object_of class t p ≡ object_of class u q
@@ -27,18 +27,18 @@ module _ (class : ℕ → ℕ) where
   abbrev pub representatives : Tree → List (ℕ × Tree)
   representatives tree = unique_keys same_class (positions tree 0)
 
-  -- how many objects a file has that has one for each class
+  -- the number of objects in a file with one for each class
   abbrev pub count_by : Tree → ℕ
   count_by tree = length (representatives tree)
 
-  -- how many bytes its objects have together, and the whole file
+  -- the bytes of its objects together, and those of the whole file
   abbrev pub objects_by : (width : ℕ) → Tree → ℕ
   objects_by width tree = total (λ one. object_size width one.1) (representatives tree)
 
   abbrev pub size_by : Tree → ℕ
   size_by tree = size_with (count_by tree) (objects_by (reference_width (count_by tree)) tree)
 
-  -- numbers of the indices, one class for each, by which the file's collections are entered
+  -- numbers of the indices, one for each class, by which the file's collections are entered
   pub record IsNumberedBy (tree : Tree) (file : List ℕ) : Type 0 where
     pub numbers : ℕ → ℕ
     pub apart : (t u : Tree) (p q : ℕ) → OccursAt (lengthless tree) t p
@@ -54,14 +54,14 @@ module _ (class : ℕ → ℕ) where
     pub size : length file ≡ size_by tree
     pub fits : size_by tree < 2 ^ 64
 
-  -- a file of the tree whose events these are has less than 2^64 bytes, or doesn't
+  -- a file of the tree with these events has less than 2^64 bytes, or doesn't
   abbrev pub Fits : List PlainEvent → Type 0
   Fits es = (tree : Tree) → es ≡ lengthless tree → size_by tree < 2 ^ 64
 
   abbrev pub IsOversized : List PlainEvent → Type 0
   IsOversized es = (tree : Tree) → es ≡ lengthless tree → 2 ^ 64 ≤ size_by tree
 
-  -- what sending the file of a tree's events does
+  -- what writing the file of a tree's events does
   module _ {W : Type 0} (contents : W → Option (List ℕ)) where
     abbrev pub SendsBy : List PlainEvent → Answer → (old new : W) → Type 0
     SendsBy events answer old new = SendsAs IsFileBy size_by contents events answer old new

@@ -1,4 +1,4 @@
--- What sending the file of held events does.
+-- What writing the file of buffered events does.
 use Rattle.std.specs.Prelude.{ℕ, List, Option, Result}
 use Rattle.plist_base.specs.Trees.{Tree}
 use Rattle.plist_base.specs.Writing.{answer_of}
@@ -15,7 +15,7 @@ abbrev pub SendsByClass : {W : Type 0} → Classes → (W → Option (List ℕ))
 SendsByClass classes contents held result old new =
     SendsBy (nth_number classes.of) contents (plain_events held) (answer_of result) old new
 
--- with any kind of file and its size
+-- for any kind of file and its size
 abbrev pub SendsHeld : {W : Type 0} → (IsFile : Tree → List ℕ → Type 0) → (size : Tree → ℕ)
     → (W → Option (List ℕ)) → EventTable → Result (Unit {0}) Error → (old new : W) → Type 0
 SendsHeld IsFile size contents held result old new =

@@ -18,12 +18,12 @@ buffered_events pending = plain_events pending.held
 abbrev pub is_whole : EventBuffer → Bool
 is_whole pending = is_none pending.expects
 
--- what has to stand in the place of a refused event: a value where nothing is held
+-- what is expected in place of a rejected event: a value if nothing is buffered
 abbrev pub expected_instead : List PlainEvent → EventKind
 expected_instead [] = event_kind.ValueOrStartCollection
 expected_instead (event ∷ events) = event_kind.DictionaryKeyOrEndCollection
 
--- the fault of an event that can't follow those held
+-- the fault of an event that can't follow the buffered ones
 abbrev pub misplaced_fault : List PlainEvent → PlainEvent → Fault
 misplaced_fault held event =
     fault_nowhere (UnexpectedEventType (expected_instead held) (kind_of_event event))
@@ -32,29 +32,29 @@ misplaced_fault held event =
 abbrev pub TestsWhole : Bool → List PlainEvent → Type 0
 TestsWhole answer events = MatchBool answer (AreComplete events) (AreTreeEvents events → ⊥)
 
--- the event is taken
+-- the event is buffered
 abbrev pub BuffersNext : (before : EventBuffer) → PlainEvent → (after : EventBuffer) → Type 0
 BuffersNext before event after =
     (buffered_events after ≡ buffered_events before ++ without_length event ∷ [])
     × TestsWhole (is_whole after) (buffered_events before ++ event ∷ [])
 
--- the event can't follow those held, and this is its fault
+-- the event can't follow the buffered ones, and this is its fault
 abbrev pub IsMisplaced : (held : List PlainEvent) → PlainEvent → Fault → Type 0
 IsMisplaced held event fault = (CanContinue held event → ⊥) × (fault ≡ misplaced_fault held event)
 
--- a refusal is that of an event that can't follow those held, and nothing changes
+-- an event is rejected only if it can't follow the buffered ones, and nothing changes
 abbrev pub RefusesMisplaced : (before : EventBuffer) → PlainEvent → (after : EventBuffer)
     → Option Error
     → Type 0
 RefusesMisplaced before event after refusal = IfSome refusal
     (λ error. IsMisplaced (buffered_events before) event (fault_of error) × (after ≡ before))
 
--- an event that isn't refused can follow those held, and is taken
+-- an event that isn't rejected can follow the buffered ones, and is buffered
 abbrev pub Accepts : (before : EventBuffer) → PlainEvent → (after : EventBuffer) → Option Error
     → Type 0
 Accepts before event after refusal =
     refusal ≡ None → CanContinue (buffered_events before) event × BuffersNext before event after
 
--- the event can follow those held
+-- the event can follow the buffered ones
 abbrev pub CanTake : EventBuffer → PlainEvent → Type 0
 CanTake pending event = CanContinue (buffered_events pending) event

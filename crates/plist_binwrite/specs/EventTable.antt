@@ -1,4 +1,4 @@
--- The events that a writer holds, and what it plans of them.
+-- The events that a writer buffers, and what it plans for them.
 use Rattle.std.specs.Prelude.{◌≡◌, ℕ, ◌+◌, ◌<◌, ◌≤◌, Bool, true, false, List, [], ◌∷◌, length, get_or, map, ⊤, ◌++◌, ◌⊎◌, Some, slice_get, if◌then◌else◌}
 use Rattle.plist_base.specs.declared.event.Event.{Event}
 use Rattle.plist_base.specs.Events.{PlainEvent, event_of, StartArray, StartDictionary, EndCollection, ScalarEvent}
@@ -13,11 +13,11 @@ use Rattle.plist_binwrite.specs.Numberings.{object_of}
 use Rattle.plist_binwrite.specs.inner.Entries.{events_of_entries, event_of_entry}
 use Rattle.plist_binwrite.specs.declared.entries.EventEntry.{EventEntry}
 
--- what contracts see of an event that is held: the length of a start is struck out
+-- what contracts see of a buffered event: the length of a start is removed
 abbrev pub plain_event : Event → PlainEvent
 plain_event event = without_length (event_of event)
 
--- the different scalars, in the order in which they came
+-- the different scalars, in the order of their first occurrence
 abbrev pub scalars_of : EventTable → List PlainEvent
 scalars_of held = map event_of held.scalars.keys
 
@@ -29,7 +29,7 @@ plain_events held = events_of_entries (scalars_of held) held.entries
 abbrev pub entry_event : EventTable → EventEntry → PlainEvent
 entry_event held entry = event_of_entry (scalars_of held) entry
 
--- this holds of the scalar, if the event is one
+-- if the event is a scalar, this is true of it
 abbrev pub IfScalar : PlainEvent → (Scalar → Type 0) → Type 0
 IfScalar (ScalarEvent scalar) P = P scalar
 IfScalar event P = ⊤
@@ -47,7 +47,7 @@ entry_kind_of (ScalarEvent x) = kind.Scalar
 abbrev pub event_at : List PlainEvent → ℕ → PlainEvent
 event_at es p = get_or es p EndCollection
 
--- an item stands at an index, and not the end of a collection; or none does
+-- an item is at an index, and not the end of a collection; or no item is
 abbrev pub HasItem : List PlainEvent → (index : ℕ) → Type 0
 HasItem es p = (p < length es) × (is_end (event_at es p) ≡ false)
 
@@ -58,16 +58,16 @@ LacksItem es p = (is_end (event_at es p) ≡ true) ⊎ (length es ≤ p)
 abbrev pub EndsTree : List PlainEvent → (index behind : ℕ) → Type 0
 EndsTree es p behind = (t : Tree) → OccursAt es t p → behind ≡ p + event_count t
 
--- the different scalar of this number stands at an index
+-- the different scalar with this number is at an index
 abbrev pub IsScalarAt : EventTable → (index scalar : ℕ) → Type 0
 IsScalarAt held p scalar =
     slice_get (scalars_of held) scalar ≡ Some (event_at (plain_events held) p)
 
--- an event came after those held
+-- an event was appended
 abbrev pub GrowsBy : (before : EventTable) → PlainEvent → (after : EventTable) → Type 0
 GrowsBy before event after = plain_events after ≡ plain_events before ++ event ∷ []
 
--- the event that is held at an index
+-- the buffered event at an index
 abbrev pub table_event : EventTable → (index : ℕ) → PlainEvent
 table_event held p = event_at (plain_events held) p
 
@@ -80,7 +80,7 @@ abbrev pub item_indices : Trees → ℕ → List ℕ
 item_indices NoTrees q = []
 item_indices (TreeAnd t ts) q = q ∷ item_indices ts (q + event_count t)
 
--- of a pair the index of the value, or of the key
+-- the index of a pair's value, or of its key
 abbrev pub key_or_value_at : Bool → ℕ → ℕ
 key_or_value_at of_values q = if of_values then q + 1 else q
 
@@ -114,7 +114,7 @@ nth_number numbers p = get_or numbers p 0
 abbrev pub IsNumbered : List ℕ → List ℕ → ℕ → Type 0
 IsNumbered numbers firsts p = get_or numbers p 0 < length firsts
 
--- what was numbered stays so
+-- what has a number keeps it
 pub record KeepsNumbering (old_numbers old_firsts new_numbers new_firsts : List ℕ) : Type 0 where
   pub numbered : (p : ℕ) → IsNumbered old_numbers old_firsts p → IsNumbered new_numbers new_firsts p
   pub first : 0 < length old_firsts → get_or new_firsts 0 0 ≡ get_or old_firsts 0 0

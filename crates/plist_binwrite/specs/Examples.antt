@@ -41,12 +41,12 @@ accent = refl
 
 -- ---- files
 
--- a truth value: the least file
+-- a Boolean, in the smallest file
 truth_size : file_size (Leaf (trees.Boolean true)) ≡ 42
 unfolding least_width length_form units_of chars
 truth_size = refl
 
--- a text that stands twice is one object
+-- a string that occurs twice is one object
 twice_count : object_count
     (Array (trees_of (Leaf (trees.String (97 ∷ [])) ∷ Leaf (trees.String (97 ∷ [])) ∷ []))) ≡ 2
 twice_count = refl
@@ -56,12 +56,12 @@ twice_size : file_size
 unfolding least_width length_form units_of chars
 twice_size = refl
 
--- a key is counted as a text
+-- a key counts as a string
 key_count : object_count (Dictionary (members_of ((107 ∷ [], Leaf (trees.String (107 ∷ []))) ∷ [])))
     ≡ 2
 key_count = refl
 
--- each array is one object, also where it equals another
+-- each array is one object, even if it is equal to another
 arrays_count : object_count (Array (trees_of (Array (trees_of []) ∷ Array (trees_of []) ∷ []))) ≡ 3
 arrays_count = refl
 

@@ -1,4 +1,4 @@
--- What a call of a writer does: what it holds then, whether it has failed, and what went out.
+-- What a call of a writer does: what is buffered then, whether it has failed, and what was written.
 use Rattle.std.specs.Prelude.{◌≡◌, ◌⊎◌, ℕ, Bool, true, false, List, [], ◌∷◌, ◌++◌, Option, None, Ok, Err, MatchBool}
 use Rattle.std.specs.declared.io.traits.Write.{Ghosts}
 use Rattle.plist_base.specs.Bracketing.{without_length, AreTreeEvents, CanContinue}
@@ -11,7 +11,7 @@ use Rattle.plist_binwrite.specs.declared.writer.FileWriter.{FileWriter}
 use Rattle.plist_binwrite.specs.SendingAs.{SendsFileAs, FailsAs}
 use Rattle.plist_binwrite.specs.EventBuffers.{buffered_events, misplaced_fault}
 
--- the events taken of the open property list, without the lengths of starts
+-- the buffered events of the open property list, without the lengths of starts
 abbrev pub open_events : {W S : Type 0} {g : Ghosts W} {h : SharingGhosts S} → FileWriter W S g h
     → List PlainEvent
 open_events writer = buffered_events writer.pending
@@ -21,14 +21,15 @@ abbrev pub failed_of : {W S : Type 0} {g : Ghosts W} {h : SharingGhosts S} → F
     → Bool
 failed_of writer = writer.has_failed
 
--- what takes the bytes
+-- the inner writer
 abbrev pub sink_of : {W S : Type 0} {g : Ghosts W} {h : SharingGhosts S} → FileWriter W S g h → W
 sink_of writer = writer.writer
 
--- given which bytes are a file of a tree, and how many such a file has
+-- given which bytes are a file of a tree, and how many bytes such a file has
 module _ {W S : Type 0} {g : Ghosts W} {h : SharingGhosts S} (IsFile : Tree → List ℕ → Type 0)
     (size : Tree → ℕ) (contents : W → Option (List ℕ)) where
-  -- the events held and this one are a tree's: a file of it went out, and nothing is held
+  -- the buffered events and this one are a tree's: a file of it was written, and nothing is
+  -- buffered
   abbrev pub Completes : (before : FileWriter W S g h) → PlainEvent
       → (after : FileWriter W S g h) → Type 0
   Completes before event after =
@@ -36,7 +37,8 @@ module _ {W S : Type 0} {g : Ghosts W} {h : SharingGhosts S} (IsFile : Tree → 
       (sink_of after)
       × (open_events after ≡ [])
 
-  -- they are no tree's yet: the event is held, and nothing went out
+  -- the buffered events and this one aren't a tree's yet: the event is buffered, and nothing was
+  -- written
   abbrev pub Holds : (before : FileWriter W S g h) → PlainEvent → (after : FileWriter W S g h)
       → Type 0
   Holds before event after =
@@ -44,7 +46,7 @@ module _ {W S : Type 0} {g : Ghosts W} {h : SharingGhosts S} (IsFile : Tree → 
       × (open_events after ≡ open_events before ++ without_length event ∷ [])
       × (sink_of after ≡ sink_of before)
 
-  -- a call before the writer has failed
+  -- a call of a writer that hasn't failed
   abbrev pub TakesEvent : (before : FileWriter W S g h) → PlainEvent → Answer
       → (after : FileWriter W S g h) → Type 0
   TakesEvent before event (Ok done) after =
@@ -59,7 +61,7 @@ module _ {W S : Type 0} {g : Ghosts W} {h : SharingGhosts S} (IsFile : Tree → 
       (sink_of before) (sink_of after))
       ⊥
 
-  -- a call
+  -- a call of a writer
   abbrev pub IsWriterStep : (before : FileWriter W S g h) → PlainEvent → Answer
       → (after : FileWriter W S g h) → Type 0
   IsWriterStep before event answer after =

@@ -1,4 +1,4 @@
--- How many objects a file of a tree has.
+-- The number of objects in a file of a tree.
 use Rattle.std.specs.Prelude.{◌≡◌, ℕ, ◌+◌, List, [], ◌∷◌, length, Ok}
 use Rattle.std.specs.List.{flat_map}
 use Rattle.std.specs.Set.{distinct_count}
@@ -15,7 +15,7 @@ collection_of (index, tree) = (index, tree) ∷ []
 abbrev pub collections_among : List (ℕ × Tree) → List (ℕ × Tree)
 collections_among ones = flat_map collection_of ones
 
--- and the scalars
+-- the scalars among trees
 abbrev pub leaf_scalar : ℕ × Tree → List Scalar
 leaf_scalar (index, Leaf scalar) = scalar ∷ []
 leaf_scalar (index, tree) = []
@@ -23,11 +23,11 @@ leaf_scalar (index, tree) = []
 abbrev pub leaf_scalars : List (ℕ × Tree) → List Scalar
 leaf_scalars ones = flat_map leaf_scalar ones
 
--- the arrays and dictionaries of a tree, also where one equals another
+-- the arrays and dictionaries of a tree, even if some are equal
 abbrev pub collections_in : Tree → List (ℕ × Tree)
 collections_in tree = collections_among (positions tree 0)
 
--- its scalars, with its keys as texts
+-- its scalars, with its keys as strings
 abbrev pub scalars_in : Tree → List Scalar
 scalars_in tree = leaf_scalars (positions tree 0)
 
@@ -35,6 +35,6 @@ scalars_in tree = leaf_scalars (positions tree 0)
 abbrev pub object_count : Tree → ℕ
 object_count tree = length (collections_in tree) + distinct_count scalar_eq (scalars_in tree)
 
--- the file's head counts this many objects
+-- the file's head has this many objects
 abbrev pub HasObjects : (file : List ℕ) → ℕ → Type 0
 HasObjects file count = (head : Head) → head_of file ≡ Ok head → length head.places ≡ count

@@ -13,17 +13,17 @@ pub record OccursAt (es : List PlainEvent) (t : Tree) (p : ℕ) : Type 0 where
   pub rest : List PlainEvent
   pub is : drop p es ≡ lengthless t ++ rest
 
--- what an array still lists from index p on, with its end
+-- the remaining items of an array, and its end, occur from index p on
 pub record ItemsOccurAt (es : List PlainEvent) (ts : Trees) (p : ℕ) : Type 0 where
   pub rest : List PlainEvent
   pub is : drop p es ≡ lengthless_items ts ++ EndCollection ∷ rest
 
--- what a dictionary still lists from index p on, with its end
+-- the remaining pairs of a dictionary, and its end, occur from index p on
 pub record PairsOccurAt (es : List PlainEvent) (ms : Members) (p : ℕ) : Type 0 where
   pub rest : List PlainEvent
   pub is : drop p es ≡ lengthless_pairs ms ++ EndCollection ∷ rest
 
--- a tree and all that is in it, each with the index of its first event; a key is a text
+-- a tree and all trees in it, each with the index of its first event; a key is a string
 abbrev mutual
   pub positions : Tree → ℕ → List (ℕ × Tree)
   positions (Leaf scalar) p = (p, Leaf scalar) ∷ []

@@ -1,4 +1,4 @@
--- Trees in whose dictionaries no key stands twice, and tests of it.
+-- Trees whose dictionaries contain no key twice, and tests of this.
 use Rattle.std.specs.Prelude.{◌≡◌, ◌≢◌, ◌↔◌, ℕ, Bool, false, List, MatchBool, ⊤}
 use Rattle.plist_base.specs.Bracketing.{bracketing, AreAlike}
 use Rattle.plist_binwrite.specs.EventTable.{plain_events}
@@ -11,12 +11,12 @@ abbrev pub Lacks : (key : List ℕ) → Members → Type 0
 Lacks key NoMembers = ⊤
 Lacks key (MemberAnd other tree members) = (key ≢ other) × Lacks key members
 
--- no key stands twice among the pairs
+-- no key occurs twice among the pairs
 abbrev pub HasDistinctKeys : Members → Type 0
 HasDistinctKeys NoMembers = ⊤
 HasDistinctKeys (MemberAnd key tree members) = Lacks key members × HasDistinctKeys members
 
--- no key stands twice in any dictionary of the tree
+-- no dictionary of the tree contains a key twice
 abbrev mutual
   pub HasKeysOnce : Tree → Type 0
   HasKeysOnce (Leaf scalar) = ⊤
@@ -32,13 +32,13 @@ abbrev mutual
   ValuesHaveKeysOnce (MemberAnd key tree members) =
       HasKeysOnce tree × ValuesHaveKeysOnce members
 
--- a test: has the dictionary that begins at an index a key twice?
+-- a test: does the dictionary that begins at an index contain a key twice?
 abbrev pub TestsRepeats : EventTable → (index : ℕ) → Bool → Type 0
 TestsRepeats held index answer = (pairs : Members) → OccursAt (plain_events held)
     (Dictionary pairs) index
     → MatchBool answer (HasDistinctKeys pairs → ⊥) (HasDistinctKeys pairs)
 
--- a test: has a dictionary of the tree whose events these are a key twice?
+-- a test: does a dictionary of the tree with these events contain a key twice?
 abbrev pub TestsKeysOnce : EventTable → Bool → Type 0
 TestsKeysOnce held answer = (tree : Tree) → AreAlike (plain_events held) (bracketing tree)
     → (answer ≡ false) ↔ HasKeysOnce tree

@@ -8,7 +8,7 @@ use Rattle.plist_base.specs.Sinks.{Puts}
 use Rattle.plist_binwrite.specs.Forms.{scalar_form}
 use Rattle.plist_binwrite.specs.EventTable.{IfScalar}
 
--- the bytes of its form are put
+-- the bytes of the scalar's form are put
 abbrev pub PutsScalar : {W : Type 0} → (contents : W → Option (List ℕ)) → (old : Sink W) → Event
     → Result (Unit {0}) Error → (new : Sink W) → Type 0
 PutsScalar contents old event result new = IfScalar (event_of event)

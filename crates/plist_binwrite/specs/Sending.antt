@@ -1,4 +1,4 @@
--- What goes out of the plain writer at the end of a property list.
+-- What the plain writer writes at the end of a property list.
 use Rattle.std.specs.Prelude.{ℕ, List, Option}
 use Rattle.plist_base.specs.Events.{PlainEvent}
 use Rattle.plist_base.specs.Faults.{FaultKind}
@@ -8,10 +8,10 @@ use Rattle.plist_binwrite.specs.SendingAs as any
 use Rattle.plist_binwrite.specs.Sizes.{file_size}
 
 module _ {W : Type 0} (contents : W → Option (List ℕ)) where
-  -- what went out where the call failed
+  -- what was written by a call that failed
   abbrev pub FailsWith : FaultKind → (events : List PlainEvent) (old new : W) → Type 0
   FailsWith kind events old new = any.FailsAs IsFileOf file_size contents kind events old new
 
-  -- what sending the file of a tree's events does
+  -- what writing the file of a tree's events does
   abbrev pub Sends : (events : List PlainEvent) → Answer → (old new : W) → Type 0
   Sends events answer old new = any.SendsAs IsFileOf file_size contents events answer old new

@@ -1,4 +1,4 @@
--- What goes out at the end of a property list, for any kind of file and its size.
+-- What is written at the end of a property list, for any kind of file and its size.
 use Rattle.std.specs.Prelude.{◌≡◌, ℕ, ◌^◌, ◌≤◌, List, Option, None, Ok, Err}
 use Rattle.std.specs.Io.KnownBytes.{Appends}
 use Rattle.plist_base.specs.Bracketing.{bracketing, AreAlike, AreComplete}
@@ -9,25 +9,25 @@ use Rattle.plist_base.specs.Trees.{Tree}
 use Rattle.plist_base.specs.Writing.{Answer}
 
 module _ (IsFile : Tree → List ℕ → Type 0) (size : Tree → ℕ) where
-  -- the events are all of a tree's, and this is a file of it
+  -- the events are exactly those of a tree, and this is a file of it
   abbrev pub IsFileAs : List PlainEvent → List ℕ → Type 0
   IsFileAs events file =
       AreComplete events × ((tree : Tree) → AreAlike events (bracketing tree) → IsFile tree file)
 
-  -- the events are all of a tree's, and a file of it would have 2^64 bytes or more
+  -- the events are exactly those of a tree, and a file of it would have 2^64 bytes or more
   abbrev pub IsTooLarge : List PlainEvent → Type 0
   IsTooLarge events =
       AreComplete events
       × ((tree : Tree) → AreAlike events (bracketing tree) → 2 ^ 64 ≤ size tree)
 
   module _ {W : Type 0} (contents : W → Option (List ℕ)) where
-    -- a file of the tree whose events these are went out
+    -- a file of the tree with these events was written
     abbrev pub SendsFileAs : (events : List PlainEvent) (old new : W) → Type 0
     SendsFileAs events old new =
         (file : List ℕ) × IsFileAs events file × Appends (contents old) (contents new) file
 
-    -- what went out where the call failed: of a device's fault a beginning of a file, else nothing,
-    -- and what takes the bytes is the same
+    -- what was written by a call that failed: for `Io` a prefix of a file, and for any other error
+    -- nothing, and the writer is unchanged
     abbrev pub FailsAs : FaultKind → (events : List PlainEvent) (old new : W) → Type 0
     FailsAs Io events old new =
         (file : List ℕ) × IsFileAs events file
@@ -36,7 +36,7 @@ module _ (IsFile : Tree → List ℕ → Type 0) (size : Tree → ℕ) where
     FailsAs OutOfMemory events old new = new ≡ old
     FailsAs kind events old new = ⊥
 
-    -- what sending the file of a tree's events does
+    -- what writing the file of a tree's events does
     abbrev pub SendsAs : (events : List PlainEvent) → Answer → (old new : W) → Type 0
     SendsAs events (Ok done) old new = SendsFileAs events old new
     SendsAs events (Err fault) old new =

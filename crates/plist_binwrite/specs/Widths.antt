@@ -1,8 +1,9 @@
--- How many bytes a reference and a place of the offset table have in a file that is written.
+-- The number of bytes in a reference and in an offset of a file that is written.
 use Rattle.std.specs.Prelude.{ℕ, ◌-◌}
 use Rattle.plist_binwrite.specs.Forms.{least_width}
 
--- how wide a reference is among this many objects, and a place in a table that lies here
+-- the width of a reference among `count` objects, and of an offset if the offset table lies at
+-- `table`
 abbrev pub reference_width : (count : ℕ) → ℕ
 reference_width count = least_width (count - 1)
 

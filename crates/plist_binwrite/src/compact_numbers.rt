@@ -1,4 +1,4 @@
-//! Lists of numbers, of which each has four bytes while they fit.
+//! Lists of numbers, each of which has four bytes while the numbers fit.
 
 ghost use Rattle.std.specs.Prelude.{◌≡◌, ◌^◌, ◌<◌, ◌++◌, ◌∷◌, [], length, get_or, map, replicate, set, take, IfSome, IfOk, OnOk, OnErr, ◌-◌};
 ghost use Rattle.plist_binwrite.specs.inner.Narrow.{wide_of};
@@ -6,8 +6,8 @@ ghost use Rattle.plist_binwrite.specs.inner.Narrow.{wide_of};
 use std::alloc::{AllocError, Global};
 use std::marker::Model;
 
-// What a number of four bytes stands for: the greatest one for the greatest of eight, with which
-// lists mark a number that isn't known yet.
+// Returns the number that four bytes stand for. The greatest `u32` stands for the greatest `usize`,
+// with which lists mark a number that isn't known yet.
 #[inline(always)]
 fn wide_of(stored: u32) -> usize
     ensures { result ≡ wide_of stored }
@@ -19,7 +19,7 @@ fn wide_of(stored: u32) -> usize
     }
 }
 
-// The four bytes that stand for a number, if there are such.
+// Returns the four bytes that stand for a number, if any do.
 #[inline(always)]
 fn narrowed(number: usize) -> Option<u32>
     ensures { IfSome result (λ stored. wide_of stored ≡ number) }
@@ -33,7 +33,7 @@ fn narrowed(number: usize) -> Option<u32>
     }
 }
 
-// All of these numbers with eight bytes.
+// Returns all of these numbers in eight bytes each.
 #[cold]
 #[inline(never)]
 fn widened(narrow: &Vec<u32>, wide: &Vec<usize>) -> Result<Vec<usize>, AllocError>
@@ -47,7 +47,7 @@ fn widened(narrow: &Vec<u32>, wide: &Vec<usize>) -> Result<Vec<usize>, AllocErro
     Ok(all)
 }
 
-/// A list of numbers. Those of eight bytes stand after those of four.
+/// A list of numbers. Those of eight bytes follow those of four.
 #[derive(Drop)]
 pub struct Numbers {
     narrow: Vec<u32>,
@@ -64,7 +64,7 @@ impl Model for Numbers {
 }
 
 impl Numbers {
-    /// No numbers. It takes no memory.
+    /// Creates an empty list. It allocates no memory.
     pub fn new(alloc: Global) -> Numbers
         ensures { result ≡ [] }
     {
@@ -74,7 +74,7 @@ impl Numbers {
         }
     }
 
-    /// No numbers, with room for this many of four bytes.
+    /// Creates an empty list with capacity for this many numbers of four bytes.
     pub fn with_capacity(alloc: Global, count: usize) -> Result<Numbers, AllocError>
         ensures { IfOk result (λ r. r ≡ []) }
     {
@@ -85,7 +85,7 @@ impl Numbers {
         })
     }
 
-    /// A list of `count` numbers that are 0, if there is memory for it.
+    /// Creates a list of `count` zeros, or fails if memory runs out.
     pub fn zeros(alloc: Global, count: usize) -> Result<Numbers, AllocError>
         ensures zeros { IfOk result (λ r. r ≡ replicate count 0) }
     {
@@ -96,7 +96,7 @@ impl Numbers {
         })
     }
 
-    /// A list of `count` numbers that are 2^64 - 1, if there is memory for it.
+    /// Creates a list of `count` numbers 2^64 - 1, or fails if memory runs out.
     #[tactic(auto, using(crate::proofs::Narrow::marks_wide))]
     pub fn marks(alloc: Global, count: usize) -> Result<Numbers, AllocError>
         ensures marks { IfOk result (λ r. r ≡ replicate count (2 ^ 64 - 1)) }
@@ -108,14 +108,14 @@ impl Numbers {
         })
     }
 
-    /// How many numbers there are.
+    /// Returns the number of numbers.
     pub fn len(&self) -> usize
         ensures { result ≡ length self.now }
     {
         self.narrow.len() + self.wide.len()
     }
 
-    /// One of the numbers.
+    /// Returns the number at an index.
     #[inline(always)]
     pub fn get(&self, index: usize) -> usize
         requires { index < length self.now }
@@ -128,7 +128,7 @@ impl Numbers {
         self.wide.as_slice()[index - below]
     }
 
-    /// Appends a number. Where memory for it is refused, nothing changes.
+    /// Appends a number. If an allocation fails, nothing changes.
     #[inline(always)]
     pub fn push(&mut self, number: usize) -> Result<(), AllocError>
         ensures pushed { OnOk result (self.new ≡ self.old ++ number ∷ []) }
@@ -142,7 +142,7 @@ impl Numbers {
         Ok(())
     }
 
-    /// Drops the last number, if there is one.
+    /// Removes the last number, if any.
     pub fn pop(&mut self)
         ensures { self.new ≡ take (length self.old - 1) self.old }
     {
@@ -154,7 +154,7 @@ impl Numbers {
         }
     }
 
-    /// Puts another number in the place of one. Where memory for it is refused, nothing changes.
+    /// Replaces the number at an index. If an allocation fails, nothing changes.
     #[inline(always)]
     pub fn set(&mut self, index: usize, number: usize) -> Result<(), AllocError>
         requires { index < length self.old }
@@ -177,7 +177,7 @@ impl Numbers {
         Ok(())
     }
 
-    /// Drops the numbers. Their memory is kept.
+    /// Removes the numbers, and keeps their memory.
     pub fn clear(&mut self)
         ensures { self.new ≡ [] }
     {

@@ -1,4 +1,5 @@
-//! The entries of held events: a kind of one byte for each, and a number, of four while they fit.
+//! The entries of buffered events: for each a kind in one byte and a number, in four bytes while
+//! the numbers fit.
 
 ghost use Rattle.std.specs.Prelude.{◌≡◌, ◌-◌, ◌^◌, ◌<◌, ◌++◌, ◌∷◌, [], length, set, take, OnOk, OnErr};
 ghost use Rattle.plist_binwrite.specs.inner.Columns.{entry_of, kind_in, number_in, scalar_named, IsEntryNumber};
@@ -9,8 +10,8 @@ use crate::kinds::EntryKind;
 use std::alloc::{AllocError, Global};
 use std::marker::Model;
 
-/// A held event: a start with the index after its end, or after itself as long as it has none; a
-/// scalar by its index among the different ones.
+/// A buffered event. A start has the index after its end, or the index after itself until the end
+/// is known. A scalar has its index among the different scalars.
 #[derive(Clone, Copy)]
 pub enum EventEntry {
     /// The start of an array.
@@ -23,7 +24,7 @@ pub enum EventEntry {
     End,
 }
 
-// The kind of an entry.
+// Returns the kind of an entry.
 fn kind_in(entry: EventEntry) -> EntryKind
     ensures { result ≡ kind_in entry }
 {
@@ -35,7 +36,7 @@ fn kind_in(entry: EventEntry) -> EntryKind
     }
 }
 
-// The number of an entry: that of an end is 0.
+// Returns the number of an entry, which is 0 for an end.
 fn number_in(entry: EventEntry) -> usize
     ensures { result ≡ number_in entry }
 {
@@ -47,7 +48,7 @@ fn number_in(entry: EventEntry) -> usize
     }
 }
 
-// The entry of a kind and a number.
+// Makes an entry of a kind and a number.
 fn entry_of(kind: EntryKind, number: usize) -> EventEntry
     ensures { result ≡ entry_of kind number }
 {
@@ -59,7 +60,7 @@ fn entry_of(kind: EntryKind, number: usize) -> EventEntry
     }
 }
 
-// The entry with this index after its end, if it is a start.
+// Returns the entry with this index after its end, if it is a start.
 fn closed(entry: EventEntry, behind: usize) -> EventEntry
     ensures { result ≡ closed_at entry behind }
 {
@@ -71,7 +72,7 @@ fn closed(entry: EventEntry, behind: usize) -> EventEntry
     }
 }
 
-/// A list of entries, as a list of their kinds and one of their numbers.
+/// A list of entries, stored as a list of kinds and a list of numbers.
 #[derive(Drop)]
 pub struct Entries {
     kinds: Vec<EntryKind>,
@@ -91,7 +92,7 @@ impl Model for Entries {
 }
 
 impl Entries {
-    /// No entries. It takes no memory.
+    /// Creates an empty list. It allocates no memory.
     pub fn new(alloc: Global) -> Entries
         ensures { result ≡ [] }
     {
@@ -101,14 +102,14 @@ impl Entries {
         }
     }
 
-    /// How many entries there are.
+    /// Returns the number of entries.
     pub fn len(&self) -> usize
         ensures { result ≡ length self.now }
     {
         self.kinds.len()
     }
 
-    /// The kind of the entry at an index, of which its number isn't read.
+    /// Returns the kind of the entry at an index, without reading its number.
     pub fn kind_at(&self, index: usize) -> EntryKind
         requires { index < length self.now }
         ensures { result ≡ kind_in (entry_at self.now index) }
@@ -116,7 +117,7 @@ impl Entries {
         self.kinds.as_slice()[index]
     }
 
-    // The number of the entry at an index. That of an end means nothing.
+    // Returns the number of the entry at an index. For an end it is unspecified.
     fn number_at(&self, index: usize) -> usize
         requires { index < length self.now }
         ensures { IsEntryNumber self.now index result }
@@ -124,7 +125,7 @@ impl Entries {
         self.numbers.get(index)
     }
 
-    // The entry at an index.
+    // Returns the entry at an index.
     fn get(&self, index: usize) -> EventEntry
         requires { index < length self.now }
         ensures { result ≡ entry_at self.now index }
@@ -132,7 +133,7 @@ impl Entries {
         entry_of(self.kind_at(index), self.number_at(index))
     }
 
-    /// The index after the tree that begins with the entry at an index.
+    /// Returns the index after the tree that begins with the entry at an index.
     pub fn behind(&self, index: usize) -> usize
         requires within { index < length self.now }
         requires small { index < 2 ^ 64 - 1 }
@@ -146,8 +147,8 @@ impl Entries {
         }
     }
 
-    /// The index among the different scalars of the one that the entry at an index names, if it
-    /// names one.
+    /// Returns the index among the different scalars of the scalar at an index, or `None` if the
+    /// entry isn't a scalar.
     pub fn scalar(&self, index: usize) -> Option<usize>
         requires { index < length self.now }
         ensures { result ≡ scalar_named (entry_at self.now index) }
@@ -173,7 +174,7 @@ impl Entries {
         Ok(())
     }
 
-    // Drops the last entry, if there is one.
+    // Removes the last entry, if any.
     fn pop(&mut self)
         ensures { self.new ≡ take (length self.old - 1) self.old }
     {
@@ -181,7 +182,7 @@ impl Entries {
         self.numbers.pop();
     }
 
-    // Puts another entry in the place of one.
+    // Replaces the entry at an index.
     fn set(&mut self, index: usize, entry: EventEntry) -> Result<(), AllocError>
         requires { index < length self.old }
         ensures set { OnOk result (self.new ≡ set self.old index entry) }
@@ -209,7 +210,7 @@ impl Entries {
         }
     }
 
-    /// Drops the entries. Their memory is kept.
+    /// Removes the entries, and keeps their memory.
     pub fn clear(&mut self)
         ensures { self.new ≡ [] }
     {

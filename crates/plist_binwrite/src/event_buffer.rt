@@ -1,4 +1,4 @@
-//! The buffer of the open property list's events, with what is expected next.
+//! The buffer of the open property list's events, and what is expected next.
 
 ghost use Rattle.std.proofs.Props.{props};
 ghost use Rattle.std.specs.Prelude.{◌≡◌};
@@ -10,18 +10,18 @@ use crate::event_table::EventTable;
 use plist_base::{Change, Error, ErrorKind, Event, EventKind, Expect};
 use std::alloc::Global;
 
-/// The events taken of the open property list. Where they are those of a whole one, they wait to be
-/// cleared.
+/// The events of the open property list. Once they are those of a whole one, they stay until they
+/// are cleared.
 #[derive(Drop)]
 pub struct EventBuffer {
     held: EventTable<'static>,
-    // Nothing, where the events are those of a whole property list.
+    // `None` if the events are those of a whole property list.
     expects: Option<Expect>,
     expected: usize,
     ghost wanted: { ExpectsNext (plain_events held) expects } by { Prim.hlevel props },
 }
 
-// What an event does to what may come next.
+// Returns how an event changes what is expected next.
 fn change_on(expects: Option<Expect>, event: &Event<'_>) -> Change
     ensures { result ≡ change_on expects (event_of event.now) }
 {
@@ -31,7 +31,7 @@ fn change_on(expects: Option<Expect>, event: &Event<'_>) -> Change
     }
 }
 
-// What may come after an event that made this change and is held.
+// Returns what is expected once an event that made this change is buffered.
 fn next_expected(
     change: Change,
     expects: Option<Expect>,
@@ -55,7 +55,7 @@ impl EventBuffer {
     ghost use Rattle.plist_binwrite.specs.EventBuffers.{buffered_events, is_whole, BuffersNext, misplaced_fault, Accepts, CanTake, RefusesMisplaced};
     ghost use Rattle.plist_binwrite.specs.inner.Expected.{change_on};
 
-    /// No events. It takes no memory.
+    /// Creates a buffer without events. It allocates no memory.
     pub fn new(alloc: Global) -> EventBuffer
         ensures events { buffered_events result ≡ [] }
         ensures whole { is_whole result ≡ false }
@@ -67,8 +67,8 @@ impl EventBuffer {
         }
     }
 
-    /// Says how many different scalars are expected. It is a hint, by which their table grows in
-    /// larger steps: more can come, or fewer, and it takes no memory by itself.
+    /// Sets how many different scalars are expected. This is a hint, by which their table grows in
+    /// larger steps: there may be more scalars, or fewer. The call allocates no memory.
     pub fn expect_scalars(&mut self, count: usize)
         ensures events { buffered_events self.new ≡ buffered_events self.old }
         ensures whole { is_whole self.new ≡ is_whole self.old }
@@ -76,7 +76,7 @@ impl EventBuffer {
         self.expected = count;
     }
 
-    // The fault of an event that can't follow those held.
+    // Returns the error for an event that can't follow the buffered ones.
     fn fault_of_event(&self, event: &Event<'_>) -> Error
         ensures { fault_of result ≡ misplaced_fault (buffered_events self.now)
             (event_of event.now) }
@@ -90,7 +90,8 @@ impl EventBuffer {
         ErrorKind::UnexpectedEventType { expected, found }.without_position()
     }
 
-    // Holds an event that can follow those held, where this is what it does to what may come next.
+    // Buffers an event that can follow the buffered ones, given how it changes what is expected
+    // next.
     #[inline(always)]
     fn hold(&mut self, alloc: Global, event: Event<'_>, change: Change) -> Result<(), Error>
         requires still { is_whole self.old ≡ false }
@@ -105,11 +106,12 @@ impl EventBuffer {
         Ok(())
     }
 
-    /// Holds an event, or refuses one that can't follow those held: then the answer is its fault,
-    /// `UnexpectedEventType` without an offset, and nothing changes.
+    /// Buffers an event if it can follow the buffered ones. Otherwise it returns `Ok` with the
+    /// error, `UnexpectedEventType` without an offset, and nothing changes.
     ///
     /// # Errors
-    /// `OutOfMemory`, without an offset, for an event that can follow those held.
+    ///
+    /// `OutOfMemory`, without an offset, for an event that can follow the buffered ones.
     #[inline(always)]
     pub fn try_push(&mut self, alloc: Global, event: Event<'_>) -> Result<Option<Error>, Error>
         requires still { is_whole self.old ≡ false }
@@ -128,21 +130,21 @@ impl EventBuffer {
         }
     }
 
-    /// Whether the events are those of a whole property list.
+    /// Returns whether the events are those of a whole property list.
     pub fn is_whole(&self) -> bool
         ensures { result ≡ is_whole self.now }
     {
         self.expects.is_none()
     }
 
-    /// The events.
+    /// Returns the events.
     pub fn events(&self) -> &EventTable<'static>
         ensures { plain_events result.now ≡ buffered_events self.now }
     {
         &self.held
     }
 
-    /// Drops the events. Their memory is kept.
+    /// Removes the events, and keeps their memory.
     pub fn clear(&mut self)
         ensures events { buffered_events self.new ≡ [] }
         ensures whole { is_whole self.new ≡ false }

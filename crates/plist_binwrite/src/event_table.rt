@@ -1,4 +1,4 @@
-//! The table of a property list's events, each different scalar once.
+//! The table of a property list's events, which stores each different scalar once.
 
 ghost use Rattle.std.specs.Prelude.{◌≡◌, ◌^◌, ◌<◌, true, length, OnOk, OnErr, ◌-◌};
 ghost use Rattle.std.proofs.Props.{props};
@@ -12,9 +12,10 @@ use indexmap::IndexSet;
 use plist_base::{Error, Event, Expect};
 use std::alloc::{AllocError, Global};
 
-/// The events of a property list, each different scalar once. Lengths of starts are left out.
+/// The events of a property list. Each different scalar is stored once. Lengths of starts are left
+/// out.
 ///
-/// Nothing tests whether the events can follow one another.
+/// The table doesn't check whether the events can follow one another.
 #[derive(Drop)]
 pub struct EventTable<'e> {
     scalars: IndexSet<Event<'e>>,
@@ -24,7 +25,7 @@ pub struct EventTable<'e> {
     ghost few: { length entries < 2 ^ 63 },
 }
 
-// Is the event a text or data?
+// Returns whether the event is a string or data.
 fn is_content(event: &Event<'_>) -> bool {
     matches!(event, Event::Data(_) | Event::String(_))
 }
@@ -35,7 +36,7 @@ impl<'e> EventTable<'e> {
     ghost use Rattle.plist_binwrite.specs.inner.Entries.{is_start, IsUnclosed};
     ghost use Rattle.plist_binwrite.specs.inner.Expected.{expected_inside, innermost};
 
-    /// No events. It takes no memory.
+    /// Creates an empty table. It allocates no memory.
     pub fn new(alloc: Global) -> EventTable<'e>
         ensures events { plain_events result ≡ [] }
     {
@@ -46,9 +47,9 @@ impl<'e> EventTable<'e> {
         }
     }
 
-    /// Where the table of different scalars is full, and this many are expected in all, takes
-    /// memory for more: sixteen times as many as there are, and a thousand. So a wrong hint costs
-    /// no more than that. Where that is refused, the table grows as it fills.
+    /// Reserves memory for this many scalars in all if the table of different scalars is full, but
+    /// for at most sixteen times as many as there are, and a thousand. So a wrong hint costs no
+    /// more than that. If the allocation fails, the table grows as it fills.
     pub fn expect_scalars(&mut self, expected: usize)
         ensures events { plain_events self.new ≡ plain_events self.old }
     {
@@ -60,14 +61,14 @@ impl<'e> EventTable<'e> {
         let _ = self.scalars.reserve(more.min(expected - held));
     }
 
-    /// How many events there are.
+    /// Returns the number of events.
     pub fn len(&self) -> usize
         ensures { result ≡ length (plain_events self.now) }
     {
         self.entries.len()
     }
 
-    /// How many different scalars there are.
+    /// Returns the number of different scalars.
     pub fn count_scalars(&self) -> usize
         ensures count { result ≡ length (scalars_of self.now) }
         ensures small { result < 2 ^ 63 }
@@ -75,7 +76,7 @@ impl<'e> EventTable<'e> {
         self.scalars.len()
     }
 
-    /// The kind of the event at an index.
+    /// Returns the kind of the event at an index.
     pub fn kind_at(&self, index: usize) -> EntryKind
         requires { index < length (plain_events self.now) }
         ensures { result ≡ entry_kind_of (table_event self.now index) }
@@ -83,7 +84,7 @@ impl<'e> EventTable<'e> {
         self.entries.kind_at(index)
     }
 
-    /// Whether an item of a collection stands here, and not its end.
+    /// Returns whether an item of a collection is at this index, and not its end.
     pub fn has_item(&self, index: usize) -> bool
         ensures yes { result ≡ true → HasItem (plain_events self.now) index }
         ensures no { result ≡ false → LacksItem (plain_events self.now) index }
@@ -97,7 +98,7 @@ impl<'e> EventTable<'e> {
         }
     }
 
-    /// The index after the tree that begins here.
+    /// Returns the index after the tree that begins at this index.
     pub fn index_after(&self, index: usize) -> usize
         requires { index < length (plain_events self.now) }
         ensures forward { (index < result) × (result ≤ length (plain_events self.now)) }
@@ -106,7 +107,7 @@ impl<'e> EventTable<'e> {
         self.entries.behind(index)
     }
 
-    /// The index after the pair whose key stands here.
+    /// Returns the index after the pair whose key is at this index.
     pub fn index_after_pair(&self, key: usize) -> usize
         requires { key < length (plain_events self.now) }
         ensures forward { (key < result) × (result ≤ length (plain_events self.now)) }
@@ -119,7 +120,8 @@ impl<'e> EventTable<'e> {
         self.index_after(value)
     }
 
-    /// The index of the scalar here among the different ones, in the order in which they came.
+    /// Returns the index of the scalar at this index among the different scalars, which are in the
+    /// order of their first occurrence.
     pub fn scalar_index(&self, index: usize) -> Option<usize>
         requires { index < length (plain_events self.now) }
         ensures some { IfSome result (IsScalarAt self.now index) }
@@ -129,7 +131,7 @@ impl<'e> EventTable<'e> {
         self.entries.scalar(index)
     }
 
-    /// The scalar here.
+    /// Returns the scalar at this index, or `None` if the event isn't a scalar.
     pub fn scalar_at(&self, index: usize) -> Option<&Event<'e>>
         requires { index < length (plain_events self.now) }
         ensures some { IfSome result (λ event. table_event self.now index ≡ plain_event event.now) }
@@ -139,7 +141,7 @@ impl<'e> EventTable<'e> {
         self.scalars.get_index(scalar)
     }
 
-    // What may come in the innermost collection that has no end yet, if there is one.
+    // Returns what is expected in the innermost open collection, if one is open.
     pub(crate) fn innermost_expect(&self) -> Option<Expect>
         ensures { result ≡ innermost (expected_inside (plain_events self.now)) }
     {
@@ -153,7 +155,7 @@ impl<'e> EventTable<'e> {
         }
     }
 
-    // Takes a start, with the index after itself.
+    // Appends a start, with the index after itself.
     fn start(&mut self, entry: EventEntry) -> Result<(), AllocError>
         requires starts { is_start entry ≡ true }
         requires after { IsUnclosed (length (plain_events self.old)) entry }
@@ -167,7 +169,7 @@ impl<'e> EventTable<'e> {
         Ok(())
     }
 
-    // Takes an end: the innermost start that has none is closed.
+    // Appends an end, which closes the innermost open start.
     fn end(&mut self) -> Result<(), AllocError>
         ensures events { OnOk result (GrowsBy self.old EndCollection self.new) }
         ensures unchanged { OnErr result (plain_events self.new ≡ plain_events self.old) }
@@ -187,7 +189,7 @@ impl<'e> EventTable<'e> {
         }
     }
 
-    // The index of the equal of a scalar among the different ones, if it is held.
+    // Returns the index of an equal scalar among the different ones, or `None` if none is equal.
     fn find(&self, event: &Event<'_>) -> Option<usize>
         ensures { IfSome result (λ index. slice_get (scalars_of self.now) index
             ≡ Some (event_of event.now)) }
@@ -195,7 +197,7 @@ impl<'e> EventTable<'e> {
         self.scalars.get_index_of(event)
     }
 
-    // Takes a scalar that equals the one with this index among the different ones.
+    // Appends a scalar that is equal to the one with this index among the different ones.
     #[inline(always)]
     fn repeat(&mut self, index: usize) -> Result<(), AllocError>
         requires { is_leaf (event_at (scalars_of self.old) index) ≡ true }
@@ -207,8 +209,8 @@ impl<'e> EventTable<'e> {
         Ok(())
     }
 
-    // Takes a scalar: the index of its equal among the different ones, or a new one. A new one is
-    // dropped again where there is no memory for its entry.
+    // Appends a scalar: the index of an equal one among the different ones, or a new one. A new one
+    // is removed again if there is no memory for its entry.
     fn scalar(&mut self, event: Event<'e>) -> Result<(), AllocError>
         requires { is_leaf (event_of event) ≡ true }
         ensures events { OnOk result (GrowsBy self.old (event_of event.entry) self.new) }
@@ -229,7 +231,7 @@ impl<'e> EventTable<'e> {
         }
     }
 
-    // Takes an event. It doesn't answer an `Error`, whose 120 bytes would be cleared at each call.
+    // Appends an event. It doesn't return an `Error`, whose 120 bytes would be zeroed on each call.
     fn take(&mut self, event: Event<'e>) -> Result<(), AllocError>
         ensures events { OnOk result (GrowsBy self.old (plain_event event.entry) self.new) }
         ensures unchanged { OnErr result (plain_events self.new ≡ plain_events self.old) }
@@ -243,11 +245,12 @@ impl<'e> EventTable<'e> {
         }
     }
 
-    /// Takes an event. A scalar that equals one of those held is dropped, and takes no memory but
-    /// that of its index.
+    /// Appends an event. A scalar that is equal to a stored one is dropped, and takes only the
+    /// memory of its index.
     ///
     /// # Errors
-    /// `OutOfMemory`, without an offset; the events held are the same then.
+    ///
+    /// `OutOfMemory`, without an offset. The events are unchanged then.
     #[inline(always)]
     pub fn push(&mut self, event: Event<'e>) -> Result<(), Error>
         ensures events { OnOk result (GrowsBy self.old (plain_event event.entry) self.new) }
@@ -258,7 +261,7 @@ impl<'e> EventTable<'e> {
         Ok(())
     }
 
-    /// Drops the events. Their memory is kept.
+    /// Removes the events, and keeps their memory.
     pub fn clear(&mut self)
         ensures events { plain_events self.new ≡ [] }
     {
@@ -271,8 +274,8 @@ impl<'e> EventTable<'e> {
 impl EventTable<'static> {
     ghost use Rattle.plist_binwrite.specs.EventTable.{plain_event, plain_events, GrowsBy};
 
-    // Takes a copy of a text or data, unless its equal is held. This and the next one stand apart,
-    // since what they declare is cleared at each call.
+    // Appends a copy of a string or of data, unless an equal one is stored. This and the next
+    // function are separate, since their local variables are zeroed on each call.
     #[inline(never)]
     fn copy_content(&mut self, alloc: Global, event: Event<'_>) -> Result<(), AllocError>
         requires { is_leaf (event_of event) ≡ true }
@@ -288,7 +291,7 @@ impl EventTable<'static> {
         }
     }
 
-    // Takes a copy of a scalar that is neither text nor data; one that is, as `copy_content` does.
+    // Appends a copy of a scalar. A string or data is passed to `copy_content`.
     #[inline(never)]
     fn copy_plain(&mut self, alloc: Global, event: Event<'_>) -> Result<(), AllocError>
         requires { is_leaf (event_of event) ≡ true }
@@ -305,7 +308,7 @@ impl EventTable<'static> {
         }
     }
 
-    // Takes a copy of a scalar.
+    // Appends a copy of a scalar.
     #[inline(always)]
     fn copy_scalar(&mut self, alloc: Global, event: Event<'_>) -> Result<(), AllocError>
         requires { is_leaf (event_of event) ≡ true }
@@ -319,7 +322,7 @@ impl EventTable<'static> {
         }
     }
 
-    // Takes a copy of an event, and answers as `take` does.
+    // Appends a copy of an event. Like `take`, it doesn't return an `Error`.
     fn take_copy(&mut self, alloc: Global, event: Event<'_>) -> Result<(), AllocError>
         ensures events { OnOk result (GrowsBy self.old (plain_event event.entry) self.new) }
         ensures unchanged { OnErr result (plain_events self.new ≡ plain_events self.old) }
@@ -333,10 +336,11 @@ impl EventTable<'static> {
         }
     }
 
-    /// Takes a copy of an event. A text or data that equals one of those held isn't copied.
+    /// Appends a copy of an event. A string or data that is equal to a stored one isn't copied.
     ///
     /// # Errors
-    /// `OutOfMemory`, without an offset; the events held are the same then.
+    ///
+    /// `OutOfMemory`, without an offset. The events are unchanged then.
     #[inline(always)]
     pub fn push_copy(&mut self, alloc: Global, event: Event<'_>) -> Result<(), Error>
         ensures events { OnOk result (GrowsBy self.old (plain_event event.entry) self.new) }

@@ -1,5 +1,5 @@
 //! The bytes of each form of a file: scalars, lengths, references, the offset table and the
-//! trailer, each in the least form that holds it.
+//! trailer, each in the least form that fits.
 //!
 //! Each function puts its bytes into a [`Sink`], and returns an error as [`Sink::put`] does.
 
@@ -18,7 +18,7 @@ pub use plist_format::CountedKind;
 use plist_format::{LowHalf, Marker, UidWidth};
 use std::io::Write;
 
-// The marker of a number of this width.
+// Returns the marker of a number of this width.
 #[inline(always)]
 fn number_marker(width: usize) -> Marker
     ensures { byte_of result ≡ 0x10 + doublings width }
@@ -38,7 +38,7 @@ pub fn put_byte<W: Write>(sink: &mut Sink<'_, W>, byte: u8) -> Result<(), Error>
     sink.put(&[byte])
 }
 
-// Puts a marker and the bytes after it.
+// Puts a marker and the bytes that follow it.
 fn put_marked<W: Write>(sink: &mut Sink<'_, W>, marker: Marker, bytes: &[u8]) -> Result<(), Error>
     ensures { Puts W.contents sink.old (byte_of marker ∷ bytes.now) result sink.new }
 {
@@ -67,8 +67,8 @@ pub fn try_put_number<W: Write>(sink: &mut Sink<'_, W>, width: usize, number: u6
     sink.try_put(&digits[8 - width..])
 }
 
-/// Puts the lowest `width` bytes of a number, the highest of them first. A loop calls this in place
-/// of [`put_number`]: mostly the bytes fit into the buffer, and no result is zeroed for a call.
+/// Puts the lowest `width` bytes of a number, the highest of them first. A loop calls this instead
+/// of [`put_number`]: the bytes mostly fit into the buffer, and then no large result is zeroed.
 #[inline(always)]
 pub fn put_next_number<W: Write>(
     sink: &mut Sink<'_, W>,
@@ -100,7 +100,7 @@ fn put_marked_number<W: Write>(
     sink.put_both(&[marker.encode()], &digits[8 - width..])
 }
 
-/// Puts a number without sign, in the least of 1, 2, 4 and 8 bytes.
+/// Puts an unsigned number, in the least of 1, 2, 4 and 8 bytes.
 pub fn put_unsigned<W: Write>(sink: &mut Sink<'_, W>, number: u64) -> Result<(), Error>
     ensures { Puts W.contents sink.old (unsigned_form number) result sink.new }
 {
@@ -108,7 +108,8 @@ pub fn put_unsigned<W: Write>(sink: &mut Sink<'_, W>, number: u64) -> Result<(),
     put_marked_number(sink, number_marker(width), width, number)
 }
 
-/// Puts a marker of this kind with a length: in its low half below 15, else after it.
+/// Puts a marker of this kind with a length: in the marker's low half if it is below 15, and else
+/// after the marker.
 pub fn put_length<W: Write>(
     sink: &mut Sink<'_, W>,
     kind: CountedKind,
@@ -128,7 +129,7 @@ pub fn put_length<W: Write>(
     )
 }
 
-/// Puts a truth value.
+/// Puts a Boolean.
 pub fn put_boolean<W: Write>(sink: &mut Sink<'_, W>, value: bool) -> Result<(), Error>
     ensures { Puts W.contents sink.old (boolean_form value) result sink.new }
 {
@@ -151,7 +152,7 @@ pub fn put_date<W: Write>(sink: &mut Sink<'_, W>, date: Date) -> Result<(), Erro
     put_marked(sink, Marker::Date, &date.to_plist_real())
 }
 
-/// Puts a real in the width that it has.
+/// Puts a real in its width.
 pub fn put_real<W: Write>(sink: &mut Sink<'_, W>, bits: RealBits) -> Result<(), Error>
     ensures { Puts W.contents sink.old (real_form bits) result sink.new }
 {
@@ -177,8 +178,8 @@ fn put_wide_integer<W: Write>(sink: &mut Sink<'_, W>, number: u64) -> Result<(),
     put_number(sink, 8, number)
 }
 
-/// Puts an integer: one from 0 to `i64::MAX` in the least of 1, 2, 4 and 8 bytes, a negative one
-/// in eight, and one above `i64::MAX` in sixteen.
+/// Puts an integer: one from 0 to `i64::MAX` in the least of 1, 2, 4 and 8 bytes, a negative one in
+/// eight, and one above `i64::MAX` in sixteen.
 pub fn put_integer<W: Write>(sink: &mut Sink<'_, W>, value: Integer) -> Result<(), Error>
     ensures { Puts W.contents sink.old (integer_form value) result sink.new }
 {
@@ -192,7 +193,7 @@ pub fn put_integer<W: Write>(sink: &mut Sink<'_, W>, value: Integer) -> Result<(
     }
 }
 
-/// Puts some numbers of this width, as an offset table has them.
+/// Puts numbers of this width, one after another, as in an offset table.
 pub fn put_numbers<W: Write>(
     sink: &mut Sink<'_, W>,
     width: usize,
@@ -207,8 +208,8 @@ pub fn put_numbers<W: Write>(
     Ok(())
 }
 
-/// Puts the trailer of a file of this many objects, whose offset table lies at `table`; the root is
-/// object 0.
+/// Puts the trailer of a file of this many objects. The offset table lies at `table`, and the root
+/// is object 0.
 pub fn put_trailer<W: Write>(
     sink: &mut Sink<'_, W>,
     count: usize,

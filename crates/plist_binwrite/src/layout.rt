@@ -11,12 +11,13 @@ use crate::kinds::EntryKind;
 use crate::plan::Plan;
 use std::alloc::{AllocError, Global};
 
-/// The numbers of a file's objects in its order, and a list for the place of each.
+/// The numbers of a file's objects in its order, and a list for the offset of each.
 #[derive(Drop)]
 pub struct FileLayout {
-    /// The objects by their numbers, in the order in which they lie.
+    /// The objects by their numbers, in their order in the file.
     pub order: Numbers,
-    /// The place of each object, by its number; until that is known, a mark of those in `order`.
+    /// The offset of each object, by its number. Until the offsets are known, a mark for each
+    /// object that is in `order`.
     pub places: Numbers,
 }
 
@@ -27,8 +28,8 @@ impl FileLayout {
     ghost use Rattle.plist_binwrite.specs.inner.Planning.{IsPlanned, count_of};
     ghost use Rattle.plist_binwrite.specs.inner.Sizing.{MarksItem};
 
-    // Puts the object of the event here into the order, unless it is there already. The mark
-    // of an object that is there isn't 0.
+    // Appends the object of the event at an index to the order, unless it is there already. The
+    // mark of an object that is there isn't 0.
     fn put(&mut self, events: &EventTable<'_>, plan: &Plan, index: usize) -> Result<(), AllocError>
         requires planned { IsPlanned (plain_events events.now) plan.now }
         requires order { IsOrder (count_of plan.now) self.old.order self.old.places }
@@ -48,7 +49,7 @@ impl FileLayout {
         Ok(())
     }
 
-    // Puts the keys of a dictionary into the order, from here on.
+    // Appends the keys of a dictionary to the order, from an index on.
     fn put_keys(
         &mut self,
         events: &EventTable<'_>,
@@ -68,7 +69,7 @@ impl FileLayout {
         Ok(())
     }
 
-    // Puts the object of the event here into the order, and after it those of its keys.
+    // Appends the object of the event at an index to the order, and then those of its keys.
     fn put_here(
         &mut self,
         events: &EventTable<'_>,
@@ -90,7 +91,7 @@ impl FileLayout {
     }
 }
 
-/// Puts the objects into order: that of the events, where the keys of a dictionary come before its
+/// Orders the objects: as the events are ordered, except that the keys of a dictionary precede its
 /// values.
 pub fn order_objects(
     alloc: Global,

@@ -1,4 +1,4 @@
-//! How many bytes each form has. A length of 2^64 or more is `None`.
+//! The number of bytes of each form. A length of 2^64 or more is `None`.
 
 ghost use Rattle.std.specs.Prelude.{◌≡◌, ◌+◌, ◌*◌, ◌≤◌, ◌<◌, ◌^◌, ℕ, length, None};
 ghost use Rattle.plist_base.specs.Events.{event_of};
@@ -11,7 +11,7 @@ use crate::widths::least_width;
 use plist_base::{Date, Event, Integer, RealBits, Uid};
 use plist_format::LowHalf;
 
-/// The sum of two lengths.
+/// Returns the sum of two lengths.
 pub fn add(length: Option<u64>, more: Option<u64>) -> Option<u64>
     ensures sum { (a b : ℕ) → IsSizeOrNone length a → IsSizeOrNone more b
         → IsSizeOrNone result (a + b) }
@@ -20,7 +20,7 @@ pub fn add(length: Option<u64>, more: Option<u64>) -> Option<u64>
     length?.checked_add(more?)
 }
 
-/// The length of a number without sign.
+/// Returns the length of an unsigned number.
 pub fn length_of_unsigned(number: u64) -> u64
     ensures value { result ≡ length (unsigned_form number) }
     ensures small { result ≤ 9 }
@@ -28,7 +28,7 @@ pub fn length_of_unsigned(number: u64) -> u64
     1 + least_width(number) as u64
 }
 
-/// The length of a marker with a count.
+/// Returns the length of a marker with a count.
 pub fn length_of_count(count: u64) -> u64
     ensures value { (high : ℕ) → result ≡ length (length_form high count) }
     ensures small { result ≤ 10 }
@@ -39,7 +39,7 @@ pub fn length_of_count(count: u64) -> u64
     }
 }
 
-// The length of a marker with a count, and of `count` bytes after it.
+// Returns the length of a marker with a count and the `count` bytes that follow it.
 fn length_of_bytes(count: u64) -> Option<u64>
     ensures value { (high : ℕ) → IsSizeOrNone result (marked_size high count count) }
 {
@@ -92,7 +92,7 @@ fn length_of_uid(uid: Uid) -> u64
     1 + least_width(uid.get()) as u64
 }
 
-/// The length of a scalar. That of a start or an end means nothing.
+/// Returns the length of a scalar. For a start or an end the result is unspecified.
 pub fn length_of_scalar(event: &Event<'_>) -> Option<u64>
     ensures value { IfScalar (event_of event.now) (λ x. IsSizeOrNone result (scalar_size x)) }
     ensures writable { IfScalar (event_of event.now) IsWritableScalar }
@@ -109,7 +109,7 @@ pub fn length_of_scalar(event: &Event<'_>) -> Option<u64>
     }
 }
 
-/// The length of a collection of this count with this many references, each of this width.
+/// Returns the length of a collection of this count with this many references of this width.
 pub fn length_of_collection(count: u64, references: u64, width: u64) -> Option<u64>
     ensures value { (high : ℕ) → IsSizeOrNone result (marked_size high count (references * width)) }
 {

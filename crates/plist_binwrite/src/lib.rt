@@ -1,7 +1,7 @@
 //! Writes binary property lists.
 //!
-//! The main contract is that of [`BinaryWriter`]: the event that completes a tree sends a file of
-//! it, in the least forms, that unfolds to the events; no other event sends a byte.
+//! The main contract is that of [`BinaryWriter`]: the event that completes a tree writes a file of
+//! it, in the least forms, that unfolds to the events; no other event writes a byte.
 #![tactic(auto)]
 
 pub mod children;

@@ -9,14 +9,14 @@ use crate::event_table::EventTable;
 use crate::kinds::{EntryKind, key_or_value};
 use std::alloc::{AllocError, Global};
 
-// Held events, and the class of each.
+// Buffered events, and the class of each.
 #[derive(Clone, Copy)]
 struct Classed<'p, 'e> {
     events: &'p EventTable<'e>,
     classes: &'p Numbers,
 }
 
-// The numbers so far: by class, by event, and by number the index of its first event.
+// The numbers so far: by class, by event, and for each number the index of its first event.
 #[derive(Drop)]
 struct Numbered {
     ids: Numbers,
@@ -29,8 +29,8 @@ impl Numbered {
     ghost use Rattle.plist_binwrite.specs.EventTable.{plain_events};
     ghost use Rattle.plist_binwrite.specs.inner.Numbering.{AreMarks, BeginsAt, IsNumberedSoFar, HaveIdsOf, IsPlanOf, KeepsNumbers, NumbersAll, NumbersChildren, NumbersKeysOrValues, NumbersItem, NumbersItems, RootIsFirst};
 
-    // No numbers so far. There is room for the first index of each class, since lists that grow
-    // would leave gaps between those that are filled.
+    // Starts without numbers. Memory for the first index of each class is reserved, since lists
+    // that grow would leave gaps between those that are full.
     fn new(alloc: Global, events: &EventTable<'_>, count: usize) -> Result<Numbered, AllocError>
         ensures ids { IfOk result (λ r. AreMarks count r.ids) }
         ensures numbers { IfOk result (λ r. AreMarks (length (plain_events events.now)) r.numbers) }
@@ -46,7 +46,7 @@ impl Numbered {
         })
     }
 
-    // Numbers the object of the event here, unless it has a number.
+    // Numbers the object of the event at an index, unless it has a number.
     fn number_one(&mut self, given: &Classed<'_, '_>, index: usize) -> Result<(), AllocError>
         requires so_far { IsNumberedSoFar given.now self.old }
         // The answer.
@@ -76,7 +76,7 @@ impl Numbered {
         Ok(())
     }
 
-    // Numbers the items of an array from here on.
+    // Numbers the items of an array, from an index on.
     fn number_items(&mut self, given: &Classed<'_, '_>, from: usize) -> Result<(), AllocError>
         requires so_far { IsNumberedSoFar given.now self.old }
         ensures so_far { OnOk result (IsNumberedSoFar given.now self.new) }
@@ -91,7 +91,7 @@ impl Numbered {
         Ok(())
     }
 
-    // Numbers the values of a dictionary, or its keys, from here on.
+    // Numbers the values of a dictionary, or its keys, from an index on.
     fn number_keys_or_values(
         &mut self,
         given: &Classed<'_, '_>,
@@ -112,7 +112,7 @@ impl Numbered {
         Ok(())
     }
 
-    // Numbers the keys of the collection that begins here, and then its values.
+    // Numbers the keys of the collection that begins at an index, and then its values.
     fn number_children(&mut self, given: &Classed<'_, '_>, index: usize) -> Result<(), AllocError>
         requires so_far { IsNumberedSoFar given.now self.old }
         requires index { index < length (plain_events given.now.events.now) }
@@ -132,7 +132,8 @@ impl Numbered {
         }
     }
 
-    // Numbers all: a collection, when its turn comes, its keys and then its values.
+    // Numbers all objects: when a collection has its turn, its keys and then its values are
+    // numbered.
     fn number_all(&mut self, given: &Classed<'_, '_>) -> Result<(), AllocError>
         requires so_far { IsNumberedSoFar given.now self.old }
         requires none { self.old.firsts ≡ [] }
@@ -148,8 +149,8 @@ impl Numbered {
     }
 }
 
-/// The number of each held event's object, and by number the index of the first event of that
-/// object.
+/// The number of each buffered event's object, and for each number the index of the first event of
+/// that object.
 #[derive(Drop)]
 pub struct Numbering {
     /// The number of each event's object, by the event's index.
@@ -158,8 +159,8 @@ pub struct Numbering {
     pub firsts: Numbers,
 }
 
-/// Numbers the objects of the held events, one for each class: a collection, when its turn comes,
-/// numbers its keys and then its values.
+/// Numbers the objects of the buffered events, one for each class: when a collection has its turn,
+/// its keys and then its values are numbered.
 pub fn number_by_class(
     alloc: Global,
     events: &EventTable<'_>,

@@ -13,7 +13,7 @@ use crate::size::count_items;
 use plist_base::{Error, Sink};
 use std::io::Write;
 
-// Puts references to the items of an array, from here on.
+// Puts references to the items of an array, from an index on.
 fn put_items<W: Write>(
     sink: &mut Sink<'_, W>,
     file: &Planned<'_, '_>,
@@ -31,7 +31,7 @@ fn put_items<W: Write>(
     Ok(())
 }
 
-// Puts references to the values of a dictionary, or to its keys, from here on.
+// Puts references to the values of a dictionary, or to its keys, from an index on.
 fn put_keys_or_values<W: Write>(
     sink: &mut Sink<'_, W>,
     file: &Planned<'_, '_>,
@@ -83,7 +83,7 @@ fn put_dictionary<W: Write>(
     put_keys_or_values(sink, file, index + 1, true)
 }
 
-// Puts the object of the tree that begins here.
+// Puts the object of the tree that begins at an index.
 fn put_object<W: Write>(
     sink: &mut Sink<'_, W>,
     file: &Planned<'_, '_>,

@@ -1,4 +1,4 @@
-//! What is planned of held events before their file is laid out.
+//! What is planned for buffered events before their file is laid out.
 
 ghost use Rattle.std.specs.Prelude.{◌≡◌, ◌<◌, length, IfOk};
 ghost use Rattle.plist_base.specs.Outcomes.{OnlyMemory};
@@ -12,7 +12,7 @@ use crate::numbering::{Numbering, number_by_class};
 use plist_base::Error;
 use std::alloc::Global;
 
-/// What is planned of events: the numbers of their objects.
+/// What is planned for events: the numbers of their objects.
 #[derive(Drop)]
 pub struct Plan {
     /// The numbers of the objects.
@@ -20,7 +20,7 @@ pub struct Plan {
 }
 
 impl Plan {
-    /// The number of the object of the event here.
+    /// Returns the number of the object of the event at an index.
     pub fn number(&self, index: usize) -> usize
         requires { index < length (numbers_of self.now) }
         ensures { result ≡ nth_number (numbers_of self.now) index }
@@ -28,7 +28,7 @@ impl Plan {
         self.numbering.numbers.get(index)
     }
 
-    /// The index of the first event of an object.
+    /// Returns the index of the first event of an object.
     pub fn first(&self, number: usize) -> usize
         requires { number < length (firsts_of self.now) }
         ensures { result ≡ nth_number (firsts_of self.now) number }
@@ -37,20 +37,21 @@ impl Plan {
     }
 }
 
-/// A planned file: its events, what is planned of them, and how wide a reference is.
+/// A planned file: its events, what is planned for them, and the width of a reference.
 #[derive(Clone, Copy)]
 pub struct Planned<'p, 'e> {
     /// The events.
     pub events: &'p EventTable<'e>,
-    /// What is planned of them.
+    /// What is planned for them.
     pub plan: &'p Plan,
-    /// How many bytes a reference has.
+    /// The number of bytes in a reference.
     pub width: usize,
 }
 
-/// Plans the events of a tree: one object for each class, where the classes are below a count.
+/// Plans the events of a tree: one object for each class. All classes are below a count.
 ///
 /// # Errors
+///
 /// `OutOfMemory`, without an offset.
 pub fn plan_by_class(
     alloc: Global,

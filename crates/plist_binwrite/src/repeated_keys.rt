@@ -1,4 +1,4 @@
-//! Whether a dictionary has a key twice.
+//! Whether a dictionary contains a key twice.
 
 ghost use Rattle.std.specs.Prelude.{◌≡◌, ◌≢◌, ◌+◌, ◌<◌, true, false, length, get_or, set, IfOk};
 ghost use Rattle.plist_base.specs.Outcomes.{OnlyMemory};
@@ -11,7 +11,7 @@ use crate::kinds::EntryKind;
 use plist_base::Error;
 use std::alloc::Global;
 
-// Whether a scalar has this stamp already; it has it afterwards.
+// Returns whether a scalar has this stamp already, and stamps it.
 fn stamp(stamps: &mut Vec<usize>, scalar: usize, mark: usize) -> bool
     requires { scalar < length stamps.old.items }
     ensures repeated { result ≡ true → get_or stamps.old.items scalar 0 ≡ mark }
@@ -23,8 +23,8 @@ fn stamp(stamps: &mut Vec<usize>, scalar: usize, mark: usize) -> bool
     stood
 }
 
-// Whether a dictionary begins here that has a key twice. The stamp of a different scalar says after
-// which start it was last a key.
+// Returns whether a dictionary that contains a key twice begins at an index. The stamp of a
+// different scalar identifies the last dictionary in which it was a key, by the index of the start.
 fn repeats_at(events: &EventTable<'_>, start: usize, stamps: &mut Vec<usize>) -> bool
     requires start { start < length (plain_events events.now) }
     requires long { length stamps.old.items ≡ length (scalars_of events.now) }
@@ -51,10 +51,11 @@ fn repeats_at(events: &EventTable<'_>, start: usize, stamps: &mut Vec<usize>) ->
     false
 }
 
-/// Whether a dictionary of the property list whose events these are has a key twice. Where none
-/// has, the last value of each key is its only one.
+/// Returns whether a dictionary of the property list with these events contains a key twice. If
+/// none does, the last value of each key is its only one.
 ///
 /// # Errors
+///
 /// `OutOfMemory`, without an offset.
 pub fn repeats_key(alloc: Global, events: &EventTable<'_>) -> Result<bool, Error>
     ensures once { IfOk result (TestsKeysOnce events.now) }

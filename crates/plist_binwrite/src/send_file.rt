@@ -1,4 +1,4 @@
-//! The end of a property list: its file is planned and sent.
+//! The end of a property list: its file is planned and written.
 
 ghost use Rattle.std.specs.Prelude.{◌≡◌, [], length, IfOk, IfSome, None};
 ghost use Rattle.plist_base.specs.Outcomes.{IfFault, OnlyMemory};
@@ -26,8 +26,8 @@ use plist_base::{Error, ErrorKind, Sink};
 use std::alloc::Global;
 use std::io::Write;
 
-// A planned file: its objects in order with their places, and the place of its offset table, none
-// where that is 2^64 or more.
+// A planned file: its objects in order with their offsets, and the offset of its offset table, or
+// `None` if that is 2^64 or more.
 #[derive(Drop)]
 struct Draft {
     plan: Plan,
@@ -36,7 +36,8 @@ struct Draft {
     table: Option<u64>,
 }
 
-// The same of a file that has less than 2^64 bytes.
+// A planned file that has less than 2^64 bytes: its objects in order with their offsets, and the
+// offset of its offset table.
 #[derive(Drop)]
 struct Ready {
     plan: Plan,
@@ -45,8 +46,8 @@ struct Ready {
     table: usize,
 }
 
-// Plans the file of the events of a tree, with one object for each class. After it no memory is
-// taken.
+// Plans the file of the events of a tree, with one object for each class. No memory is allocated
+// after it.
 fn draft_file(alloc: Global, events: &EventTable<'_>, classes: Classes) -> Result<Draft, Error>
     requires whole { IsBracketed (plain_events events.now) }
     requires long { length classes.of ≡ length (plain_events events.now) }
@@ -75,7 +76,7 @@ fn draft_file(alloc: Global, events: &EventTable<'_>, classes: Classes) -> Resul
     })
 }
 
-// The planned file, or none where it would have 2^64 bytes or more.
+// Returns the planned file, or `None` if it would have 2^64 bytes or more.
 fn fitting(draft: Draft) -> Option<Ready>
     ensures ready { IfSome result (IsFitting draft) }
     ensures oversized { result ≡ None → IsDraftTooLarge draft }
@@ -131,7 +132,7 @@ fn send_file<W: Write>(
     sink.finish()
 }
 
-// Sends a planned file, or refuses it for its size alone.
+// Writes a planned file, or returns `PlistTooLarge` if it is too large.
 fn send_draft<W: Write>(
     sink: &mut Sink<'_, W>,
     events: &EventTable<'_>,
@@ -151,15 +152,16 @@ fn send_draft<W: Write>(
     }
 }
 
-/// Plans the file of the events of a whole property list with one object for each class, sends it
-/// and flushes. All memory is taken before the first byte is sent: besides the plan, a buffer of
-/// fixed size that bytes are sent through.
+/// Plans the file of a whole property list's events with one object for each class, writes it and
+/// flushes the writer. All memory is allocated before the first byte is written: besides the plan,
+/// a buffer of fixed size that bytes are written through.
 ///
-/// Trees of one class have one object; the class of an end isn't read.
+/// Trees of one class share an object; the class of an end isn't read.
 ///
 /// # Errors
-/// `PlistTooLarge` where the file would have 2^64 bytes or more, and `OutOfMemory`, before a byte
-/// was sent; `Io` after a beginning of the file was.
+///
+/// `PlistTooLarge` if the file would have 2^64 bytes or more, and `OutOfMemory`, before a byte is
+/// written; `Io` after a prefix of the file was.
 pub fn complete_by_class<W: Write>(
     alloc: Global,
     events: &EventTable<'_>,
@@ -178,11 +180,12 @@ pub fn complete_by_class<W: Write>(
     send_draft(&mut sink, events, draft)
 }
 
-/// Plans the file of the events of a whole property list, sends it and flushes: one object for each
-/// collection, and one for each different scalar. All memory is taken before the first byte goes
-/// out.
+/// Plans the file of a whole property list's events, writes it and flushes the writer: one object
+/// for each collection, and one for each different scalar. All memory is allocated before the first
+/// byte is written.
 ///
 /// # Errors
+///
 /// Those of [`complete_by_class`].
 pub fn complete<W: Write>(
     alloc: Global,

@@ -1,4 +1,4 @@
-//! Which equal trees of a property list are one object of its file.
+//! Which equal trees of a property list share an object of its file.
 
 ghost use Rattle.std.specs.Prelude.{List, ℕ};
 ghost use Rattle.plist_base.specs.Bracketing.{AreTreeEvents};
@@ -13,22 +13,23 @@ use plist_base::{Error, Sealed};
 use std::alloc::Global;
 use std::io::Write;
 
-/// Which equal trees of a property list are one object of its file. There are no others than those
-/// of this crate and of `plist_share`, as with [`Writer`](plist_base::Writer).
+/// Decides which equal trees of a property list share an object of its file. Only this crate and
+/// `plist_share` implement it, as with [`Writer`](plist_base::Writer).
 pub trait Sharing: Sealed + Drop {
     ghost use Rattle.plist_binwrite.specs.Completing.{SendsHeld};
 
-    /// What is a file of a tree?
+    /// The bytes that are a file of a tree.
     ghost IsFile: { Tree → List ℕ → Type 0 };
-    /// How many bytes it has.
+    /// The number of bytes of the file of a tree.
     ghost size: { Tree → ℕ };
 
-    /// Plans the file of the events of a whole property list, sends it and flushes. All memory is
-    /// taken before the first byte is sent.
+    /// Plans the file of a whole property list's events, writes it and flushes the writer. All
+    /// memory is allocated before the first byte is written.
     ///
     /// # Errors
-    /// `PlistTooLarge` where the file would have 2^64 bytes or more, and `OutOfMemory`, before a
-    /// byte was sent; `Io` after a beginning of the file was.
+    ///
+    /// `PlistTooLarge` if the file would have 2^64 bytes or more, and `OutOfMemory`, before a byte
+    /// is written; `Io` after a prefix of the file was.
     fn complete<W: Write>(
         alloc: Global,
         events: &EventTable<'_>,
@@ -38,7 +39,7 @@ pub trait Sharing: Sealed + Drop {
         ensures { SendsHeld IsFile size W.contents events.now result writer.old writer.new };
 }
 
-/// Equal scalars are one object, and each collection is one of its own.
+/// Equal scalars share an object, and each collection has one of its own.
 #[derive(Drop)]
 pub struct EqualScalars;
 

@@ -1,5 +1,5 @@
-//! How many bytes the objects and the file will have, before any byte is sent. A size of 2^64 or
-//! more is `None`.
+//! The number of bytes of the objects and of the file, before any byte is written. A size of 2^64
+//! or more is `None`.
 
 ghost use Rattle.std.specs.Prelude.{◌≡◌, ◌+◌, ◌^◌, ◌<◌, ◌≤◌, ℕ, length, true, false, IfOk, IfSome, None, OnOk, Some};
 ghost use Rattle.plist_base.specs.Outcomes.{OnlyMemory};
@@ -16,7 +16,7 @@ use crate::plan::Planned;
 use crate::widths::offset_width;
 use plist_base::Error;
 
-/// The number of items of an array from here on; a key is an item, and so is its value.
+/// Counts the items of a collection from an index on. In a dictionary, keys and values both count.
 pub fn count_items(events: &EventTable<'_>, from: usize) -> usize
     ensures value { CountsItems events.now from result }
     ensures small { result < 2 ^ 64 }
@@ -30,7 +30,7 @@ pub fn count_items(events: &EventTable<'_>, from: usize) -> usize
     count
 }
 
-// The size of the object of the tree that begins here.
+// Returns the size of the object of the tree that begins at an index.
 fn size_of_object(file: &Planned<'_, '_>, index: usize) -> Option<u64>
     requires planned { IsPlanned (events_in file.now) file.now.plan.now }
     requires index { index < length (events_in file.now) }
@@ -54,17 +54,18 @@ fn size_of_object(file: &Planned<'_, '_>, index: usize) -> Option<u64>
     }
 }
 
-// A place, or 0 where there is none.
+// Returns an offset, or 0 for `None`.
 fn place_or_none(place: Option<u64>) -> usize
     ensures { IfSome place (λ number. result ≡ number) }
 {
     place.unwrap_or(0) as usize
 }
 
-/// Gives each object its place, in this order from the end of the magic on. The answer is the place
-/// after them all, which is that of the offset table.
+/// Sets the offset of each object, in this order from the end of the magic on. Returns the offset
+/// after all of them, which is that of the offset table.
 ///
 /// # Errors
+///
 /// `OutOfMemory`, without an offset.
 pub fn place_objects(
     file: &Planned<'_, '_>,
@@ -90,7 +91,7 @@ pub fn place_objects(
     Ok(at)
 }
 
-// The size of a file with this many objects, whose offset table lies here.
+// Returns the size of a file with this many objects and its offset table at this offset.
 fn size_of_file(table: u64, count: u64) -> Option<u64>
     ensures { (objects : ℕ) → table ≡ 8 + objects → IsSizeOrNone result (size_with count objects) }
 {
@@ -98,7 +99,8 @@ fn size_of_file(table: u64, count: u64) -> Option<u64>
     add(add(Some(table), offsets), Some(32))
 }
 
-// Whether a file with this many objects, whose offset table lies here, has less than 2^64 bytes.
+// Returns whether a file with this many objects and its offset table at this offset has less than
+// 2^64 bytes.
 fn has_size(table: u64, count: u64) -> bool
     ensures yes { result ≡ true → FitsWith table count }
     ensures no { result ≡ false → ExceedsWith table count }
@@ -106,8 +108,8 @@ fn has_size(table: u64, count: u64) -> bool
     size_of_file(table, count).is_some()
 }
 
-/// The place of the offset table of a file of this many objects, or none where the file would have
-/// 2^64 bytes or more. It takes no memory.
+/// Returns the offset of the offset table of a file with this many objects, or `None` if the file
+/// would have 2^64 bytes or more. It allocates no memory.
 pub fn check_size(table: Option<u64>, count: u64) -> Option<u64>
     ensures table { IfSome result (λ place. table ≡ Some place) }
     ensures fits { IfSome result (λ place. FitsWith place count) }

@@ -1,4 +1,4 @@
-//! The bytes of texts: ASCII, or UTF-16.
+//! The bytes of strings: ASCII, or UTF-16.
 
 ghost use Rattle.std.specs.Prelude.{◌≡◌, Ok, true, false, length};
 ghost use Rattle.std.specs.Char.Escape.{encode_utf16};
@@ -9,7 +9,7 @@ use crate::forms::{CountedKind, put_length, put_number, try_put_number};
 use plist_base::{Error, Sink};
 use std::io::Write;
 
-// Puts the one or two units of a character.
+// Puts the UTF-16 units of a character.
 fn put_char<W: Write>(sink: &mut Sink<'_, W>, c: char) -> Result<(), Error>
     ensures { Puts W.contents sink.old (char_units c) result sink.new }
 {
@@ -46,14 +46,14 @@ fn put_units<W: Write>(sink: &mut Sink<'_, W>, text: &str) -> Result<(), Error>
     Ok(())
 }
 
-// How many units a character has.
+// Returns the number of UTF-16 units of a character.
 fn units_in(c: char) -> usize
     ensures value { result ≡ length (encode_utf16 c) }
 {
     if (c as u32) < 0x1_0000 { 1 } else { 2 }
 }
 
-/// How many units a text has.
+/// Returns the number of UTF-16 units of a string.
 pub fn count_units(text: &str) -> usize
     ensures value { result ≡ length (units_of text.now) }
 {
@@ -64,11 +64,11 @@ pub fn count_units(text: &str) -> usize
     count
 }
 
-/// Whether each byte is ASCII.
+/// Returns whether each byte is ASCII.
 pub fn is_ascii_text(text: &str) -> bool
     ensures value { result ≡ is_ascii_text text.now }
 {
-    // without a stop, so that many bytes are looked at together
+    // The loop doesn't stop early, so that it can be vectorized.
     let mut greatest = 0u8;
     for byte in text.as_bytes() {
         greatest = greatest.max(*byte);
@@ -92,7 +92,7 @@ fn put_wide<W: Write>(sink: &mut Sink<'_, W>, text: &str) -> Result<(), Error>
     put_units(sink, text)
 }
 
-/// Puts a text: its bytes where all are ASCII, else its UTF-16 units.
+/// Puts a string: its bytes if all are ASCII, and else its UTF-16 units.
 pub fn put_text<W: Write>(sink: &mut Sink<'_, W>, text: &str) -> Result<(), Error>
     ensures { Puts W.contents sink.old (text_form text.now) result sink.new }
 {

@@ -1,10 +1,11 @@
-//! How many bytes the numbers of a file have: an integer, a reference, a place in the offset table.
+//! How many bytes the numbers of a file have: an integer, a reference, or an offset in the offset
+//! table.
 
 ghost use Rattle.std.specs.Prelude.{◌≡◌, ◌≤◌, ◌<◌, ◌^◌};
 ghost use Rattle.plist_binwrite.specs.Forms.{least_width};
 ghost use Rattle.plist_binwrite.specs.Widths.{reference_width, offset_width};
 
-/// The least of 1, 2, 4 and 8 bytes that hold a number.
+/// Returns the least of 1, 2, 4 and 8 bytes into which a number fits.
 #[tactic(auto, using(crate::proofs::LeastWidths::widths))]
 pub fn least_width(number: u64) -> usize
     ensures value { result ≡ least_width number }
@@ -22,7 +23,7 @@ pub fn least_width(number: u64) -> usize
     }
 }
 
-/// How many bytes a reference has among this many objects.
+/// Returns the number of bytes in a reference among this many objects.
 pub fn reference_width(count: u64) -> usize
     ensures value { result ≡ reference_width count }
     ensures range { (1 ≤ result) × (result ≤ 8) }
@@ -31,7 +32,7 @@ pub fn reference_width(count: u64) -> usize
     least_width(count.saturating_sub(1))
 }
 
-/// How many bytes a place has in an offset table that lies here.
+/// Returns the number of bytes in an offset, if the offset table lies at `table`.
 pub fn offset_width(table: u64) -> usize
     ensures value { result ≡ offset_width table }
     ensures range { (1 ≤ result) × (result ≤ 8) }

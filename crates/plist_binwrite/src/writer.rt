@@ -11,23 +11,24 @@ use std::alloc::Global;
 use std::io::Write;
 use std::marker::PhantomData;
 
-/// Writes binary property lists, one after the other, to what takes bytes.
+/// Writes binary property lists, one after another, to a writer.
 ///
-/// It holds the events of the open property list. Where an event completes it, the whole file is
-/// planned, sent and flushed, and nothing is held; what takes the bytes isn't called before. Each
-/// file counts its places from its own start. Lengths of starts decide nothing.
+/// It buffers the events of the open property list. The event that completes it has the whole file
+/// planned, written and flushed, and then no event is buffered; the inner writer isn't called
+/// before. The offsets in each file count from its own start. Lengths of starts decide nothing.
 ///
 /// # Errors
-/// `UnexpectedEventType` for an event that can't follow those held, and nothing changes;
-/// `PlistTooLarge` where the file would have 2^64 bytes or more. `PlistTooLarge`, `OutOfMemory` and
-/// `Io` come only for an event that can follow those held, and the writer has failed then: each
-/// later event answers `WriterFailed`. After `PlistTooLarge` and `OutOfMemory` no byte of the
-/// property list went out; after `Io` a beginning of its file did, all of it where the flush
-/// failed.
+///
+/// `UnexpectedEventType` for an event that can't follow the buffered ones; nothing changes.
+/// `PlistTooLarge` if the file would have 2^64 bytes or more. `PlistTooLarge`, `OutOfMemory` and
+/// `Io` are returned only for an event that can follow the buffered ones, and the writer has failed
+/// then: each later event returns `WriterFailed`. After `PlistTooLarge` and `OutOfMemory` no byte
+/// of the property list was written; after `Io` a prefix of its file was, and all of it if the
+/// flush failed.
 pub type BinaryWriter<W> = FileWriter<W, EqualScalars>;
 
-/// Writes binary property lists, one after the other, in which equal trees are one object as its
-/// [`Sharing`] says. [`BinaryWriter`] says what a call does, and when it is refused.
+/// Writes binary property lists, one after another, in which equal trees share objects as its
+/// [`Sharing`] says. [`BinaryWriter`] documents what a call does, and when it fails.
 #[derive(Drop)]
 pub struct FileWriter<W: Write, S: Sharing> {
     writer: W,
@@ -42,7 +43,7 @@ impl<W: Write, S: Sharing> FileWriter<W, S> {
     ghost use Rattle.std.specs.Prelude.{◌≡◌, [], false};
     ghost use Rattle.plist_binwrite.specs.FileWriter.{open_events, failed_of, sink_of};
 
-    /// A writer that holds no events. It takes no memory, and sends nothing.
+    /// Creates a writer without buffered events. It allocates no memory, and writes nothing.
     pub fn new(alloc: Global, writer: W) -> Self
         ensures held { open_events result ≡ [] }
         ensures failed { failed_of result ≡ false }
@@ -57,7 +58,7 @@ impl<W: Write, S: Sharing> FileWriter<W, S> {
         }
     }
 
-    /// What takes the bytes. Events that are held are dropped.
+    /// Returns the inner writer. Buffered events are dropped.
     pub fn into_inner(self) -> W
         ensures inner { result ≡ sink_of self }
     {

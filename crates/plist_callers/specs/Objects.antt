@@ -1,4 +1,4 @@
--- Which object of an archive a key names.
+-- The object to which a key of an archive refers.
 use Rattle.std.specs.Prelude.{◌≡◌, ℕ, List, None, Some, slice_get}
 use Rattle.plist.specs.declared.value.Value.{Value}
 use Rattle.plist_keyed.specs.declared.archive.Archive.{Archive}
@@ -10,7 +10,7 @@ IsObjectAt key archive object =
     (uid : ℕ) × IsUidAt key (names_of archive) uid
     × (slice_get (objects_of archive) uid ≡ Some object)
 
--- it is that of none
+-- the key's Uid refers to no object
 abbrev pub HasNoObjectAt : (key : List ℕ) → Archive → Type 0
 HasNoObjectAt key archive =
     (uid : ℕ) → IsUidAt key (names_of archive) uid → slice_get (objects_of archive) uid ≡ None

@@ -1,4 +1,4 @@
-//! A proved caller of the calls of an archive that take no memory.
+//! A proved caller of the calls of an archive that allocate no memory.
 
 ghost use Rattle.std.specs.Prelude.{IfSome, IsNone};
 ghost use Rattle.plist_callers.specs.Objects.{HasNoObjectAt, IsObjectAt};
@@ -6,7 +6,7 @@ ghost use Rattle.plist_callers.specs.Objects.{HasNoObjectAt, IsObjectAt};
 use plist::Value;
 use plist_keyed::Archive;
 
-/// The object that an archive names by a key, in which no Uid is followed.
+/// Returns the object to which a key of an archive refers. No Uid in it is resolved.
 pub fn object_at<'a>(archive: &Archive<'a>, key: &str) -> Option<&'a Value>
     ensures found { IfSome result (λ object. IsObjectAt key.now archive.now object.now) }
     ensures missing { IsNone result → HasNoObjectAt key.now archive.now }

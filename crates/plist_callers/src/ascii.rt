@@ -1,5 +1,4 @@
-//! Proved callers of the reader: what becomes of its device, and that it looks at no byte after a
-//! bracket.
+//! Proved callers of the reader: it returns its inner reader, and looks at no byte after a bracket.
 
 ghost use Rattle.std.specs.Prelude.{◌≡◌, None, true};
 ghost use Rattle.plist_ascii.specs.AsciiReader.{HasEndedAscii, device_of, peeked_byte};
@@ -8,14 +7,15 @@ use plist_ascii::{AsciiReader, ByteReader};
 use plist_base::Event;
 use std::alloc::Global;
 
-/// A device, by way of a reader that wasn't asked for an item.
+/// Returns the inner reader of a reader that hasn't been called.
 pub fn device_again<R: ByteReader>(alloc: Global, device: R) -> R
     ensures { result ≡ device }
 {
     AsciiReader::new(alloc, device).into_inner()
 }
 
-/// The device of a reader that is asked once more: as it was, where the reader had ended.
+/// Calls a reader once more and returns its inner reader, which is unchanged if the reader had
+/// ended.
 pub fn device_after_end<R: ByteReader + Drop>(reader: AsciiReader<R>) -> R
     ensures { HasEndedAscii reader → result ≡ device_of reader }
 {
@@ -24,8 +24,8 @@ pub fn device_after_end<R: ByteReader + Drop>(reader: AsciiReader<R>) -> R
     reader.into_inner()
 }
 
-/// Whether the next item is the start or the end of a collection. Then no byte after it has been
-/// looked at.
+/// Returns whether the next item is the start or the end of a collection. If it is, no byte after
+/// it has been looked at.
 pub fn comes_to_bracket<R: ByteReader + Drop>(reader: &mut AsciiReader<R>) -> bool
     ensures { result ≡ true → peeked_byte reader.new ≡ None }
 {

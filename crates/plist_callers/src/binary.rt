@@ -1,4 +1,4 @@
-//! Proved callers of a reader: how many objects it says a file has, and what comes after a fault.
+//! Proved callers of a reader: how many objects it reports, and what it yields after an error.
 
 ghost use Rattle.std.specs.Prelude.{◌≡◌, ◌≤◌, None, IfSome, false};
 ghost use Rattle.plist_binread.specs.BinaryReader.{objects_in_head};
@@ -7,8 +7,8 @@ use plist_base::{Error, ErrorKind, OwnedEvent, Source};
 use plist_binread::BinaryReader;
 use std::alloc::Global;
 
-/// How many objects a reader says a file has, before its first step and after it: none, and then no
-/// more than the file's head counts.
+/// Returns how many objects a reader reports before its first call, which is 0, and after it, which
+/// is at most as many as the file's head has.
 pub fn count_objects(alloc: Global, bytes: &[u8]) -> (usize, usize)
     ensures before { result.0 ≡ 0 }
     ensures after { result.1 ≤ objects_in_head bytes.now }
@@ -19,7 +19,7 @@ pub fn count_objects(alloc: Global, bytes: &[u8]) -> (usize, usize)
     (before, reader.objects_in_file())
 }
 
-/// How many objects a file has whose root is none of them: as many as its head counts.
+/// Returns how many objects a file has whose root isn't one of them: as many as its head has.
 pub fn count_without_root(alloc: Global, bytes: &[u8]) -> Option<usize>
     ensures { IfSome result (λ count. count ≡ objects_in_head bytes.now) }
 {
@@ -33,7 +33,7 @@ pub fn count_without_root(alloc: Global, bytes: &[u8]) -> Option<usize>
     }
 }
 
-/// What a reader gives after a fault, be it a limit's or a device's: nothing.
+/// Returns what a reader yields after an error, even a limit's or an I/O error: nothing.
 pub fn next_after_a_fault<R: Source>(
     reader: &mut BinaryReader<R>,
 ) -> Option<Result<OwnedEvent, Error>>
@@ -45,8 +45,8 @@ pub fn next_after_a_fault<R: Source>(
     }
 }
 
-/// Whether a reader without limits reaches one, at its first item or at the second: never, whatever
-/// the source does.
+/// Returns whether a reader without limits reaches one, at its first item or at the second. It
+/// never does, whatever the source does.
 pub fn reaches_a_limit<R: Source>(alloc: Global, source: R) -> bool
     ensures { result ≡ false }
 {
@@ -61,7 +61,7 @@ pub fn reaches_a_limit<R: Source>(alloc: Global, source: R) -> bool
     }
 }
 
-/// How many objects a file has after a further item of its reader: as many as before.
+/// Returns how many objects a reader reports before and after one more item: equally many.
 pub fn count_again<R: Source>(reader: &mut BinaryReader<R>) -> (usize, usize)
     ensures { result.0 ≡ result.1 }
 {

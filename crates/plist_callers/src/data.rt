@@ -1,5 +1,5 @@
-//! Proved callers of data: its bytes are those that were put in, it is what its bytes are, its text
-//! reads back as itself, and what is no such text is refused for its first wrong symbol.
+//! Proved callers of data: its bytes are those from which it was made, it is equal if they are, its
+//! text is read back as the data, and what isn't such a text is rejected at its first wrong symbol.
 
 ghost use Rattle.std.specs.Prelude.{◌≡◌, ◌<◌, ◌↔◌, Err, IfErr, IfOk, IfSome, IsTrue, codes, length, slice_get, slice_set, string_bytes};
 ghost use Rattle.base64.specs.Engines.{standard};
@@ -12,18 +12,18 @@ use base64::DecodeError;
 use plist_base::{Data, Error, InvalidXmlData};
 use std::alloc::{AllocError, Global};
 
-/// Bytes, by way of data.
+/// Returns bytes, through data.
 pub fn bytes_again(bytes: Vec<u8>) -> Vec<u8>
     ensures { result.items ≡ bytes.items }
 {
     Vec::from(Data::from(bytes))
 }
 
-/// The bytes of a copy of data, which are its own.
+/// Returns the bytes of a copy of data, which are its own.
 ///
 /// # Errors
 ///
-/// Lack of memory.
+/// `OutOfMemory`.
 pub fn bytes_of_copy(first: &Data) -> Result<Vec<u8>, Error>
     ensures { IfOk result (λ bytes. bytes.items ≡ first.now) }
 {
@@ -31,14 +31,14 @@ pub fn bytes_of_copy(first: &Data) -> Result<Vec<u8>, Error>
     Ok(Vec::from(copy))
 }
 
-/// The first byte of data, if it has one.
+/// Returns the first byte of data, if it has one.
 pub fn first_byte(held: &Data) -> Option<u8>
     ensures { result ≡ slice_get held.now 0 }
 {
     held.as_ref().first().copied()
 }
 
-/// Sets the first byte of data; the others stay.
+/// Sets the first byte of data. The others don't change.
 pub fn set_first_byte(held: &mut Data, byte: u8)
     requires { 0 < length held.old }
     ensures { held.new ≡ slice_set held.old 0 byte }
@@ -47,26 +47,26 @@ pub fn set_first_byte(held: &mut Data, byte: u8)
     bytes[0] = byte;
 }
 
-/// Whether data is the same: whether its bytes are.
+/// Returns whether two values of data are equal, that is, whether their bytes are.
 pub fn are_same(first: &Data, other: &Data) -> bool
     ensures { IsTrue result ↔ (first.now ≡ other.now) }
 {
     first == other
 }
 
-/// Why a text isn't data, as a text.
+/// Prints the error of parsing what isn't data.
 ///
 /// # Errors
 ///
-/// Lack of memory.
+/// An allocation fails.
 pub fn text_of_no_data(alloc: Global) -> Result<String, AllocError>
     ensures { IfOk result (λ text. string_bytes text ≡ codes "Invalid XML data") }
 {
     InvalidXmlData::Decode(DecodeError::InvalidPadding).to_string(alloc)
 }
 
-/// The first byte of a text that base64 hasn't, if it is no data for that reason, with its place in
-/// what is left of the text without white space.
+/// Returns the first byte of a text that isn't in base64, if that is why the text isn't data, with
+/// its offset in the text without white space.
 pub fn wrong_symbol(alloc: Global, text: &str) -> Option<(usize, u8)>
     ensures { IfSome result (λ found.
         decode_of standard (without_white text.now) ≡ Err (fault.InvalidByte found.0 found.1)) }
@@ -79,18 +79,18 @@ pub fn wrong_symbol(alloc: Global, text: &str) -> Option<(usize, u8)>
     }
 }
 
-/// The text of bytes, as data: base64 in lines of 68 characters.
+/// Returns the text of bytes, as data: base64 in lines of 68 characters.
 ///
 /// # Errors
 ///
-/// Lack of memory.
+/// `OutOfMemory`.
 pub fn text_of_bytes(alloc: Global, bytes: Vec<u8>) -> Result<String, Error>
     ensures { IfOk result (λ text. string_bytes text ≡ data_text bytes.items) }
 {
     Data::from(bytes).to_xml_format(alloc)
 }
 
-/// The data of data's own text, which is that data.
+/// Returns the data of data's own text, which is that data.
 ///
 /// # Errors
 ///

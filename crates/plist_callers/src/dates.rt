@@ -1,5 +1,5 @@
-//! Proved callers of dates and their texts: each reads back as itself; a real that is no date's, a
-//! date that has no text.
+//! Proved callers of dates and their texts: each is read back as itself, and some reals have no
+//! date, and some dates no text.
 
 ghost use Rattle.std.specs.Prelude.{◌≡◌, IfOk, None, Some, string_bytes};
 ghost use Rattle.plist_base.specs.Date.{IsWhole};
@@ -9,11 +9,11 @@ ghost use Rattle.plist_base.specs.Faults.{FractionalDate, InvalidDateString, Yea
 use plist_base::{Date, Error, ErrorKind};
 use std::alloc::Global;
 
-/// A date's text, by way of the date: the same text, where it has `T` and `Z`.
+/// Returns the text of a text's date: the same text, if it has `T` and `Z`.
 ///
 /// # Errors
 ///
-/// `InvalidDateString`, without an offset, if the text spells no date; else those of
+/// `InvalidDateString`, without an offset, if the text spells no date; otherwise those of
 /// [`Date::to_xml_format`].
 pub fn text_again(alloc: Global, text: &str) -> Result<String, Error>
     ensures same { IfOk result (λ again. IsInUtc text.now → string_bytes again ≡ text.now) }
@@ -23,7 +23,7 @@ pub fn text_again(alloc: Global, text: &str) -> Result<String, Error>
     date.to_xml_format(alloc)
 }
 
-/// The date of a date's own text, which is that date.
+/// Returns the date of a date's own text, which is that date.
 ///
 /// # Errors
 ///
@@ -38,7 +38,7 @@ pub fn date_again(alloc: Global, date: &Date) -> Result<Date, Error>
     }
 }
 
-/// The text of the half second after 2001-01-01T00:00:00Z: there is none.
+/// Returns the error of printing half a second after 2001-01-01T00:00:00Z.
 pub fn half_second(alloc: Global) -> Result<String, Error>
     ensures { IsRefused FractionalDate result }
 {
@@ -48,7 +48,7 @@ pub fn half_second(alloc: Global) -> Result<String, Error>
     }
 }
 
-/// The text of a date in a year that isn't one from 0 to 9999: there is none.
+/// Returns the error of printing a date whose year isn't from 0 to 9999.
 pub fn other_year(alloc: Global, date: &Date) -> Result<String, Error>
     requires whole { IsWhole date.now }
     requires year { HasOtherYear date.now }
@@ -57,7 +57,7 @@ pub fn other_year(alloc: Global, date: &Date) -> Result<String, Error>
     date.to_xml_format(alloc)
 }
 
-/// Why an infinite real is no date.
+/// Returns the error of making a date of an infinite real.
 pub fn infinite_date() -> Option<ErrorKind>
     ensures { result ≡ Some ErrorKind.OverflowOrNanDate }
 {

@@ -1,16 +1,16 @@
-//! Proved callers of what a dictionary lends and gives: each value is less deep than the
-//! dictionary, so a recursion over it ends, by whichever call it comes to the values.
+//! Proved callers of the calls of a dictionary that borrow or yield values: each value is less deep
+//! than the dictionary, so a recursion over the values ends, whichever call they are from.
 
 use plist::dictionary::Entry;
 use plist::{Dictionary, Error, ErrorKind, Value};
 use std::alloc::Global;
 
-// One more, up to the greatest number.
+// Adds one, up to the greatest number.
 fn one_more(count: u64) -> u64 {
     count.saturating_add(1)
 }
 
-/// How many values but dictionaries stand in a dictionary, by a loop over it.
+/// Counts the values other than dictionaries in a dictionary, at any depth, by a loop over it.
 pub fn count_in(pairs: &Dictionary) -> u64 {
     let mut count = 0;
     for (_key, value) in pairs {
@@ -22,7 +22,7 @@ pub fn count_in(pairs: &Dictionary) -> u64 {
     count
 }
 
-/// The same by its iterator.
+/// Like [`count_in`], but by the dictionary's iterator.
 pub fn count_by_iter(pairs: &Dictionary) -> u64 {
     let mut count = 0;
     for (_key, value) in pairs.iter() {
@@ -34,7 +34,7 @@ pub fn count_by_iter(pairs: &Dictionary) -> u64 {
     count
 }
 
-/// The same by its values.
+/// Like [`count_in`], but by the dictionary's values.
 pub fn count_by_values(pairs: &Dictionary) -> u64 {
     let mut count = 0;
     for value in pairs.values() {
@@ -46,7 +46,7 @@ pub fn count_by_values(pairs: &Dictionary) -> u64 {
     count
 }
 
-/// The same by its keys beside its values.
+/// Like [`count_in`], but by the dictionary's keys and its values.
 pub fn count_by_columns(pairs: &Dictionary) -> u64 {
     let mut count = 0;
     for (_key, value) in pairs.keys().zip(pairs.values()) {
@@ -58,7 +58,7 @@ pub fn count_by_columns(pairs: &Dictionary) -> u64 {
     count
 }
 
-/// The same of a dictionary by value.
+/// Like [`count_in`], but for a dictionary by value.
 pub fn count_of(pairs: Dictionary) -> u64 {
     let mut count = 0;
     for (_key, value) in pairs {
@@ -70,7 +70,7 @@ pub fn count_of(pairs: Dictionary) -> u64 {
     count
 }
 
-/// How many dictionaries lie within one another under this key.
+/// Counts the dictionaries that are nested under this key.
 pub fn levels_at(pairs: &Dictionary, key: &str) -> u64 {
     match pairs.get(key) {
         Some(Value::Dictionary(inner)) => one_more(levels_at(inner, key)),
@@ -78,7 +78,7 @@ pub fn levels_at(pairs: &Dictionary, key: &str) -> u64 {
     }
 }
 
-/// The same of a value.
+/// Counts the dictionaries that are nested under this key in a value.
 pub fn levels_in(value: &Value, key: &str) -> u64 {
     match value.as_dictionary() {
         Some(pairs) => match pairs.get(key) {
@@ -89,7 +89,7 @@ pub fn levels_in(value: &Value, key: &str) -> u64 {
     }
 }
 
-/// How many values but arrays stand in a value.
+/// Counts the values other than arrays in a value.
 pub fn count_in_arrays(value: &Value) -> u64 {
     let Some(items) = value.as_array() else {
         return 1;
@@ -101,7 +101,7 @@ pub fn count_in_arrays(value: &Value) -> u64 {
     count
 }
 
-/// Of dictionaries that lie within one another under this key, how many: by entries.
+/// Counts the dictionaries that are nested under this key, by entries.
 pub fn levels_by_entry(alloc: Global, pairs: &mut Dictionary, key: &str) -> Result<u64, Error> {
     match pairs.entry(key.to_string(alloc)?) {
         Entry::Occupied(found) => match found.into_mut() {
@@ -112,7 +112,7 @@ pub fn levels_by_entry(alloc: Global, pairs: &mut Dictionary, key: &str) -> Resu
     }
 }
 
-/// The same by what the dictionary lends to be changed.
+/// Counts the dictionaries that are nested under this key, by mutable references.
 pub fn levels_by_get_mut(pairs: &mut Dictionary, key: &str) -> u64 {
     match pairs.get_mut(key) {
         Some(Value::Dictionary(inner)) => one_more(levels_by_get_mut(inner, key)),
@@ -120,11 +120,11 @@ pub fn levels_by_get_mut(pairs: &mut Dictionary, key: &str) -> u64 {
     }
 }
 
-/// How many values but dictionaries lie in a dictionary, none of which is a date.
+/// Counts the values other than dictionaries in a dictionary that contains no dates.
 ///
 /// # Errors
 ///
-/// A date is refused.
+/// A date is an error.
 pub fn try_count_in(pairs: &Dictionary) -> Result<u64, Error> {
     let mut count = 0;
     for (_key, value) in pairs {
@@ -137,11 +137,11 @@ pub fn try_count_in(pairs: &Dictionary) -> Result<u64, Error> {
     Ok(count)
 }
 
-/// Like [`try_count_in`], by value.
+/// Like [`try_count_in`], but for a dictionary by value.
 ///
 /// # Errors
 ///
-/// A date is refused.
+/// A date is an error.
 pub fn try_count_of(pairs: Dictionary) -> Result<u64, Error> {
     let mut count = 0;
     for (_key, value) in pairs {
@@ -154,7 +154,7 @@ pub fn try_count_of(pairs: Dictionary) -> Result<u64, Error> {
     Ok(count)
 }
 
-/// Like [`try_count_of`], with `None` for a date.
+/// Like [`try_count_of`], but returns `None` for a date.
 pub fn count_without_dates(pairs: Dictionary) -> Option<u64> {
     let mut count = 0;
     for (_key, value) in pairs {
@@ -167,12 +167,12 @@ pub fn count_without_dates(pairs: Dictionary) -> Option<u64> {
     Some(count)
 }
 
-/// Like [`try_count_of`], by [`Value::into_dictionary`]: how many dictionaries lie in one that has
-/// nothing else.
+/// Like [`try_count_of`], by [`Value::into_dictionary`]: counts the dictionaries in one that
+/// contains nothing else.
 ///
 /// # Errors
 ///
-/// Any other value is refused.
+/// Any other value is an error.
 pub fn try_count_dictionaries(pairs: Dictionary) -> Result<u64, Error> {
     let mut count = 0;
     for (_key, value) in pairs {
@@ -184,17 +184,18 @@ pub fn try_count_dictionaries(pairs: Dictionary) -> Result<u64, Error> {
     Ok(count)
 }
 
-/// Merges a dictionary into another one: where both have a dictionary at a key these are merged,
-/// and else the value is set.
+/// Merges a dictionary into another one. Where both have a dictionary at a key, these are merged,
+/// and otherwise the value is set.
 ///
 /// # Errors
 ///
-/// `OutOfMemory`; a part has been merged then.
+/// `OutOfMemory`; then a part has been merged.
 pub fn merge(base: &mut Dictionary, over: Dictionary) -> Result<(), Error> {
     merge_into(over, base)
 }
 
-// The same. The dictionary that gets less deep comes first: by it the recursion is seen to end.
+// Merges a dictionary into another one. The parameter that gets less deep is first, which proves
+// that the recursion ends.
 fn merge_into(over: Dictionary, base: &mut Dictionary) -> Result<(), Error> {
     for (key, value) in over {
         match value {
@@ -212,11 +213,11 @@ fn merge_into(over: Dictionary, base: &mut Dictionary) -> Result<(), Error> {
     Ok(())
 }
 
-/// How many keys two dictionaries have in common, at any depth.
+/// Counts the keys that two dictionaries have in common, at any depth.
 ///
 /// # Errors
 ///
-/// A date in the first is refused.
+/// A date in the first is an error.
 pub fn try_count_common(pairs: &Dictionary, others: &Dictionary) -> Result<u64, Error> {
     let mut count = 0;
     for (key, value) in pairs {

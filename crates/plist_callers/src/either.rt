@@ -1,4 +1,4 @@
-//! Proved callers of the reader: what it gives after its end, and where a device's failure is.
+//! Proved callers of the reader: what it yields after its end, and the offset of an I/O error.
 
 ghost use Rattle.std.specs.Prelude.{◌≡◌, false, true};
 
@@ -6,7 +6,7 @@ use plist_base::{ErrorKind, Source};
 use plist_reader::Reader;
 use std::alloc::Global;
 
-/// Whether something comes after the end, or after a fault that no text in ASCII has.
+/// Returns whether an item follows the end, or an error that no ASCII has. None does.
 pub fn comes_after_end<R: Source>(reader: &mut Reader<R>) -> bool
     ensures { result ≡ false }
 {
@@ -24,7 +24,7 @@ pub fn comes_after_end<R: Source>(reader: &mut Reader<R>) -> bool
     }
 }
 
-/// Whether what comes next has a place if it is a device's failure.
+/// Returns whether the next item, if it is an I/O error, has an offset, which is always true.
 pub fn has_its_place<R: Source>(reader: &mut Reader<R>) -> bool
     ensures { result ≡ true }
 {
@@ -34,7 +34,7 @@ pub fn has_its_place<R: Source>(reader: &mut Reader<R>) -> bool
     }
 }
 
-/// Whether something comes after XML, or after a collection that contains itself.
+/// Returns whether an item follows XML, or a collection that contains itself. None does.
 pub fn comes_after_refusal<R: Source>(reader: &mut Reader<R>) -> bool
     ensures { result ≡ false }
 {
@@ -47,7 +47,7 @@ pub fn comes_after_refusal<R: Source>(reader: &mut Reader<R>) -> bool
     }
 }
 
-/// Whether a reader gives a fault that only a writer has.
+/// Returns whether a reader yields an error that only a writer has. It doesn't.
 pub fn fails_as_a_writer<R: Source>(reader: &mut Reader<R>) -> bool
     ensures { result ≡ false }
 {
@@ -62,7 +62,8 @@ pub fn fails_as_a_writer<R: Source>(reader: &mut Reader<R>) -> bool
     }
 }
 
-/// Whether a reader without limits reaches one, at its first item or at the second.
+/// Returns whether a reader without limits reaches one, at its first item or at the second. It
+/// doesn't.
 pub fn reaches_a_limit<R: Source>(alloc: Global, source: R) -> bool
     ensures { result ≡ false }
 {

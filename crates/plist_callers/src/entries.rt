@@ -1,5 +1,5 @@
 //! Proved callers of entries: the entry of a key has that key and its value, and by it the key's
-//! value is set and taken out.
+//! value is set and removed.
 
 ghost use Rattle.std.specs.Prelude.{◌≡◌, IfErr, IfOk, OnErr, OnOk, OnSome, string_bytes, unwrap_or, option_and_then, false};
 ghost use Rattle.std.specs.Map.{lookup};
@@ -15,14 +15,14 @@ use plist::dictionary::Entry;
 use plist::dictionary::Entry::{Occupied, Vacant};
 use plist::{Dictionary, Error, Value};
 
-/// Whether the entry of a key has this key.
+/// Returns whether the entry of a key has this key.
 pub fn entry_has_key(pairs: &mut Dictionary, key: String, name: &str) -> bool
     ensures { result ≡ bytes_eq (string_bytes key) name.now }
 {
     pairs.entry(key).key().as_str() == name
 }
 
-/// The truth value of a key, by its entry.
+/// Returns the Boolean of a key, by its entry.
 pub fn flag_by_entry(pairs: &mut Dictionary, key: String) -> Option<bool>
     ensures { result ≡ option_and_then (λ value. boolean_in (tree_of value))
         (lookup (bytes_eq (string_bytes key)) (pairs_of pairs.old)) }
@@ -33,7 +33,7 @@ pub fn flag_by_entry(pairs: &mut Dictionary, key: String) -> Option<bool>
     }
 }
 
-/// The truth value of a key. One that isn't there is added with `false`.
+/// Returns the Boolean of a key. If the key isn't there, it is added with `false`.
 pub fn flag_or_false(pairs: &mut Dictionary, key: String) -> Result<Option<bool>, (String, Value)>
     ensures { IfOk result (λ flag. flag ≡ boolean_in (tree_of
         (unwrap_or (lookup (bytes_eq (string_bytes key)) (pairs_of pairs.old))
@@ -43,7 +43,8 @@ pub fn flag_or_false(pairs: &mut Dictionary, key: String) -> Result<Option<bool>
     Ok(lent.as_boolean())
 }
 
-/// The same, with lack of memory as the fault.
+/// Returns the Boolean of a key. If the key isn't there, it is added with `false`, or the error is
+/// `OutOfMemory`.
 pub fn flag_or_fault(pairs: &mut Dictionary, key: String) -> Result<Option<bool>, Error>
     ensures flag { IfOk result (λ flag. flag ≡ boolean_in (tree_of
         (unwrap_or (lookup (bytes_eq (string_bytes key)) (pairs_of pairs.old))
@@ -54,8 +55,8 @@ pub fn flag_or_fault(pairs: &mut Dictionary, key: String) -> Result<Option<bool>
     Ok(lent.as_boolean())
 }
 
-/// Sets a key's value through its entry, which first adds the key with another value where it
-/// isn't there.
+/// Sets a key's value through its entry. If the key isn't there, it is first added with another
+/// value.
 pub fn set_by_entry(
     pairs: &mut Dictionary,
     key: String,
@@ -71,7 +72,8 @@ pub fn set_by_entry(
     Ok(())
 }
 
-/// Sets a key's value through its entry, for which a first one is made where the key isn't there.
+/// Sets a key's value through its entry. If the key isn't there, it is first added with a value
+/// that the closure makes.
 pub fn set_by_made_entry<F: FnOnce() -> Value>(
     pairs: &mut Dictionary,
     key: String,
@@ -88,7 +90,7 @@ pub fn set_by_made_entry<F: FnOnce() -> Value>(
     Ok(())
 }
 
-/// Takes a key out through its entry.
+/// Removes a key through its entry.
 pub fn take_by_entry(pairs: &mut Dictionary, key: String) -> Option<Value>
     ensures value { result ≡ lookup (bytes_eq (string_bytes key)) (pairs_of pairs.old) }
     ensures pairs { OnSome result (IsTakenAt (pairs_of pairs.old) (string_bytes key) (pairs_of pairs.new)) }

@@ -1,5 +1,5 @@
-//! Proved callers of events: an event that is written by the call that it names, or as a
-//! copy; the hash of data; and numbers in their order.
+//! Proved callers of events: an event that is written by the method that it names, or as a copy;
+//! the hash of data; and integers in their order.
 
 ghost use Rattle.std.specs.Prelude.{◌≡◌, ◌<ℤ◌, ◌↔◌, IsTrue, OnOk};
 ghost use Rattle.std.specs.Cow.{cow_slice_items};
@@ -12,7 +12,7 @@ use std::alloc::Global;
 use std::borrow::CowSlice;
 use std::hash::{DefaultHasher, Hash, Hasher};
 
-/// Writes an event by the call that it names: just this event.
+/// Writes an event by the method that it names. It is just this event.
 pub fn write_by_name<W: Writer>(writer: &mut W, event: Event<'_>) -> Result<(), Error>
     ensures { W.Step writer.old (event_of event.entry) (answer_of result) writer.new }
 {
@@ -30,7 +30,7 @@ pub fn write_by_name<W: Writer>(writer: &mut W, event: Event<'_>) -> Result<(), 
     }
 }
 
-/// Writes a copy of an event, and then a copy of that: each time the event itself.
+/// Writes a copy of an event, and then a copy of that. Each is the event itself.
 pub fn write_copies<W: Writer>(
     alloc: Global,
     writer: &mut W,
@@ -42,7 +42,7 @@ pub fn write_copies<W: Writer>(
     writer.write(copy)
 }
 
-/// The hash of data, which is that of its bytes in one write.
+/// Returns the hash of data, which is that of its bytes in one write.
 pub fn hash_of_data(bytes: CowSlice<'_, u8>) -> u64
     ensures { result ≡ sip.finish (sip.write sip.initial (cow_slice_items bytes.entry)) }
 {
@@ -51,7 +51,7 @@ pub fn hash_of_data(bytes: CowSlice<'_, u8>) -> u64
     state.finish()
 }
 
-/// Whether a number is below another.
+/// Returns whether a number is below another.
 pub fn is_below(number: Integer, other: Integer) -> bool
     ensures { IsTrue result ↔ (number <ℤ other) }
 {

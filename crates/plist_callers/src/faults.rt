@@ -1,4 +1,4 @@
-//! Proved callers of faults: what a fault says of itself.
+//! Proved callers of errors: what an error says of itself.
 
 ghost use Rattle.std.specs.Prelude.{◌≡◌, IfOk, MatchResult, None, Ok, Some, false, string_bytes, true};
 ghost use Rattle.std.specs.IoError.{error_kind};
@@ -8,7 +8,8 @@ use plist_base::{Error, ErrorKind};
 use std::alloc::{AllocError, Global};
 use std::io;
 
-/// Whether the input ended too early, whether a device failed, and where: of an early end.
+/// For an early end, returns whether the input ended too early, whether it is an I/O error, and the
+/// offset.
 pub fn early_end(place: u64) -> (bool, bool, Option<u64>)
     ensures { result ≡ (true, false, Some place) }
 {
@@ -16,7 +17,8 @@ pub fn early_end(place: u64) -> (bool, bool, Option<u64>)
     (fault.is_eof(), fault.is_io(), fault.offset())
 }
 
-/// The same of an end of the events, which has no place.
+/// For an end of the events, which has no offset, returns whether the input ended too early,
+/// whether it is an I/O error, and the offset.
 pub fn end_of_events() -> (bool, bool, Option<u64>)
     ensures { result ≡ (false, false, None) }
 {
@@ -24,7 +26,7 @@ pub fn end_of_events() -> (bool, bool, Option<u64>)
     (fault.is_eof(), fault.is_io(), fault.offset())
 }
 
-/// What kind of failure a device's fault lends.
+/// Returns the kind of the I/O error in an error.
 pub fn failure_kind(failure: io::Error) -> Option<io::ErrorKind>
     ensures { result ≡ Some (error_kind failure) }
 {
@@ -35,25 +37,25 @@ pub fn failure_kind(failure: io::Error) -> Option<io::ErrorKind>
     }
 }
 
-/// A device's failure, by way of its fault.
+/// Returns an I/O error, through an error.
 pub fn failure_again(failure: io::Error, place: u64) -> Result<io::Error, Error>
     ensures { result ≡ Ok failure }
 {
     ErrorKind::Io(failure).with_byte_offset(place).into_io()
 }
 
-/// A device's failure, by way of the error that `?` makes of it.
+/// Returns an I/O error, through the error that `?` makes of it.
 pub fn failure_passed_on(failure: io::Error) -> Result<io::Error, Error>
     ensures { result ≡ Ok failure }
 {
     Error::from(failure).into_io()
 }
 
-/// The text of an error with its reason, where no device failed.
+/// Prints an error with its reason, if it isn't an I/O error.
 ///
 /// # Errors
 ///
-/// Lack of memory.
+/// An allocation fails.
 pub fn text_with_reason(alloc: Global, place: u64) -> Result<String, AllocError>
     ensures { IfOk result (λ text. string_bytes text ≡ fault_text (fault_at InvalidMagic place)) }
 {
@@ -61,7 +63,7 @@ pub fn text_with_reason(alloc: Global, place: u64) -> Result<String, AllocError>
     error.reason().to_string(alloc)
 }
 
-/// A fault that isn't a device's, which stays itself.
+/// Returns an error that isn't an I/O error unchanged.
 pub fn fault_again(place: u64) -> Result<io::Error, Error>
     ensures { MatchResult result (λ _. ⊥) (λ fault. fault_of fault ≡ fault_at InvalidMagic place) }
 {

@@ -1,4 +1,4 @@
-//! Proved callers of hashes: scalars that are equal have one.
+//! Proved callers of hashes: equal scalars have the same hash.
 
 ghost use Rattle.std.specs.Prelude.{◌≡◌, true};
 ghost use Rattle.std.specs.Hash.DefaultHasher as sip;
@@ -7,7 +7,7 @@ ghost use Rattle.std.specs.List.{fold};
 use plist::{Date, Integer, RealBits, Uid};
 use std::hash::{DefaultHasher, Hash, Hasher};
 
-// The hash of a value: of its writes, in their order.
+// Returns the hash of a value: that of its writes, in order.
 fn hash_of<T: Hash>(value: &T) -> u64
     ensures { result ≡ sip.finish (fold sip.write sip.initial (T.hash_input value.now)) }
 {
@@ -16,35 +16,36 @@ fn hash_of<T: Hash>(value: &T) -> u64
     state.finish()
 }
 
-/// Whether two values have one hash or are not equal, as always.
+/// Returns whether two values have the same hash or aren't equal, which is always true.
 pub fn hash_alike<T: Hash>(value: &T, other: &T) -> bool
     ensures { result ≡ true }
 {
     value != other || hash_of(value) == hash_of(other)
 }
 
-/// The same of whole numbers, from whatever type each was made.
+/// Returns whether two integers have the same hash or aren't equal, whatever types they were made
+/// from. This is always true.
 pub fn integers_hash_alike(number: Integer, other: Integer) -> bool
     ensures { result ≡ true }
 {
     hash_alike(&number, &other)
 }
 
-/// The same of identifiers.
+/// Returns whether two identifiers have the same hash or aren't equal, which is always true.
 pub fn uids_hash_alike(uid: Uid, other: Uid) -> bool
     ensures { result ≡ true }
 {
     hash_alike(&uid, &other)
 }
 
-/// The same of reals.
+/// Returns whether two reals have the same hash or aren't equal, which is always true.
 pub fn reals_hash_alike(bits: RealBits, other: RealBits) -> bool
     ensures { result ≡ true }
 {
     hash_alike(&bits, &other)
 }
 
-/// The same of dates.
+/// Returns whether two dates have the same hash or aren't equal, which is always true.
 pub fn dates_hash_alike(date: Date, other: Date) -> bool
     ensures { result ≡ true }
 {

@@ -1,5 +1,5 @@
-//! Proved callers of the iterators over a dictionary: what each says of how much it has left, and
-//! the first that it gives.
+//! Proved callers of the iterators over a dictionary: how many items each reports, and its first
+//! item.
 
 ghost use Rattle.std.specs.Prelude.{◌≡◌, length, option_map, slice_get, Some};
 ghost use Rattle.std.specs.Map.Iter.{deref};
@@ -9,17 +9,17 @@ ghost use Rattle.plist_pairs.specs.Shown.{shown_key, shown_owned_pair, shown_pai
 
 use plist::{Dictionary, Value};
 
-/// What an iterator said before its first call, and what that call gave.
+/// What an iterator reported before its first call, and what that call returned.
 pub struct Begun<T> {
-    /// How much it has left.
+    /// The number of remaining items.
     pub left: usize,
-    /// The least and the most that it may have left.
+    /// The bounds on the number of remaining items.
     pub hint: (usize, Option<usize>),
-    /// What it gives first.
+    /// The first item.
     pub first: Option<T>,
 }
 
-/// Begins to go over the pairs.
+/// Starts to iterate over the pairs.
 pub fn begin_pairs(pairs: &Dictionary) -> Begun<(&String, &Value)>
     ensures left { result.left ≡ length (pairs_of pairs.now) }
     ensures hint { result.hint ≡ (length (pairs_of pairs.now), Some (length (pairs_of pairs.now))) }
@@ -31,7 +31,7 @@ pub fn begin_pairs(pairs: &Dictionary) -> Begun<(&String, &Value)>
     Begun { left, hint, first }
 }
 
-/// Begins to go over the keys.
+/// Starts to iterate over the keys.
 pub fn begin_keys(pairs: &Dictionary) -> Begun<&String>
     ensures left { result.left ≡ length (keys_of (pairs_of pairs.now)) }
     ensures hint { result.hint ≡ (result.left, Some result.left) }
@@ -43,7 +43,7 @@ pub fn begin_keys(pairs: &Dictionary) -> Begun<&String>
     Begun { left, hint, first }
 }
 
-/// Begins to go over the values.
+/// Starts to iterate over the values.
 pub fn begin_values(pairs: &Dictionary) -> Begun<&Value>
     ensures left { result.left ≡ length (values_of (pairs_of pairs.now)) }
     ensures hint { result.hint ≡ (result.left, Some result.left) }
@@ -55,7 +55,7 @@ pub fn begin_values(pairs: &Dictionary) -> Begun<&Value>
     Begun { left, hint, first }
 }
 
-/// Begins to go over the pairs by value.
+/// Starts to iterate over the pairs by value.
 pub fn begin_own_pairs(pairs: Dictionary) -> Begun<(String, Value)>
     ensures left { result.left ≡ length (pairs_of pairs) }
     ensures hint { result.hint ≡ (result.left, Some result.left) }

@@ -4,8 +4,8 @@ ghost use Rattle.std.specs.Prelude.{◌≡◌, false};
 
 use plist_base::{Allowance, Error, Limited, OwnedEvent};
 
-/// Whether something comes, under limits or within a budget, after the `None` of an iterator that
-/// may give more.
+/// Returns whether, under limits or within a budget, an item follows the `None` of an iterator that
+/// may yield more. None does.
 pub fn comes_after_none<I: Iterator<Item = Result<OwnedEvent, Error>>, A: Allowance>(
     limited: &mut Limited<I, A>,
 ) -> bool

@@ -1,4 +1,4 @@
-//! Proved callers of the calls on pairs: what was set is found, and the others stay.
+//! Proved callers of the calls on pairs: what was set is found, and the others are unchanged.
 
 ghost use Rattle.std.specs.Prelude.{◌≡◌, ◌+◌, ◌∷◌, [], IfErr, IfOk, IfSome, IsNone, IsPermutation, IsSome, IsSorted, OnErr, OnOk, OnSome, Some, length, string_bytes, unwrap_or};
 ghost use Rattle.std.specs.Cmp.Lexicographic.{slice_cmp};
@@ -22,7 +22,7 @@ pub fn make_only(pairs: &mut Dictionary, key: String, value: Value) -> Result<()
     Ok(())
 }
 
-/// The value of a key, or another one where the key isn't there.
+/// Returns the value of a key, or another one if the key isn't there.
 pub fn value_or<'a>(pairs: &'a Dictionary, key: &str, other: &'a Value) -> &'a Value
     ensures { result.now ≡ unwrap_or (lookup (bytes_eq key.now) (pairs_of pairs.now)) other.now }
 {
@@ -33,7 +33,7 @@ pub fn value_or<'a>(pairs: &'a Dictionary, key: &str, other: &'a Value) -> &'a V
     }
 }
 
-/// Replaces the value of a key that is there.
+/// Replaces the value of a key that must be there.
 pub fn replace_at(pairs: &mut Dictionary, key: &str, value: Value) -> Value
     requires { IsSome (lookup (bytes_eq key.now) (pairs_of pairs.old)) }
     ensures old { lookup (bytes_eq key.now) (pairs_of pairs.old) ≡ Some result }
@@ -42,7 +42,7 @@ pub fn replace_at(pairs: &mut Dictionary, key: &str, value: Value) -> Value
     mem::replace(&mut pairs[key], value)
 }
 
-/// Sets the value of a key that is there: that takes no memory.
+/// Sets the value of a key if it is there, which allocates no memory.
 pub fn set_where_there(pairs: &mut Dictionary, key: String, value: Value) -> Option<Value>
     ensures old { result ≡ lookup (bytes_eq (string_bytes key)) (pairs_of pairs.old) }
     ensures pairs { OnSome result (IsSetAt (pairs_of pairs.old) (string_bytes key) value
@@ -57,7 +57,7 @@ pub fn set_where_there(pairs: &mut Dictionary, key: String, value: Value) -> Opt
     }
 }
 
-/// Sets a key's value. Without memory the pairs are as they were, and that is the fault.
+/// Sets a key's value. If memory runs out, the pairs are unchanged, and the error says so.
 pub fn set_or_fault(pairs: &mut Dictionary, key: String, value: Value) -> Result<(), Error>
     ensures done { OnOk result (IsSetAt (pairs_of pairs.old) (string_bytes key) value
         (pairs_of pairs.new)) }
@@ -68,7 +68,7 @@ pub fn set_or_fault(pairs: &mut Dictionary, key: String, value: Value) -> Result
     Ok(())
 }
 
-/// The index of the last pair, if there is one.
+/// Returns the index of the last pair, or `None` if there are no pairs.
 pub fn last_index(pairs: &Dictionary) -> Option<usize>
     ensures index { IfSome result (λ index. index + 1 ≡ length (pairs_of pairs.now)) }
     ensures none { IsNone result → pairs_of pairs.now ≡ [] }
@@ -80,7 +80,7 @@ pub fn last_index(pairs: &Dictionary) -> Option<usize>
     }
 }
 
-/// The same pairs in the order of their keys; or, where memory is wanting, as they were.
+/// Returns the pairs in the order of their keys or, if memory runs out, unchanged.
 pub fn sorted(pairs: Dictionary) -> Result<Dictionary, Dictionary>
     ensures sorted { IfOk result (λ done. IsSorted (slice_cmp nat_cmp)
         (keys_of (pairs_of done))) }

@@ -1,4 +1,4 @@
-//! Proved callers of reals: the number of a value's bytes, and the value of a number.
+//! Proved callers of reals: the number of a real value, and the real of a number.
 
 ghost use Rattle.std.specs.Prelude.{◌≡◌, Some, option_map};
 ghost use Rattle.plist_base.specs.Reals.{number_of_real, real_of};
@@ -7,14 +7,14 @@ ghost use Rattle.plist.specs.ValueTrees.{tree_of};
 
 use plist::{RealBits, Value};
 
-/// The number of a value that is a real.
+/// Returns the number of a value that is a real.
 pub fn number_in_value(value: &Value) -> Option<f64>
     ensures { result ≡ option_map number_of_real (real_in (tree_of value.now)) }
 {
     Some(value.as_real()?.to_f64())
 }
 
-/// The real of a number, by way of a value.
+/// Returns the real of a number, through a value.
 pub fn real_of_number(number: f64) -> Option<RealBits>
     ensures { result ≡ Some (real_of number) }
 {

@@ -1,5 +1,5 @@
-//! Proved callers of sources: what a read gives, how much there is and is buffered, what becomes of
-//! a device.
+//! Proved callers of sources: what a read returns, how many bytes there are and are buffered, and
+//! how failures of the inner reader are counted.
 
 ghost use Rattle.std.specs.Prelude.{◌≡◌, ◌+◌, ◌-◌, ◌^◌, ◌<◌, ◌≤◌, IfOk, IfSome, IsOk, OnOk, Some, drop, length, take};
 ghost use Rattle.plist_base.specs.Seeking.{failures_of};
@@ -10,7 +10,7 @@ use std::alloc::Global;
 use std::io;
 use std::io::{Read, Seek};
 
-/// Reads bytes of a slice: those that lie there, wherever there are this many.
+/// Reads bytes of a slice: those at the offset, if there are this many.
 pub fn read_slice(bytes: &[u8], place: u64, buf: &mut [u8]) -> Result<(), Error>
     requires { place + length buf.old < 2 ^ 64 }
     ensures bytes { OnOk result (LiesAt bytes.now place buf.new) }
@@ -20,7 +20,7 @@ pub fn read_slice(bytes: &[u8], place: u64, buf: &mut [u8]) -> Result<(), Error>
     read_exact_at(&mut source, place, buf)
 }
 
-/// Reads bytes of a vector: those that lie there, wherever there are this many.
+/// Reads bytes of a vector: those at the offset, if there are this many.
 pub fn read_vector(bytes: Vec<u8>, place: u64, buf: &mut [u8]) -> Result<(), Error>
     requires { place + length buf.old < 2 ^ 64 }
     ensures bytes { OnOk result (LiesAt bytes.items place buf.new) }
@@ -30,7 +30,7 @@ pub fn read_vector(bytes: Vec<u8>, place: u64, buf: &mut [u8]) -> Result<(), Err
     read_exact_at(&mut source, place, buf)
 }
 
-/// The size of a slice and of a vector, as sources say it.
+/// Returns the sizes of a slice and of a vector, as sources report them.
 pub fn sizes(bytes: &[u8], more: Vec<u8>) -> (Option<u64>, Option<u64>)
     ensures { result ≡ (Some (length bytes.now), Some (length more.items)) }
 {
@@ -38,14 +38,14 @@ pub fn sizes(bytes: &[u8], more: Vec<u8>) -> (Option<u64>, Option<u64>)
     (slice.size().ok(), vector.size().ok())
 }
 
-/// How much a slice and a vector lend from a place on: all that lies there.
+/// Returns how many bytes a slice and a vector have buffered from an offset on: all that there are.
 pub fn lent(bytes: &[u8], more: &Vec<u8>, place: u64) -> (usize, usize)
     ensures { result ≡ (length (drop place bytes.now), length (drop place more.now.items)) }
 {
     (bytes.buffered(place).len(), more.buffered(place).len())
 }
 
-/// All bytes of a slice, read from its front on.
+/// Reads all bytes of a slice, from its start on.
 pub fn read_all(alloc: Global, bytes: &[u8]) -> io::Result<Vec<u8>>
     ensures { IfOk result (λ all. all.items ≡ take (2 ^ 64 - 1) bytes.now) }
 {
@@ -54,7 +54,8 @@ pub fn read_all(alloc: Global, bytes: &[u8]) -> io::Result<Vec<u8>>
     Ok(all)
 }
 
-/// The size of what can seek, with the source that counts whether its seek failed.
+/// Returns the size of a reader that can seek, and the source, which counts whether the seek
+/// failed.
 pub fn size_of_device<R: Read + Seek + Drop>(device: R) -> (Result<u64, io::Error>, Seeking<R>)
     ensures { CountsFailure result.0 0 (failures_of result.1) }
 {
@@ -62,14 +63,14 @@ pub fn size_of_device<R: Read + Seek + Drop>(device: R) -> (Result<u64, io::Erro
     (source.size(), source)
 }
 
-/// A device that was made a source, which is that device.
+/// Makes a source of a reader, and returns that reader.
 pub fn device_again<R: Read + Seek + Drop>(device: R) -> R
     ensures { result ≡ device }
 {
     Seeking::new(device).into_inner()
 }
 
-/// The next bytes of a source from its front, and the source, which counts a read that fails.
+/// Reads the first bytes of a source, and returns the source, which counts a read that fails.
 pub fn read_front<S: Source>(source: S, buf: &mut [u8]) -> (io::Result<usize>, S)
     ensures failures { CountsFailure result.0 (S.failures source) (S.failures result.1) }
     ensures unchanged { S.known result.1 ≡ S.known source }
@@ -79,8 +80,8 @@ pub fn read_front<S: Source>(source: S, buf: &mut [u8]) -> (io::Result<usize>, S
     (answer, reader.into_inner())
 }
 
-/// How many bytes of a slice there are, as far as a read that is refused says it, and then those
-/// from the place on are in the buffer.
+/// Returns the length of a slice, if a read past its end reports it. Then the bytes from the offset
+/// on are in the buffer.
 pub fn end_told(bytes: &[u8], place: u64, buf: &mut [u8]) -> Option<u64>
     requires fits { place + length buf.old < 2 ^ 64 }
     requires begins { place ≤ length bytes.now }

@@ -1,4 +1,4 @@
-//! Proved callers of what is printed: the texts of faults, numbers and identifiers.
+//! Proved callers of what is printed for errors, numbers and identifiers.
 
 ghost use Rattle.std.specs.Prelude.{◌≡◌, IfOk, codes, decimal, string_bytes};
 ghost use Rattle.std.specs.Fmt.{signed_decimal};
@@ -8,7 +8,7 @@ use plist_base::{ErrorKind, EventKind, Integer, InvalidInteger, InvalidXmlDate, 
 use std::alloc::{AllocError, Global};
 use std::io;
 
-/// The text of an early end: its kind, and its place in decimal.
+/// Prints the error of an early end: its kind, and its offset in decimal.
 pub fn early_end(alloc: Global, place: u64) -> Result<String, AllocError>
     ensures { IfOk result (λ text. string_bytes text ≡ fault_text (fault_at UnexpectedEof place)) }
 {
@@ -17,35 +17,35 @@ pub fn early_end(alloc: Global, place: u64) -> Result<String, AllocError>
         .to_string(alloc)
 }
 
-/// The text of a device's failure, which leaves out what the device said.
+/// Prints an I/O error, without what the system reported.
 pub fn failure(alloc: Global, failure: io::Error) -> Result<String, AllocError>
     ensures { IfOk result (λ text. string_bytes text ≡ codes "Io") }
 {
     ErrorKind::Io(failure).without_position().to_string(alloc)
 }
 
-/// The text of a limit that was reached.
+/// Prints a limit that was reached.
 pub fn limit(alloc: Global) -> Result<String, AllocError>
     ensures { IfOk result (λ text. string_bytes text ≡ codes "LimitReached(Depth)") }
 {
     ErrorKind::LimitReached(Limit::Depth).to_string(alloc)
 }
 
-/// The text of a choice of events.
+/// Prints an `EventKind` that is a choice of two kinds.
 pub fn choice(alloc: Global) -> Result<String, AllocError>
     ensures { IfOk result (λ text. string_bytes text ≡ codes "value or start collection") }
 {
     EventKind::ValueOrStartCollection.to_string(alloc)
 }
 
-/// The text of a number, which is that of the number that it was made of.
+/// Prints an integer, as the number from which it was made.
 pub fn number(alloc: Global, number: i64) -> Result<String, AllocError>
     ensures { IfOk result (λ text. string_bytes text ≡ signed_decimal number) }
 {
     Integer::from(number).to_string(alloc)
 }
 
-/// The Debug text of a number, which is the same.
+/// Prints an integer for debugging, as the number from which it was made.
 pub fn number_debug(alloc: Global, number: i64) -> Result<String, AllocError>
     ensures { IfOk result (λ text. string_bytes text ≡ signed_decimal number) }
 {
@@ -53,7 +53,7 @@ pub fn number_debug(alloc: Global, number: i64) -> Result<String, AllocError>
     format!(in alloc; "{number:?}")
 }
 
-/// The Debug text of an identifier, which is that of its number.
+/// Prints an identifier for debugging, as its number.
 pub fn uid_debug(alloc: Global, number: u64) -> Result<String, AllocError>
     ensures { IfOk result (λ text. string_bytes text ≡ decimal number) }
 {
@@ -61,14 +61,14 @@ pub fn uid_debug(alloc: Global, number: u64) -> Result<String, AllocError>
     format!(in alloc; "{uid:?}")
 }
 
-/// Why a text is no number.
+/// Prints the error of parsing what isn't an integer.
 pub fn no_number(alloc: Global) -> Result<String, AllocError>
     ensures { IfOk result (λ t. string_bytes t ≡ codes "String was not a valid plist integer") }
 {
     InvalidInteger.to_string(alloc)
 }
 
-/// Why a text is no date.
+/// Prints the error of parsing what isn't a date.
 pub fn no_date(alloc: Global) -> Result<String, AllocError>
     ensures { IfOk result (λ t. string_bytes t ≡ codes "String was not a valid XML plist date") }
 {

@@ -1,5 +1,5 @@
-//! Proved callers of values: what bytes hold, what a builder finishes, a dictionary's copy, and a
-//! value's, which is equal to it.
+//! Proved callers of values: the value of bytes, what a builder returns, a dictionary's copy, and a
+//! value's copy, which is equal to it.
 
 ghost use Rattle.std.specs.Prelude.{◌≡◌, Err, IfOk, IfSome, false, true};
 ghost use Rattle.plist_ascii.specs.Texts.{tight_stops};
@@ -18,28 +18,28 @@ use plist_base::{Error, ErrorKind, Event, Writer};
 use std::alloc::Global;
 use std::rt::Files;
 
-/// The value of bytes, binary or in ASCII.
+/// Returns the value of bytes, binary or in ASCII.
 pub fn value_of_bytes(alloc: Global, bytes: &[u8]) -> Result<Value, Error>
     ensures value { IsValueOf (items_of_input bytes.now) (built_tree result) }
 {
     Value::from_reader(alloc, bytes)
 }
 
-/// The same, in ASCII of the tight dialect.
+/// Returns the value of bytes, binary or in ASCII of the tight dialect.
 pub fn value_of_tight_bytes(alloc: Global, bytes: &[u8]) -> Result<Value, Error>
     ensures value { IsValueOf (items_of_dialect Dialect.Tight bytes.now) (built_tree result) }
 {
     Value::from_reader_with_dialect(alloc, bytes, Dialect::Tight)
 }
 
-/// The value of an ASCII property list in the tight dialect.
+/// Returns the value of an ASCII property list in the tight dialect.
 pub fn value_of_tight(alloc: Global, text: &[u8]) -> Result<Value, Error>
     ensures value { IsValueOf (items_of_text tight_stops text.now) (built_tree result) }
 {
     Value::from_reader_ascii_with_dialect(alloc, text, Dialect::Tight)
 }
 
-/// The value of a file, which nests at most 64 collections.
+/// Returns the value of a file, which nests at most 64 collections.
 pub fn shallow_file<R: Files>(rt: &R, alloc: Global, path: &str) -> Result<Value, Error>
     ensures shallow { IfOk result (λ value. NestsWithin (tree_of value) 64) }
 {
@@ -50,7 +50,7 @@ pub fn shallow_file<R: Files>(rt: &R, alloc: Global, path: &str) -> Result<Value
     Value::from_file_with_limits(rt, alloc, path, limits)
 }
 
-/// Whether a builder has no value any more once it gave one.
+/// Returns whether a builder has no value after it has returned one, which is always true.
 pub fn finishes_once(builder: &mut Builder) -> bool
     ensures { result ≡ true }
 {
@@ -60,7 +60,7 @@ pub fn finishes_once(builder: &mut Builder) -> bool
     }
 }
 
-/// What a builder answers after an event for which memory ran out: that it has failed.
+/// Returns the result of `finish` after an event for which memory ran out: `WriterFailed`.
 pub fn finish_without_memory(
     builder: &mut Builder,
     event: Event<'_>,
@@ -76,7 +76,7 @@ pub fn finish_without_memory(
     }
 }
 
-/// Whether the end of a file was why a value couldn't be stored, which it never is.
+/// Returns whether an early end of a file is why a value couldn't be stored, which it never is.
 pub fn meets_an_end<R: Files>(rt: &R, alloc: Global, value: &Value, path: &str) -> bool
     ensures { result ≡ false }
 {
@@ -86,7 +86,7 @@ pub fn meets_an_end<R: Files>(rt: &R, alloc: Global, value: &Value, path: &str) 
     }
 }
 
-/// A copy of a dictionary: the same trees at the same keys, in the same order.
+/// Copies a dictionary: the copy has the same trees at the same keys, in the same order.
 pub fn copy_of(pairs: &Dictionary) -> Result<Dictionary, Error>
     ensures copy { IfOk result (λ copy.
         tree_pairs (pairs_of copy) ≡ tree_pairs (pairs_of pairs.now)) }
@@ -94,7 +94,7 @@ pub fn copy_of(pairs: &Dictionary) -> Result<Dictionary, Error>
     pairs.clone()
 }
 
-/// Whether a copy of a value is equal to it, as it always is.
+/// Returns whether a copy of a value is equal to it, as it always is.
 pub fn equals_its_copy(alloc: Global, value: &Value) -> Result<bool, Error>
     ensures equal { IfOk result (λ equal. equal ≡ true) }
 {

@@ -1,5 +1,5 @@
-//! Proved callers of a writer: a new one gives back what was given to it and hasn't failed; one
-//! that had no memory for an event has.
+//! Proved callers of a writer: a new one returns the inner writer that it was given and hasn't
+//! failed; one that ran out of memory for an event has.
 
 ghost use Rattle.std.specs.Prelude.{◌≡◌, Err, IfErr, IfSome, ⊤};
 ghost use Rattle.plist_base.specs.Faults.{WriterFailed, error_kind_of, fault_nowhere, kind_of};
@@ -11,18 +11,19 @@ use plist_binwrite::BinaryWriter;
 use std::alloc::Global;
 use std::io::Write;
 
-/// What takes the bytes, by way of a writer: it comes back as it was.
+/// Returns an inner writer, through a writer: it is unchanged.
 pub fn inner_again<W: Write>(alloc: Global, inner: W) -> W
     ensures { result ≡ inner }
 {
     BinaryWriter::new(alloc, inner).into_inner()
 }
 
-/// Hands a new writer its first event. It may be refused, but not because the writer had failed.
+/// Writes the first event to a new writer. The event may be rejected, but not because the writer
+/// had failed.
 ///
 /// # Errors
 ///
-/// Those of a [`BinaryWriter`] but `WriterFailed`.
+/// Those of a [`BinaryWriter`] other than `WriterFailed`.
 pub fn begin_with<W: Write + Drop>(alloc: Global, inner: W, event: Event<'_>) -> Result<(), Error>
     ensures { IfErr result (λ error. MatchKind (kind_of (error_kind_of error)) ⊤ ⊤ ⊥) }
 {
@@ -30,8 +31,8 @@ pub fn begin_with<W: Write + Drop>(alloc: Global, inner: W, event: Event<'_>) ->
     writer.write(event)
 }
 
-/// What a writer answers after an event that it had no memory for, and what takes the bytes then;
-/// none where there was memory. It has failed, and nothing went out.
+/// Returns the result of a call after an event for which memory ran out, and the inner writer; or
+/// `None` if there was memory. The writer has failed, and nothing was written.
 pub fn next_without_memory<W: Write + Drop>(
     writer: BinaryWriter<W>,
     event: Event<'_>,

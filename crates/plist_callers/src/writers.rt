@@ -1,5 +1,5 @@
-//! Proved callers of what writers send of a value to a vector: it is a file of the value, as each
-//! writer says, and the value comes back of it.
+//! Proved callers of what writers write of a value to a vector: it is a file of the value, as each
+//! writer states, and is read back as the value.
 
 ghost use Rattle.std.specs.Prelude.{◌≡◌, IfErr, IfOk};
 ghost use Rattle.plist_base.specs.Faults.{error_kind_of, kind_of};
@@ -16,12 +16,12 @@ use plist_binwrite::EqualScalars;
 use plist_share::EqualTrees;
 use std::alloc::Global;
 
-/// The value of a value's own file, which is that value.
+/// Returns the value of a value's own file, which is that value.
 ///
 /// # Errors
 ///
-/// `PlistTooLarge` where the file would have 2^64 bytes or more; `OutOfMemory`, or `Io` where the
-/// vector has no memory for it.
+/// `PlistTooLarge` if the file would have 2^64 bytes or more; `OutOfMemory`, or `Io` if the vector
+/// can't grow.
 pub fn write_back(alloc: Global, value: &Value) -> Result<Value, Error>
     ensures same { IfOk result (λ again. tree_of again ≡ tree_of value.now) }
     ensures refused { IfErr result
@@ -32,7 +32,7 @@ pub fn write_back(alloc: Global, value: &Value) -> Result<Value, Error>
     Value::from_reader(alloc, bytes)
 }
 
-/// The file that a plain writer sends of a value's events.
+/// Returns the file that a plain writer writes for a value's events.
 ///
 /// # Errors
 ///
@@ -43,8 +43,8 @@ pub fn plain_file(alloc: Global, value: &Value) -> Result<Vec<u8>, Error>
     file_by_events::<EqualScalars>(alloc, value)
 }
 
-/// The file that a sharing writer sends of them: as many objects as the value has different
-/// subtrees, and no file of the same events has fewer.
+/// Returns the file that a sharing writer writes for a value's events. It has as many objects as
+/// the value has different subtrees, and no file of the same events has fewer.
 ///
 /// # Errors
 ///

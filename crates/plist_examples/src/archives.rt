@@ -7,7 +7,7 @@ use plist_keyed::{Archive, KeyedError};
 use plist_support::{Wrong, expect_same, fail, words_of_events};
 use std::alloc::{AllocError, Global};
 
-// The words of an answer's tree, or the text of its fault.
+// Returns the words of a result's tree, or the text of its error.
 fn words_of_tree(alloc: Global, answer: Result<Value, KeyedError>) -> Result<String, AllocError> {
     match answer {
         Ok(tree) => words_of_events(alloc, tree.events(alloc)),
@@ -15,7 +15,7 @@ fn words_of_tree(alloc: Global, answer: Result<Value, KeyedError>) -> Result<Str
     }
 }
 
-// The tree of the Uid 1 of an archive.
+// Checks the tree of the Uid 1 of an archive.
 fn expect_tree(alloc: Global, root: &Value, wanted: &str) -> Result<(), Wrong> {
     match Archive::open(root) {
         Ok(archive) => {
@@ -26,7 +26,7 @@ fn expect_tree(alloc: Global, root: &Value, wanted: &str) -> Result<(), Wrong> {
     }
 }
 
-// The tree of an archive of these objects, whose `$top` names the Uid 1.
+// Checks the tree of an archive of these objects, whose `$top` refers to the Uid 1.
 fn expect_tree_of(alloc: Global, objects: &str, wanted: &str) -> Result<(), Wrong> {
     let words = format!(in alloc;
         "{{ '$objects' [ {objects} end '$top' {{ 'root' uid:1 'text' 'x' end end"
@@ -35,7 +35,7 @@ fn expect_tree_of(alloc: Global, objects: &str, wanted: &str) -> Result<(), Wron
     expect_tree(alloc, &root, wanted)
 }
 
-// The tree of an archive's file.
+// Checks the tree of an archive's file.
 fn expect_tree_of_file(alloc: Global, given: &str, wanted: &str) -> Result<(), Wrong> {
     let bytes = bytes_given(alloc, given)?;
     match Value::from_reader(alloc, bytes.as_slice()) {
@@ -44,7 +44,7 @@ fn expect_tree_of_file(alloc: Global, given: &str, wanted: &str) -> Result<(), W
     }
 }
 
-// The value of these events isn't taken for an archive.
+// Checks that the value of these events isn't an archive.
 fn expect_no_archive(alloc: Global, words: &str, wanted: &str) -> Result<(), Wrong> {
     let root = value_of(alloc, words)?;
     match Archive::open(&root) {
@@ -53,7 +53,7 @@ fn expect_no_archive(alloc: Global, words: &str, wanted: &str) -> Result<(), Wro
     }
 }
 
-/// An example of an archive.
+/// Runs an example of an archive.
 pub(crate) fn run(alloc: Global, row: Row<'_>) -> Result<(), Wrong> {
     match row.check {
         "tree" => expect_tree_of(alloc, row.given, row.wanted),

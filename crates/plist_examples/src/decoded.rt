@@ -1,17 +1,18 @@
-//! What `advance` gives of objects, and which are decoded once, however often they are given.
+//! What `advance` yields for objects, and which are decoded only once, however often they are
+//! yielded.
 
 use crate::rows::Row;
 use plist_binread::{BinaryReader, CompactEvent, DecodeCounter};
 use plist_support::{Wrong, expect_same, file, word_of};
 use std::alloc::{AllocError, Global};
 
-// How many small scalars were decoded.
+// Counts the small scalars that were decoded.
 #[derive(Drop)]
 struct Tally {
     raised: u64,
 }
 
-// Borrowed by a reader, so that it can be looked at afterwards.
+// A reader borrows the tally, so that it can be inspected afterwards.
 impl<'a> DecodeCounter for &'a mut Tally {
     ghost counts = { ⊥ };
 
@@ -22,7 +23,7 @@ impl<'a> DecodeCounter for &'a mut Tally {
     }
 }
 
-// The current event in its compact form, as a word.
+// Returns the current event in its compact form, as a word.
 fn compact_word<C: DecodeCounter>(
     alloc: Global,
     reader: &BinaryReader<&[u8], C>,
@@ -49,7 +50,7 @@ fn compact_word<C: DecodeCounter>(
     }
 }
 
-// Adds the next event, or the text of the fault that comes in its place, after a blank.
+// Appends the next event, or the text of the error in its place, after a blank.
 fn add_compact<C: DecodeCounter>(
     alloc: Global,
     words: &mut String,
@@ -64,7 +65,7 @@ fn add_compact<C: DecodeCounter>(
     words.push_str(word.as_str())
 }
 
-// What eight calls give of these bytes, each word after a blank.
+// Returns what eight calls yield for these bytes, each word after a blank.
 fn compact_words(alloc: Global, bytes: &[u8], tally: &mut Tally) -> Result<String, AllocError> {
     let mut reader = BinaryReader::with_counter(alloc, bytes, tally);
     let mut words = String::new(alloc);
@@ -74,14 +75,14 @@ fn compact_words(alloc: Global, bytes: &[u8], tally: &mut Tally) -> Result<Strin
     Ok(words)
 }
 
-// The file of an array that refers twice to an object.
+// Makes the file of an array that refers twice to an object.
 fn twice(alloc: Global, object: &str) -> Result<Vec<u8>, Wrong> {
     let body = format!(in alloc; "a20101 {object} 080b")?;
     let table = 11 + object.len() as u64 / 2;
     file(alloc, body.as_str(), [1, 1], [2, 0, table])
 }
 
-// What a file gives, after how many small scalars are decoded.
+// Returns what a file is expected to yield, after the number of small scalars that are decoded.
 fn wanted_of(alloc: Global, check: &str, words: &str) -> Result<String, AllocError> {
     match check {
         "kept" => format!(in alloc; "1 array:2 {words} {words} end"),
@@ -90,8 +91,8 @@ fn wanted_of(alloc: Global, check: &str, words: &str) -> Result<String, AllocErr
     }
 }
 
-/// An example of an object: `kept` is a small scalar, decoded once and then given from the cache;
-/// what isn't small is read `anew` each time; after a `fault` nothing comes.
+/// Runs an example of an object: `kept` is a small scalar, which is decoded once and then yielded
+/// from the cache; what isn't small is read `anew` each time; after a `fault` nothing is yielded.
 pub(crate) fn run(alloc: Global, row: Row<'_>) -> Result<(), Wrong> {
     let bytes = twice(alloc, row.given)?;
     let mut tally = Tally { raised: 0 };

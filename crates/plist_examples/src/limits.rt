@@ -6,14 +6,14 @@ use plist_binread::BinaryReader;
 use plist_support::{By, Wrong, expect_on_devices, expect_same, words_over};
 use std::alloc::Global;
 
-// The items of these bytes, and of devices over them.
+// Checks the items of these bytes, and of devices over them.
 fn expect(alloc: Global, by: By, bytes: &[u8], items: &str) -> Result<(), Wrong> {
     let found = words_over(alloc, by, bytes, usize::MAX)?;
     expect_same(alloc, found.as_str(), items)?;
     expect_on_devices(alloc, by, bytes, items)
 }
 
-// This many items come of these bytes.
+// Checks that these bytes have this many items.
 fn expect_count(alloc: Global, limits: Limits, bytes: &[u8], count: &str) -> Result<(), Wrong> {
     let mut found: u64 = 0;
     for _ in BinaryReader::with_limits(alloc, bytes, limits) {
@@ -23,7 +23,7 @@ fn expect_count(alloc: Global, limits: Limits, bytes: &[u8], count: &str) -> Res
     expect_same(alloc, found.as_str(), count)
 }
 
-// The same within a budget of bytes, which is given before the file.
+// Checks the items within a budget of bytes, which precedes the file in the input.
 fn expect_within(alloc: Global, limits: Limits, given: &str, items: &str) -> Result<(), Wrong> {
     let (most, rest) = first_number(alloc, given)?;
     let bytes = bytes_given(alloc, rest)?;
@@ -38,7 +38,7 @@ fn run_check(alloc: Global, row: Row<'_>, limits: Limits, bytes: &[u8]) -> Resul
     }
 }
 
-/// An example of what is read under limits: these and the bytes are given.
+/// Runs an example of what is read under limits. The input consists of these and the bytes.
 pub(crate) fn run(alloc: Global, row: Row<'_>) -> Result<(), Wrong> {
     let (limits, rest) = limits_given(alloc, row.given)?;
     if row.check == "within" {

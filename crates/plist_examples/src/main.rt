@@ -1,5 +1,5 @@
 //! Runs the examples of the tables in `data/`, and prints a line for each: its check and its name,
-//! and `ok` or what is wrong.
+//! and `ok` or the difference.
 #![tactic(auto)]
 
 mod archives;
@@ -44,7 +44,7 @@ fn run<R: Files + AllocGlobal>(rt: &R, table: &str, row: Row<'_>) -> Result<(), 
     }
 }
 
-// The line of an example.
+// Returns the line of an example.
 fn line_of<R: Files + AllocGlobal>(
     rt: &R,
     table: &str,
@@ -57,7 +57,7 @@ fn line_of<R: Files + AllocGlobal>(
     }
 }
 
-// Runs a table. Empty lines of it and those that begin with `#` hold no example.
+// Runs a table. Empty lines, and lines that begin with `#`, aren't examples.
 fn run_table(rt: &(impl Files + Print + AllocGlobal), table: &str, text: &str) -> io::Result<()> {
     for line in text.lines() {
         match row_of(line) {

@@ -1,4 +1,4 @@
-//! Calls that go by a file's name under limits, values taken apart, and the numbers of reals.
+//! Calls that take a file's name and limits, values that are taken apart, and the numbers of reals.
 
 use crate::rows::{Row, limits_given, unreadable};
 use crate::words::{value_of, words_of_answer};
@@ -7,14 +7,14 @@ use plist_support::{Wrong, expect_same};
 use std::alloc::Global;
 use std::rt::Files;
 
-// What comes of a file under limits: these and the file's name are given.
+// Returns the words of a file under limits. The input consists of these and the file's name.
 fn words_in_file<R: Files>(rt: &R, alloc: Global, given: &str) -> Result<String, Wrong> {
     let (limits, path) = limits_given(alloc, given)?;
     let answer = Value::from_file_with_limits(rt, alloc, path, limits);
     Ok(words_of_answer(alloc, &answer)?)
 }
 
-// The text of a value that is one, taken out of it.
+// Takes the string out of a value that is one.
 fn text_in(alloc: Global, words: &str) -> Result<String, Wrong> {
     match value_of(alloc, words)? {
         Value::String(text) => Ok(text),
@@ -22,7 +22,7 @@ fn text_in(alloc: Global, words: &str) -> Result<String, Wrong> {
     }
 }
 
-// The text of a real of four bytes.
+// Returns the text of a real of four bytes.
 fn real_text(alloc: Global, digits: &str) -> Result<String, Wrong> {
     match u32::from_str_radix(digits, 16) {
         Ok(bits) => Ok(format!(in alloc; "{}", RealBits::Four(bits.to_be_bytes()).to_f64())?),
@@ -30,7 +30,7 @@ fn real_text(alloc: Global, digits: &str) -> Result<String, Wrong> {
     }
 }
 
-/// An example of what a program calls that comes from the crate.
+/// Runs an example of a call that a program written for the Rust crate makes.
 pub(crate) fn run<R: Files>(rt: &R, alloc: Global, row: Row<'_>) -> Result<(), Wrong> {
     let text = match row.check {
         "file under limits" => words_in_file(rt, alloc, row.given)?,

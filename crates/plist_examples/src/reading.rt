@@ -1,4 +1,4 @@
-//! What is read of bytes, in memory and over devices.
+//! What is read from bytes, in memory and over devices.
 
 use crate::rows::{Row, bytes_given, decoded, unreadable};
 use plist_ascii::{AsciiReader, Dialect};
@@ -9,33 +9,33 @@ use plist_support::{
 };
 use std::alloc::Global;
 
-// The items of these bytes, and of devices over them.
+// Checks the items of these bytes, and of devices over them.
 fn expect(alloc: Global, by: By, bytes: &[u8], items: &str) -> Result<(), Wrong> {
     let found = words_over(alloc, by, bytes, usize::MAX)?;
     expect_same(alloc, found.as_str(), items)?;
     expect_on_devices(alloc, by, bytes, items)
 }
 
-// So it is with a binary file, and with sources that shrink.
+// Checks the items of a binary file, over sources that shrink, too.
 fn expect_binary(alloc: Global, bytes: &[u8], items: &str) -> Result<(), Wrong> {
     expect(alloc, By::Binary, bytes, items)?;
     expect_on_shrinking_devices(alloc, bytes, items)
 }
 
-// So it is with a text, and with a source that is read from its front on.
+// Checks the items of a text, over a source that is read from its start on, too.
 fn expect_ascii(alloc: Global, bytes: &[u8], items: &str) -> Result<(), Wrong> {
     expect(alloc, By::Ascii, bytes, items)?;
     expect_on_devices(alloc, By::Sequential, bytes, items)
 }
 
-// So it is with a text where the dialect is named.
+// Checks the items of a text for which the dialect is given.
 fn expect_lax(alloc: Global, bytes: &[u8], items: &str) -> Result<(), Wrong> {
     let reader = AsciiReader::with_dialect(alloc, bytes, Dialect::Lax);
     expect_same(alloc, words_of(alloc, reader)?.as_str(), items)?;
     expect_on_devices(alloc, By::Ascii, bytes, items)
 }
 
-// The items of a binary file, and of a device that gives one byte a call.
+// Checks the items of a binary file, and of a device that moves one byte per call.
 fn expect_plain(alloc: Global, bytes: &[u8], items: &str) -> Result<(), Wrong> {
     let found = words_over(alloc, By::Binary, bytes, 1000)?;
     expect_same(alloc, found.as_str(), items)?;
@@ -44,13 +44,13 @@ fn expect_plain(alloc: Global, bytes: &[u8], items: &str) -> Result<(), Wrong> {
     expect_same(alloc, found.as_str(), items)
 }
 
-// The first thousand items of a file begin with these.
+// Checks that the first thousand items of a file begin with these.
 fn expect_front(alloc: Global, bytes: &[u8], items: &str) -> Result<(), Wrong> {
     let found = words_of(alloc, BinaryReader::new(alloc, bytes).take(1000))?;
     expect_that(alloc, found.starts_with(items), found.as_str())
 }
 
-// The first item of a text leaves the rest in the inner reader.
+// Checks that after the first item of a text the inner reader has this rest.
 fn expect_rest(alloc: Global, bytes: &[u8], rest: &str) -> Result<(), Wrong> {
     let mut reader = AsciiReader::new(alloc, bytes);
     let has_first = reader.next().is_some();
@@ -58,7 +58,7 @@ fn expect_rest(alloc: Global, bytes: &[u8], rest: &str) -> Result<(), Wrong> {
     expect_that(alloc, has_first, "an item came")
 }
 
-// What is read of bytes, by a check.
+// Runs a check of what is read from bytes.
 fn run_check(alloc: Global, check: &str, bytes: &[u8], wanted: &str) -> Result<(), Wrong> {
     match check {
         "binary" => expect_binary(alloc, bytes, wanted),
@@ -73,7 +73,7 @@ fn run_check(alloc: Global, check: &str, bytes: &[u8], wanted: &str) -> Result<(
     }
 }
 
-/// An example of what is read.
+/// Runs an example of what is read.
 pub(crate) fn run(alloc: Global, row: Row<'_>) -> Result<(), Wrong> {
     let bytes = bytes_given(alloc, row.given)?;
     let wanted = decoded(alloc, row.wanted)?;

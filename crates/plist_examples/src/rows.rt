@@ -1,7 +1,7 @@
-//! The rows of a table: a check, the name of the example, what is given and what is wanted, with
-//! ` | ` between two. Where no name stands, what is given is the name.
+//! The rows of a table: a check, the name of the example, the input and the expected output,
+//! separated by ` | `. If there is no name, the input is the name.
 //!
-//! `%0a` is the byte of that number, in texts and in what is wanted.
+//! `%0a` stands for the byte 0A, in texts and in the expected output.
 
 use percent_encoding::percent_decode;
 use plist_base::Limits;
@@ -17,7 +17,7 @@ pub(crate) struct Row<'a> {
     pub wanted: &'a str,
 }
 
-// The example of a line, if it has this many fields.
+// Returns the example of a line, if it has this many fields.
 pub(crate) fn row_of(line: &str) -> Option<Row<'_>> {
     let (check, rest) = line.split_once('|')?;
     let (name, rest) = rest.split_once('|')?;
@@ -30,24 +30,24 @@ pub(crate) fn row_of(line: &str) -> Option<Row<'_>> {
     })
 }
 
-// What is wrong with a row that can't be read.
+// Fails because a row can't be read.
 pub(crate) fn unreadable<T>(alloc: Global, text: &str) -> Result<T, Wrong> {
     fail(format!(in alloc; "unreadable: {text}"))
 }
 
-// The bytes of a text.
+// Returns the bytes of a text.
 pub(crate) fn decoded(alloc: Global, text: &str) -> Result<Vec<u8>, Wrong> {
     let mut bytes = Vec::new(alloc);
     percent_decode(text.as_bytes()).append_to(&mut bytes)?;
     Ok(bytes)
 }
 
-// The first word of a text, and what stands after it.
+// Returns the first word of a text, and what follows it.
 pub(crate) fn first_word(text: &str) -> (&str, &str) {
     text.split_once(' ').unwrap_or((text, ""))
 }
 
-// The first number of a text, and what stands after it.
+// Returns the first number of a text, and what follows it.
 pub(crate) fn first_number(alloc: Global, text: &str) -> Result<(u64, &str), Wrong> {
     let (first, rest) = first_word(text);
     match first.parse::<u64>() {
@@ -56,7 +56,7 @@ pub(crate) fn first_number(alloc: Global, text: &str) -> Result<(u64, &str), Wro
     }
 }
 
-// The first number of a text, in one byte, and what stands after it.
+// Returns the first number of a text, as a byte, and what follows it.
 fn first_byte(alloc: Global, text: &str) -> Result<(u8, &str), Wrong> {
     let (number, rest) = first_number(alloc, text)?;
     match u8::try_from(number) {
@@ -65,8 +65,8 @@ fn first_byte(alloc: Global, text: &str) -> Result<(u8, &str), Wrong> {
     }
 }
 
-// The file of these objects and their table, a slash, and the numbers of its trailer: both widths,
-// how many objects, the root, the place of the table.
+// Makes a file of objects with their offset table, followed by a slash and the numbers of the
+// trailer: both widths, the number of objects, the root, and the offset of the table.
 fn file_given(alloc: Global, text: &str) -> Result<Vec<u8>, Wrong> {
     let Some((body, numbers)) = text.split_once('/') else {
         return unreadable(alloc, text);
@@ -80,7 +80,8 @@ fn file_given(alloc: Global, text: &str) -> Result<Vec<u8>, Wrong> {
     file(alloc, body.trim(), widths, [count, root, table])
 }
 
-// The bytes that are given: of a text, in hexadecimal, the file of an object, or of its parts.
+// Returns the input as bytes: of a text, in hexadecimal, of the file of an object, or of the parts
+// of a file.
 pub(crate) fn bytes_given(alloc: Global, given: &str) -> Result<Vec<u8>, Wrong> {
     let (form, rest) = first_word(given);
     match form {
@@ -92,8 +93,8 @@ pub(crate) fn bytes_given(alloc: Global, given: &str) -> Result<Vec<u8>, Wrong> 
     }
 }
 
-// The depth and the items of limits that are written as a program writes them, and what stands
-// after them.
+// Returns the depth and the items of limits that are written as in a program, and what follows
+// them.
 fn parts_of_limits(text: &str) -> Option<(&str, &str, &str)> {
     let (depth, rest) = text
         .strip_prefix("Limits { depth: ")?
@@ -102,7 +103,7 @@ fn parts_of_limits(text: &str) -> Option<(&str, &str, &str)> {
     Some((depth, items, rest))
 }
 
-// The limits that are given, and what is given after them.
+// Returns the limits of an input, and what follows them.
 pub(crate) fn limits_given(alloc: Global, given: &str) -> Result<(Limits, &str), Wrong> {
     let Some((depth, items, rest)) = parts_of_limits(given) else {
         return unreadable(alloc, given);

@@ -1,4 +1,4 @@
-//! Whole numbers, dates and data: their texts, and what texts are refused.
+//! Integers, dates and data: their texts, and which texts are rejected.
 
 ghost use Rattle.std.specs.Prelude.{◌≡◌, ◌↔◌, IsTrue};
 
@@ -8,7 +8,7 @@ use plist_base::{Data, Date, Integer, InvalidInteger, InvalidXmlData};
 use plist_support::{Wrong, bytes_of, expect_same};
 use std::alloc::{AllocError, Global};
 
-// The number of a text, signed and unsigned.
+// Returns the number of a text, signed and unsigned.
 fn integer_words(alloc: Global, text: &str) -> Result<String, AllocError> {
     match text.parse::<Integer>() {
         Ok(number) => {
@@ -19,7 +19,7 @@ fn integer_words(alloc: Global, text: &str) -> Result<String, AllocError> {
     }
 }
 
-// The second of a real, the real that comes back, and whether it has a fraction.
+// Returns the second of a real's date, the real of that date, and whether it has a fraction.
 fn real_words(alloc: Global, bytes: [u8; 8]) -> Result<String, AllocError> {
     match Date::from_plist_real(bytes) {
         Ok(date) => {
@@ -38,14 +38,15 @@ fn second_words(alloc: Global, date: Option<Date>) -> Result<String, AllocError>
     }
 }
 
-// Two dates are the same where their bytes are.
+// Two dates are equal if their bytes are.
 fn is_same(a: &Date, b: &Date) -> bool
     ensures { IsTrue result ↔ (a.now ≡ b.now) }
 {
     *a == *b
 }
 
-// The second of a Unix second, that one again, and whether the second has the same date.
+// Returns the second of a Unix second's date, the Unix second of that date, and whether the date of
+// the second is the same.
 fn unix_words(alloc: Global, unix: i64) -> Result<String, AllocError> {
     match Date::from_unix_secs(unix) {
         Some(date) => {
@@ -60,7 +61,7 @@ fn unix_words(alloc: Global, unix: i64) -> Result<String, AllocError> {
     }
 }
 
-// The text of a date, which is read as that date, or the text of the refusal.
+// Returns the text of a date, which must be read back as that date, or the text of the error.
 fn date_text(alloc: Global, date: &Date) -> Result<String, AllocError> {
     match date.to_xml_format(alloc) {
         Ok(written) => match Date::from_xml_format(written.as_str()) {
@@ -71,7 +72,7 @@ fn date_text(alloc: Global, date: &Date) -> Result<String, AllocError> {
     }
 }
 
-// The second of a date's text, and what is written of it.
+// Returns the second of a date's text, and the text of that date.
 fn date_words(alloc: Global, text: &str) -> Result<String, AllocError> {
     match Date::from_xml_format(text) {
         Ok(date) => {
@@ -82,7 +83,7 @@ fn date_words(alloc: Global, text: &str) -> Result<String, AllocError> {
     }
 }
 
-// The text of the date of a real.
+// Returns the text of a real's date.
 fn real_text(alloc: Global, bytes: [u8; 8]) -> Result<String, AllocError> {
     match Date::from_plist_real(bytes) {
         Ok(date) => date_text(alloc, &date),
@@ -90,7 +91,7 @@ fn real_text(alloc: Global, bytes: [u8; 8]) -> Result<String, AllocError> {
     }
 }
 
-// The text of the date of a second.
+// Returns the text of a second's date.
 fn second_text(alloc: Global, second: i64) -> Result<String, AllocError> {
     match Date::from_plist_secs(second) {
         Some(date) => date_text(alloc, &date),
@@ -98,7 +99,7 @@ fn second_text(alloc: Global, second: i64) -> Result<String, AllocError> {
     }
 }
 
-// The bytes of a text of data, or the text of the refusal.
+// Returns the bytes of the text of data, or the text of the error.
 fn data_words(alloc: Global, text: &str) -> Result<String, AllocError> {
     match Data::from_xml_format(alloc, text) {
         Ok(data) => hex::encode(alloc, data.as_ref()),
@@ -107,7 +108,7 @@ fn data_words(alloc: Global, text: &str) -> Result<String, AllocError> {
     }
 }
 
-// The text of data, which is read as that data.
+// Returns the text of data, which must be read back as that data.
 fn data_text(alloc: Global, data: &Data) -> Result<String, AllocError> {
     match data.to_xml_format(alloc) {
         Ok(written) => match Data::from_xml_format(alloc, written.as_str()) {
@@ -132,7 +133,7 @@ fn real_of(alloc: Global, given: &str) -> Result<[u8; 8], Wrong> {
     }
 }
 
-// What is found of a text, by a check.
+// Runs a check on a text, and returns what it finds.
 fn words_found(alloc: Global, check: &str, text: &str) -> Result<String, Wrong> {
     let found = match check {
         "integer" => integer_words(alloc, text),
@@ -149,13 +150,13 @@ fn words_found(alloc: Global, check: &str, text: &str) -> Result<String, Wrong> 
     Ok(found?)
 }
 
-// What is found is this.
+// Checks that this is found.
 fn run_check(alloc: Global, row: Row<'_>, text: &str, wanted: &str) -> Result<(), Wrong> {
     let found = words_found(alloc, row.check, text)?;
     expect_same(alloc, found.as_str(), wanted)
 }
 
-/// An example of a scalar.
+/// Runs an example of a scalar.
 pub(crate) fn run(alloc: Global, row: Row<'_>) -> Result<(), Wrong> {
     let given = decoded(alloc, row.given)?;
     let wanted = decoded(alloc, row.wanted)?;

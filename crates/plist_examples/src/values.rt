@@ -1,4 +1,4 @@
-//! Values: what is read as them, which are equal, and what is built of events.
+//! Values: what is read as one, which are equal, and what is built from events.
 
 use crate::rows::{Row, bytes_given, first_number, limits_given, unreadable};
 use crate::words::{value_of, words_of_answer};
@@ -12,13 +12,13 @@ use plist_support::{
 use std::alloc::{AllocError, Global};
 use std::io;
 
-// The events of an answer's value, or its fault.
+// Checks the events of a result's value, or its error.
 fn expect(alloc: Global, answer: &Result<Value, Error>, wanted: &str) -> Result<(), Wrong> {
     expect_same(alloc, words_of_answer(alloc, answer)?.as_str(), wanted)
 }
 
-// The answer of a device that may fail at this call: where it fails that is `Io` with the place of
-// the read, and the last call. Tells whether it failed.
+// Checks the result of a device that may fail at this call: if it fails, the error is `Io` with the
+// offset of the read, and that call is the last. Returns whether it failed.
 fn expect_answer(
     alloc: Global,
     device: &Device,
@@ -37,14 +37,14 @@ fn expect_answer(
     Ok(true)
 }
 
-// What is read of a device that fails at this call. Tells whether it failed.
+// Checks what is read from a device that fails at this call. Returns whether it failed.
 fn expect_on_device(alloc: Global, bytes: &[u8], wanted: &str, call: u64) -> Result<bool, Wrong> {
     let mut device = Device::new(Vec::from_slice(alloc, bytes)?, call);
     let answer = Value::from_reader(alloc, &mut device);
     expect_answer(alloc, &device, answer, wanted, call)
 }
 
-// The value of these bytes, or its fault, in memory and over devices.
+// Checks the value of these bytes, or the error, in memory and over devices.
 fn expect_read(alloc: Global, bytes: &[u8], wanted: &str) -> Result<(), Wrong> {
     expect(alloc, &Value::from_reader(alloc, bytes), wanted)?;
     for call in 0..1000 {
@@ -55,12 +55,12 @@ fn expect_read(alloc: Global, bytes: &[u8], wanted: &str) -> Result<(), Wrong> {
     expect_that(alloc, false, "the device stops failing")
 }
 
-// The value of a text, or its fault.
+// Checks the value of a text, or the error.
 fn expect_ascii(alloc: Global, bytes: &[u8], wanted: &str) -> Result<(), Wrong> {
     expect(alloc, &Value::from_reader_ascii(alloc, bytes), wanted)
 }
 
-// The same in a dialect.
+// Checks the value of a text in a dialect, or the error.
 fn expect_dialect(
     alloc: Global,
     dialect: Dialect,
@@ -71,7 +71,7 @@ fn expect_dialect(
     expect(alloc, &answer, wanted)
 }
 
-// The value of these bytes is written as this file.
+// Checks that the value of these bytes is written as this file.
 fn expect_converted(alloc: Global, bytes: &[u8], wanted: &str) -> Result<(), Wrong> {
     let file = bytes_given(alloc, wanted)?;
     match Value::from_reader(alloc, bytes) {
@@ -84,7 +84,7 @@ fn expect_converted(alloc: Global, bytes: &[u8], wanted: &str) -> Result<(), Wro
     }
 }
 
-// Under limits: these and the bytes are given.
+// Checks the value under limits. The input consists of these and the bytes.
 fn expect_limited(alloc: Global, row: Row<'_>) -> Result<(), Wrong> {
     let (limits, rest) = limits_given(alloc, row.given)?;
     let bytes = bytes_given(alloc, rest)?;
@@ -92,7 +92,7 @@ fn expect_limited(alloc: Global, row: Row<'_>) -> Result<(), Wrong> {
     expect(alloc, &answer, row.wanted)
 }
 
-// The same within a budget of bytes, which is given before the file.
+// Checks the value within a budget of bytes, which precedes the file in the input.
 fn expect_within(alloc: Global, row: Row<'_>) -> Result<(), Wrong> {
     let (limits, rest) = limits_given(alloc, row.given)?;
     let (most, rest) = first_number(alloc, rest)?;
@@ -101,14 +101,14 @@ fn expect_within(alloc: Global, row: Row<'_>) -> Result<(), Wrong> {
     expect(alloc, &answer, row.wanted)
 }
 
-// Whether two values are equal.
+// Checks whether two values are equal.
 fn expect_equal(alloc: Global, row: Row<'_>, equal: bool) -> Result<(), Wrong> {
     let first = value_of(alloc, row.given)?;
     let second = value_of(alloc, row.wanted)?;
     expect_that(alloc, (first == second) == equal, row.check)
 }
 
-// Which of the calls that look into a value answer, by the kind that each is for.
+// Returns which of the accessors return something, by the kind of each.
 fn kinds_of(value: &Value) -> [(bool, &'static str); 10] {
     [
         (value.as_array().is_some(), "array"),
@@ -134,13 +134,13 @@ fn kind_words(alloc: Global, value: &Value) -> Result<String, AllocError> {
     Ok(words)
 }
 
-// A value answers the calls of its own kind alone.
+// Checks that only the accessors of a value's own kind return something.
 fn expect_kinds(alloc: Global, words: &str, wanted: &str) -> Result<(), Wrong> {
     let value = value_of(alloc, words)?;
     expect_same(alloc, kind_words(alloc, &value)?.as_str(), wanted)
 }
 
-// The item of a word: `!` is one that is an error.
+// Returns the item of a word. `!` is an item that is an error.
 fn item_of<'a>(alloc: Global, word: &'a str) -> Result<Result<Event<'a>, Error>, Wrong> {
     match word {
         "!" => Ok(Err(ErrorKind::InvalidMagic.with_byte_offset(0))),
@@ -148,7 +148,7 @@ fn item_of<'a>(alloc: Global, word: &'a str) -> Result<Result<Event<'a>, Error>,
     }
 }
 
-// What is collected of the items of these words.
+// Checks what the items of these words are collected to.
 fn expect_collected(alloc: Global, words: &str, wanted: &str) -> Result<(), Wrong> {
     let mut items = Vec::new(alloc);
     for word in words.split(' ') {
@@ -160,7 +160,7 @@ fn expect_collected(alloc: Global, words: &str, wanted: &str) -> Result<(), Wron
     expect(alloc, &Value::from_events(alloc, items), wanted)
 }
 
-// What a builder answers to the events of these words, and the value then.
+// Checks what a builder returns for the events of these words, and the value then.
 fn expect_built(alloc: Global, words: &str, wanted: &str) -> Result<(), Wrong> {
     let Some((answers, value)) = wanted.split_once(" => ") else {
         return unreadable(alloc, wanted);
@@ -170,7 +170,7 @@ fn expect_built(alloc: Global, words: &str, wanted: &str) -> Result<(), Wrong> {
     expect(alloc, &builder.finish(), value)
 }
 
-// What is read of bytes, by a check.
+// Runs a check of what is read from bytes.
 fn run_read(alloc: Global, check: &str, bytes: &[u8], wanted: &str) -> Result<(), Wrong> {
     match check {
         "value" => expect_read(alloc, bytes, wanted),
@@ -182,7 +182,7 @@ fn run_read(alloc: Global, check: &str, bytes: &[u8], wanted: &str) -> Result<()
     }
 }
 
-/// An example of values.
+/// Runs an example of values.
 pub(crate) fn run(alloc: Global, row: Row<'_>) -> Result<(), Wrong> {
     match row.check {
         "equal" => expect_equal(alloc, row, true),

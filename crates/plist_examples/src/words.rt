@@ -1,11 +1,11 @@
-//! The value of words, and the words of a value or of its fault.
+//! The value of words, and the words of a value or of its error.
 
 use plist::{Builder, Value};
 use plist_base::Error;
 use plist_support::{Wrong, words_of_events, write_all};
 use std::alloc::{AllocError, Global};
 
-/// The value whose events these words are.
+/// Returns the value with the events of these words.
 pub(crate) fn value_of(alloc: Global, words: &str) -> Result<Value, Wrong> {
     let mut builder = Builder::new(alloc);
     write_all(alloc, &mut builder, words)?;
@@ -15,7 +15,7 @@ pub(crate) fn value_of(alloc: Global, words: &str) -> Result<Value, Wrong> {
     }
 }
 
-/// The words of an answer's value, or the text of its fault.
+/// Returns the words of a result's value, or the text of its error.
 pub(crate) fn words_of_answer(
     alloc: Global,
     answer: &Result<Value, Error>,

@@ -1,4 +1,4 @@
-//! What a writer sends to devices: that take one byte a call, fail at each call in turn, or take
+//! What a writer writes to devices that take one byte per call, fail at each call in turn, or take
 //! nothing.
 
 use plist::{Value, write_value};
@@ -11,7 +11,7 @@ use plist_support::{
 use std::alloc::Global;
 use std::io::ErrorKind;
 
-// By which calls something is sent: event by event, by `write_value`, or by `to_writer_binary`.
+// How something is written: event by event, by `write_value`, or by `to_writer_binary`.
 #[derive(Clone, Copy)]
 pub(crate) enum Way {
     Events,
@@ -19,8 +19,8 @@ pub(crate) enum Way {
     Whole,
 }
 
-// What is sent: the events of these words, or their value; it is this file, and the device has this
-// fault.
+// What is written: the events of these words, or their value. The file is this one, and the device
+// has this fault.
 #[derive(Clone, Copy)]
 pub(crate) struct Sending<'a> {
     pub words: &'a str,
@@ -30,7 +30,7 @@ pub(crate) struct Sending<'a> {
     pub ways: &'a [Way],
 }
 
-// How many bytes of small forms wait at most before some are sent.
+// The greatest number of bytes of small forms that are pending.
 const ROOM: usize = 65_536;
 
 // An event of each kind.
@@ -39,7 +39,7 @@ const LATER: &str = "[ { end true <00> date:0 1 real:00000000 'a' uid:1";
 const ALL_REFUSED: &str = "WriterFailed; WriterFailed; WriterFailed; WriterFailed; WriterFailed; \
                            WriterFailed; WriterFailed; WriterFailed; WriterFailed; WriterFailed";
 
-// The answer of a writer to the last of these events; those before it are accepted.
+// Returns the result of a writer for the last of these events. The others must be accepted.
 fn last_answer<W: Writer>(
     alloc: Global,
     writer: &mut W,
@@ -56,7 +56,7 @@ fn last_answer<W: Writer>(
     Ok(writer.write(event))
 }
 
-// After a refusal every event is refused.
+// Checks that after an error each event returns `WriterFailed`.
 fn expect_ended<W: Writer>(
     alloc: Global,
     writer: &mut W,
@@ -68,7 +68,7 @@ fn expect_ended<W: Writer>(
     Ok(answer)
 }
 
-// The answer of a device's writer to the last of these events.
+// Returns the result of a writer to a device for the last of these events.
 fn answer_to_last<S: Sharing>(
     alloc: Global,
     words: &str,
@@ -79,7 +79,7 @@ fn answer_to_last<S: Sharing>(
     expect_ended(alloc, &mut writer, answer)
 }
 
-// The answer where a value is written to a device.
+// Returns the result of writing a value to a device.
 fn answer_to_value<S: Sharing>(
     alloc: Global,
     value: &Value,
@@ -90,7 +90,7 @@ fn answer_to_value<S: Sharing>(
     expect_ended(alloc, &mut writer, answer)
 }
 
-// The answer where something is sent to a device.
+// Returns the result of writing something to a device.
 fn answer_by<S: Sharing>(
     alloc: Global,
     sending: Sending<'_>,
@@ -104,7 +104,7 @@ fn answer_by<S: Sharing>(
     }
 }
 
-// The event is accepted.
+// Checks that the event was accepted.
 pub(crate) fn expect_done(alloc: Global, answer: Result<(), Error>) -> Result<(), Wrong> {
     match answer {
         Ok(()) => Ok(()),
@@ -112,7 +112,7 @@ pub(crate) fn expect_done(alloc: Global, answer: Result<(), Error>) -> Result<()
     }
 }
 
-// No call of the device is made for the events before the last.
+// Checks that no call of the device is made before the last event.
 fn expect_nothing_before_last<S: Sharing>(alloc: Global, words: &str) -> Result<(), Wrong> {
     let Some((before, _)) = words.rsplit_once(' ') else {
         return Ok(());
@@ -126,7 +126,7 @@ fn expect_nothing_before_last<S: Sharing>(alloc: Global, words: &str) -> Result<
     )
 }
 
-// The answer is the error of a device with this fault.
+// Checks that the result is the error of a device with this fault.
 fn expect_failed(fault: DeviceFault, answer: Result<(), Error>) -> Result<(), Wrong> {
     match fault {
         DeviceFault::Fails(kind) => expect_io(answer, kind, None),
@@ -134,7 +134,7 @@ fn expect_failed(fault: DeviceFault, answer: Result<(), Error>) -> Result<(), Wr
     }
 }
 
-// The file went out, a byte a call, and one flush after it.
+// Checks that the file was written, a byte per call, followed by one flush.
 fn expect_whole(alloc: Global, device: &Device, bytes: &[u8]) -> Result<(), Wrong> {
     expect_bytes(alloc, device.bytes.as_slice(), bytes)?;
     let calls = (bytes.len() as u64).saturating_add(1);
@@ -152,14 +152,16 @@ fn expect_whole(alloc: Global, device: &Device, bytes: &[u8]) -> Result<(), Wron
     )
 }
 
-// This many bytes of the file went out, and the device, which failed, wasn't asked again.
+// Checks that this many bytes of the file were written, and that the device wasn't called after it
+// failed.
 fn expect_cut(alloc: Global, device: &Device, bytes: &[u8], call: u64) -> Result<(), Wrong> {
     expect_bytes(alloc, device.bytes.as_slice(), front(bytes, call as usize))?;
     let is_last = device.failures == 1 && device.calls == call.saturating_add(1);
     expect_that(alloc, is_last, "one failure, at the last call")
 }
 
-// Where the fault at this call was met, the answer is `Io`; else the file went out. Tells which.
+// Checks that the result is `Io` if the device failed, and that the file was written if it didn't.
+// Returns whether it failed.
 fn expect_answer(
     alloc: Global,
     sending: Sending<'_>,
@@ -177,7 +179,7 @@ fn expect_answer(
     Ok(true)
 }
 
-// It is sent to a device with the fault at this call. Tells whether that failed.
+// Writes to a device with the fault at this call. Returns whether that failed.
 fn expect_by<S: Sharing>(
     alloc: Global,
     sending: Sending<'_>,
@@ -189,7 +191,7 @@ fn expect_by<S: Sharing>(
     expect_answer(alloc, sending, &device, answer, call)
 }
 
-// By each way the device fails at this call, or doesn't, as is said.
+// Checks, for each way, whether the device fails at this call.
 fn expect_sent<S: Sharing>(
     alloc: Global,
     sending: Sending<'_>,
@@ -207,14 +209,14 @@ fn expect_sent<S: Sharing>(
     Ok(())
 }
 
-// Whether this call is made to fail: of a large file the last byte's, and one before and one after
-// the byte at which what waits is sent.
+// Returns whether this call is made to fail. For a large file these are that of the last byte, and
+// those before and after the byte at which pending bytes are written.
 fn is_tried(call: u64, size: usize) -> bool {
     size < 200 || call.saturating_add(1) == size as u64 || call == 65_535 || call == 65_537
 }
 
-// The file goes whole to a device that takes one byte a call. With a fault at a call a beginning of
-// it does; the flush is one more call.
+// Checks that the whole file is written to a device that takes one byte per call, and that a prefix
+// of it is if a call fails. The flush is one more call.
 pub(crate) fn expect_file_on_devices<S: Sharing>(
     alloc: Global,
     sending: Sending<'_>,

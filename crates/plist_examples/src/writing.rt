@@ -1,4 +1,4 @@
-//! What `BinaryWriter` and `SharingWriter` write, byte by byte, and what is read of that.
+//! What `BinaryWriter` and `SharingWriter` write, byte by byte, and what is read back.
 
 use crate::rows::{Row, bytes_given, first_number, first_word, unreadable};
 use crate::words::{value_of, words_of_answer};
@@ -13,7 +13,7 @@ use plist_support::{
 use std::alloc::Global;
 use std::io::ErrorKind;
 
-// A writer of these events sends this file.
+// Checks that a writer writes this file for these events.
 fn expect_written<S: Sharing>(
     alloc: Global,
     mut writer: FileWriter<Vec<u8>, S>,
@@ -24,38 +24,38 @@ fn expect_written<S: Sharing>(
     expect_bytes(alloc, writer.into_inner().as_slice(), bytes)
 }
 
-// The events of a file are these.
+// Checks that a file has these events.
 fn expect_read(alloc: Global, bytes: &[u8], words: &str) -> Result<(), Wrong> {
     let read = words_of(alloc, BinaryReader::new(alloc, bytes))?;
     expect_same(alloc, read.as_str(), words)
 }
 
-// The value of a file has these events.
+// Checks that the value of a file has these events.
 fn expect_value_read(alloc: Global, bytes: &[u8], words: &str) -> Result<(), Wrong> {
     let read = Value::from_events(alloc, BinaryReader::new(alloc, bytes));
     expect_same(alloc, words_of_answer(alloc, &read)?.as_str(), words)
 }
 
-// A value is written as this file.
+// Checks that a value is written as this file.
 fn expect_value_written(alloc: Global, value: &Value, bytes: &[u8]) -> Result<(), Wrong> {
     let mut found = Vec::new(alloc);
     expect_done(alloc, value.to_writer_binary(alloc, &mut found))?;
     expect_bytes(alloc, found.as_slice(), bytes)
 }
 
-// The events of these words give this file, whatever lengths they say.
+// Checks that the events of these words are written as this file, whatever lengths they have.
 fn expect_hinted(alloc: Global, words: &str, bytes: &[u8]) -> Result<(), Wrong> {
     let writer = BinaryWriter::new(alloc, Vec::new(alloc));
     expect_written(alloc, writer, words, bytes)
 }
 
-// They give this file, and the file gives them.
+// Checks that the events of these words are written as this file, and read back.
 fn expect_events(alloc: Global, words: &str, bytes: &[u8]) -> Result<(), Wrong> {
     expect_hinted(alloc, words, bytes)?;
     expect_read(alloc, bytes, words)
 }
 
-// The events, or their value, are sent to devices with a fault, by each of these ways.
+// Writes the events, or their value, to devices with a fault, in each of these ways.
 fn expect_sent<S: Sharing>(
     alloc: Global,
     words: &str,
@@ -76,19 +76,19 @@ fn expect_sent<S: Sharing>(
 
 const INTERRUPTED: DeviceFault = DeviceFault::Fails(ErrorKind::Interrupted);
 
-// The ways by which the plain writer sends, and the sharing one.
+// The ways in which the plain writer writes, and the sharing one.
 const PLAIN: [Way; 3] = [Way::Events, Way::Handed, Way::Whole];
 
 const SHARED: [Way; 2] = [Way::Events, Way::Handed];
 
-// Events that are no value's give this file, which gives them; and on devices it is sent alike.
+// Checks that events that aren't a value's are written as this file and read back, also on devices.
 fn expect_repeating(alloc: Global, words: &str, bytes: &[u8]) -> Result<(), Wrong> {
     expect_events(alloc, words, bytes)?;
     expect_sent::<EqualScalars>(alloc, words, bytes, INTERRUPTED, &[Way::Events])
 }
 
-// They give this file, and so does their value; the file gives them and their value; and on devices
-// it is sent alike.
+// Checks that the events and their value are written as this file, and that both are read back,
+// also on devices.
 fn expect_file(alloc: Global, words: &str, bytes: &[u8]) -> Result<(), Wrong> {
     expect_events(alloc, words, bytes)?;
     expect_value_read(alloc, bytes, words)?;
@@ -96,14 +96,14 @@ fn expect_file(alloc: Global, words: &str, bytes: &[u8]) -> Result<(), Wrong> {
     expect_sent::<EqualScalars>(alloc, words, bytes, INTERRUPTED, &PLAIN)
 }
 
-// A value is shared as this file.
+// Checks that the sharing writer writes a value as this file.
 fn expect_value_shared(alloc: Global, value: &Value, bytes: &[u8]) -> Result<(), Wrong> {
     let mut writer = SharingWriter::new(alloc, Vec::new(alloc));
     expect_done(alloc, write_value(alloc, value, &mut writer))?;
     expect_bytes(alloc, writer.into_inner().as_slice(), bytes)
 }
 
-// The value of a file has these events in order, and is shared as the same file.
+// Checks that the value of a file has these events in order, and is shared as the same file.
 fn expect_shared_again(alloc: Global, words: &str, bytes: &[u8]) -> Result<(), Wrong> {
     let read = Value::from_reader(alloc, bytes);
     expect_same(alloc, words_of_answer(alloc, &read)?.as_str(), words)?;
@@ -113,8 +113,8 @@ fn expect_shared_again(alloc: Global, words: &str, bytes: &[u8]) -> Result<(), W
     }
 }
 
-// The events of these words are shared as this file; the file gives them, its value has them in
-// order, and is shared as the same file; and on devices it is sent alike.
+// Checks that the events of these words are shared as this file and read back, and that its value
+// has them in order and is shared as the same file, also on devices.
 fn expect_shared(alloc: Global, words: &str, bytes: &[u8]) -> Result<(), Wrong> {
     let writer = SharingWriter::new(alloc, Vec::new(alloc));
     expect_written(alloc, writer, words, bytes)?;
@@ -123,7 +123,7 @@ fn expect_shared(alloc: Global, words: &str, bytes: &[u8]) -> Result<(), Wrong> 
     expect_sent::<EqualTrees>(alloc, words, bytes, INTERRUPTED, &SHARED)
 }
 
-// A value of an ASCII property list is written to a builder, which gives it back.
+// Checks that a value of an ASCII property list can be rebuilt by a builder.
 fn expect_rebuilt(alloc: Global, row: Row<'_>) -> Result<(), Wrong> {
     let bytes = bytes_given(alloc, row.given)?;
     let value = match Value::from_reader_ascii(alloc, bytes.as_slice()) {
@@ -136,7 +136,7 @@ fn expect_rebuilt(alloc: Global, row: Row<'_>) -> Result<(), Wrong> {
     expect_same(alloc, words_of_answer(alloc, &again)?.as_str(), row.wanted)
 }
 
-// The fault of this name.
+// Returns the fault of this name.
 fn fault_of(alloc: Global, name: &str) -> Result<DeviceFault, Wrong> {
     match name {
         "Interrupted" => Ok(DeviceFault::Fails(ErrorKind::Interrupted)),
@@ -148,7 +148,7 @@ fn fault_of(alloc: Global, name: &str) -> Result<DeviceFault, Wrong> {
     }
 }
 
-// The events after the name of a fault are sent to devices with that.
+// Writes the events after the name of a fault to devices with this fault.
 fn expect_faulty<S: Sharing>(
     alloc: Global,
     given: &str,
@@ -160,14 +160,14 @@ fn expect_faulty<S: Sharing>(
     expect_sent::<S>(alloc, words, bytes, fault, ways)
 }
 
-// What stands before, within and after the first parentheses.
+// Returns what precedes, is in and follows the first parentheses.
 fn parts_of(field: &str) -> Option<(&str, &str, &str)> {
     let (before, rest) = field.split_once('(')?;
     let (within, behind) = rest.split_once(')')?;
     Some((before, within, behind))
 }
 
-// A field in which `(00*3)` stands for `000000`.
+// Expands a field in which `(00*3)` stands for `000000`.
 fn repeated(alloc: Global, field: &str) -> Result<String, Wrong> {
     let Some((before, within, behind)) = parts_of(field) else {
         return unreadable(alloc, field);
@@ -184,7 +184,7 @@ fn repeated(alloc: Global, field: &str) -> Result<String, Wrong> {
     Ok(whole)
 }
 
-// An example with parentheses in the words and in the file, which both writers send.
+// Runs an example with parentheses in the words and in the file, for both writers.
 fn expect_repeated(alloc: Global, row: Row<'_>) -> Result<(), Wrong> {
     let words = repeated(alloc, row.given)?;
     let file = repeated(alloc, row.wanted)?;
@@ -193,7 +193,7 @@ fn expect_repeated(alloc: Global, row: Row<'_>) -> Result<(), Wrong> {
     expect_shared(alloc, words.as_str(), bytes.as_slice())
 }
 
-// A writer gives these answers to the events, and what was sent then are these bytes.
+// Checks what a writer returns for the events, and the bytes written by then.
 fn expect_answered<S: Sharing>(
     alloc: Global,
     mut writer: FileWriter<Vec<u8>, S>,
@@ -208,7 +208,7 @@ fn expect_answered<S: Sharing>(
     expect_bytes(alloc, writer.into_inner().as_slice(), bytes.as_slice())
 }
 
-// What is written of the events that are given, by a check.
+// Runs a check of what is written for the events.
 fn run_check(alloc: Global, row: Row<'_>) -> Result<(), Wrong> {
     let bytes = bytes_given(alloc, row.wanted)?;
     let (words, bytes) = (row.given, bytes.as_slice());
@@ -223,7 +223,7 @@ fn run_check(alloc: Global, row: Row<'_>) -> Result<(), Wrong> {
     }
 }
 
-/// An example of what is written.
+/// Runs an example of what is written.
 pub(crate) fn run(alloc: Global, row: Row<'_>) -> Result<(), Wrong> {
     match row.check {
         "repeated" => expect_repeated(alloc, row),

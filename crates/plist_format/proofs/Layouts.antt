@@ -1,4 +1,4 @@
--- The layouts that go by more than one marker, and lengths by the low half of a marker.
+-- The layouts that several markers share, and lengths by the low half of a marker.
 use Rattle.std.proofs.Common.{rules, refl, ap, ◌≡◌, ℕ, ◌*◌, ◌%◌, ◌≤◌, List}
 use Rattle.plist_base.specs.Trees.{Data}
 use Rattle.plist_format.specs.Container.{numbers_spelled}
@@ -23,7 +23,7 @@ pub layout-dictionary : (w m : ℕ) → 208 ≤ m → m ≤ 223
     (numbers_spelled w content))
 layout-dictionary w m low high = search rules
 
--- a length goes by the low half of its marker
+-- a length depends on the low half of its marker alone
 length_by_half : (m low : ℕ) (rest : List ℕ) → m % 16 ≡ low % 16 → length_in m rest ≡ length_in low rest
 length_by_half m low rest half = rw half refl
 

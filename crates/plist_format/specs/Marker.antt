@@ -1,4 +1,4 @@
--- What the byte of each marker is, and what stands after it (CFBinaryPList.c, "OBJECT TABLE").
+-- The byte of each marker, and what follows it (CFBinaryPList.c, "OBJECT TABLE").
 use Rattle.std.specs.Prelude.{ℕ, ◌+◌, ◌*◌, Option, None, Some, if◌then◌else◌}
 use Rattle.plist_base.specs.Faults.{NullObjectUnimplemented, FillObjectUnimplemented, UnknownObjectType}
 use Rattle.plist_base.specs.declared.real.RealBits.TheVariants.{Four, Eight}
@@ -10,7 +10,8 @@ use Rattle.plist_format.specs.declared.marker.CountedKind.TheVariants as kind
 use Rattle.plist_format.specs.declared.marker.Marker.{Marker}
 use Rattle.plist_format.specs.declared.marker.Marker.TheVariants as marker
 
--- the high half of the marker of what has a length, which is the low half or follows
+-- the high half of the marker of an object with a length; the low half says the length, or that it
+-- follows
 abbrev pub high_half : CountedKind → ℕ
 high_half kind.Data = 0x4
 high_half kind.Text = 0x5
@@ -35,12 +36,12 @@ byte_of (marker.Counted kind low) = high_half kind * 16 + low
 byte_of (marker.Uid width) = 0x7f + width
 byte_of (marker.Unknown byte) = byte
 
--- what has a length by it, and its low half
+-- the kind of object and the low half if the marker has a length
 abbrev pub counted_in : Marker → Option (CountedKind × ℕ)
 counted_in (marker.Counted kind low) = Some (kind, low)
 counted_in other = None
 
--- what stands after one that has a length, where a reference has this width
+-- what follows a marker with a length, for references of this width
 abbrev pub counted_layout : (width : ℕ) → CountedKind → Layout
 counted_layout width kind.Data = Counted 1 (λ _ content. Scalar (Data content))
 counted_layout width kind.Text = Counted 1 (λ _. text)
@@ -50,7 +51,7 @@ counted_layout width kind.Array =
 counted_layout width kind.Dictionary = Counted (2 * width)
     (λ count content. dictionary count (numbers_spelled width content))
 
--- and after any marker
+-- what follows any marker
 abbrev pub layout_after_marker : (width : ℕ) → Marker → Layout
 layout_after_marker width marker.Null = Refused NullObjectUnimplemented
 layout_after_marker width (marker.Boolean value) = Fixed 0 (λ _. Scalar (Boolean value))

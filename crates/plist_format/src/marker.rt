@@ -1,4 +1,4 @@
-//! The marker of an object: the byte at its front, which says what stands after it.
+//! The marker of an object: its first byte, which says what follows.
 
 ghost use Rattle.std.specs.Prelude.{◌≡◌, ℕ, ◌%◌, ◌<◌, ◌≤◌, IfNone, IfSome};
 ghost use Rattle.plist_format.specs.Marker.{byte_of, counted_in, high_half, layout_after_marker};
@@ -6,8 +6,8 @@ ghost use Rattle.plist_format.specs.Object.{layout_of};
 
 use std::marker::Model;
 
-/// The low half of the marker of an object that has a length: the length, where it is below 15, or
-/// that it follows.
+/// The low half of the marker of an object that has a length: the length itself if it is below 15,
+/// or a mark that the length follows.
 #[derive(Clone, Copy)]
 pub struct LowHalf {
     value: u8,
@@ -26,7 +26,7 @@ impl Model for LowHalf {
 }
 
 impl LowHalf {
-    // That of a marker.
+    // Returns the low half of a marker.
     #[inline(always)]
     fn of_byte(byte: u8) -> LowHalf
         ensures { result ≡ byte % 16 }
@@ -34,7 +34,7 @@ impl LowHalf {
         LowHalf { value: byte % 16 }
     }
 
-    /// That of a length, unless this has to follow.
+    /// Returns the low half for a length, or `None` if the length has to follow.
     #[inline(always)]
     pub fn of_length(length: u64) -> Option<LowHalf>
         ensures short { IfSome result (λ low. (low ≡ length) × (length < 15)) }
@@ -49,7 +49,7 @@ impl LowHalf {
         }
     }
 
-    /// A length follows.
+    /// Returns the low half that says that the length follows.
     #[inline(always)]
     pub fn follows() -> LowHalf
         ensures { result ≡ 15 }
@@ -57,7 +57,7 @@ impl LowHalf {
         LowHalf { value: 15 }
     }
 
-    /// The length, unless it follows.
+    /// Returns the length, or `None` if it follows.
     #[inline(always)]
     pub fn length(self) -> Option<u64>
         ensures short { IfSome result (λ length. (length ≡ self) × (self < 15)) }
@@ -71,7 +71,7 @@ impl LowHalf {
     }
 }
 
-/// How many bytes the number of a Uid has: 1 to 8.
+/// The number of bytes in a Uid: 1 to 8.
 #[derive(Clone, Copy)]
 pub struct UidWidth {
     bytes: u8,
@@ -90,7 +90,7 @@ impl Model for UidWidth {
 }
 
 impl UidWidth {
-    /// This many bytes.
+    /// Creates a width of this many bytes.
     #[inline(always)]
     pub fn new(bytes: usize) -> UidWidth
         requires { (1 ≤ bytes) × (bytes ≤ 8) }
@@ -99,7 +99,7 @@ impl UidWidth {
         UidWidth { bytes: bytes as u8 }
     }
 
-    /// The number of bytes.
+    /// Returns the number of bytes.
     #[inline(always)]
     pub fn get(self) -> usize
         ensures value { result ≡ self }
@@ -109,14 +109,14 @@ impl UidWidth {
     }
 }
 
-/// What has a length after its marker.
+/// The kinds of objects that have a length, in the marker or after it.
 #[derive(Clone, Copy)]
 pub enum CountedKind {
     /// Data.
     Data,
-    /// A text in UTF-8.
+    /// A string in UTF-8.
     Text,
-    /// A text in UTF-16.
+    /// A string in UTF-16.
     WideText,
     /// An array.
     Array,
@@ -125,7 +125,7 @@ pub enum CountedKind {
 }
 
 impl CountedKind {
-    // The high half of its marker.
+    // Returns the high half of its marker.
     #[inline(always)]
     fn high_half(self) -> u8
         ensures value { result ≡ high_half self }
@@ -141,20 +141,20 @@ impl CountedKind {
     }
 }
 
-/// The marker of an object. No other code knows the bytes.
+/// The marker of an object. Only this type depends on the bytes of markers.
 #[derive(Clone, Copy)]
 pub enum Marker {
-    /// A null, which no property list has.
+    /// A null, which no property list contains.
     Null,
-    /// A truth value.
+    /// A Boolean.
     Boolean(bool),
-    /// A fill byte, which is no object.
+    /// A fill byte, which isn't an object.
     Fill,
-    /// An integer of one byte, without sign.
+    /// An unsigned integer of one byte.
     Integer1,
-    /// An integer of two bytes, without sign.
+    /// An unsigned integer of two bytes.
     Integer2,
-    /// An integer of four bytes, without sign.
+    /// An unsigned integer of four bytes.
     Integer4,
     /// An integer of eight bytes.
     Integer8,
@@ -166,16 +166,16 @@ pub enum Marker {
     Real8,
     /// A date.
     Date,
-    /// Text, data or a collection, with its length.
+    /// A string, data or a collection, with its length.
     Counted(CountedKind, LowHalf),
     /// A Uid.
     Uid(UidWidth),
-    /// A byte that is no marker.
+    /// A byte that isn't a marker.
     Unknown(u8),
 }
 
 impl Marker {
-    /// The marker that is this byte.
+    /// Returns the marker of this byte.
     #[inline(always)]
     pub fn decode(byte: u8) -> Marker
         ensures byte { byte_of result ≡ byte }
@@ -204,7 +204,7 @@ impl Marker {
         }
     }
 
-    /// What has a length by this marker, and the low half of that.
+    /// Returns the kind of object and the low half if the marker has a length.
     #[inline(always)]
     pub fn counted(self) -> Option<(CountedKind, LowHalf)>
         ensures { result ≡ counted_in self }
@@ -227,7 +227,7 @@ impl Marker {
         }
     }
 
-    /// Its byte.
+    /// Returns the marker's byte.
     #[inline(always)]
     pub fn encode(self) -> u8
         ensures { result ≡ byte_of self }

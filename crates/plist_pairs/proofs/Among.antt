@@ -1,4 +1,4 @@
--- What is found among pairs is one of their values.
+-- A value that is found among pairs is one of their values.
 use Rattle.std.proofs.Common.{◌≡◌, ◌∷◌, ℕ, zero, suc, arith, Bool, List, [], Option, Some, None, IfSome, Bor, MutBor, slice_get, sym}
 use Rattle.std.proofs.lemmas.Option.{none-some, same_Some}
 use Rattle.std.specs.List.{IsAmong}
@@ -13,14 +13,14 @@ pub among : {X : Type 0} (found : Option (Bor X)) (test : List ℕ → Bool)
 among None test pairs e = tt
 among (Some value) test pairs e = found_IsAmong test pairs value.now (sym e)
 
--- the same of a value that is lent to be changed
+-- the value of a key, by a mutable reference
 pub among_mut : {X : Type 0} (found : Option (MutBor X)) (test : List ℕ → Bool)
     (pairs : List (List ℕ × X)) → option_copied_mut found ≡ lookup test pairs
     → IfSome found (λ lent. IsAmong (values_of pairs) lent.now)
 among_mut None test pairs e = tt
 among_mut (Some lent) test pairs e = found_IsAmong test pairs lent.now (sym e)
 
--- what stands at a place
+-- the item at an index
 pub read_among : {X : Type 0} (xs : List X) (i : ℕ) (x : X) → slice_get xs i ≡ Some x
     → IsAmong xs x
 read_among [] i x e = absurd (none-some x e)

@@ -1,4 +1,4 @@
--- What is written at a place of a list of pairs.
+-- Setting a value at an index of a list of pairs.
 use Rattle.std.proofs.Common.{◌≡◌, ℕ, zero, suc, List, [], ◌∷◌, ◌++◌, length, refl, ap, sym, ◌∙◌, Some, None, cond, slice_get, Option, position, false, is_some, get_or, swap_remove, bytes_eq}
 use Rattle.std.proofs.lemmas.List.Quantifiers.{position-Some}
 use Rattle.std.proofs.lemmas.Option.{slice_get-get_or, none-some, same_Some}
@@ -31,25 +31,25 @@ read_at [] i v r read = absurd (none-some r read)
 read_at (p ∷ ps) zero v r read = same_Some r v (sym read)
 read_at (p ∷ ps) (suc i) v r read = read_at ps i v r read
 
--- what is read at a place is what was set there
+-- the value read at an index is the one that was set there
 pub read_set : {K X : Type 0} (ps new : List (K × X)) (i j : ℕ) (v r : X)
     → new ≡ set_value_at ps i v → j ≡ i → slice_get (values_of new) j ≡ Some r → r ≡ v
 read_set ps new i j v r is same read =
     read_at ps i v r (cc)
 
--- a key that isn't there comes last
+-- a new key is last
 pub comes_last : {X : Type 0} (k : List ℕ) (v : X) (ps : List (List ℕ × X))
     → lookup (bytes_eq k) ps ≡ None → insert_entry bytes_eq ps k v ≡ ps ++ (k, v) ∷ []
 comes_last k v ps e = insert_entry-absent _ k v ps (absent_from_lookup _ ps e)
 
--- a key that is there keeps its place
+-- a key that is there keeps its index
 pub keeps_index : {X : Type 0} (k : List ℕ) (v : X) (ps : List (List ℕ × X)) (i : ℕ)
     → Some i ≡ position (bytes_eq k) (keys_of ps)
     → set_value_at ps i v ≡ insert_entry bytes_eq ps k v
 keeps_index k v ps i q =
     sym (insert_entry-first _ k v ps i (Found-position _ ps i (sym q)).first)
 
--- the value of the pair at a place
+-- the value of the pair at an index
 pub second_at : {K X : Type 0} (ps : List (K × X)) (i : ℕ) (k : K) (v : X)
     → slice_get ps i ≡ Some (k, v) → Some v ≡ slice_get (values_of ps) i
 second_at ps i k v e = sym (get-map (λ p. p.1) ps i (k, v) e)
@@ -58,7 +58,7 @@ pub none_of : {X : Type 0} (o : Option X) → is_some o ≡ false → o ≡ None
 none_of None e = refl
 none_of (Some x) e = absurd (cc)
 
--- a key that is there: its bytes, its value, and what is left without it
+-- a key that is there: its bytes, its value, and the pairs without it
 module _ {X : Type 0} (k : List ℕ) where
   pub value-there : (ps : List (List ℕ × X)) (i : ℕ) → Some i ≡ position (bytes_eq k) (keys_of ps)
       → slice_get (values_of ps) i ≡ lookup (bytes_eq k) ps
@@ -83,12 +83,12 @@ module _ {X : Type 0} (k : List ℕ) where
   taken-there (p ∷ ps) i after q is =
       is p ∙ sym (swap_remove_entry-found (bytes_eq k) (p ∷ ps) i p (sym q))
 
-  -- nothing is taken of pairs without the key
+  -- removing a key that isn't there changes nothing
   pub none-taken : (ps : List (List ℕ × X)) → lookup (bytes_eq k) ps ≡ None
       → swap_remove_entry (bytes_eq k) ps ≡ ps
   none-taken ps e =
       swap_remove_entry-missing _ ps
       (none_of _ (cc (some_index _ ps)))
 
--- what proofs of entries know of a place
+-- rules for entries at an index
 pub ruleset entries = (second_at, length-set_value_at)

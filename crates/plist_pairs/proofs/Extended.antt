@@ -1,4 +1,4 @@
--- Pairs that are inserted one after the other.
+-- Pairs that are inserted one after another.
 use Rattle.std.proofs.Common.{◌≡◌, ℕ, List, [], ◌∷◌, ◌++◌, map, sym, ap, ◌∙◌, Option, Ok, Err, String, Result, OnOk, bytes_eq, Global}
 use Rattle.std.specs.Iterator.{Drains}
 use Rattle.std.specs.Iterator.Runs.{YieldsInOrder}
@@ -21,7 +21,7 @@ module _ {V : Type 0} where
       ∙ sym (ap (insert_all bytes_eq old) (map_push shown_owned_pair rows row)
       ∙ insert_all_push bytes_eq old (map shown_owned_pair rows) (shown_owned_pair row))
 
--- of an iterator that gives a list in order, all pairs of the list are inserted
+-- if the iterator yields a list in order, all pairs of the list are inserted
 module _ {V I : Type 0} (gives : I → Option (String Global × V) → I → Type 0)
     (left : I → List (String Global × V)) (runs : YieldsInOrder gives left) (iter : I)
     (list : List (String Global × V)) (is : left iter ≡ list) where

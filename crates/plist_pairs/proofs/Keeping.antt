@@ -1,4 +1,4 @@
--- Keys that stand once stay so under inserts, and then the last values change nothing.
+-- Distinct keys stay distinct under inserts, and such pairs are their own last values.
 use Rattle.std.proofs.Common.{◌≡◌, ℕ, Bool, true, false, if◌then◌else◌, List, [], ◌∷◌, ◌++◌, length, map, refl, sym, ap, ◌∙◌, append_assoc, append-nil, subst, bytes_eq, suc, Some, take, drop, slice_get, drop-cons, take-suc, take-append-drop}
 use Rattle.std.specs.List.{IsDistinct, list_any}
 use Rattle.std.specs.Map.{keys_of}
@@ -12,7 +12,7 @@ use Rattle.plist_pairs.proofs.Columns.{no_keys}
 use Rattle.plist_pairs.proofs.EntrySteps.{comes_last}
 use Rattle.std.proofs.lemmas.Option.{get_or_from_slice_get, slice_get_within}
 
--- each key stands once
+-- the keys are distinct
 abbrev pub EachOnce : {V : Type 0} → List (List ℕ × V) → Type 0
 EachOnce pairs = IsDistinct bytes_eq (keys_of pairs)
 
@@ -21,7 +21,7 @@ pub first-distinct : (ks more : List (List ℕ)) → IsDistinct bytes_eq (ks ++ 
 first-distinct ks more d =
     rw (← (take-append_seam ks more)) (distinct-take nat_list_eq_equiv (length ks) (ks ++ more) d)
 
--- one key more, and one less
+-- a key is added unless it is there, and a key is removed
 key-more : (k : List ℕ) (ks : List (List ℕ)) (b : Bool) → list_any (bytes_eq k) ks ≡ b
     → IsDistinct bytes_eq ks → IsDistinct bytes_eq (if b then ks else ks ++ k ∷ [])
 key-more k ks true p d = d
@@ -33,7 +33,7 @@ key-less k ks true d = d
 key-less k ks false d = first-distinct ks _ d
 
 module _ {V : Type 0} where
-  -- inserts keep each key once
+  -- inserts keep keys distinct
   once-inserts : (es ps : List (List ℕ × V)) → EachOnce es → EachOnce (insert_all bytes_eq es ps)
   once-inserts es [] d = d
   once-inserts es (p ∷ ps) d =
@@ -44,7 +44,7 @@ module _ {V : Type 0} where
   pub once-last : (ps : List (List ℕ × V)) → EachOnce (insert_all bytes_eq [] ps)
   once-last ps = once-inserts [] ps no_keys
 
-  -- and so it was before the last insert
+  -- if keys are distinct after an insert, they were before
   pub once-earlier : (k : List ℕ) (v : V) (es : List (List ℕ × V))
       → EachOnce (insert_entry bytes_eq es k v) → EachOnce es
   once-earlier k v es d =
@@ -63,11 +63,11 @@ module _ {V : Type 0} where
             (p ∷ []) ps,
       )
 
-  -- pairs whose keys stand once are their own last values
+  -- pairs with distinct keys are their own last values
   pub last-values-once : (ps : List (List ℕ × V)) → EachOnce ps → insert_all bytes_eq [] ps ≡ ps
   last-values-once ps d = inserted [] ps d
 
--- a function of the values, before or after they are inserted
+-- a function can be applied to the values before or after they are inserted
 module _ {V W : Type 0} (f : V → W) where
   pub values-insert : (k : List ℕ) (v : V) (es : List (List ℕ × V))
       → map (λ p. (p.0, f p.1)) (insert_entry bytes_eq es k v)
@@ -90,7 +90,7 @@ module _ {V W : Type 0} (f : V → W) where
   values-inserts es (p ∷ ps) =
       cc (values-inserts (insert_entry bytes_eq es p.0 p.1) ps, values-insert p.0 p.1 es)
 
--- the next pair goes last
+-- the next pair is appended
 pub next-last : {V : Type 0} (rows : List (List ℕ × V)) (i : ℕ) (k : List ℕ) (v : V)
     → EachOnce rows → slice_get rows i ≡ Some (k, v)
     → insert_entry bytes_eq (take i rows) k v ≡ take (suc i) rows

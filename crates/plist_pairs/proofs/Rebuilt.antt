@@ -1,4 +1,4 @@
--- Keys and their values that are put into two columns, and their order.
+-- Keys and values that are appended to two columns, and their order.
 use Rattle.std.proofs.Common.{◌≡◌, ℕ, ◌+◌, ◌<◌, Bool, true, false, not, cond, List, [], ◌∷◌, ◌++◌, length, map, sym, ap, subst, ◌∙◌, is_some, IsSome, Option, length-append, Some, None, position, string_bytes, bytes_eq, lt-ltb, refl, append_assoc, arith, is_lt, string_cmp, IsPermutation, IsSorted, nat_cmp, IsSortedBy}
 use Rattle.std.specs.List.{list_any, position_or_len, IsDistinct}
 use Rattle.std.specs.Map.{lookup, keys_of}
@@ -25,7 +25,7 @@ is-not b false e = ap not (sym e)
 abbrev pub has : List Text → Text → Bool
 has ks k = list_any (λ (l : Text). bytes_eq (string_bytes k) (string_bytes l)) ks
 
--- a key that isn't there goes last, with its value
+-- a new key is appended, with its value
 module _ {X : Type 0} (ks : List Text) (vs : List X) (e : length vs ≡ length ks) (k : Text) (v : X)
     (lacks : has ks k ≡ false) (ls : List Text) (ws : List X)
     (hl : ls ≡ cond (has ks k) ks (ks ++ k ∷ [])) (hw : ws ≡ vs ++ v ∷ []) where
@@ -41,7 +41,7 @@ module _ {X : Type 0} (ks : List Text) (vs : List X) (e : length vs ≡ length k
   put-rows =
       (λ i. rows (put-keys i) (hw i)) ∙ rows-pushed ks vs e k v
 
--- a key that none of the keys is has no value
+-- a key that equals none of the keys has no value
 pub none-rows : {X : Type 0} (ks : List Text) (vs : List X) → length vs ≡ length ks
     → (t : List ℕ → Bool) → list_any (λ k. t (string_bytes k)) ks ≡ false
     → lookup t (rows ks vs) ≡ None
@@ -49,7 +49,7 @@ none-rows ks vs e t lacks = none_of _ (cc (any-rows ks vs t e))
 
 module _ (ks : List Text) (k : Text) (b : Bool) (new : b ≡ not (has ks k)) (n : b ≡ false)
     (ls : List Text) (h : ls ≡ cond (has ks k) ks (ks ++ k ∷ [])) where
-  -- a key that is there leaves the keys as they are
+  -- a key that is there leaves the keys unchanged
   pub old-keys : ls ≡ ks
   old-keys = h ∙ ap (λ c. cond c ks (ks ++ k ∷ [])) (is-not b _ new ∙ ap not n)
 
@@ -60,7 +60,7 @@ module _ (ks : List Text) (k : Text) (b : Bool) (new : b ≡ not (has ks k)) (n 
       at_first (λ (l : Text). bytes_eq (string_bytes k) (string_bytes l)) ks i at
       (rw (← old-keys) within)
 
--- a key that was put last is the one that is popped, and the others are as they were
+-- popping the key that was appended returns it, and restores the others
 module _ (ks : List Text) (k : Text) (b : Bool) (new : b ≡ not (has ks k)) (n : b ≡ true)
     (ls : List Text) (h : ls ≡ cond (has ks k) ks (ks ++ k ∷ [])) where
   new-lacks : has ks k ≡ false
@@ -82,7 +82,7 @@ module _ (ks : List Text) (k : Text) (b : Bool) (new : b ≡ not (has ks k)) (n 
         ap (λ l. is_some (lookup (bytes_eq (string_bytes k)) l)) (sym seen)
         ∙ sym (any-rows ks vs (bytes_eq (string_bytes k)) e) ∙ new-lacks
 
-    -- neither column has changed
+    -- neither column changed
     pub undone : (ms : List Text) (ws : List X) → ms ≡ ks → ws ≡ vs
         → IsDistinct bytes_eq (map string_bytes ks)
         → (length ws ≡ length ms) × IsDistinct bytes_eq (map string_bytes ms)
@@ -91,7 +91,7 @@ module _ (ks : List Text) (k : Text) (b : Bool) (new : b ≡ not (has ks k)) (n 
       subst (λ l. IsDistinct bytes_eq (map string_bytes l)) (sym keys) d,
     )
 
--- what is in order by a function's values, seen as these values
+-- a list that is sorted by a function's values becomes a sorted list of these values
 sorted-map : {A K : Type 0} (f : A → K) (lt : K → K → Bool) (xs : List A)
     → IsSortedBy (λ a b. lt (f a) (f b)) xs → IsSortedBy lt (map f xs)
 sorted-map f lt [] s k d a b = absurd (omega arith)
@@ -104,7 +104,7 @@ sorted-map f lt (x ∷ xs) s k d a b =
 module _ {V : Type 0} where
   module _ (ks : List Text) (vs : List V) (e : length vs ≡ length ks) (whole : List (List ℕ × V))
       (d : IsDistinct bytes_eq (keys_of whole)) where
-    -- the keys so far
+    -- the keys so far are distinct
     pub so-far : (more : List (List ℕ × V)) → rows ks vs ++ more ≡ whole
         → IsDistinct bytes_eq (map string_bytes ks)
     so-far more all =
@@ -133,7 +133,7 @@ module _ {V : Type 0} where
               ∙ parts,
         )
 
-  -- the next of the pairs by value is one row more
+  -- the next pair by value is one more row
   pub row-moved : (rows new : List (Text × V)) (row : Text × V) (left less pairs : List (List ℕ × V))
       → map shown_owned_pair rows ++ left ≡ pairs → left ≡ shown_owned_pair row ∷ less
       → new ≡ rows ++ row ∷ [] → map shown_owned_pair new ++ less ≡ pairs
@@ -168,5 +168,5 @@ module _ {V : Type 0} where
       distinct_permutation nat_list_eq_equiv _ _
       (IsPermutation-map (λ p. p.0) old new m) d
 
--- what proofs of inserts know of the columns
+-- rules for inserting into the columns
 pub ruleset inserting = (columns, rows-pushed, comes_last, none-rows, length-append)

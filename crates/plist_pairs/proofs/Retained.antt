@@ -1,4 +1,4 @@
--- What a loop keeps that moves the items to be kept to the front.
+-- What is kept by a loop that moves the items to keep to the front.
 use Rattle.std.proofs.Common.{◌≡◌, ℕ, ◌+◌, ◌≤◌, Bool, true, false, List, [], ◌∷◌, ◌++◌, length, take, set, get_or, filter, refl, sym, ap, subst, ◌∙◌, append_assoc, arith, length-append, Some, slice_get, swap, append-nil}
 use Rattle.std.specs.List.{AllZip, items_where_true}
 use Rattle.std.specs.Map.{keys_of}
@@ -11,7 +11,7 @@ use Rattle.indexmap.proofs.SetLemmas.{AllZip-push}
 use Rattle.plist_pairs.proofs.Columns.{get-map}
 
 module _ {X : Type 0} where
-  -- two items that stand apart
+  -- two items that aren't adjacent are swapped
   sets : (front : List X) (y : X) (gap : List X) (x : X) (todo : List X)
       → set (set (front ++ y ∷ (gap ++ x ∷ todo)) (length front)
       (get_or (front ++ y ∷ (gap ++ x ∷ todo)) (length (front ++ y ∷ gap)) x))
@@ -40,8 +40,8 @@ module _ {X : Type 0} (A : X → Bool → Type 0) where
   where-snoc (y ∷ xs) (true ∷ bs) x b a = ap (λ l. y ∷ l) (where-snoc xs bs x b a.1)
   where-snoc (y ∷ xs) (false ∷ bs) x b a = where-snoc xs bs x b a.1
 
-  -- The first i items of old were asked. Those to be kept stand in front, then those that aren't,
-  -- in some order, and then the others of old.
+  -- The first i items of old were tested. The ones to keep are at the front, followed by the ones
+  -- to drop, in some order, and then by the other items of old.
   pub record KeptSoFar (old now : List X) (i kept : ℕ) : Type 0 where
     pub done : List X
     pub gap : List X
@@ -70,7 +70,7 @@ module _ {X : Type 0} (A : X → Bool → Type 0) where
         apart = refl;
       }
 
-  -- the next item is the first to do
+  -- the next item is the first that isn't tested yet
   next-is : (front todo : List X) (x : X) → slice_get (front ++ todo) (length front) ≡ Some x
       → (rest : List X) × (todo ≡ x ∷ rest)
   next-is [] [] x e = absurd (none-some x e)
@@ -104,7 +104,7 @@ module _ {X : Type 0} (A : X → Bool → Type 0) where
         ∙ sym (append_assoc front (x ∷ []) ((gap ++ y ∷ []) ++ rest)),
   )
 
-  -- one more was asked
+  -- one more item is tested
   asked-one : (old now next : List X) (i kept more : ℕ) (x : X) (b : Bool)
       (k : KeptSoFar old now i kept) (gap rest : List X) → k.todo ≡ x ∷ rest → A x b
       → next ≡ (items_where_true k.answers k.done ++ items_where_true (b ∷ []) (x ∷ []))
@@ -150,7 +150,7 @@ module _ {X : Type 0} (A : X → Bool → Type 0) where
       ∙ ap (λ l. (front ++ []) ++ l) (sym (append_assoc k.gap (x ∷ []) rest)))
       (omega arith) (omega (arith, k.apart, m, length-append k.gap (x ∷ [])))
 
-  -- all were asked
+  -- all items are tested
   pub kept-all : (old now new : List X) (i kept : ℕ) → KeptSoFar old now i kept → length old ≤ i
       → new ≡ take kept now → (answers : List Bool) × AllZip A old answers
       × (new ≡ items_where_true answers old)
@@ -165,12 +165,12 @@ module _ {X : Type 0} (A : X → Bool → Type 0) where
             ∙ ap (items_where_true k.answers) (sym all),
       )
 
--- the key of the pair at a place
+-- the key of the pair at an index
 pub key-of : {K V : Type 0} (ps : List (K × V)) (i : ℕ) (k l : K) (v : V)
     → slice_get (keys_of ps) i ≡ Some k → slice_get ps i ≡ Some (l, v) → k ≡ l
 key-of ps i k l v a b = same_Some k l (sym a ∙ get-map (λ p. p.0) ps i (l, v) b)
 
--- where the answers are those of a test, what it passes is kept
+-- if the answers are those of a test, the items that pass it are kept
 pub where_true : {X : Type 0} (R : X → Bool → Type 0) (test : X → Bool)
     (says : (x : X) (answer : Bool) → R x answer → answer ≡ test x)
     (xs : List X) (answers : List Bool) → AllZip R xs answers

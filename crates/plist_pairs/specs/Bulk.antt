@@ -1,4 +1,4 @@
--- What calls that go over all pairs do.
+-- What calls that visit all pairs do.
 use Rattle.std.specs.Prelude.{◌≡◌, ℕ, ◌++◌, ◌∷◌, [], Bool, List, Option, String, Result, Ok, Err, map, string_bytes, bytes_eq}
 use Rattle.std.specs.Borrow.{Bor}
 use Rattle.std.specs.Iterator.{Count, Drains, IsFiniteIterable, Yields}
@@ -14,22 +14,22 @@ abbrev pub Rows : Type 0 → Type 0
 Rows V = List (List ℕ × V)
 
 module _ {F V : Type 0} (g : Shared F (Bor (String Global) × (Bor V × Unit {0})) Bool) (f : F) where
-  -- the closure, called at a key and a value that are those of the pair, may give this answer
+  -- the closure, called with the key and the value of this pair, may return this answer
   pub record AnswersAtPair (pair : List ℕ × V) (answer : Bool) : Type 0 where
     pub key : Bor (String Global)
     pub value : Bor V
     pub shows : (string_bytes key.now ≡ pair.0) × (value.now ≡ pair.1)
     pub says : g.post f (key, (value, tt)) answer
 
-  -- the pairs for which the closure answered `true`, in their order
+  -- the pairs for which the closure returned `true`, in their order
   abbrev pub Retains : Rows V → Rows V → Type 0
   Retains old new =
       (answers : List Bool) × AllZip AnswersAtPair old answers
       × (new ≡ items_where_true answers old)
 
 module _ {I V : Type 0} (next_gives : I → Option (String Global × V) → I → Type 0) (iter : I) where
-  -- All pairs of the iterator are inserted in turn. After an error these are the pairs before one
-  -- that was taken, too, and whose key isn't there.
+  -- The pairs of the iterator are inserted in turn: all of them, or after an error all that were
+  -- taken except the last one, whose key isn't among the pairs.
   abbrev pub ExtendsBy : Rows V → Result (Unit {0}) Error → Rows V → Type 0
   ExtendsBy old (Ok _) new =
       (taken : List (String Global × V)) × Drains next_gives iter taken
@@ -46,7 +46,7 @@ module _ {I V : Type 0} (next_gives : I → Option (String Global × V) → I �
       (taken : List (String Global × V)) × Drains next_gives iter taken
       × (made ≡ insert_all bytes_eq [] (map shown_owned_pair taken))
 
--- one is made of something: the same of its pairs
+-- for a value that becomes an iterator: the pairs are those of some iterator that it becomes
 module _ {I J V : Type 0} (becomes : J → I → Type 0)
     (next_gives : I → Option (String Global × V) → I → Type 0) (made : J) where
   abbrev pub ExtendsByIterable : Rows V → Result (Unit {0}) Error → Rows V → Type 0
@@ -56,7 +56,7 @@ module _ {I J V : Type 0} (becomes : J → I → Type 0)
   abbrev pub IsMadeOfIterable : Rows V → Type 0
   IsMadeOfIterable pairs = (iter : I) × becomes made iter × IsMadeOf next_gives iter pairs
 
--- whatever is made of it may be asked for items, and ends
+-- each iterator that the value becomes can be called, and ends
 abbrev pub IterableEnds : {J I : Type 0} → (becomes : J → I → Type 0) → (can_next : I → Type 0)
     → (remaining : I → Count) → J → Type 0
 IterableEnds becomes can_next remaining made = IsFiniteIterable becomes can_next remaining made

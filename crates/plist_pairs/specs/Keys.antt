@@ -1,4 +1,4 @@
--- Pairs by their keys. Two keys are one where their bytes are equal.
+-- Pairs by their keys. Two keys are equal if their bytes are.
 use Rattle.std.specs.Prelude.{◌≡◌, ◌<◌, ℕ, List, None, Some, false, is_some, length, position, bytes_eq}
 use Rattle.std.specs.Map.{keys_of, lookup}
 use Rattle.indexmap.specs.IndexMap.{insert_entry, swap_remove_entry}
@@ -8,7 +8,7 @@ module _ {V : Type 0} where
   abbrev pub IsAbsent : (key : List ℕ) → List (List ℕ × V) → Type 0
   IsAbsent key pairs = is_some (lookup (bytes_eq key) pairs) ≡ false
 
-  -- the pairs after a key's value is set, and after its pair is taken
+  -- the pairs after a key's value is set, and after the key is removed
   abbrev pub IsSetAt : (old : List (List ℕ × V)) → List ℕ → V → (new : List (List ℕ × V)) → Type 0
   IsSetAt old key value new = new ≡ insert_entry bytes_eq old key value
 

@@ -1,5 +1,5 @@
-//! Proved callers whose proofs cite lemmas of this crate: pairs that a list goes into, and that keep
-//! some of themselves.
+//! Proved callers whose proofs cite lemmas of this crate: a list's pairs are inserted, and only
+//! some pairs are kept.
 
 ghost use Rattle.std.specs.Prelude.{◌≡◌, [], IfOk, OnOk, filter, map, string_bytes};
 ghost use Rattle.std.specs.Str.{bytes_eq};
@@ -11,21 +11,21 @@ use crate::dictionary::Discard;
 use plist_base::Error;
 use std::alloc::Global;
 
-/// Inserts the pairs of a list, in their order. `OutOfMemory` is the one refusal.
+/// Inserts the pairs of a list, in their order. The only error is `OutOfMemory`.
 pub fn insert_each<V: Discard>(to: &mut Pairs<V>, all: Vec<(String, V)>) -> Result<(), Error>
     ensures { OnOk result (to.new ≡ insert_all bytes_eq to.old (map shown_owned_pair all.items)) }
 {
     to.extend(all)
 }
 
-/// The pairs of a list, inserted in their order. `OutOfMemory` is the one refusal.
+/// Makes pairs from a list, inserted in their order. The only error is `OutOfMemory`.
 pub fn of_list<V: Discard>(alloc: Global, all: Vec<(String, V)>) -> Result<Pairs<V>, Error>
     ensures { IfOk result (λ made. made ≡ insert_all bytes_eq [] (map shown_owned_pair all.items)) }
 {
     Pairs::from_pairs(alloc, all)
 }
 
-/// Keeps the pair of this key alone.
+/// Keeps only the pair with this key.
 pub fn keep_only<V: Discard>(pairs: &mut Pairs<V>, name: &str)
     ensures { pairs.new ≡ filter (λ pair. bytes_eq pair.0 name.now) pairs.old }
 {

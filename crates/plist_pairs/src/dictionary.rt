@@ -1,4 +1,4 @@
-//! Dictionaries: pairs of a key and a value, in the order in which the keys came.
+//! Dictionaries: pairs of a key and a value, in the order in which the keys were inserted.
 
 ghost use Rattle.std.specs.Prelude.{◌≡◌, ◌↔◌, IsTrue, None, Some, [], length, is_some, string_bytes, IfOk, IfSome, OnOk, IfErr, OnErr};
 ghost use Rattle.std.specs.Str.{bytes_eq};
@@ -25,11 +25,11 @@ use std::marker::Model;
 
 /// Pairs of a key and a value, each key once.
 ///
-/// The pairs have an order: a new key goes last, and a key that is there keeps its place. Contracts
-/// see the list of the pairs, a key as its bytes.
+/// The pairs are ordered: a new key is last, and a key that is set again keeps its index. Contracts
+/// see the list of the pairs, with each key as its bytes.
 #[derive(Drop)]
 pub struct Pairs<V> {
-    // none before the first insert, so that a value without pairs is small
+    // `None` before the first insert, so that an empty `Pairs` is small.
     store: Option<Box<Store<V>>>,
     alloc: Global,
 }
@@ -46,7 +46,7 @@ impl<V> Model for Pairs<V> {
     ghost view = { λ a. option_map_or (λ b. b.value) a.store [] };
 }
 
-// A store without pairs.
+// Makes a store without pairs.
 fn empty_store<V>(alloc: Global) -> Result<Box<Store<V>>, AllocError>
     ensures { IfOk result (λ store. store.value ≡ []) }
 {
@@ -59,7 +59,8 @@ fn empty_store<V>(alloc: Global) -> Result<Box<Store<V>>, AllocError>
     }
 }
 
-// Puts a store where there is none. What stands there can't be dropped, whatever the values' type.
+// Sets the store, which must be `None`. An assignment would have to drop the old value, which isn't
+// possible for every type of values.
 fn put<V>(dest: &mut Option<Box<Store<V>>>, store: Box<Store<V>>)
     requires { dest.old ≡ None }
     ensures { dest.new ≡ Some store }
@@ -77,14 +78,14 @@ impl<V> Pairs<V> {
     ghost use Rattle.plist_pairs.specs.Lends.{LendsAtKey};
     ghost use Rattle.plist_pairs.specs.Shown.{shown_key, shown_pair};
 
-    /// No pairs. It takes no memory before the first insert.
+    /// Creates pairs without any entry. It allocates nothing before the first insert.
     pub fn new(alloc: Global) -> Pairs<V>
         ensures empty { result ≡ [] }
     {
         Pairs { store: None, alloc }
     }
 
-    /// Removes all pairs, and keeps the memory for others.
+    /// Removes all pairs, and keeps the memory for later ones.
     pub fn clear(&mut self)
     where
         V: Discard,
@@ -96,7 +97,7 @@ impl<V> Pairs<V> {
         }
     }
 
-    /// The value of the key, if it is there.
+    /// Returns the value of the key, or `None` if the key isn't there.
     pub fn get(&self, key: &str) -> Option<&V>
         ensures value { option_copied result ≡ lookup (bytes_eq key.now) self.now }
         ensures member { IfSome result (λ value. IsAmong (values_of self.now) value.now) }
@@ -104,7 +105,7 @@ impl<V> Pairs<V> {
         self.store.as_ref()?.get(key)
     }
 
-    /// Whether the key is there.
+    /// Returns whether the key is there.
     pub fn contains_key(&self, key: &str) -> bool
         ensures { result ≡ is_some (lookup (bytes_eq key.now) self.now) }
     {
@@ -114,7 +115,7 @@ impl<V> Pairs<V> {
         }
     }
 
-    /// The value of the key, to be changed, if it is there.
+    /// Returns a mutable reference to the key's value, or `None` if the key isn't there.
     pub fn get_mut(&mut self, key: &str) -> Option<&mut V>
         ensures value { option_copied_mut result ≡ lookup (bytes_eq key.now) self.old }
         ensures member { IfSome result (λ lent. IsAmong (values_of self.old) lent.now) }
@@ -128,12 +129,12 @@ impl<V> Pairs<V> {
 
     /// Sets the key's value, and returns the value that it had.
     ///
-    /// A key that is there keeps its place, and a new one goes last.
+    /// A key that is there keeps its index, and a new one is last.
     ///
     /// # Errors
     ///
-    /// If memory runs out, which only a new key can meet, the pairs stay as they are, and the key
-    /// and the value come back.
+    /// If memory runs out, which is only possible for a new key, the pairs are unchanged, and the
+    /// key and the value are returned.
     pub fn insert(&mut self, key: String, value: V) -> Result<Option<V>, (String, V)>
         // The answer.
         ensures old { IfOk result (λ old. old ≡ lookup (bytes_eq (string_bytes key)) self.old) }
@@ -151,9 +152,9 @@ impl<V> Pairs<V> {
         Ok(None)
     }
 
-    /// Removes the key, and returns its value, if it is there.
+    /// Removes the key and returns its value, or returns `None` if the key isn't there.
     ///
-    /// The last pair moves to the place of the one that was removed.
+    /// The last pair moves to the index of the removed one.
     pub fn remove(&mut self, key: &str) -> Option<V>
         ensures value { result ≡ lookup (bytes_eq key.now) self.old }
         ensures pairs { IsTakenAt self.old key.now self.new }
@@ -161,21 +162,21 @@ impl<V> Pairs<V> {
         self.store.as_mut()?.remove(key)
     }
 
-    /// The number of pairs.
+    /// Returns the number of pairs.
     pub fn len(&self) -> usize
         ensures { result ≡ length self.now }
     {
         self.pair_count()
     }
 
-    /// Whether there are no pairs.
+    /// Returns whether there are no pairs.
     pub fn is_empty(&self) -> bool
         ensures { IsTrue result ↔ (self.now ≡ []) }
     {
         self.len() == 0
     }
 
-    /// The pairs, in their order.
+    /// Returns an iterator over the pairs, in their order.
     #[tactic(auto, using(crate::proofs::Columns::no_keys))]
     pub fn iter(&self) -> Iter<'_, V>
         ensures rest { result ≡ self.now }
@@ -189,7 +190,7 @@ impl<V> Pairs<V> {
         }
     }
 
-    /// The keys, in the order of the pairs.
+    /// Returns an iterator over the keys, in the order of the pairs.
     #[tactic(auto, using(crate::proofs::Columns::no_keys))]
     pub fn keys(&self) -> Keys<'_>
         ensures rest { result ≡ keys_of self.now }
@@ -202,7 +203,7 @@ impl<V> Pairs<V> {
         }
     }
 
-    /// The values, in the order of the pairs.
+    /// Returns an iterator over the values, in the order of the pairs.
     pub fn values(&self) -> Values<'_, V>
         ensures rest { result ≡ values_of self.now }
         ensures runs { ShowsInOrder (deref {X = V}) }
@@ -213,7 +214,7 @@ impl<V> Pairs<V> {
         }
     }
 
-    // The store, which takes no memory where there was none.
+    // Returns the store, or else an empty one, which takes no memory.
     fn into_store(self) -> Store<V>
         ensures { result ≡ self }
     {
@@ -224,7 +225,7 @@ impl<V> Pairs<V> {
         }
     }
 
-    /// The values, without their keys, in the order of the pairs.
+    /// Returns the values, without their keys, in the order of the pairs.
     pub fn into_items(self) -> Vec<V>
         ensures { result.items ≡ values_of self }
     {
@@ -232,7 +233,7 @@ impl<V> Pairs<V> {
     }
 }
 
-/// The pairs, in their order.
+/// Iterates over the pairs, in their order.
 impl<'a, V> IntoIterator for &'a Pairs<V> {
     ghost use Rattle.std.specs.List.{IsDistinct};
     ghost use Rattle.std.specs.Map.Iter.{ShowsInOrder, ShowsValuesInOrder};
@@ -250,7 +251,7 @@ impl<'a, V> IntoIterator for &'a Pairs<V> {
     }
 }
 
-/// The pairs by value, in their order.
+/// Iterates over the pairs by value, in their order.
 impl<V: Drop> IntoIterator for Pairs<V> {
     ghost use Rattle.std.specs.List.{IsDistinct};
     ghost use Rattle.std.specs.Map.Iter.{ShowsInOrder, ShowsValuesInOrder};
@@ -268,7 +269,7 @@ impl<V: Drop> IntoIterator for Pairs<V> {
     }
 }
 
-/// A map of the pairs, in their order.
+/// Formats the pairs as a map, in their order.
 impl<V: fmt::Debug> fmt::Debug for Pairs<V> {
     fn fmt<W: fmt::Write>(&self, f: &mut fmt::Formatter<W>) -> fmt::Result {
         f.debug_map().entries(self).finish()

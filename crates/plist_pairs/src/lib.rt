@@ -1,6 +1,6 @@
-//! Pairs of a key and a value, each key once, in the order in which the keys came.
+//! Pairs of a key and a value, each key once, in the order in which the keys were inserted.
 //!
-//! The main contract is that each call of [`Pairs`] is its operation on the list of the pairs.
+//! The main contract is that each call of [`Pairs`] is an operation on the list of the pairs.
 #![tactic(auto)]
 
 pub mod callers;

@@ -1,4 +1,4 @@
--- What the reader of ASCII gives, as the chosen one, with limits or without.
+-- What the reader of ASCII yields as the chosen one, with limits or without.
 use Rattle.std.proofs.Common.{◌≡◌, ℕ, ◌-◌, ◌^◌, Bool, true, false, cond, List, [], ◌∷◌, ◌++◌, Option, None, Some, Ok, Err, IfSome, MatchBool, refl, ap, sym, ◌∙◌, subst, arith}
 use Rattle.std.specs.Option.{option_map}
 use Rattle.std.proofs.lemmas.List.{take-take}
@@ -32,7 +32,7 @@ use Rattle.plist_reader.specs.declared.format.Format.TheVariants as format
 use Rattle.plist_reader.specs.Formats.{format_of, input_front}
 use Rattle.plist_reader.proofs.Giving.{Given, chosen-gives, one-remain, text-or-all}
 
--- ---- where memory is wanted something is to come
+-- ---- `OutOfMemory` is yielded only if something remains
 
 text-remain : (before : List Item) → BeginsWithText before → SomeRemain before
 text-remain [] h = absurd h
@@ -85,7 +85,7 @@ ascii-ends E (Some (Err error)) h k = by (kind_of (error_kind_of error)) h k
     by InvalidUtf16String h k = tt
     by kind h k = absurd k
 
--- ---- which faults come, and where they are
+-- ---- which faults there are, and their offsets
 
 ascii-kinds : (limited : Bool) (item : Given) → IsAsciiItem item → IsReaderItem limited item
 ascii-kinds limited None h = tt
@@ -126,7 +126,7 @@ ascii-placed place (Some (Err error)) h = placed _ _ h
     placed InvalidUtf16String offset p = some-place offset place p.1
     placed kind offset p = absurd p.0
 
--- a count that is told
+-- a count of failures that exists
 counted-failures : (a b : ℕ) (item : Given) → incoming.ItemCountsIoIfCounted item (Some a) (Some b)
     → ItemCountsIo item a b
 counted-failures a b None h = same-count a b h
@@ -134,7 +134,7 @@ counted-failures a b (Some (Ok event)) h = same-count a b h
 counted-failures a b (Some (Err error)) h =
     MatchFault-weaker (kind_of (error_kind_of error)) (λ r. r) (same-count a b) (same-count a b) h
 
--- ---- the items to come before the first one is asked for
+-- ---- the items that remain before the first call
 
 take-twice : (bytes : List ℕ) → input_front (input_front bytes) ≡ input_front bytes
 take-twice bytes = take-take (2 ^ 64 - 1) (2 ^ 64 - 1) bytes (omega arith)
@@ -238,7 +238,7 @@ module _ (now : Bool) (old new : Limiter) where
   passes-ends (Some (Err fault)) None p = absurd p
   passes-ends (Some (Err fault)) (Some given) p = rw p.0 (text-or-all _ (now ≡ true) p.1)
 
--- a reader of ASCII that has given nothing has all items of its source to give
+-- a reader of ASCII that has yielded nothing has all items of its source left
 fresh-text : {R : Type 0} (known : R → Option (List ℕ)) (dialect : Dialect) (source : R) (sequence : SourceBytes R) (reader : AsciiReaderOf R)
     → stream_source sequence ≡ source → stream_place sequence ≡ 0 → held sequence ≡ []
     → IfSome (known source) (λ bytes. format.Ascii ≡ format_of bytes)
@@ -287,7 +287,7 @@ module _ {R : Type 0} {g : Ghosts R} (known : R → Option (List ℕ)) (failed :
     inside = (new, refl, h);
   }
 
-  -- nothing more comes
+  -- the reader has ended
   over-gives : (old : Limited (AsciiReaderOf R) Limiter) → old.ended ≡ true
       → StateGives {R = R} {g = g} known failed (state.Limited old) None (state.Limited old)
   over-gives old over = record {

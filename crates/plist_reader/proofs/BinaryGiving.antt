@@ -1,4 +1,4 @@
--- What the reader of the binary format gives, as the chosen one.
+-- What the reader of the binary format yields as the chosen one.
 use Rattle.std.proofs.Common.{◌≡◌, ℕ, ◌^◌, Bool, true, false, List, [], ◌∷◌, Option, None, Some, Ok, Err, IfSome, OnErr, MatchBool, MatchOption, refl, ap, sym, ◌∙◌, subst}
 use Rattle.std.specs.Option.{is_some, option_map}
 use Rattle.plist_base.specs.declared.source.Source.{Ghosts}
@@ -19,7 +19,7 @@ use Rattle.plist_reader.specs.Formats.{format_of}
 use Rattle.plist_reader.proofs.Fronts.{within-placed}
 use Rattle.plist_reader.proofs.Giving.{Given, chosen-gives, one-remain, same-items, text-or-all}
 
--- ---- where memory is wanted something is to come
+-- ---- `OutOfMemory` is yielded only if something remains
 
 wants-remain : (before : List Item) → AllocatesFirst before → SomeRemain before
 wants-remain [] h = absurd h
@@ -49,14 +49,14 @@ binary-goes None l f g new item e h = tt
 binary-goes (Some bytes) l f g new item e h =
     (g _, ap (option_map g) e, binary-item _ _ _ _ h)
 
--- what ends it
+-- the errors that end it
 over-ends : (E : Type 0) (item : Given) → MatchOption item E (λ answer. OnErr answer E)
     → EndsAfter item E
 over-ends E None h = h
 over-ends E (Some (Ok event)) h = tt
 over-ends E (Some (Err error)) h = text-or-all _ E h
 
--- ---- which faults come, and where they are
+-- ---- which faults there are, and their offsets
 
 binary-kinds : (limited : Bool) (item : Given) → ItemGivenWithin 0 (2 ^ 64) limited item
     → IsReaderItem limited item
@@ -115,7 +115,7 @@ binary-placed limited (Some (Err error)) h = placed _ _ h.placed
     placed InvalidUtf16String offset p = p
     placed kind offset p = absurd p
 
--- ---- the items to come before the first one is asked for
+-- ---- the items that remain before the first call
 
 file-input : (limits : Option Limits) (dialect : Dialect) (bytes : List ℕ)
     → format.Binary ≡ format_of bytes → file_within limits bytes ≡ input_within dialect limits bytes

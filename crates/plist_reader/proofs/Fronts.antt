@@ -19,13 +19,13 @@ pub both_known : {A : Type 0} (o : Option A) {P Q R : A → Type 0} → IfSome o
 both_known None p q f = tt
 both_known (Some x) p q f = f x p q
 
--- a place within bounds is one
+-- an offset within bounds exists
 pub within-placed : (start end : ℕ) (offset : Option ℕ) → IsOffsetWithin start end offset
     → HasOffset offset
 within-placed start end None h = h
 within-placed start end (Some place) h = tt
 
--- too few bytes begin with nothing longer
+-- bytes don't begin with anything longer
 pub short-starts : (bytes needle : List ℕ) → length bytes < length needle
     → starts_with nat_eq bytes needle ≡ false
 short-starts bytes [] h = absurd (omega arith)
@@ -41,7 +41,7 @@ io-is kind h = absurd h
 never_true : {A : Type 0} (b : Bool) → b ≡ false → IsTrue b → A
 never_true b e h = cc
 
--- bytes that couldn't be read for another reason than a device's are too few
+-- if reading the first bytes fails, but not for an I/O error, there are too few
 pub short-front : (bytes : List ℕ) (kind : FaultKind) (is : Bool) (n : ℕ) (needle : List ℕ)
     → n ≡ length needle → is ≡ false → (IsTrue is ↔ (kind ≡ Io))
     → (0 + n ≤ length bytes → IsIo kind) → false ≡ starts_with nat_eq bytes needle
@@ -64,7 +64,7 @@ module _ (m : ℕ) (bytes : List ℕ) where
             ∙ get_or_from_slice_get bytes place b 0 e,
       )
 
-  -- a byte of white space is passed over
+  -- a byte of white space is skipped
   pub white-on : (place b : ℕ) → place < m → slice_get bytes place ≡ Some b → is_white b ≡ true
       → past_white place cut ≡ past_white (place + 1) cut
   white-on place b h e w =
@@ -72,7 +72,7 @@ module _ (m : ℕ) (bytes : List ℕ) where
       let p = prefix_len-drop_yes is_white cut place 0 i.0 (ap is_white i.1 ∙ w) in
       omega (arith, p)
 
-  -- at any other byte the place is found
+  -- at any other byte the search ends
   pub xml-here : (place b : ℕ) → place < m → slice_get bytes place ≡ Some b → is_white b ≡ false
       → xml_place place cut ≡ cond (b == 60) (Some place) None
   xml-here place b h e w =
@@ -82,7 +82,7 @@ module _ (m : ℕ) (bytes : List ℕ) where
       ap (λ q. cond (get_or cut q 0 == 60) (Some q) None) p
       ∙ ap (λ c. cond (c == 60) (Some place) None) i.1
 
-  -- where no byte is left there is none
+  -- if no byte is left, the search fails
   pub xml-past : (place : ℕ) → length cut ≤ place → xml_place place cut ≡ None
   xml-past place h =
       let p : past_white place cut ≡ place = let z = prefix_len-drop_all is_white cut place h in
@@ -105,7 +105,7 @@ module _ (m : ℕ) (bytes : List ℕ) where
   pub xml-end : (place : ℕ) → m ≤ place → xml_place place cut ≡ None
   xml-end place h = xml-past _ (omega (arith, length-take {A = ℕ}))
 
--- what stands at the place found, by where the search began
+-- the result depends on where the search began only by the offset that it found
 pub moved : (start place : ℕ) (bytes : List ℕ) → past_white start bytes ≡ past_white place bytes
     → xml_place start bytes ≡ xml_place place bytes
 moved start place bytes e = ap (λ q. cond (get_or bytes q 0 == 60) (Some q) None) e

@@ -1,4 +1,4 @@
--- What the chosen reader gives: what both formats share, and a source that is refused.
+-- What the chosen reader yields: what both formats share, and a source that isn't read.
 use Rattle.std.proofs.Common.{◌≡◌, ℕ, ◌<◌, Bool, List, [], ◌∷◌, length, Option, None, Some, Err, IfSome, refl, ap, sym, ◌∙◌, subst, arith}
 use Rattle.std.specs.Option.{is_some, option_map}
 use Rattle.std.specs.Prelude.{Result, ⊤}
@@ -22,7 +22,7 @@ use Rattle.plist_reader.specs.Formats.{format_of}
 abbrev pub Given : Type 0
 Given = Option (Result Event Error)
 
--- where memory is wanted something is to come
+-- `OutOfMemory` is yielded only if something remains
 pub one-remain : {A : Type 0} (x : A) (xs : List A) → 0 < length (x ∷ xs)
 one-remain x xs = omega arith
 
@@ -34,7 +34,7 @@ text-or-all InvalidOctalString E h = tt
 text-or-all InvalidUtf16String E h = tt
 text-or-all kind E h = h
 
--- the items to come before the first one is asked for
+-- the items that remain before the first call
 pub same-items : (k l : Option (List ℕ)) (f g : List ℕ → List Item) → l ≡ k
     → IfSome k (λ bytes. f bytes ≡ g bytes) → option_map f l ≡ option_map g k
 same-items None l f g e h = rw e refl
@@ -48,7 +48,7 @@ refused-kind limited kind h = absurd h
 xml-other : (kind : FaultKind) (X Y Z : Type 0) → kind ≡ XmlUnsupported → Z → MatchFault kind X Y Z
 xml-other kind X Y Z is z = rw is z
 
--- XML is the one item
+-- for XML the error is the only item
 pub xml-items : (k : Option (List ℕ)) (limits : Option Limits) (dialect : Dialect) (place : ℕ) (error : Error)
     → fault_of error ≡ fault_at XmlUnsupported place
     → IfSome k (λ bytes. format.Xml place ≡ format_of bytes)
@@ -103,7 +103,7 @@ io-place error io place = placed _ _ io place
     placed kind offset io place = absurd io
 
 module _ {R : Type 0} {g : Ghosts R} (known : R → Option (List ℕ)) (failed : R → ℕ) where
-  -- a state that stands as the source before the choice goes on as that
+  -- a state with the same items and source as before the choice continues as that one
   pub chosen-gives : (source : R) (limits : Option Limits) (dialect : Dialect) (old new : State R g) (item : Given)
       → state_items known old ≡ option_map (input_within dialect limits) (known source)
       → is_limited_in old ≡ is_some limits
@@ -135,7 +135,7 @@ module _ {R : Type 0} {g : Ghosts R} (known : R → Option (List ℕ)) (failed :
       held None h = h
       held (Some kept) h = subst (λ n. ItemCountsIo item n (failed kept)) f h
 
-  -- the source is refused
+  -- the source isn't read
   pub refused-gives : (source other : R) (limits : Option Limits) (dialect : Dialect) (error : Error)
       → IfSome (known source) (λ bytes. GivesItem (input_within dialect limits bytes) (Some (Err error)) [])
       → IsRefusedKind (kind_of (error_kind_of error))

@@ -1,4 +1,4 @@
--- The bytes of a source that were read and are still to be taken.
+-- The bytes of a source that were read but not taken.
 use Rattle.std.proofs.Common.{◌≡◌, ◌⊎◌, inl, inr, ℕ, suc, ◌+◌, ◌-◌, ◌^◌, ◌<◌, ◌≤◌, List, [], ◌∷◌, ◌++◌, length, take, drop, drop-cons, get_or, Option, None, Some, IfSome, sym, ap, ◌∙◌, arith, append_assoc}
 use Rattle.std.specs.Option.{option_map}
 use Rattle.std.specs.Io.KnownBytes.{Consumes, IsAtEnd}
@@ -19,7 +19,7 @@ same_front p n xs h =
     (sym all) ∙ drop-take p _ xs in
     sym (ap (take n) cut ∙ take-take n (2 ^ 64 - 1 - p) _ fits)
 
--- the first n bytes that a read gave, and what lies after them
+-- the first n bytes that a read returned, and the bytes after them
 read_front : (p n count : ℕ) (xs part : List ℕ) → n ≤ count → p + n ≤ 2 ^ 64 - 1
     → take count part ≡ take count (drop p xs)
     → take n part ++ from_place (p + n) xs ≡ from_place p xs
@@ -34,7 +34,7 @@ read_front p n count xs part l room e =
 pub nothing_held : (from end : ℕ) (window : List ℕ) → end ≤ from → drop from (take end window) ≡ []
 nothing_held from end window h = drop_all from (take _ _) (rw length-take (omega arith))
 
--- after a read the same is to come
+-- a read leaves the bytes that remain unchanged
 pub read_on : (k now : Option (List ℕ)) (p n count from end : ℕ) (window part : List ℕ) → now ≡ k
     → end ≤ from → n ≤ count → p + n ≤ 2 ^ 64 - 1 → IfSome k (λ bytes. GivesAt bytes p count part)
     → option_map (λ bytes. take n part ++ from_place (p + n) bytes) now
@@ -45,7 +45,7 @@ read_on (Some xs) now p n count from end window part e none l room g =
     rw e (ap Some (read_front p n _ xs _ l room g.0
     ∙ ap (λ z. z ++ from_place p xs) (sym (nothing_held from end window none))))
 
--- and where it gave nothing, nothing is
+-- if a read returns nothing, nothing remains
 pub read_none : (k now : Option (List ℕ)) (p n count : ℕ) (part : List ℕ) → now ≡ k
     → (n ≡ 0 → count ≡ 0) → 0 < length part → take n part ≡ [] → n ≤ length part
     → IfSome k (λ bytes. GivesAt bytes p count part)
@@ -59,15 +59,15 @@ read_none (Some xs) now p n count part e none room z within g =
     ended (inl h) = absurd (let no : ⊥ = omega (arith, h, room) in no)
     ended (inr h) = nothing_after (p + n) xs (omega (arith, h))
 
--- where there is no room for a read, nothing is after what is held
+-- if nothing more can be read, only buffered bytes remain
 pub full_none : (k : Option (List ℕ)) (p : ℕ) (hand : List ℕ) → 2 ^ 64 - 1 ≤ p → hand ≡ []
     → IsAtEnd (option_map (λ bytes. hand ++ from_place p bytes) k)
 full_none None p hand h e = tt
 full_none (Some xs) p hand h e = ap (λ z. z ++ from_place p xs) e ∙ nothing_past p xs h
 
--- ---- what is held
+-- ---- what is buffered
 
--- the first byte of it
+-- the first buffered byte
 pub first_held : (from end : ℕ) (window : List ℕ) → from < end → end ≤ length window
     → drop from (take end window) ≡ get_or window from 0 ∷ drop (from + 1) (take end window)
 first_held from end window l within =
@@ -80,14 +80,14 @@ pub some_held : (from end : ℕ) (window : List ℕ) → from < end → end ≤ 
     → drop from (take end window) ≡ [] → ⊥
 some_held from end window l within e = let first = first_held from end window l within in cc
 
--- it comes
+-- the first buffered byte is taken
 pub one_there : (k old : Option (List ℕ)) (p byte : ℕ) (hand rest : List ℕ)
     → option_map (λ bytes. hand ++ from_place p bytes) k ≡ old → hand ≡ byte ∷ rest
     → GivesByte old (Some byte) (option_map (λ bytes. rest ++ from_place p bytes) k)
 one_there None old p byte hand rest e h = rw (← e) tt
 one_there (Some xs) old p byte hand rest e h = rw (← e) (ap (λ z. z ++ from_place p xs) h)
 
--- several of them
+-- several buffered bytes are taken
 pub several_there : (k : Option (List ℕ)) (p from n : ℕ) (all : List ℕ)
     → Consumes (option_map (λ bytes. drop from all ++ from_place p bytes) k)
     (option_map (λ bytes. drop (from + n) all ++ from_place p bytes) k) (take n (drop from all))

@@ -1,11 +1,11 @@
--- Which format some bytes have.
+-- The format that some bytes have.
 use Rattle.std.specs.Prelude.{◌≡◌, ℕ, ◌+◌, ◌-◌, ◌^◌, Bool, cond, ◌==◌, nat_eq, List, [], ◌∷◌, take, drop, get_or, Option, None, Some, codes, refl}
 use Rattle.std.specs.List.{list_any, prefix_len, starts_with}
 use Rattle.plist_format.specs.Container.{magic}
 use Rattle.plist_reader.specs.declared.format.Format.{Format}
 use Rattle.plist_reader.specs.declared.format.Format.TheVariants.{Binary, Xml, Ascii}
 
--- the bytes that are read from the front on: no input is longer than 2^64 - 1 bytes
+-- the bytes that are read from the start on; no input is longer than 2^64 - 1 bytes
 abbrev pub input_front : List ℕ → List ℕ
 input_front bytes = take (2 ^ 64 - 1) bytes
 
@@ -13,18 +13,18 @@ input_front bytes = take (2 ^ 64 - 1) bytes
 abbrev pub is_white : ℕ → Bool
 is_white c = list_any (λ d. c == d) (9 ∷ 10 ∷ 12 ∷ 13 ∷ 32 ∷ [])
 
--- the mark of the byte order in UTF-8
+-- the byte order mark of UTF-8
 abbrev pub byte_order_mark : List ℕ
 byte_order_mark = 0xEF ∷ 0xBB ∷ 0xBF ∷ []
 
 abbrev pub byte_order_mark_length : List ℕ → ℕ
 byte_order_mark_length bytes = cond (starts_with nat_eq bytes byte_order_mark) 3 0
 
--- the place of the first byte past white space, from a place on
+-- the offset of the first byte after white space, from an offset on
 abbrev pub past_white : (place : ℕ) → List ℕ → ℕ
 past_white place bytes = place + prefix_len is_white (drop place bytes)
 
--- that place, if `<` stands there
+-- that offset, if the byte there is `<`
 abbrev pub xml_place : (place : ℕ) → List ℕ → Option ℕ
 xml_place place bytes =
     cond (get_or bytes (past_white place bytes) 0 == 60) (Some (past_white place bytes)) None
@@ -33,7 +33,7 @@ abbrev pub text_format : Option ℕ → Format
 text_format None = Ascii
 text_format (Some place) = Xml place
 
--- binary by its first eight bytes, XML by its first byte past white space, else ASCII
+-- binary by the first eight bytes, XML by the first byte after white space, and else ASCII
 unfoldable pub format_of : List ℕ → Format
 format_of bytes =
     cond (starts_with nat_eq bytes magic) Binary

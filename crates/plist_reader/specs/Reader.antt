@@ -1,4 +1,4 @@
--- What contracts see of a reader of either format: the items that it has still to give.
+-- What contracts see of a reader of either format: the items that it hasn't yielded yet.
 use Rattle.std.specs.Prelude.{◌≡◌, ℕ, ◌+◌, ◌^◌, ◌<◌, Bool, true, false, List, [], ◌∷◌, Option, None, Some, Result, Ok, Err, MatchOption, MatchResult, IfErr, IfSome, ⊤}
 use Rattle.std.specs.Option.{is_some, option_map}
 use Rattle.plist_base.specs.declared.error.Error.{Error}
@@ -35,29 +35,29 @@ use Rattle.plist_reader.specs.Formats.{input_front, format_of}
 use Rattle.plist_reader.specs.Streams as stream
 use Rattle.plist_reader.specs.Streams.{stream_bytes_left}
 
--- the items of some bytes of this format, which in ASCII is of this dialect
+-- the items of some bytes in this format; ASCII is read in this dialect
 abbrev pub items_in_format : Dialect → Format → List ℕ → List Item
 items_in_format dialect format.Binary bytes = items_of_file bytes
 items_in_format dialect (format.Xml place) bytes = Err (fault_at XmlUnsupported place) ∷ []
 items_in_format dialect format.Ascii bytes =
     items_of_ascii (ends_bare dialect) (input_front bytes) 0
 
--- the items of some bytes, by the format that their first bytes show
+-- the items of some bytes in the format that their first bytes indicate
 abbrev pub items_of_dialect : Dialect → List ℕ → List Item
 items_of_dialect dialect bytes = items_in_format dialect (format_of bytes) bytes
 
--- both in the lax dialect
+-- the items in a format, and those in the indicated format, in the lax dialect
 abbrev pub items_by : Format → List ℕ → List Item
 items_by shown bytes = items_in_format Lax shown bytes
 
 abbrev pub items_of_input : List ℕ → List Item
 items_of_input bytes = items_by (format_of bytes) bytes
 
--- those of them that these limits let come
+-- what these limits leave of the items
 abbrev pub limited_input : Limits → List ℕ → List Item
 limited_input limits bytes = limited_items limits (items_of_input bytes)
 
--- the same where there may be no limits, of an input and of a binary file
+-- the items under optional limits, of an input and of a binary file
 abbrev pub input_within : Dialect → Option Limits → List ℕ → List Item
 input_within dialect None bytes = items_of_dialect dialect bytes
 input_within dialect (Some limits) bytes = limited_items limits (items_of_dialect dialect bytes)
@@ -66,14 +66,14 @@ abbrev pub file_within : Option Limits → List ℕ → List Item
 file_within None bytes = items_of_file bytes
 file_within (Some limits) bytes = limited_items limits (items_of_file bytes)
 
--- the reader of a binary source, which counts nothing, and that of one in ASCII
+-- the reader of a binary source, which counts nothing, and that of a source in ASCII
 abbrev pub BinaryReaderOf : (R : Type 0) → Ghosts R → Type 0
 BinaryReaderOf R g = BinaryReader R Uncounted g ghosts
 
 abbrev pub AsciiReaderOf : Type 0 → Type 0
 AsciiReaderOf R = AsciiReader (SourceBytes R)
 
--- what a reader of ASCII has still to give
+-- the items that a reader of ASCII hasn't yielded yet
 abbrev pub ascii_items_to_come : {R : Type 0} (known : R → Option (List ℕ)) → AsciiReaderOf R
     → Option (List Item)
 ascii_items_to_come known reader =
@@ -81,8 +81,8 @@ ascii_items_to_come known reader =
     (ascii.untaken_bytes (stream_bytes_left known) reader)
 
 module _ {R : Type 0} {g : Ghosts R} (known : R → Option (List ℕ)) where
-  -- the items still to come, where the source's bytes are known: before the choice those of the
-  -- source, then those of the reader that was chosen
+  -- the items that remain, if the source's bytes are known: before the choice those of the source,
+  -- and then those of the chosen reader
   abbrev pub state_items : State R g → Option (List Item)
   state_items (state.Unread source limits dialect) =
       option_map (input_within dialect limits) (known source)
@@ -107,21 +107,22 @@ source_in (state.Limited reader) = Some (stream.stream_source (ascii.device_of
 source_in (state.Refused source) = Some source
 source_in state.Moved = None
 
--- the same of a reader
+-- the source of a reader
 abbrev pub reader_source : {R : Type 0} {g : Ghosts R} → Reader R g → Option R
 reader_source reader = source_in reader.state
 
--- no item has been asked for: the reader has all those of this source to give, under these limits
--- and in ASCII in this dialect
+-- `next` hasn't been called: the reader has all items of this source left, under these limits and,
+-- if it is in ASCII, in this dialect
 abbrev pub IsUnread : {R : Type 0} {g : Ghosts R} → Reader R g → (source : R) → Option Limits
     → Dialect → Type 0
 IsUnread reader source limits dialect = reader.state ≡ state.Unread source limits dialect
 
--- the same without limits, and in the lax dialect
+-- `next` hasn't been called: the reader has all items of this source left, without limits and in
+-- the lax dialect
 abbrev pub IsNewReader : {R : Type 0} {g : Ghosts R} → Reader R g → (source : R) → Type 0
 IsNewReader reader source = IsUnread reader source None Lax
 
--- the reader gives nothing more
+-- the reader has ended
 abbrev pub HasEndedState : {R : Type 0} {g : Ghosts R} → State R g → Type 0
 HasEndedState (state.Unread source limits dialect) = ⊥
 HasEndedState (state.Binary reader) = binary.HasEndedBinary reader
@@ -142,9 +143,9 @@ is_limited_in state.Moved = false
 abbrev pub reader_is_limited : {R : Type 0} {g : Ghosts R} → Reader R g → Bool
 reader_is_limited reader = is_limited_in reader.state
 
--- The item is the first of those that were to come, and the others are to come then. There is none
--- only where none was to come. After a device's fault and lack of memory none is to come, and lack
--- of memory comes only where one was.
+-- The item is the first of those that remained, and the others remain. There is no item only if
+-- none remained. After `Io` and `OutOfMemory` none remains, and `OutOfMemory` is yielded only if
+-- one remained.
 abbrev pub GivesItem : (before : List Item) → Option (Result Event Error) → (after : List Item)
     → Type 0
 GivesItem before item after =
@@ -154,13 +155,13 @@ GivesItem before item after =
     × SomeRemain before)
     (before ≡ Err (fault_of error) ∷ after)))
 
--- the same, where the items to come are known
+-- the item is the first of those that remained, if these are known
 abbrev pub GivesIfKnown : (before : Option (List Item)) → Option (Result Event Error)
     → (after : Option (List Item)) → Type 0
 GivesIfKnown before item after =
     IfSome before (λ all. (left : List Item) × (after ≡ Some left) × GivesItem all item left)
 
--- a fact for a fault that an ASCII text can have, and one for every other fault
+-- a fact for a fault that ASCII can have, and one for every other fault
 abbrev pub MatchText : FaultKind → (text other : Type 0) → Type 0
 MatchText UnclosedString text other = text
 MatchText IncompleteComment text other = text
@@ -169,13 +170,13 @@ MatchText InvalidOctalString text other = text
 MatchText InvalidUtf16String text other = text
 MatchText kind text other = other
 
--- where nothing comes, and after a fault that no ASCII text can have, nothing comes for good
+-- after `None`, and after a fault that no ASCII can have, the reader has ended
 abbrev pub EndsAfter : Option (Result Event Error) → Type 0 → Type 0
 EndsAfter item ended =
     MatchOption item ended (λ answer. MatchResult answer (λ _. ⊤)
     (λ error. MatchText (kind_of (error_kind_of error)) ⊤ ended))
 
--- a fault that one of the readers can give, where there are limits that of a limit too
+-- a fault that one of the readers can yield or, under limits, that of a limit
 abbrev pub IsReaderFault : (limited : Bool) → FaultKind → Type 0
 IsReaderFault limited XmlUnsupported = ⊤
 IsReaderFault limited kind = MatchText kind ⊤ (MatchGiven kind ⊤ ⊤ ⊤ (limited ≡ true))
@@ -184,14 +185,15 @@ abbrev pub IsReaderItem : (limited : Bool) → Option (Result Event Error) → T
 IsReaderItem limited item = MatchOption item ⊤ (λ answer. MatchResult answer (λ _. ⊤)
     (λ error. IsReaderFault limited (kind_of (error_kind_of error))))
 
--- the source is still held, and `Io` came only where its count of failures rose
+-- the source is still there, and its count of failures rose if the item is `Io`, and else is
+-- unchanged
 abbrev pub HoldsSource : {R : Type 0} (failed : R → ℕ) (old : Option R)
     → Option (Result Event Error) → (new : Option R) → Type 0
 HoldsSource failed old item new =
     MatchOption old ⊤ (λ source. MatchOption new ⊥
     (λ kept. ItemCountsIo item (failed source) (failed kept)))
 
--- the fault of a source that is for no reader, or that couldn't be read
+-- the fault of a source that isn't read, or that couldn't be
 abbrev pub IsRefusedKind : FaultKind → Type 0
 IsRefusedKind XmlUnsupported = ⊤
 IsRefusedKind Io = ⊤
@@ -201,8 +203,8 @@ abbrev pub IsSourceRefusal : Option (Result Event Error) → Type 0
 IsSourceRefusal item = MatchOption item ⊥ (λ answer. MatchResult answer (λ _. ⊥)
     (λ error. IsRefusedKind (kind_of (error_kind_of error))))
 
--- a fact for lack of memory and the fault of a limit, which have no offset, and one for every other
--- fault of a reader
+-- a fact for `OutOfMemory` and `LimitReached`, which have no offset, and one for every other fault
+-- of a reader
 abbrev pub MatchOffset : FaultKind → (nowhere placed : Type 0) → Type 0
 MatchOffset OutOfMemory nowhere placed = nowhere
 MatchOffset (LimitReached limit) nowhere placed = nowhere
@@ -211,11 +213,11 @@ MatchOffset kind nowhere placed = placed
 abbrev pub FaultHasOffset : Fault → Type 0
 FaultHasOffset fault = MatchOffset fault.kind (fault.offset ≡ None) (HasOffset fault.offset)
 
--- an item's fault has an offset, but for those two
+-- an item's fault has an offset, unless it is `OutOfMemory` or `LimitReached`
 abbrev pub ItemHasOffset : Option (Result Event Error) → Type 0
 ItemHasOffset item = MatchOption item ⊤ (λ answer. IfErr answer (λ error. FaultHasOffset (fault_of error)))
 
--- one call of a reader that was chosen
+-- one call of the chosen reader
 abbrev pub BinaryGives : {R : Type 0} {g : Ghosts R} (known : R → Option (List ℕ)) (failed : R → ℕ)
     → BinaryReaderOf R g → Option (Result Event Error) → BinaryReaderOf R g → Type 0
 BinaryGives known failed = binary.GivesBinary known failed ⊥ (λ _. 0)
@@ -226,7 +228,7 @@ AsciiGives known failed =
     ascii.GivesAscii (stream_bytes_left known) (λ bytes. Some (failed (stream.stream_source bytes)))
 
 module _ {R : Type 0} {g : Ghosts R} (known : R → Option (List ℕ)) (failed : R → ℕ) where
-  -- the first item is that of a reader that has given none, or the source is refused
+  -- the first item is that of a reader that has yielded none, or the source isn't read
   abbrev pub BeginsInside : Option Limits → Dialect → Option (Result Event Error) → State R g → Type 0
   BeginsInside limits dialect item (state.Binary new) = (fresh : BinaryReaderOf R g)
       × (binary.is_new fresh ≡ true) × (binary.has_limits fresh ≡ is_some limits)
@@ -241,7 +243,7 @@ module _ {R : Type 0} {g : Ghosts R} (known : R → Option (List ℕ)) (failed :
   BeginsInside limits dialect item (state.Refused source) = IsSourceRefusal item
   BeginsInside limits dialect item new = ⊥
 
-  -- the reader that was chosen gives the item, and stays chosen
+  -- the chosen reader yields the item, and stays chosen
   abbrev pub GivesInside : (old : State R g) → Option (Result Event Error) → (new : State R g)
       → Type 0
   GivesInside (state.Unread source limits dialect) item new =
@@ -270,11 +272,11 @@ abbrev pub Gives : {R : Type 0} {g : Ghosts R} (known : R → Option (List ℕ))
     (old : Reader R g) (item : Option (Result Event Error)) (new : Reader R g) → Type 0
 Gives known failed old item new = StateGives known failed old.state item new.state
 
--- more than the items of any input
+-- more than the number of items in any input
 abbrev pub all_steps : ℕ
 all_steps = walk_steps (2 ^ 64) + 1 + 2 ^ 64
 
--- more than the items that are still to come
+-- an upper bound on the number of items that remain
 abbrev pub steps_in_state : {R : Type 0} {g : Ghosts R} → State R g → ℕ
 steps_in_state (state.Unread source limits dialect) = all_steps
 steps_in_state (state.Binary reader) = binary.binary_steps reader
@@ -283,14 +285,14 @@ steps_in_state (state.Limited reader) = ascii.ascii_steps (iterator_of reader)
 steps_in_state (state.Refused source) = 0
 steps_in_state state.Moved = 0
 
--- where nothing was asked for yet, this is the first item, and the state after it
+-- if `next` hasn't been called, this is the first item, and the state after it
 abbrev pub GivesFirst : {R : Type 0} {g : Ghosts R} (known : R → Option (List ℕ)) (failed : R → ℕ)
     → State R g → Option (Result Event Error) → State R g → Type 0
 GivesFirst {R} known failed old item new = (source : R) (limits : Option Limits) (dialect : Dialect)
     → old ≡ state.Unread source limits dialect
     → StateGives known failed (state.Unread source limits dialect) item new
 
--- where nothing was asked for yet and an item comes, fewer steps are left
+-- if `next` hasn't been called and there is an item, fewer steps are left
 abbrev pub FirstAdvances : {R A : Type 0} {g : Ghosts R} → State R g → Option A → State R g → Type 0
 FirstAdvances {R} old item new = (source : R) (limits : Option Limits) (dialect : Dialect)
     → old ≡ state.Unread source limits dialect → IfSome item (λ _. steps_in_state new < all_steps)

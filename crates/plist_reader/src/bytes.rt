@@ -8,7 +8,7 @@ use plist_ascii::ByteReader;
 use plist_base::Source;
 use std::io;
 
-/// The byte at a place, if there is one.
+/// Reads the byte at an offset, or returns `None` after the end.
 pub fn read_byte<S: Source>(source: &mut S, place: u64) -> Result<Option<u8>, io::Error>
     ensures byte { DecodesBy result (S.known source.old) (λ bytes. slice_get bytes place) }
     ensures unchanged { S.known source.new ≡ S.known source.old }
@@ -22,18 +22,18 @@ pub fn read_byte<S: Source>(source: &mut S, place: u64) -> Result<Option<u8>, io
     Ok(Some(buffer[0]))
 }
 
-// How many bytes one read of the source asks for.
+// The number of bytes that one read of the source asks for.
 const WINDOW: usize = 512;
 
 /// A source that is read from its first byte on, at most 2^64 - 1 bytes. It counts its failures.
 ///
-/// It reads when a byte is asked for and none is buffered, and keeps what one read gave.
+/// It reads only when a byte is requested and none is buffered, and buffers what one read returned.
 #[derive(Drop)]
 pub struct SourceBytes<R> {
     source: R,
-    // How many of its bytes have been read.
+    // The number of bytes that have been read.
     place: u64,
-    // What the last read gave. Those before `from` have been taken.
+    // What the last read returned. The bytes before `from` have been taken.
     window: [u8; WINDOW],
     from: usize,
     end: usize,
@@ -45,7 +45,7 @@ impl<R: Source> SourceBytes<R> {
     ghost use Rattle.std.specs.Io.KnownBytes.{IsAtEnd};
     ghost use Rattle.plist_reader.specs.Streams.{stream_source, stream_place, held, stream_bytes_left, ReadCounts};
 
-    /// No byte has been read.
+    /// Makes a stream from which no byte has been read.
     pub fn new(source: R) -> Self
         ensures source { stream_source result ≡ source }
         ensures place { stream_place result ≡ 0 }
@@ -60,7 +60,7 @@ impl<R: Source> SourceBytes<R> {
         }
     }
 
-    // Reads on where no byte is buffered.
+    // Reads more if no byte is buffered.
     fn fill(&mut self) -> Result<(), io::Error>
         ensures bytes { OnOk result (stream_bytes_left R.known self.new
             ≡ stream_bytes_left R.known self.old) }

@@ -1,4 +1,4 @@
-//! Which format some bytes have.
+//! The format that some bytes have.
 
 ghost use Rattle.std.specs.Prelude.{◌≡◌, ◌+◌, ◌-◌, ◌<◌, nat_eq, slice_get, IfErr};
 ghost use Rattle.std.specs.List.{starts_with};
@@ -15,19 +15,19 @@ const MAGIC: &[u8; 8] = b"bplist00";
 
 const MARK: &[u8; 3] = b"\xef\xbb\xbf";
 
-/// The format of a property list, as its first bytes show it.
+/// The format of a property list, as indicated by its first bytes.
 #[derive(Clone, Copy, Debug, PartialEq, Eq)]
 pub enum Format {
     /// Binary: the bytes begin with `bplist00`.
     Binary,
-    /// XML: the first byte past an optional mark of the byte order and white space is `<`, at this
-    /// place.
+    /// XML: the first byte after an optional byte order mark and white space is `<`, at this
+    /// offset.
     Xml(u64),
     /// ASCII: anything else.
     Ascii,
 }
 
-// Do the bytes begin with these?
+// Returns whether the bytes begin with these.
 fn begins_with<S: Source, const N: usize>(source: &mut S, front: &[u8; N]) -> Result<bool, Error>
     // The answer.
     ensures value { DecodesBy result (S.known source.old) (λ b. starts_with nat_eq b front.now) }
@@ -50,7 +50,7 @@ fn begins_with<S: Source, const N: usize>(source: &mut S, front: &[u8; N]) -> Re
     }
 }
 
-// How many bytes the mark of the byte order takes.
+// Returns the number of bytes in the byte order mark, or 0 if the source begins with none.
 fn byte_order_mark_length<S: Source>(source: &mut S) -> Result<u64, Error>
     // The answer.
     ensures length { DecodesBy result (S.known source.old) byte_order_mark_length }
@@ -65,7 +65,7 @@ fn byte_order_mark_length<S: Source>(source: &mut S) -> Result<u64, Error>
     Ok(if marked { 3 } else { 0 })
 }
 
-// The byte at a place, if there is one.
+// Reads the byte at an offset, or returns `None` after the end.
 fn byte_at<S: Source>(source: &mut S, place: u64) -> Result<Option<u8>, Error>
     ensures byte { DecodesBy result (S.known source.old) (λ bytes. slice_get bytes place) }
     ensures refused { OnlyFault result (fault_at Io place) }
@@ -78,14 +78,14 @@ fn byte_at<S: Source>(source: &mut S, place: u64) -> Result<Option<u8>, Error>
     }
 }
 
-// Is it white space?
+// Returns whether it is white space.
 fn is_white(byte: u8) -> bool
     ensures { result ≡ is_white byte }
 {
     matches!(byte, b'\t' | b'\n' | 0x0c | b'\r' | b' ')
 }
 
-// Where the first byte past white space is `<`, its place.
+// Returns the offset of the first byte after white space if that byte is `<`.
 fn xml_place<S: Source>(source: &mut S, start: u64) -> Result<Option<u64>, Error>
     // The answer.
     ensures value { DecodesBy result (S.known source.old) (λ b. xml_place start (input_front b)) }
@@ -109,10 +109,11 @@ fn xml_place<S: Source>(source: &mut S, start: u64) -> Result<Option<u64>, Error
     Ok(None)
 }
 
-/// The format that a source's first bytes tell.
+/// Determines the format that a source's first bytes indicate.
 ///
 /// # Errors
-/// `Io` where a read failed, with its place.
+///
+/// `Io`, with the offset of the failed read.
 pub fn format_of<S: Source>(source: &mut S) -> Result<Format, Error>
     // The answer.
     ensures format { DecodesBy result (S.known source.old) format_of }

@@ -14,22 +14,22 @@ use plist_binread::BinaryReader;
 use std::alloc::Global;
 use std::mem;
 
-// Where a reader stands.
+// The state of a reader.
 #[derive(Drop)]
 pub(crate) enum State<R: Source> {
-    // No item has been asked for.
+    // `next` hasn't been called.
     Unread(R, Option<Limits>, Dialect),
     Binary(BinaryReader<R>),
     Ascii(AsciiReader<SourceBytes<R>>),
-    // The same under limits.
+    // A reader of ASCII under limits.
     Limited(Limited<AsciiReader<SourceBytes<R>>>),
-    // The source is for no reader, or a read failed before that was known.
+    // The source is in a format that isn't read, or a read failed before the format was known.
     Refused(R),
-    // While the first item is made.
+    // The state while the first item is read.
     Moved,
 }
 
-// The reader of a binary source.
+// Makes the reader of a binary source.
 fn binary_reader<R: Source>(alloc: Global, source: R, limits: Option<Limits>) -> BinaryReader<R>
     ensures items { WillGive (R.known source) (file_within limits) result }
     ensures source { source_of_file result ≡ source }
@@ -42,7 +42,7 @@ fn binary_reader<R: Source>(alloc: Global, source: R, limits: Option<Limits>) ->
     }
 }
 
-// Asks the reader of a binary source for its first item.
+// Reads the first item of a binary source.
 fn begin_binary<R: Source>(
     alloc: Global,
     source: R,
@@ -58,7 +58,7 @@ fn begin_binary<R: Source>(
     (State::Binary(reader), item)
 }
 
-// Asks the reader of a source in ASCII for its first item.
+// Reads the first item of a source in ASCII.
 fn begin_ascii<R: Source>(
     alloc: Global,
     source: R,
@@ -84,7 +84,7 @@ fn begin_ascii<R: Source>(
     }
 }
 
-// Chooses the reader, and asks it for its first item.
+// Chooses the reader, and reads its first item.
 fn begin<R: Source>(
     alloc: Global,
     mut source: R,
@@ -108,16 +108,17 @@ fn begin<R: Source>(
 
 /// Reads a property list of either format as events, from its first byte on.
 ///
-/// Where the first eight bytes are `bplist00` it is a [`BinaryReader`], else an [`AsciiReader`],
-/// for empty and short input too. Where the first byte past an optional mark of the byte order (EF
-/// BB BF) and white space is `<`, the one item is `XmlUnsupported`, with that byte's place. It
-/// chooses when its first item is asked for.
+/// If the first eight bytes are `bplist00` it acts as a [`BinaryReader`], and otherwise as an
+/// [`AsciiReader`], for empty and short input, too. If the first byte after an optional byte order
+/// mark (EF BB BF) and white space is `<`, the only item is `XmlUnsupported`, with the offset of
+/// that byte. The reader chooses on the first call of `next`.
 ///
 /// # Errors
-/// `XmlUnsupported`, after which nothing comes. `Io` where a read failed while it chose, with the
-/// place of that read: then nothing comes either. Once it has chosen, those of the reader chosen,
-/// which stands then as that one says: a binary reader has ended after each of its faults, an ASCII
-/// one goes on after those of its bytes. `LimitReached` where there are limits
+///
+/// `XmlUnsupported`, after which the reader has ended. `Io` with the offset of the failed read, if
+/// a read fails while the reader chooses; then it has ended, too. After the choice, the errors of
+/// the chosen reader, with the same effect: a binary reader has ended after each of its errors, and
+/// an ASCII one goes on after those of its bytes. `LimitReached` if there are limits
 /// ([`Reader::with_limits`]).
 #[derive(Drop)]
 pub struct Reader<R: Source> {
@@ -130,8 +131,8 @@ impl<R: Source> Reader<R> {
     ghost use Rattle.std.specs.Option.{option_map};
     ghost use Rattle.plist_reader.specs.Reader.{FirstAdvances, GivesFirst, IsNewReader, IsUnread, reader_is_limited, items_of_dialect, items_of_input, limited_input, reader_items, reader_source};
 
-    /// A reader over a source. It reads nothing before its first item is asked for. A source in
-    /// ASCII is read in the lax dialect, in which a bare text doesn't end at a line end.
+    /// Creates a reader over a source. Nothing is read before the first call of `next`. A source in
+    /// ASCII is read in the lax dialect, in which a bare string doesn't end at the end of a line.
     pub fn new(alloc: Global, source: R) -> Self
         ensures items { reader_items R.known result ≡ option_map items_of_input (R.known source) }
         ensures source { reader_source result ≡ Some source }
@@ -141,8 +142,8 @@ impl<R: Source> Reader<R> {
         Reader::with_dialect(alloc, source, Dialect::Lax)
     }
 
-    /// A reader that reads a source in ASCII in this dialect, and a binary one as [`Reader::new`]
-    /// does.
+    /// Creates a reader that reads a source in ASCII in this dialect, and a binary source as
+    /// [`Reader::new`] does.
     pub fn with_dialect(alloc: Global, source: R, dialect: Dialect) -> Self
         ensures items { reader_items R.known result
             ≡ option_map (items_of_dialect dialect) (R.known source) }
@@ -156,9 +157,9 @@ impl<R: Source> Reader<R> {
         }
     }
 
-    /// A reader that gives no more than these limits let come, and ends at its first fault: the
-    /// first event that is one too many, or else a start that would open one collection too many,
-    /// is replaced by `LimitReached`, without an offset.
+    /// Creates a reader under these limits, which also ends at its first error: the first event
+    /// that is one too many, or else a start that would open one collection too many, is replaced
+    /// by `LimitReached`, without an offset.
     pub fn with_limits(alloc: Global, source: R, limits: Limits) -> Self
         ensures items { reader_items R.known result ≡ option_map (limited_input limits)
             (R.known source) }
@@ -172,7 +173,8 @@ impl<R: Source> Reader<R> {
         }
     }
 
-    // The first item. Only here is the state moved: it may be as large as a source's windows.
+    // Reads the first item. Only here is the state moved, which may be as large as a source's
+    // windows.
     fn first(&mut self) -> Option<Result<OwnedEvent, Error>>
         ensures gives { GivesFirst R.known R.failures self.old.state result self.new.state }
         ensures falls { FirstAdvances self.old.state result self.new.state }

@@ -1,4 +1,4 @@
--- Where equal collections of classes are one class, equal trees are.
+-- If equal collections of classes have one class, so have equal trees.
 use Rattle.std.proofs.Common.{◌≡◌, ℕ, ◌+◌, List, ◌∷◌, refl, ap}
 use Rattle.plist_base.specs.Events.{PlainEvent}
 use Rattle.plist_base.specs.Trees.{Tree, Leaf, Array, Dictionary, Trees, NoTrees, TreeAnd, Members, NoMembers, MemberAnd}
@@ -12,7 +12,7 @@ module _ (es : List PlainEvent) (class : ℕ → ℕ)
     → object_of class t p ≡ object_of class t q
     → class p ≡ class q) where
   mutual
-    -- indices of one tree have one class
+    -- the indices of equal trees have the same class
     pub complete : (t : Tree) (p q : ℕ) → OccursAt es t p → OccursAt es t q → class p ≡ class q
     complete (Leaf x) p q s r = given (Leaf x) p q s r refl
     complete (Array ts) p q s r =

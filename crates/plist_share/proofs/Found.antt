@@ -1,4 +1,4 @@
--- The classes that are found from the inside outwards: one class, one tree.
+-- The classes that are found from the inside outwards: each class has one tree.
 use Rattle.std.proofs.Common.{◌≡◌, ◌≢◌, ◌⊎◌, inl, inr, ℕ, ◌+◌, ◌<◌, ◌≤◌, true, false, List, ◌∷◌, ◌++◌, length, map, set, Some, refl, sym, ap, ◌∙◌, subst, arith, length-append}
 use Rattle.std.specs.Prelude.{slice_get}
 use Rattle.std.proofs.lemmas.Bool.Decides.{eqb_tells}
@@ -25,7 +25,7 @@ use Rattle.plist_binwrite.proofs.Skipping.{stands_single, starts_array, starts_d
 use Rattle.plist_share.proofs.Classed.{complete}
 use Rattle.plist_share.specs.inner.Nodes.{Node, is_dictionary, IsIndexed, IsClass, HaveTreeClasses, Extends, SeparatesTrees}
 
--- ---- a dictionary's pairs by their keys and their values, and the other way
+-- ---- a dictionary's pairs by their keys and their values, and back
 
 same_pairs : (class : ℕ → ℕ) (ms ns : Members) (p q : ℕ)
     → map class (key_indices ms p) ++ map class (value_indices ms p)
@@ -70,11 +70,11 @@ module _ {es : List PlainEvent} {scalar class : ℕ → ℕ} {count : ℕ} {keys
       let h = class_owner owners _ _ p q s r (sym (all _ p s) ∙ e ∙ all _ q r) in
       cc
 
-  -- the index has this key's class
+  -- the index has the class of this key
   abbrev At : Node → ℕ → Type 0
   At k p = (i : ℕ) × (class p ≡ count + i) × (slice_get keys i ≡ Some k)
 
-  -- two collections of one class have one key
+  -- two collections of one class have the same key
   one_key : (k l : Node) (p q : ℕ) → At k p → At l q → class p ≡ class q → k ≡ l
   one_key k l p q a b e =
       let same : a.0 ≡ b.0 = omega arith in
@@ -85,7 +85,7 @@ module _ {es : List PlainEvent} {scalar class : ℕ → ℕ} {count : ℕ} {keys
   apart_kinds a b p q s r e =
       let no = ap (λ (k : Node). k.0) (one_key _ _ p q s r e) in cc
 
-  -- one class, one object
+  -- trees of one class have the same object
   pub one_object : (t u : Tree) (p q : ℕ) → OccursAt es t p → OccursAt es u q → class p ≡ class q
       → object_of class t p ≡ object_of class u q
   one_object (Leaf x) (Leaf y) p q s r e = ap obj.Scalar (one_scalar x y p q s r e)
@@ -105,7 +105,7 @@ module _ {es : List PlainEvent} {scalar class : ℕ → ℕ} {count : ℕ} {keys
       let b = all u q r in
       absurd (omega (arith, owners.below p (occurs_in s), owners.below q (occurs_in r)))
 
-  -- so they are classes
+  -- so these are classes in the sense of `AreClasses`
   pub found_classes : AreClasses es class
   found_classes = record { object = one_object }
 
@@ -128,7 +128,7 @@ module _ {es : List PlainEvent} {scalar class : ℕ → ℕ} {count : ℕ} {keys
         one_class p q _ _ (ap (λ l. (true, l)) k) (all (Dictionary ms) p s)
         (all (Dictionary ms) q r)
 
-    -- so one class is one tree
+    -- trees of one class are equal
     pub separate_trees : SeparatesTrees es class
     separate_trees t u p q s r = (
       sound found_classes t u p q s r,
@@ -160,7 +160,7 @@ module _ (class after : ℕ → ℕ) (lo : ℕ) (agree : (q : ℕ) → lo ≤ q 
   children_agree (Dictionary ms) p h =
       same_halves _ _ ms _ _ (pairs_agree ms (p + 1) h)
 
-  -- a class stays one where the keys and the classes after it stay
+  -- a class stays the same if the keys and the classes after it do
   module _ (scalar : ℕ → ℕ) (count : ℕ) (keys new : List Node)
       (kept : (i : ℕ) → i < length keys → slice_get new i ≡ slice_get keys i) where
     indexed_stays : (b : _) (t : Tree) (p c : ℕ) → lo ≤ p + 1 → IsIndexed class count keys b t p c
@@ -178,7 +178,7 @@ module _ (class after : ℕ → ℕ) (lo : ℕ) (agree : (q : ℕ) → lo ≤ q 
     class_stays (Dictionary ms) p c h k = indexed_stays true (Dictionary ms) p c h k
 
 module _ (es : List PlainEvent) (scalar class : ℕ → ℕ) (count : ℕ) (keys : List Node) where
-  -- where a collection begins, the class is one of a collection
+  -- if a collection begins at an index, its class is one of a collection
   by_collection : (t : Tree) (p c : ℕ) → OccursAt es t p
       → entry_kind_of (event_at es p) ≢ kind.Scalar
       → IsIndexed class count keys (is_dictionary (entry_kind_of (event_at es p))) t p c
@@ -198,7 +198,7 @@ module _ (es : List PlainEvent) (scalar class : ℕ → ℕ) (count : ℕ) (keys
   by_scalar (Array ts) p c s a d h = absurd (a (ap entry_kind_of (starts_array s)))
   by_scalar (Dictionary ms) p c s a d h = absurd (d (ap entry_kind_of (starts_dictionary s)))
 
--- where a collection's class was written
+-- after a collection's class is set
 module _ (classes : List ℕ) (p c : ℕ) where
   abbrev after : ℕ → ℕ
   after = nth_number (set classes p c)
@@ -236,12 +236,12 @@ module _ (classes : List ℕ) (p c : ℕ) where
           (λ q h. other q (λ e. absurd (omega arith)))
           scalar count keys new kept
 
--- the start of a collection is no scalar
+-- the start of a collection isn't a scalar
 pub no_scalar : {k : EntryKind} → (k ≡ kind.Array) ⊎ (k ≡ kind.Dictionary) → k ≢ kind.Scalar
 no_scalar (inl is) = λ e. cc
 no_scalar (inr is) = λ e. cc
 
--- where no collection begins, the classes are there
+-- if no collection begins at an index, the class is there already
 pub none_written : {es : List PlainEvent} {scalar class : ℕ → ℕ} {count : ℕ} {keys : List Node}
     (p : ℕ) → entry_kind_of (event_at es p) ≢ kind.Array
     → entry_kind_of (event_at es p) ≢ kind.Dictionary

@@ -22,7 +22,7 @@ head_scalar : (x y : trees.Scalar) (xs ys : List Item) → Ok (ScalarEvent x) �
     → x ≡ y
 head_scalar x y xs ys p = cc
 
--- a tree's events begin with no end, and with no fault
+-- a tree's events begin neither with an end nor with a fault
 not_end : (t : Tree) (zs : List PlainEvent) (xs : List Item)
     → Ok EndCollection ∷ xs ≡ map Ok (bracketing t ++ zs) → ⊥
 not_end (Leaf x) zs xs p = cc
@@ -36,7 +36,7 @@ not_fault (Array ts) zs f xs p = cc
 not_fault (Dictionary ms) zs f xs p = cc
 
 module _ (table : List TableEntry) where
-  -- where these items begin as a tree's events do, the number stands for the tree, and the rest
+  -- if these items begin with a tree's events, the number stands for the tree, and the rest
   -- follows; and they don't begin with an end
   abbrev pub IsTree : ℕ → List Item → Type 0
   IsTree i items = ((t : Tree) (es : List PlainEvent) (xs : List Item)
@@ -74,7 +74,7 @@ module _ (table : List TableEntry) (child : ℕ → List Item)
       let more = pairs_parse qs ms es xs first.1 in
       ((key.0, first.0, more.0), more.1)
 
-  -- an object by its children
+  -- an object is parsed if its children are
   object_parses : (i place : ℕ) (o : Object) → Stands table i o
       → (t : Tree) (es : List PlainEvent) (xs : List Item)
       → items_of place o child ++ xs ≡ map Ok (bracketing t ++ es) → Means table t i
@@ -96,7 +96,7 @@ module _ (table : List TableEntry) (child : ℕ → List Item)
   object_parses i place (obj.Faulty kind) is t es xs p = absurd (not_fault t es _ xs p)
   object_parses i place o is t es xs p = cc
 
-  -- it begins with no end
+  -- an object's items don't begin with an end
   object_begins : (place : ℕ) (o : Object) → (xs ys : List Item)
       → items_of place o child ++ xs ≡ Ok EndCollection ∷ ys → ⊥
   object_begins place (obj.Scalar y) xs ys p = cc
@@ -105,7 +105,7 @@ module _ (table : List TableEntry) (child : ℕ → List Item)
   object_begins place (obj.Faulty kind) xs ys p = cc
 
 module _ (table : List TableEntry) where
-  -- what a reference finds
+  -- the items of what a reference refers to are parsed
   found_parses : (i at : ℕ) (found : Option TableEntry) (is_open : Bool) (items : TableEntry
       → List Item)
       → slice_get table i ≡ found → ((entry : TableEntry) → slice_get table i ≡ Some entry
@@ -117,7 +117,7 @@ module _ (table : List TableEntry) where
       ((λ t es xs p. absurd (not_fault t es _ xs p)), λ xs ys p. cc)
   found_parses i at (Some entry) false items f good = good entry f refl
 
-  -- where an object's items are a tree's events, its number stands for the tree
+  -- if an object's items are a tree's events, its number stands for the tree
   pub unfolding_parses : (fuel : ℕ) (path : List ℕ) (at : ℕ) → IsPath (length table) path
       → fuel + length path ≡ length table
       → (c : ℕ) → IsTree table c (unfolding_of table fuel path at c)

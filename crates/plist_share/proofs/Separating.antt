@@ -1,4 +1,4 @@
--- The test of trees tells.
+-- The test of trees decides whether they are equal.
 use Rattle.std.proofs.Common.{◌≡◌, inl, inr, Bool, true, false, ◌&&◌, refl, ap, ◌∙◌}
 use Rattle.std.specs.Str.{bytes_eq}
 use Rattle.plist_base.specs.Trees.{Tree, Leaf, Array, Dictionary, Trees, NoTrees, TreeAnd, Members, NoMembers, MemberAnd}
@@ -6,7 +6,7 @@ use Rattle.plist_base.specs.Scalars.{scalar_eq}
 use Rattle.plist_binwrite.proofs.SameScalars.{Tells, bytes_tell, scalars_tell, tells_made}
 use Rattle.plist_share.specs.Distinct.{tree_eq, trees_eq, members_eq}
 
--- what two tests tell of two parts, both tell of what is made of the parts
+-- if two tests decide the parts, both together decide what is made of the parts
 tells_both : {A B C : Type 0} (one : A → A → Bool) (other : B → B → Bool) (test : C → C → Bool)
     (make : A → B → C) (a x : A) (b y : B)
     → test (make a b) (make x y) ≡ (one a x && other b y)

@@ -1,4 +1,4 @@
--- Sending a file by classes of trees sends the shared file.
+-- Writing a file by the classes of trees writes the shared file.
 use Rattle.std.proofs.Common.{◌≡◌, ℕ, List, Option, Err, refl}
 use Rattle.plist_base.specs.Bracketing.{AreAlike, bracketing}
 use Rattle.plist_base.specs.Faults.{Fault, OutOfMemory, fault_nowhere}
@@ -33,7 +33,7 @@ module _ {W : Type 0} (contents : W → Option (List ℕ)) (events : EventTable)
       (λ t alike. size_is (plain_events events) class given t (occurs t alike)) contents answer old
       new s
 
--- where memory was refused before anything was planned, nothing went out
+-- if an allocation failed before anything was planned, nothing was written
 pub sends_nothing : {W : Type 0} (contents : W → Option (List ℕ)) (events : EventTable)
     (fault : Fault) (old new : W) → fault ≡ fault_nowhere OutOfMemory → new ≡ old
     → SendsShared contents (plain_events events) (Err fault) old new

@@ -1,5 +1,5 @@
--- How many different subtrees a tree has: its scalars, its keys as texts, and its collections,
--- where order and repeated keys count.
+-- How many different subtrees a tree has: its scalars, its keys as strings, and its collections, in
+-- which order and repeated keys count.
 use Rattle.std.specs.Prelude.{◌≡◌, ℕ, ◌≤◌, Bool, true, false, ◌&&◌, List, [], ◌∷◌, ◌++◌, length, map, Ok}
 use Rattle.std.specs.Set.{distinct_count}
 use Rattle.std.specs.Str.{bytes_eq}
@@ -10,7 +10,7 @@ use Rattle.plist_format.specs.Container.{Head, head_of}
 use Rattle.plist_format.specs.Unfolding.{items_of_file}
 use Rattle.plist_base.specs.Scalars.{scalar_eq}
 
--- whether a tree is another
+-- equality of trees
 abbrev mutual
   pub tree_eq : Tree → Tree → Bool
   tree_eq (Leaf x) (Leaf y) = scalar_eq x y
@@ -29,7 +29,7 @@ abbrev mutual
       bytes_eq k l && (tree_eq t u && members_eq ms ns)
   members_eq ms ns = false
 
--- the tree and what is in it, a key as a text
+-- the tree and all trees in it, with each key as a string
 abbrev mutual
   pub subtrees : Tree → List Tree
   subtrees (Leaf x) = Leaf x ∷ []
@@ -49,7 +49,7 @@ abbrev mutual
 abbrev pub distinct_subtrees : Tree → ℕ
 distinct_subtrees tree = distinct_count tree_eq (subtrees tree)
 
--- the file's head counts at least this many objects
+-- the file's head has at least this many objects
 abbrev pub HasAtLeast : (file : List ℕ) → ℕ → Type 0
 HasAtLeast file count = (head : Head) × (head_of file ≡ Ok head) × (count ≤ length head.places)
 

@@ -19,7 +19,7 @@ twice_size : shared_file_size (Array (trees_of (x ∷ x ∷ []))) ≡ 50
 unfolding x least_width length_form units_of chars
 twice_size = refl
 
--- ---- each array the last one twice
+-- ---- each array contains the last one twice
 
 a0 : Tree
 a0 = Array (trees_of [])

@@ -1,5 +1,5 @@
--- What the sharing writer sends of a tree: a file of it with one object for each different subtree.
--- No file of the same events has fewer objects, whatever it shares.
+-- What the sharing writer writes for a tree: a file of it with one object for each different
+-- subtree. No file of the same events has fewer objects, whatever it shares.
 use Rattle.std.specs.Prelude.{◌≡◌, ℕ, ◌^◌, ◌<◌, List, length}
 use Rattle.plist_base.specs.Trees.{Tree}
 use Rattle.plist_binwrite.specs.ObjectCounts.{HasObjects}
@@ -7,7 +7,7 @@ use Rattle.plist_binwrite.specs.Written.{IsWrittenAs}
 use Rattle.plist_share.specs.Distinct.{distinct_subtrees, IsLeastOfAll}
 use Rattle.plist_share.specs.SharedSizes.{shared_file_size}
 
--- what is sent of a tree
+-- what is written for a tree
 pub record IsSharedFileOf (tree : Tree) (file : List ℕ) : Type 0 where
   pub written : IsWrittenAs tree file
   pub count : HasObjects file (distinct_subtrees tree)

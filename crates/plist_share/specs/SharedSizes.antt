@@ -1,4 +1,4 @@
--- How many bytes a file of a tree has in which each different subtree is one object.
+-- The number of bytes in a file of a tree in which each different subtree is one object.
 use Rattle.std.specs.Prelude.{ℕ}
 use Rattle.std.specs.Set.{unique_keys}
 use Rattle.plist_base.specs.Trees.{Tree}
@@ -6,11 +6,11 @@ use Rattle.plist_binwrite.specs.Sizes.{total, object_size, size_with}
 use Rattle.plist_binwrite.specs.Widths.{reference_width}
 use Rattle.plist_share.specs.Distinct.{tree_eq, subtrees, distinct_subtrees}
 
--- the objects of its different subtrees
+-- the bytes of the objects of its different subtrees
 abbrev pub shared_objects_size : (width : ℕ) → Tree → ℕ
 shared_objects_size width tree = total (object_size width) (unique_keys tree_eq (subtrees tree))
 
--- the whole file
+-- the bytes of the whole file
 abbrev pub shared_file_size : Tree → ℕ
 shared_file_size tree =
     size_with (distinct_subtrees tree)

@@ -1,2 +1,2 @@
--- What bodies and proofs speak of, and no public clause.
+-- What bodies and proofs use, but no public clause.
 pub mod Nodes

@@ -1,4 +1,5 @@
-//! Classes of the trees among events: two events have one class exactly where the same tree begins.
+//! Classes of the trees among events: two events have the same class if and only if the same tree
+//! begins at both.
 
 ghost use Rattle.std.specs.Prelude.{◌≡◌, ◌+◌, ◌<◌, length, IfOk, OnOk};
 ghost use Rattle.plist_base.specs.Outcomes.{OnlyMemory};
@@ -19,22 +20,22 @@ use std::alloc::{AllocError, Global};
 /// A collection by its kind and the classes of its children.
 #[derive(PartialEq, Eq, Hash, Drop)]
 pub struct Collection {
-    /// Is it a dictionary, and no array?
+    /// Whether it is a dictionary, and not an array.
     pub is_dictionary: bool,
     /// The classes of its children, a dictionary's keys before its values.
     pub children: Vec<usize>,
 }
 
-/// The indices of a collection's children; their memory serves one collection after the other.
+/// The indices of a collection's children. The lists are reused for each collection.
 #[derive(Drop)]
 pub struct Indices {
-    /// Those of a dictionary's keys.
+    /// The indices of a dictionary's keys.
     pub keys: Vec<usize>,
-    /// Those of an array's items, or of a dictionary's values.
+    /// The indices of an array's items, or of a dictionary's values.
     pub values: Vec<usize>,
 }
 
-// The index of a collection: that of its equal which came before, or a new one.
+// Returns the index of a collection: that of an equal one that was inserted before, or a new one.
 fn index_of(seen: &mut IndexSet<Collection>, collection: Collection) -> Result<usize, Error>
     // The answer.
     ensures stored { IfOk result (IsNodeAt seen.new.keys collection) }
@@ -61,7 +62,7 @@ fn push_classes(found: &mut Vec<usize>, classes: &Numbers, indices: &[usize]) ->
     Ok(())
 }
 
-// The classes of the children of the collection that begins here.
+// Returns the classes of the children of the collection that begins at an index.
 fn classes_within(
     alloc: Global,
     events: &EventTable<'_>,
@@ -81,7 +82,7 @@ fn classes_within(
     Ok(found)
 }
 
-// Whether a dictionary begins here.
+// Returns whether a dictionary begins at an index.
 fn begins_dictionary(events: &EventTable<'_>, index: usize) -> bool
     requires { index < length (plain_events events.now) }
     ensures { result ≡ is_dictionary (entry_kind_of (table_event events.now index)) }
@@ -92,8 +93,8 @@ fn begins_dictionary(events: &EventTable<'_>, index: usize) -> bool
     }
 }
 
-// The class of the collection that begins here: those of collections go from the base on,
-// after the ones of scalars.
+// Returns the class of the collection that begins at an index. The classes of collections start at
+// the base, after those of scalars.
 fn class_of_collection(
     alloc: Global,
     events: &EventTable<'_>,
@@ -124,7 +125,8 @@ fn class_of_collection(
     Ok(class)
 }
 
-// Gives the tree that begins here its class, if a collection does; a scalar has one.
+// Sets the class of the tree that begins at an index, if it is a collection. A scalar already has
+// one.
 fn give_class(
     alloc: Global,
     events: &EventTable<'_>,
@@ -153,7 +155,7 @@ fn give_class(
     }
 }
 
-// Gives each tree that begins among these events its class, from the inside outwards.
+// Sets the classes of the trees that begin among these events, from the inside outwards.
 fn give_classes(
     alloc: Global,
     events: &EventTable<'_>,
@@ -183,7 +185,8 @@ fn give_classes(
     }
 }
 
-// Gives the trees their classes, where each event has that of its scalar or one of its own.
+// Sets the classes of the trees, given that each event has the class of its scalar or one of its
+// own.
 fn give_trees(alloc: Global, events: &EventTable<'_>, found: &mut Classes) -> Result<(), Error>
     requires long { length found.old.of ≡ length (plain_events events.now) }
     requires classes { AreClassesOf events.now found.old }
@@ -198,9 +201,11 @@ fn give_trees(alloc: Global, events: &EventTable<'_>, found: &mut Classes) -> Re
     give_classes(alloc, events, &mut indices, found, &mut seen)
 }
 
-/// The classes of the trees that begin among the events of a tree, found from the inside outwards.
+/// Returns the classes of the trees that begin among the events of a tree. They are found from the
+/// inside outwards.
 ///
 /// # Errors
+///
 /// `OutOfMemory`, without an offset.
 pub fn tree_classes(alloc: Global, events: &EventTable<'_>) -> Result<Classes, Error>
     // The answer.

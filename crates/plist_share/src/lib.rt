@@ -1,6 +1,6 @@
-//! Writes binary property lists in which equal collections are one object.
+//! Writes binary property lists in which equal collections share an object.
 //!
-//! The main contract is that of [`SharingWriter`]: the event that completes a tree sends a file of
+//! The main contract is that of [`SharingWriter`]: the event that completes a tree writes a file of
 //! it that has one object for each different subtree, and no file of the same events has fewer.
 #![tactic(auto)]
 

@@ -10,26 +10,26 @@ use std::fmt::Write as _;
 use std::io::{Cursor, ErrorKind, Read, Seek, SeekFrom, Write};
 use std::{fmt, io};
 
-/// What comes of the one call that is unlike the others.
+/// What happens at the one call that differs from the others.
 #[derive(Clone, Copy)]
 pub enum DeviceFault {
     /// It fails with an error of this kind.
     Fails(ErrorKind),
-    /// A read gives nothing; a write takes nothing, and that is a failure.
+    /// A read returns no byte; a write takes no byte, which is a failure.
     MovesNothing,
-    /// From there on this many bytes are left to be read.
+    /// From then on only this many bytes are there.
     Shrinks(usize),
 }
 
-/// The message of each error of a device, which no error of the libraries or of the system has.
+/// The message of each error of a device. No error of the libraries or of the system has it.
 pub const DEVICE_MESSAGE: &str = "the device said so";
 
-/// A device's own error.
+/// Returns a device's own error.
 pub fn device_error(kind: ErrorKind) -> io::Error {
     io::Error::new(kind, DEVICE_MESSAGE)
 }
 
-/// A device's own errors, each of which ends a reader.
+/// Errors of a device, each of which ends a reader.
 pub const READ_FAILURES: [ErrorKind; 4] = [
     ErrorKind::Interrupted,
     ErrorKind::TimedOut,
@@ -37,34 +37,36 @@ pub const READ_FAILURES: [ErrorKind; 4] = [
     ErrorKind::UnexpectedEof,
 ];
 
-/// It moves one byte a call, but for one call, counting from 0. A second try of that would succeed.
+/// A device that moves one byte per call, except at one call, counted from 0. A second try of that
+/// call would succeed.
 #[derive(Drop)]
 pub struct Device {
-    /// What it gives, or has taken.
+    /// The bytes that it returns, or has taken.
     pub bytes: Vec<u8>,
-    /// How many bytes `read` has given, or `write` has taken.
+    /// The number of bytes that `read` has returned, or `write` has taken.
     pub moved: usize,
-    /// The place that the last call was asked for; 0 for a size.
+    /// The offset of the last call, or 0 if that asked for the size.
     pub place: u64,
-    /// How many it had taken at its last flush.
+    /// The number of bytes that it had taken at its last flush.
     pub flushed: usize,
-    /// How many bytes one `write` was given at most.
+    /// The greatest number of bytes in the buffer of a `write`.
     pub longest: usize,
-    /// How many calls it was asked for.
+    /// The number of calls.
     pub calls: u64,
-    /// How many of them failed.
+    /// The number of calls that failed.
     pub failures: u64,
     faulty_call: u64,
     fault: DeviceFault,
 }
 
 impl Device {
-    /// It fails in a way after which callers may want to try again.
+    /// Makes a device that fails at a call with `Interrupted`, after which callers may want to try
+    /// again.
     pub fn new(bytes: Vec<u8>, fails_at: u64) -> Device {
         Device::with_fault(bytes, fails_at, DeviceFault::Fails(ErrorKind::Interrupted))
     }
 
-    /// It has this fault at this call.
+    /// Makes a device with this fault at this call.
     pub fn with_fault(bytes: Vec<u8>, faulty_call: u64, fault: DeviceFault) -> Device {
         Device {
             bytes,
@@ -79,7 +81,7 @@ impl Device {
         }
     }
 
-    // Counts a call, and answers whether it moves a byte.
+    // Counts a call, and returns whether it moves a byte.
     fn call(&mut self, place: u64) -> io::Result<bool>
         ensures failures { CountsFailure result self.old.failures self.new.failures }
     {
@@ -122,7 +124,7 @@ impl Source for Device {
     }
 }
 
-// Lent to a reader, so that it can be looked at afterwards.
+// A reader borrows the device, so that it can be inspected afterwards.
 impl<'a> Source for &'a mut Device {
     ghost known = { λ _. None };
 
@@ -172,7 +174,7 @@ impl Write for Device {
     }
 }
 
-// A text that is still to be written, each part as it stands.
+// The rest of a text that is compared with what is written, part by part.
 #[derive(Drop)]
 struct Remaining<'a> {
     text: &'a str,
@@ -190,13 +192,13 @@ impl<'a> fmt::Write for Remaining<'a> {
     }
 }
 
-// Is this the error's text?
+// Returns whether this is the error's text.
 fn has_text(failure: &io::Error, text: &str) -> bool {
     let mut remaining = Remaining { text };
     write!(remaining, "{failure}").is_ok() && remaining.text.is_empty()
 }
 
-/// The fault is an I/O error of this kind and text, with this offset.
+/// Checks that the result is an I/O error of this kind and text, with this offset.
 pub fn expect_failure<T: Drop>(
     answer: Result<T, Error>,
     kind: ErrorKind,
@@ -218,7 +220,7 @@ pub fn expect_failure<T: Drop>(
     Ok(())
 }
 
-/// The fault is a device's own error of this kind, with this offset.
+/// Checks that the result is a device's own error of this kind, with this offset.
 pub fn expect_io<T: Drop>(
     answer: Result<T, Error>,
     kind: ErrorKind,
@@ -227,8 +229,8 @@ pub fn expect_io<T: Drop>(
     expect_failure(answer, kind, DEVICE_MESSAGE, offset)
 }
 
-// The device failed once, at its last call, and after the items before that stands that fault,
-// with the place of the call and the device's message.
+// Checks that the device failed once, at its last call, and that the items before are followed by
+// this error, with the offset of the call and the device's message.
 pub(crate) fn expect_cut(
     alloc: Global,
     device: &Device,
@@ -251,19 +253,19 @@ pub(crate) fn expect_cut(
 #[derive(Drop)]
 pub struct Disk {
     inner: Cursor<Vec<u8>>,
-    /// How many bytes one read gives at most.
+    /// The greatest number of bytes that a read returns.
     pub most: usize,
     /// The kind of its error.
     pub kind: ErrorKind,
-    /// How many calls it was asked for.
+    /// The number of calls.
     pub calls: u64,
-    /// How many of them failed.
+    /// The number of calls that failed.
     pub failures: u64,
     fails_at: u64,
 }
 
 impl Disk {
-    /// It gives these bytes, and fails at this call.
+    /// Makes a file of these bytes that fails at this call.
     pub fn new(bytes: Vec<u8>, fails_at: u64) -> Disk {
         Disk {
             inner: Cursor::new(bytes),

@@ -1,4 +1,4 @@
-//! Events of words, and what a writer answers to them.
+//! Events written as words, and what a writer returns for them.
 
 use crate::words::add_words;
 use crate::wrong::{Wrong, fail};
@@ -7,12 +7,12 @@ use plist_base::{Date, Event, Integer, RealBits, Uid, Writer};
 use std::alloc::Global;
 use std::borrow::{CowSlice, CowStr};
 
-// That a word stands for no event.
+// Fails because a word isn't an event.
 fn no_event<T>(alloc: Global, word: &str) -> Result<T, Wrong> {
     fail(format!(in alloc; "no event is {word}"))
 }
 
-// What stands between two marks.
+// Returns the text between two marks.
 fn between(word: &str, first: char, last: char) -> Option<&str> {
     match word.strip_prefix(first) {
         None => None,
@@ -27,7 +27,7 @@ fn number_of(alloc: Global, digits: &str) -> Result<u64, Wrong> {
     }
 }
 
-// The length after a bracket, if there is one.
+// Returns the length after a bracket, or `None` if no digit follows it.
 fn length_of(alloc: Global, digits: &str) -> Result<Option<u64>, Wrong> {
     if digits.is_empty() {
         return Ok(None);
@@ -63,7 +63,7 @@ fn date_of(alloc: Global, content: &str) -> Result<Date, Wrong> {
     }
 }
 
-// The event of a kind and a content with a colon between them.
+// Returns the event of a kind and a content that are separated by a colon.
 fn named(alloc: Global, kind: &str, content: &str) -> Result<Event<'static>, Wrong> {
     match kind {
         "uid" => Ok(Event::Uid(Uid::new(number_of(alloc, content)?))),
@@ -80,7 +80,7 @@ fn data_of(alloc: Global, digits: &str) -> Result<Event<'static>, Wrong> {
     }
 }
 
-// The event of a word without marks.
+// Returns the event of a word without marks.
 fn plain(alloc: Global, word: &str) -> Result<Event<'static>, Wrong> {
     match word {
         "end" => Ok(Event::EndCollection),
@@ -93,7 +93,7 @@ fn plain(alloc: Global, word: &str) -> Result<Event<'static>, Wrong> {
     }
 }
 
-/// The event that a word stands for.
+/// Returns the event that a word stands for.
 pub fn event_of<'a>(alloc: Global, word: &'a str) -> Result<Event<'a>, Wrong> {
     if let Some(text) = between(word, '\'', '\'') {
         return Ok(Event::String(CowStr::Borrowed(text)));
@@ -113,7 +113,7 @@ pub fn event_of<'a>(alloc: Global, word: &'a str) -> Result<Event<'a>, Wrong> {
     }
 }
 
-/// A writer accepts the events of these words.
+/// Writes the events of these words to a writer, which must accept them.
 pub fn write_all<W: Writer>(alloc: Global, writer: &mut W, words: &str) -> Result<(), Wrong> {
     for word in words.split(' ') {
         let event = event_of(alloc, word)?;
@@ -125,8 +125,8 @@ pub fn write_all<W: Writer>(alloc: Global, writer: &mut W, words: &str) -> Resul
     Ok(())
 }
 
-/// The answers of a writer to the events of these words, with a semicolon between two: `ok`, or the
-/// text of the fault.
+/// Checks what a writer returns for the events of these words, separated by semicolons: `ok`, or
+/// the text of the error.
 pub fn expect_answers<W: Writer>(
     alloc: Global,
     writer: &mut W,

@@ -3,7 +3,7 @@
 use crate::wrong::{Wrong, fail};
 use std::alloc::{AllocError, Global};
 
-/// The bytes that hexadecimal digits spell; blanks between them mean nothing.
+/// Returns the bytes that hexadecimal digits spell. Blanks between them are ignored.
 pub fn bytes_of(alloc: Global, digits: &str) -> Result<Vec<u8>, Wrong> {
     let mut bytes = Vec::new(alloc);
     for word in digits.split(' ') {
@@ -15,8 +15,9 @@ pub fn bytes_of(alloc: Global, digits: &str) -> Result<Vec<u8>, Wrong> {
     Ok(bytes)
 }
 
-/// A file: the magic, these objects with their table, and the trailer of the widths of a place and
-/// of a reference, the number of objects, the number of the root and the place of the table.
+/// Makes a file of the magic, these objects with their offset table, and a trailer with the widths
+/// of an offset and of a reference, the number of objects, the number of the root and the offset of
+/// the table.
 pub fn file_of(
     alloc: Global,
     body: &[u8],
@@ -33,7 +34,7 @@ pub fn file_of(
     Ok(bytes)
 }
 
-/// A file whose objects and table are in hexadecimal.
+/// Makes a file whose objects and table are given in hexadecimal.
 pub fn file(
     alloc: Global,
     body: &str,
@@ -43,7 +44,7 @@ pub fn file(
     Ok(file_of(alloc, bytes_of(alloc, body)?.as_slice(), widths, numbers)?)
 }
 
-/// The file of this one object, in hexadecimal, with widths of one byte.
+/// Makes a file of this one object, which is given in hexadecimal, with widths of one byte.
 pub fn file_of_object(alloc: Global, object: &str) -> Result<Vec<u8>, Wrong> {
     let mut body = bytes_of(alloc, object)?;
     let table = 8 + body.len() as u64;
@@ -51,7 +52,7 @@ pub fn file_of_object(alloc: Global, object: &str) -> Result<Vec<u8>, Wrong> {
     Ok(file_of(alloc, body.as_slice(), [1, 1], [1, 0, table])?)
 }
 
-/// At most this many bytes of the front.
+/// Returns at most this many of the first bytes.
 pub fn front(bytes: &[u8], count: usize) -> &[u8] {
     &bytes[..bytes.len().min(count)]
 }

@@ -1,7 +1,7 @@
 //! What the examples share: files in hexadecimal, events as words, and devices that fail.
 //!
-//! Nothing here ends the process: what an example wants and doesn't find is a `Wrong`, at which its
-//! test ends.
+//! Nothing here ends the process: when an example doesn't find what it expects, its test ends with
+//! a `Wrong`.
 #![tactic(auto)]
 
 mod device;

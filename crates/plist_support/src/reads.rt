@@ -1,4 +1,4 @@
-//! What a reader gives over devices: that give one byte a call, fail at each call in turn, or
+//! What readers yield over devices that move one byte per call, fail at each call in turn, or
 //! shrink.
 
 use crate::device::{Device, DeviceFault, expect_cut};
@@ -11,25 +11,25 @@ use plist_reader::Reader;
 use std::alloc::{AllocError, Global};
 use std::io::{ErrorKind, Read};
 
-/// Who reads the device.
+/// The reader of the device.
 #[derive(Clone, Copy)]
 pub enum By {
     Binary,
     Limited(Limits),
-    /// Under limits, within a budget of bytes of strings and data.
+    /// A reader under limits, and within a budget of bytes of strings and data.
     Within(Limits, u64),
     Ascii,
     Tight,
-    /// ASCII from a source that is read from its front on.
+    /// A reader of ASCII over a source that is read from its start on.
     Sequential,
-    /// By the format that the first bytes tell.
+    /// The reader that chooses by the format of the first bytes.
     Either,
 }
 
 // More items than any example has.
 const MOST: usize = 100;
 
-/// The words of the items over a source, this many at most.
+/// Returns the words of the items of a source, up to this many.
 pub fn words_over<S: Source + Read>(
     alloc: Global,
     by: By,
@@ -70,8 +70,8 @@ fn device_of(
 
 const INTERRUPTED: DeviceFault = DeviceFault::Fails(ErrorKind::Interrupted);
 
-// The device fails at this call, which is made for an item after these. In the place of that comes
-// `Io` with the place of the read, and then nothing, however often the reader is asked.
+// Checks a device that fails at this call, which is made for the item after these: the item is
+// replaced by `Io`, with the offset of the read, and nothing more is yielded.
 fn expect_failure(
     alloc: Global,
     by: By,
@@ -92,7 +92,8 @@ fn expect_failure(
     Ok(())
 }
 
-// Asked for this many items, a reader gives these words and makes this many calls.
+// Calls a reader for up to this many items, and returns their words and the number of calls of the
+// device.
 fn run_over(alloc: Global, by: By, bytes: &[u8], most: usize) -> Result<(String, u64), Wrong> {
     let mut device = device_of(alloc, bytes, u64::MAX, INTERRUPTED)?;
     let found = words_over(alloc, by, &mut device, most)?;
@@ -102,8 +103,8 @@ fn run_over(alloc: Global, by: By, bytes: &[u8], most: usize) -> Result<(String,
     Ok((found, device.calls))
 }
 
-/// With one byte a call the items are these. A failure at any of the calls that are made for an
-/// item comes in the place of that item.
+/// Checks that a device that moves one byte per call yields these items, and that a failure of any
+/// call that is made for an item replaces that item.
 pub fn expect_on_devices(alloc: Global, by: By, bytes: &[u8], items: &str) -> Result<(), Wrong> {
     let (mut before, mut made) = run_over(alloc, by, bytes, 0)?;
     for most in 1..MOST {
@@ -122,8 +123,8 @@ pub fn expect_on_devices(alloc: Global, by: By, bytes: &[u8], items: &str) -> Re
     fail(format!(in alloc; "more than {MOST} items"))
 }
 
-// After its first call the source has `left` bytes. The items are as they were, or a beginning of
-// them and the end at the place of the first byte that isn't there.
+// Checks a source that has `left` bytes after its first call: it yields these items, or a prefix of
+// them and then the end at the first offset without a byte.
 fn expect_shrunk(alloc: Global, bytes: &[u8], items: &str, left: usize) -> Result<(), Wrong> {
     let mut device = device_of(alloc, bytes, 1, DeviceFault::Shrinks(left))?;
     let found = words_over(alloc, By::Binary, &mut device, usize::MAX)?;
@@ -140,7 +141,7 @@ fn expect_shrunk(alloc: Global, bytes: &[u8], items: &str, left: usize) -> Resul
     }
 }
 
-/// Wherever a source of these bytes ends after its first call, each reader of it comes to an end.
+/// Checks that every reader of these bytes ends, wherever the source ends after its first call.
 pub fn expect_on_shrinking_devices(alloc: Global, bytes: &[u8], items: &str) -> Result<(), Wrong> {
     for left in 0..bytes.len() {
         expect_shrunk(alloc, bytes, items, left)?;

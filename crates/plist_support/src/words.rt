@@ -1,7 +1,7 @@
-//! Events as words of a text, with a blank between two.
+//! Events as words, separated by blanks.
 //!
 //! `[2` and `{2` are starts with their length, `[` and `{` starts without one, `end` is an end,
-//! `true` and `false` are themselves, and so is a number. `'a'` is a text and `<00ff>` data in
+//! `true` and `false` are themselves, and so are numbers. `'a'` is a string and `<00ff>` data in
 //! hexadecimal; `uid:4` is a Uid, `real:3fc00000` a real by its bytes, `date:-5` a date by its
 //! second, to which `date:0/3fe0000000000000` adds the bytes of a date with a fraction.
 
@@ -34,7 +34,7 @@ fn real_word(alloc: Global, bits: RealBits) -> Result<String, AllocError> {
     format!(in alloc; "real:{digits}")
 }
 
-/// The word of an event.
+/// Returns the word of an event.
 pub fn word_of(alloc: Global, event: &Event<'_>) -> Result<String, AllocError> {
     match event {
         Event::StartArray(length) => start(alloc, '[', *length),
@@ -53,7 +53,7 @@ pub fn word_of(alloc: Global, event: &Event<'_>) -> Result<String, AllocError> {
     }
 }
 
-// The text of a fault, and after a colon that of the I/O error in it.
+// Returns the text of an error and, if it is an I/O error, that of the I/O error after a colon.
 fn word_of_fault(alloc: Global, error: &Error) -> Result<String, AllocError> {
     match error.as_io() {
         Some(failure) => format!(in alloc; "{error}: {failure}"),
@@ -61,7 +61,7 @@ fn word_of_fault(alloc: Global, error: &Error) -> Result<String, AllocError> {
     }
 }
 
-// Adds an item's word, or the text of its fault, after those that are there.
+// Appends an item's word, or the text of its error.
 fn add_item(
     alloc: Global,
     all: &mut String,
@@ -74,7 +74,7 @@ fn add_item(
     add_words(all, " ", word.as_str())
 }
 
-/// Adds words, with this mark before them where they aren't the first.
+/// Appends words, separated by this mark from the ones before them.
 pub fn add_words(all: &mut String, mark: &str, words: &str) -> Result<(), AllocError> {
     if !all.is_empty() {
         all.push_str(mark)?;
@@ -82,7 +82,7 @@ pub fn add_words(all: &mut String, mark: &str, words: &str) -> Result<(), AllocE
     all.push_str(words)
 }
 
-/// The words of a reader's items.
+/// Returns the words of a reader's items.
 pub fn words_of<I: Iterator<Item = Result<OwnedEvent, Error>> + Drop>(
     alloc: Global,
     reader: I,
@@ -97,7 +97,7 @@ pub fn words_of<I: Iterator<Item = Result<OwnedEvent, Error>> + Drop>(
     Ok(all)
 }
 
-/// The words of a value's events.
+/// Returns the words of a value's events.
 pub fn words_of_events<'a, I: Iterator<Item = Result<Event<'a>, Error>> + Drop>(
     alloc: Global,
     events: I,

@@ -1,16 +1,16 @@
-//! What an example doesn't find as it wants it.
+//! What an example finds instead of what it expects.
 
 use std::alloc::{AllocError, Global};
 use std::io::ErrorKind;
 
-/// What is not as an example wants it.
+/// A difference from what an example expects.
 #[derive(Debug, Drop)]
 pub enum Wrong {
-    /// There was no memory.
+    /// An allocation failed.
     OutOfMemory,
-    /// An answer that is to be a fault is none.
+    /// The result isn't an error, but should be.
     NoFault,
-    /// A fault has this offset, and this kind where it is a device's own.
+    /// The error has this offset and, if it is an I/O error, this kind.
     OtherFault(Option<u64>, Option<ErrorKind>),
     /// An I/O error has another text.
     OtherMessage,
@@ -24,12 +24,12 @@ impl From<AllocError> for Wrong {
     }
 }
 
-/// What is wrong, in these words.
+/// Fails with these words.
 pub fn fail<T>(text: Result<String, AllocError>) -> Result<T, Wrong> {
     Err(Wrong::Words(text?))
 }
 
-/// What is found is what is wanted.
+/// Checks that both texts are equal.
 pub fn expect_same(alloc: Global, found: &str, wanted: &str) -> Result<(), Wrong> {
     if found == wanted {
         return Ok(());
@@ -37,7 +37,7 @@ pub fn expect_same(alloc: Global, found: &str, wanted: &str) -> Result<(), Wrong
     fail(format!(in alloc; "{found} came, and not {wanted}"))
 }
 
-/// The bytes that are found are those that are wanted.
+/// Checks that the bytes are the expected ones.
 pub fn expect_bytes(alloc: Global, found: &[u8], wanted: &[u8]) -> Result<(), Wrong> {
     if found == wanted {
         return Ok(());
@@ -46,7 +46,7 @@ pub fn expect_bytes(alloc: Global, found: &[u8], wanted: &[u8]) -> Result<(), Wr
     fail(format!(in alloc; "the bytes {found} came"))
 }
 
-/// Something holds; what it is, is said in this text.
+/// Checks a condition, which the text describes.
 pub fn expect_that(alloc: Global, holds: bool, text: &str) -> Result<(), Wrong> {
     if holds {
         return Ok(());

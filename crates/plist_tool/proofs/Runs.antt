@@ -1,4 +1,4 @@
--- What the status of a run tells of its words.
+-- What the status of a run says of its arguments.
 use Rattle.std.proofs.Common.{◌≡◌, ◌≢◌, ◌↔◌, ◌⊎◌, ℕ, Bool, true, false, eqb, List, inl, inr}
 use Rattle.std.proofs.lemmas.Bool.Decides.{eqb_tells}
 use Rattle.plist_commands.specs.Commands.{IsNoCommand, IsStatusAfter, PlainCommand, words_for}

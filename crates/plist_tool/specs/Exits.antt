@@ -6,8 +6,8 @@ use Rattle.plist_commands.specs.Commands.{IsNoCommand, IsStatusAfter, PlainComma
 use Rattle.plist_commands.specs.Failures.{CommandOutcome, OfPlist}
 use Rattle.plist_commands.specs.Messages.{PlainMessage, Fault, Usage}
 
--- for some words this is the status of their run: they are no command, nothing is printed, and the
--- usage is told; or they ask for a command, whose end this is
+-- the status of a run of some arguments: either they are no command, nothing is printed, and the
+-- usage is reported; or they are a command, and the status follows from its outcome
 abbrev pub RunsWords : {O E : Type 0} → (reports : E → PlainMessage → Bool → E → Type 0)
     → (status : ℕ) → (old new : O) → (err told : E) → Type 0
 RunsWords reports status old new err told =
@@ -17,11 +17,11 @@ RunsWords reports status old new err told =
     ⊎ ((asked : PlainCommand) × (words ≡ words_for asked)
     × ((answer : CommandOutcome) × IsStatusAfter reports answer status err told)))
 
--- the exit code is the status, or 1 where there was none
+-- the exit code is the status, or 1 if there is none
 abbrev pub IsStatusOf : Result ℕ Error → (code : ℕ) → Type 0
 IsStatusOf answer code = MatchResult answer (λ status. code ≡ status) (λ _. code ≡ 1)
 
--- a fault was reported, and nothing where there is none
+-- the error was reported; or the result isn't an error, and nothing was reported
 abbrev pub ReportsFault : {E : Type 0} → (reports : E → PlainMessage → Bool → E → Type 0)
     → Result ℕ Error
     → (old new : E) → Type 0

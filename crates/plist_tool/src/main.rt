@@ -16,7 +16,7 @@ use std::io::Write;
 use std::process::ExitCode;
 use std::rt::Files;
 
-// Runs the command of the words given.
+// Runs the command of the program's arguments.
 fn run<R: Files + Env + AllocGlobal, O: Write, E: Messages>(
     rt: &R,
     out: &mut O,
@@ -30,7 +30,8 @@ fn run<R: Files + Env + AllocGlobal, O: Write, E: Messages>(
     Ok(run_words(rt, rt.alloc(), words.as_slice(), out, err))
 }
 
-// The exit code of a run: its status, or 1 where there was no memory to begin, which it reports.
+// Returns the exit code of a run: its status, or 1 if there was no memory to begin, which is
+// reported.
 fn exit_code<E: Messages>(answer: Result<u8, Error>, err: &mut E) -> ExitCode
     ensures status { IsStatusOf answer (exit_status result) }
     ensures reported { ReportsFault E.reports answer err.old err.new }
@@ -44,7 +45,8 @@ fn exit_code<E: Messages>(answer: Result<u8, Error>, err: &mut E) -> ExitCode
     }
 }
 
-// Standard output, to which a command sends its lines many at a time, and standard error.
+// Runs the command with standard output, to which it writes many lines at a time, and standard
+// error.
 fn main(rt: HostRuntime) -> ExitCode {
     let mut out = io::writer(&rt);
     let mut err = rt.stderr();

@@ -7,7 +7,7 @@ use plist_keyed::{Archive, KeyedError};
 use plist_support::write_all;
 use std::process::Abort;
 
-// An archive of objects, whose `$top` names the Uid 1.
+// Returns an archive of objects, whose `$top` refers to the Uid 1.
 fn archive_of(rt: &(impl Abort + AllocGlobal), objects: &str) -> Value {
     let mut words = must(rt, String::from_str(rt.alloc(), "{ '$objects' [ "));
     must(rt, words.push_str(objects));
@@ -22,7 +22,7 @@ fn error_text(rt: &(impl Abort + AllocGlobal), error: KeyedError) -> String {
     must(rt, error.to_string(rt.alloc()))
 }
 
-// The words of an answer's tree, or the text of its fault.
+// Returns the words of a result's tree, or the text of its error.
 fn words_of_answer(rt: &(impl Abort + AllocGlobal), answer: Result<Value, KeyedError>) -> String {
     match answer {
         Ok(tree) => words_of_value(rt, &tree),
@@ -30,7 +30,7 @@ fn words_of_answer(rt: &(impl Abort + AllocGlobal), answer: Result<Value, KeyedE
     }
 }
 
-// The tree of a Uid of an archive.
+// Returns the tree of a Uid of an archive.
 fn tree_of(rt: &(impl Abort + AllocGlobal), root: &Value, uid: u64) -> Result<Value, KeyedError> {
     let archive = must(rt, Archive::open(root));
     archive.tree(rt.alloc(), Uid::new(uid))
@@ -50,8 +50,8 @@ fn looks_up(rt: HostRuntime) {
     assert_eq!(rt; words_of_value(&rt, object).as_str(), "[1 uid:2 end");
 }
 
-// An archive of arrays, each of which names the next one so often; the last one names the object
-// after it, which is a text, or the first one again.
+// Returns an archive of arrays, each of which refers to the next one this often. The last one
+// refers to the object after it, which is a string, or to the first one.
 fn chain_of(rt: &(impl Abort + AllocGlobal), length: u64, times: u64, last: u64) -> Value {
     let mut builder = Builder::new(rt.alloc());
     must(
@@ -70,7 +70,7 @@ fn chain_of(rt: &(impl Abort + AllocGlobal), length: u64, times: u64, last: u64)
     must(rt, builder.finish())
 }
 
-// How many texts a value has.
+// Returns the number of strings in a value.
 fn count_texts(rt: &(impl Abort + AllocGlobal), value: &Value) -> u64 {
     let mut count: u64 = 0;
     for item in value.events(rt.alloc()) {
@@ -82,7 +82,7 @@ fn count_texts(rt: &(impl Abort + AllocGlobal), value: &Value) -> u64 {
     count
 }
 
-// The references of each level double.
+// Each level doubles the references.
 #[test]
 fn a_tree_larger_than_its_archive(rt: HostRuntime) {
     let root = chain_of(&rt, 12, 2, 12);

@@ -1,4 +1,5 @@
-//! What the words ask for: the status, what is printed, and what is said on standard error.
+//! What each list of arguments does: the status, what is printed, and what is reported on standard
+//! error.
 
 use crate::support::{RECURSIVE, expect_fault, expect_given, expect_run, failing, must, put, run};
 use plist_commands::{Failure, Message, Messages};
@@ -27,7 +28,8 @@ fn wrong_words(rt: HostRuntime) {
     expect_usage(&rt, "keyed one two three");
 }
 
-// A word that is no text is a wrong one, and so is one too many. The program's name is no word.
+// An argument that isn't UTF-8 is a wrong one, and so is one too many. The program's name doesn't
+// count.
 #[test]
 fn words_that_are_no_text(rt: HostRuntime) {
     expect_given(&rt, &[b"plist_tool"], USAGE, 2);
@@ -49,8 +51,8 @@ fn a_missing_file(rt: HostRuntime) {
     );
 }
 
-// Standard error is given all that is said at once, and takes four bytes of it. No write is tried
-// again.
+// Checks that the whole report is passed to standard error at once, which takes four bytes of it,
+// and that no write is tried again.
 fn expect_status(
     rt: &(impl Abort + AllocGlobal + Env + Files),
     line: &str,
@@ -74,7 +76,7 @@ fn a_failing_standard_error_changes_no_status(rt: HostRuntime) {
     expect_status(&rt, "print no_such_folder/no_such_file", said, 1);
 }
 
-// What a message makes of a failing device is told as the device said it.
+// If standard error fails, reporting a message returns its error.
 #[test]
 fn a_report_hands_the_failure_on(rt: HostRuntime) {
     for call in 0..9 {
@@ -87,7 +89,7 @@ fn a_report_hands_the_failure_on(rt: HostRuntime) {
     }
 }
 
-// `print` shows what a binary file holds, and no other.
+// `print` prints the contents of binary files only.
 #[test]
 fn prints_no_ascii(rt: HostRuntime) {
     put(

@@ -1,4 +1,4 @@
-//! What `convert` leaves in its files, and what `convert_binary` sends.
+//! The files that `convert` leaves, and what `convert_binary` writes.
 
 use crate::support::{
     RECURSIVE, broken_file, expect_done, expect_fault, expect_holds, expect_missing, expect_taken,
@@ -26,7 +26,7 @@ fn converts_to_a_new_file(rt: HostRuntime) {
     expect_holds(&rt, "new_in", SETTINGS);
 }
 
-// A longer file is cut, and a binary one is read like one in ASCII.
+// A longer file is truncated, and a binary file is read like one in ASCII.
 #[test]
 fn converts_a_file_to_itself(rt: HostRuntime) {
     put(&rt, "same", SETTINGS);
@@ -59,7 +59,8 @@ fn xml_is_refused(rt: HostRuntime) {
     expect_missing(&rt, "of_xml");
 }
 
-// `{a = 1, b = 2, a = 3}`, and what is written of it: the last value of a key in its first place.
+// `{a = 1, b = 2, a = 3}`, and the file that is written for it: the key keeps its first position
+// and has its last value.
 const REPEATED: &[u8] = b"bplist00\
     \xd3\x01\x02\x01\x03\x04\x05\x51\x61\x51\x62\x10\x01\x10\x02\x10\x03\
     \x08\x0f\x11\x13\x15\x17\
@@ -73,7 +74,7 @@ const EMPTY: &[u8] = b"bplist00\
     \xd0\x08\
     \0\0\0\0\0\0\x01\x01\0\0\0\0\0\0\0\x01\0\0\0\0\0\0\0\0\0\0\0\0\0\0\0\x09";
 
-// To a new file, and to itself.
+// Checks the conversion to a new file, and to the file itself.
 fn expect_converted(rt: &(impl Abort + AllocGlobal + Env + Files), bytes: &[u8], wanted: &[u8]) {
     put(rt, "binary_in", bytes);
     remove(rt, "binary_out");
@@ -91,7 +92,7 @@ fn converts_binary_files(rt: HostRuntime) {
     expect_converted(&rt, CONVERTED, CONVERTED);
 }
 
-// Data of 100,000 bytes.
+// Appends data of 100,000 bytes.
 fn add_data(rt: &impl Abort, file: &mut Vec<u8>, first: u32) {
     must(rt, file.extend_from_slice(b"\x4f\x12\0\x01\x86\xa0"));
     for place in 0..100_000u32 {
@@ -102,7 +103,7 @@ fn add_data(rt: &impl Abort, file: &mut Vec<u8>, first: u32) {
 const TABLE_OF_TWO: &[u8] = b"\0\0\0\x08\0\0\0\x0b\0\x01\x86\xb1\
     \0\0\0\0\0\0\x04\x01\0\0\0\0\0\0\0\x03\0\0\0\0\0\0\0\0\0\0\0\0\0\x03\x0d\x57";
 
-// An array of two data: the file goes out by five writes.
+// An array of two data: the file is written in five writes.
 #[test]
 fn converts_large_files(rt: HostRuntime) {
     let mut file = must(&rt, Vec::from_slice(rt.alloc(), b"bplist00\xa2\x01\x02"));
@@ -124,13 +125,13 @@ fn an_integer_is_no_key(rt: HostRuntime) {
     remove(&rt, "of_integer_key");
     expect_fault(&rt, "convert @integer_key @of_integer_key", said);
     expect_missing(&rt, "of_integer_key");
-    // an older file stays
+    // an older file is unchanged
     put(&rt, "of_integer_key", &[b'x'; 2048]);
     expect_fault(&rt, "convert @integer_key @of_integer_key", said);
     expect_holds(&rt, "of_integer_key", &[b'x'; 2048]);
 }
 
-// What is sent without a value is this, with a flush after it.
+// Checks that this is written without a value, and flushed.
 fn expect_sent(rt: &(impl Abort + AllocGlobal), bytes: &[u8], wanted: &[u8]) {
     let mut writer = sound(rt);
     let done = must(rt, convert_binary(rt.alloc(), bytes, &mut writer));
@@ -138,7 +139,7 @@ fn expect_sent(rt: &(impl Abort + AllocGlobal), bytes: &[u8], wanted: &[u8]) {
     expect_taken(rt, &writer, wanted, wanted.len() as u64 + 1, wanted.len());
 }
 
-// What needs a value leaves the writer.
+// Checks that bytes that need a value leave the writer unchanged.
 fn expect_left(rt: &(impl Abort + AllocGlobal), bytes: &[u8]) {
     let mut writer = sound(rt);
     let done = must(rt, convert_binary(rt.alloc(), bytes, &mut writer));
@@ -176,7 +177,7 @@ fn files_that_cannot_be_opened(rt: HostRuntime) {
     let said = b"Error: Io\n";
     expect_fault(&rt, "convert @no_folder/in @of_none", said);
     expect_missing(&rt, "of_none");
-    // a folder can be opened, and not read
+    // a folder can be opened, but not read
     expect_fault(&rt, "convert . @of_none", b"Error: Io (offset 0)\n");
     expect_missing(&rt, "of_none");
     put(&rt, "whole", SETTINGS);

@@ -13,7 +13,7 @@ fn text(rt: &(impl Abort + AllocGlobal), text: &str) -> String {
     must(rt, String::from_str(rt.alloc(), text))
 }
 
-// The array of these two.
+// Returns an array of these two.
 fn two(rt: &(impl Abort + AllocGlobal), first: Value, second: Value) -> Value {
     let mut items = must(rt, Vec::with_capacity(rt.alloc(), 2));
     must(rt, items.push(first));
@@ -21,14 +21,14 @@ fn two(rt: &(impl Abort + AllocGlobal), first: Value, second: Value) -> Value {
     Value::Array(items)
 }
 
-// The dictionary of this one pair.
+// Returns a dictionary of this one pair.
 fn pair(rt: &(impl Abort + AllocGlobal), key: &str, value: Value) -> Value {
     let mut pairs = Dictionary::new(rt.alloc());
     must(rt, pairs.insert(text(rt, key), value));
     Value::Dictionary(pairs)
 }
 
-// The value in arrays, after a number.
+// Returns the value in this many arrays, after a number.
 fn in_arrays(rt: &(impl Abort + AllocGlobal), value: Value, levels: u32) -> Value {
     let mut whole = value;
     for level in 0..levels {
@@ -37,8 +37,8 @@ fn in_arrays(rt: &(impl Abort + AllocGlobal), value: Value, levels: u32) -> Valu
     whole
 }
 
-// A number in arrays and dictionaries: of a hundred levels one is a dictionary, and one an array in
-// which the others come first.
+// Returns a number nested in arrays and dictionaries: of a hundred levels one is a dictionary, and
+// one is an array in which the other items come first.
 fn nested(rt: &(impl Abort + AllocGlobal), number: u32) -> Value {
     let mut value = Value::from(number);
     for _ in 0..LEVELS / 100 {
@@ -89,7 +89,7 @@ fn deep_files(rt: HostRuntime) {
     );
 }
 
-// Parentheses and what stands within them.
+// Returns parentheses around what is within.
 fn parentheses(rt: &(impl Abort + AllocGlobal), within: &str) -> String {
     let mut whole = String::new(rt.alloc());
     for _ in 0..LEVELS {
@@ -114,12 +114,12 @@ fn deep_texts(rt: HostRuntime) {
     value.destroy();
 }
 
-// The tree of the object of this number.
+// Returns the tree of the object of this number.
 fn tree(rt: &(impl Abort + AllocGlobal), root: &Value, number: u64) -> Result<Value, KeyedError> {
     Archive::open(root)?.tree(rt.alloc(), Uid::new(number))
 }
 
-// An archive in which each object but the last is an array that refers to the next.
+// Returns an archive in which each object but the last is an array that refers to the next one.
 fn chain(rt: &(impl Abort + AllocGlobal)) -> Value {
     let mut objects = Vec::new(rt.alloc());
     for number in 1..LEVELS {

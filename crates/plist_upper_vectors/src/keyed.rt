@@ -1,14 +1,14 @@
-//! What `keyed` prints, and what it says where there is no tree.
+//! What `keyed` prints, and what it reports if there is no tree.
 
 use crate::support::{expect_done, expect_fault, put};
 
-// An archive of a list of one name; made by Python's `plistlib`, as the other one.
+// An archive of a list of one name. Python's `plistlib` made it, and also `CYCLE`.
 const LIST: &[u8] = b"\
     bplist00\xd2\x01\x02\x03\x0bX$objectsT$top\xa3\x04\x05\x0aU$null\xd2\x06\x07\x08\x09\
     TnameTnext\x80\x02\x80\0Qx\xd2\x0c\x0d\x0e\x0aTrootTtext\x80\x01\x08\x0d\x16\x1b\x1f\
     %*/468:?DI\0\0\0\0\0\0\x01\x01\0\0\0\0\0\0\0\x0f\0\0\0\0\0\0\0\0\0\0\0\0\0\0\0K";
 
-// An archive of an array that holds itself.
+// An archive of an array that contains itself.
 const CYCLE: &[u8] = b"\
     bplist00\xd2\x01\x02\x03\x07X$objectsT$top\xa2\x04\x05U$null\xa1\x06\x80\x01\xd1\x08\
     \x09Troot\x80\x01\x08\x0d\x16\x1b\x1e$&(+0\0\0\0\0\0\0\x01\x01\0\0\0\0\0\0\0\x0a\0\0\

@@ -1,4 +1,4 @@
-//! Files of 600 levels by each command: none has a limit of its own.
+//! Files of 600 levels, for each command: none has a limit of its own.
 
 use crate::support::{expect_done, must, path_of, put, value_of};
 use std::env::Env;
@@ -7,14 +7,14 @@ use std::rt::Files;
 
 const LEVELS: usize = 600;
 
-// Adds a text as often as there are levels.
+// Appends a text once for each level.
 fn add_levels(rt: &impl Abort, all: &mut String, text: &str) {
     for _ in 0..LEVELS {
         must(rt, all.push_str(text));
     }
 }
 
-// Between two texts this many starts, and the ends of them.
+// Returns this many starts and their ends, between two texts.
 fn nested(rt: &(impl Abort + AllocGlobal), around: [&str; 2], parts: [&str; 2]) -> String {
     let mut all = must(rt, String::from_str(rt.alloc(), around[0]));
     add_levels(rt, &mut all, parts[0]);
@@ -23,14 +23,15 @@ fn nested(rt: &(impl Abort + AllocGlobal), around: [&str; 2], parts: [&str; 2]) 
     all
 }
 
-// The lines of arrays in one another, the innermost of which is empty.
+// Returns the lines of nested arrays, the innermost of which is empty.
 fn lines(rt: &(impl Abort + AllocGlobal), around: [&str; 2]) -> String {
     let all = nested(rt, around, ["StartArray 1\n", "EndCollection\n"]);
     let innermost = must(rt, all.replace(rt.alloc(), "1\nEnd", "0\nEnd"));
     innermost
 }
 
-// What this text is converted to prints so, also once it is converted again.
+// Checks what is printed of the file to which this text is converted, and of that file after it is
+// converted once more.
 fn expect_converted(
     rt: &(impl Abort + AllocGlobal + Env + Files),
     around: [&str; 2],

@@ -1,5 +1,5 @@
-//! Tests of what stands on values, by public calls alone: archives, the examples to copy, values of
-//! very many levels, and what the commands of `plist_tool` print, say and leave behind.
+//! Tests, by public calls alone, of what is built on values: archives, the examples to copy, values
+//! of very many levels, and what the commands of `plist_tool` print, report and leave in files.
 #![tactic(auto)]
 
 #[cfg(test)]

@@ -1,11 +1,11 @@
-//! The lines of the events of values.
+//! The lines that are printed for the events of values.
 
 use crate::support::{must, sound};
 use plist::{Date, Integer, RealBits, Uid, Value};
 use plist_commands::print_value;
 use std::process::Abort;
 
-// A value's lines are these, and stand after what was there.
+// Checks that a value's lines are these, and follow what was there.
 fn expect_lines(rt: &(impl Abort + AllocGlobal), value: Value, lines: &[u8]) {
     let mut out = must(rt, Vec::from_slice(rt.alloc(), b"before\n"));
     must(rt, print_value(rt.alloc(), &value, &mut out));
@@ -105,7 +105,7 @@ fn lines_of_texts(rt: HostRuntime) {
     );
 }
 
-// The same bytes 30,000 times, after a front and before an end.
+// Returns the same bytes 30,000 times, after a front and before an end.
 fn repeated(rt: &(impl Abort + AllocGlobal), front: &[u8], bytes: &[u8], end: &[u8]) -> Vec<u8> {
     let mut all = must(rt, Vec::from_slice(rt.alloc(), front));
     for _ in 0..30_000 {
@@ -115,7 +115,7 @@ fn repeated(rt: &(impl Abort + AllocGlobal), front: &[u8], bytes: &[u8], end: &[
     all
 }
 
-// A value's line is this, and goes out by parts of at most 64 KiB.
+// Checks that a value's line is this, and is written in parts of at most 64 KiB.
 fn expect_parts(rt: &(impl Abort + AllocGlobal), value: Value, line: &[u8]) {
     let mut out = sound(rt);
     must(rt, print_value(rt.alloc(), &value, &mut out));

@@ -1,4 +1,4 @@
-//! Calls that take memory, each where there is some.
+//! Calls that allocate memory, each while there is some.
 
 use crate::support::must;
 use plist::stream::{AsciiReader, BinaryReader, BinaryWriter, Event, OwnedEvent, Reader, Writer};
@@ -10,7 +10,7 @@ use std::alloc::Global;
 use std::env::Env;
 use std::process::Abort;
 
-// The file of the text `ab`, and a text of it.
+// The file of the string `ab`, and its ASCII form.
 const BINARY: &[u8] = b"bplist00\
     \x52\x61\x62\x08\
     \0\0\0\0\0\0\x01\x01\0\0\0\0\0\0\0\x01\0\0\0\0\0\0\0\0\0\0\0\0\0\0\0\x0b";
@@ -19,7 +19,7 @@ const ASCII: &[u8] = b"'ab'";
 
 const LIMITS: Limits = Limits { depth: 9, items: 9 };
 
-// Did memory run out?
+// Returns whether memory ran out.
 fn ran_out<T: Drop>(answer: Result<T, Error>) -> bool {
     match answer {
         Ok(_) => false,
@@ -27,7 +27,7 @@ fn ran_out<T: Drop>(answer: Result<T, Error>) -> bool {
     }
 }
 
-// Did it, for the first item of a reader?
+// Returns whether memory ran out for the first item of a reader.
 fn ran_out_at_first(item: Option<Result<OwnedEvent, Error>>) -> bool {
     match item {
         Some(answer) => ran_out(answer),
@@ -43,7 +43,7 @@ struct Calls {
 }
 
 impl Calls {
-    // A call of this name, and whether memory ran out for it.
+    // Adds a call of this name, and whether memory ran out for it.
     fn add(&mut self, rt: &impl Abort, name: &str, has_run_out: bool) {
         if has_run_out {
             must(rt, self.names.push_str(name));
@@ -187,7 +187,7 @@ impl Calls {
         );
     }
 
-    // An archive of `$null` and an array.
+    // Adds the calls of an archive of `$null` and an array.
     fn add_archive(&mut self, rt: &impl Abort) {
         let text = b"{ '$objects' = ( '$null', () ); '$top' = { }; }".as_slice();
         let root = must(rt, Value::from_reader_ascii(self.alloc, text));
@@ -197,7 +197,7 @@ impl Calls {
     }
 }
 
-// No call answers so where it needn't.
+// No call returns `OutOfMemory` while there is memory.
 #[test]
 fn always_out_of_memory(rt: HostRuntime) {
     let mut calls = Calls {

@@ -1,4 +1,4 @@
-//! What `print_events` sends, and what it answers.
+//! What `print_events` writes, and what it returns.
 
 use crate::support::{broken_file, expect_taken, failing, must, sound};
 use plist_commands::print_events;
@@ -6,14 +6,14 @@ use plist_support::{Device, DeviceFault, expect_io, front};
 use std::io::ErrorKind;
 use std::process::Abort;
 
-// An array of two references to one text, `a`.
+// An array of two references to one string, `a`.
 const TWO_TEXTS: &[u8] = b"bplist00\
     \xa2\x01\x01\x51\x61\x08\x0b\
     \0\0\0\0\0\0\x01\x01\0\0\0\0\0\0\0\x02\0\0\0\0\0\0\0\0\0\0\0\0\0\0\0\x0d";
 
 const LINES: &[u8] = b"StartArray 2\nString \"a\"\nString \"a\"\nEndCollection\n";
 
-// The flush comes last: all the lines had been taken then.
+// The flush is last, after all lines were taken.
 #[test]
 fn prints_each_event(rt: HostRuntime) {
     let mut writer = sound(&rt);
@@ -29,7 +29,7 @@ fn stops_where_the_writer_fails(rt: HostRuntime) {
     expect_taken(&rt, &writer, front(LINES, 20), 22, 20);
 }
 
-// Forty arrays, each of which holds the next one twice, and an empty one: 2^42 - 2 events.
+// Forty arrays, each of which contains the next one twice, and an empty one: 2^42 - 2 events.
 const DOUBLING: &[u8] = b"bplist00\
     \xa2\x01\x01\xa2\x02\x02\xa2\x03\x03\xa2\x04\x04\xa2\x05\x05\
     \xa2\x06\x06\xa2\x07\x07\xa2\x08\x08\xa2\x09\x09\xa2\x0a\x0a\
@@ -81,7 +81,7 @@ fn a_read_that_fails(rt: HostRuntime) {
     }
 }
 
-// What was held back goes out before the failure: the last read is that of the second reference,
+// Buffered lines are written before the failure: the last read is that of the second reference,
 // after two lines.
 #[test]
 fn a_later_read_that_fails(rt: HostRuntime) {
@@ -106,7 +106,7 @@ fn expect_lines(rt: &(impl Abort + AllocGlobal), file: &[u8], lines: &[u8]) {
     assert_eq!(rt; out.as_slice(), lines);
 }
 
-// Keys, values and an array in turn.
+// Keys and values alternate; the value of the first key is an array.
 #[test]
 fn prints_a_dictionary(rt: HostRuntime) {
     expect_lines(

@@ -1,4 +1,4 @@
-//! How bytes go out to a writer, and a flush.
+//! How bytes are written to a writer, and flushed.
 
 use crate::support::{expect_taken, failing, must, sound};
 use plist_base::send::{flush, send};
@@ -14,7 +14,7 @@ fn sends_byte_by_byte(rt: HostRuntime) {
     expect_taken(&rt, &writer, b"three words", 11, 0);
 }
 
-// The device's own error comes, and no write is tried again.
+// The device's error is returned, and no write is tried again.
 #[test]
 fn stops_at_a_failure(rt: HostRuntime) {
     let mut writer = failing(&rt, 3, ErrorKind::PermissionDenied);

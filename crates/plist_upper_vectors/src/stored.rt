@@ -1,4 +1,4 @@
-//! When the file is made that a value or a property list is written to, and that it is stored.
+//! When a file to which a value or a property list is written is created, and that it is stored.
 
 use crate::support::{
     FailingCall, Stage, Watched, expect_holds, expect_missing, must, path_of, put, remove,
@@ -13,7 +13,7 @@ use std::io::{ErrorKind, Write};
 use std::process::Abort;
 use std::rt::Files;
 
-// The file of `true`, and the text in ASCII.
+// The file of `true`, and that of the string of the ASCII input.
 const TRUTH: &[u8] = b"bplist00\
     \x09\x08\
     \0\0\0\0\0\0\x01\x01\0\0\0\0\0\0\0\x01\0\0\0\0\0\0\0\0\0\0\0\0\0\0\0\x09";
@@ -22,7 +22,7 @@ const TEXT: &[u8] = b"bplist00\
     \x51\x61\x08\
     \0\0\0\0\0\0\x01\x01\0\0\0\0\0\0\0\x01\0\0\0\0\0\0\0\0\0\0\0\0\0\0\0\x0a";
 
-// What is written.
+// What is written to the file.
 #[derive(Clone, Copy)]
 enum Origin<'a> {
     // The value `true`.
@@ -31,7 +31,8 @@ enum Origin<'a> {
     File(&'a str),
 }
 
-// Writes it to a new file, of which one call may fail. Answers how far that has come, too.
+// Writes the value or the property list to a new file, of which one call may fail. Also returns the
+// stage that the file reached.
 fn write_to(
     rt: &(impl Abort + AllocGlobal + Env + Files),
     from: Origin<'_>,
@@ -58,8 +59,8 @@ fn write_to(
     (answer, stage.get())
 }
 
-// The file is made once, after the last read, written, flushed, and stored after that. A sync that
-// has nowhere to store it is no failure.
+// Checks that the file is created once, after the last read, then written and flushed, and then
+// stored. A sync that has nowhere to store it isn't a failure.
 fn expect_stored(rt: &(impl Abort + AllocGlobal + Env + Files), from: Origin<'_>, wanted: &[u8]) {
     let nowhere = Some(FailingCall {
         stage: Stage::Stored,
@@ -73,7 +74,7 @@ fn expect_stored(rt: &(impl Abort + AllocGlobal + Env + Files), from: Origin<'_>
     }
 }
 
-// Each call of the file that can fail. `InvalidInput` is a failure where a file can be stored.
+// Each call of the file that can fail. `InvalidInput` is a failure if the file can be stored.
 const FAILURES: [(Stage, ErrorKind); 8] = [
     (Stage::Made, ErrorKind::PermissionDenied),
     (Stage::Made, ErrorKind::Interrupted),
@@ -85,7 +86,7 @@ const FAILURES: [(Stage, ErrorKind); 8] = [
     (Stage::Stored, ErrorKind::TimedOut),
 ];
 
-// The answer is the failure, with its own message, and no call comes after it.
+// Checks that the result is the failure, with its own message, and that no call follows it.
 fn expect_failures(rt: &(impl Abort + AllocGlobal + Env + Files), from: Origin<'_>) {
     for (failing, kind) in FAILURES {
         let failure = Some(FailingCall {
@@ -107,7 +108,8 @@ fn makes_its_file_once(rt: HostRuntime) {
     expect_stored(&rt, Origin::File("to_be_read"), TEXT);
 }
 
-// A key that stands twice needs a value, so that file is read twice, and the other made once.
+// A repeated key needs a value, so the file that is read is read twice, but the other file is
+// created once.
 #[test]
 fn goes_no_further_than_a_failure(rt: HostRuntime) {
     expect_failures(&rt, Origin::Memory);
@@ -117,7 +119,7 @@ fn goes_no_further_than_a_failure(rt: HostRuntime) {
     expect_failures(&rt, Origin::File("unstored_value"));
 }
 
-// The error of a command that is refused for one of a property list.
+// Returns the error of a command that failed for one of a property list.
 fn error_of(answer: Result<(), Failure>) -> Result<(), Error> {
     match answer {
         Err(Failure::Plist(error)) => Err(error),
@@ -133,7 +135,7 @@ struct Unread<'a> {
 }
 
 impl<'a> Unread<'a> {
-    // It is the device's own error.
+    // Checks that the result is the device's error.
     fn expect<T: Drop>(&self, rt: &impl Abort, answer: Result<T, Error>) {
         must(
             rt,
@@ -141,7 +143,7 @@ impl<'a> Unread<'a> {
         );
     }
 
-    // Each call opens its file once, and answers what the device said.
+    // Checks that each call opens its file once, and returns the device's error.
     fn expect_of_calls<R: Files>(&self, rt: &(impl Abort + AllocGlobal), watched: &Watched<'_, R>) {
         let (alloc, path, other) = (rt.alloc(), self.path, "no_such_folder/out");
         self.expect(rt, Value::from_file(watched, alloc, path));
@@ -165,7 +167,7 @@ impl<'a> Unread<'a> {
     }
 }
 
-// The file can't be opened, or not read.
+// The file can't be opened, or can't be read.
 #[test]
 fn opens_no_file_again(rt: HostRuntime) {
     put(&rt, "unread", &[0; 64]);
@@ -189,7 +191,8 @@ fn opens_no_file_again(rt: HostRuntime) {
     }
 }
 
-// A flush before the first write makes no file. What that one made stays, though it failed.
+// A flush before the first write creates no file. The file that a write creates stays open, even if
+// the write fails.
 #[test]
 fn an_output_makes_its_file_once(rt: HostRuntime) {
     let (stage, opened) = (Cell::new(Stage::Untouched), Cell::new(0));

@@ -1,4 +1,4 @@
-//! What the tests share, which ends a test that doesn't find what it wants.
+//! What the tests share. A test ends if it doesn't find what it expects.
 
 mod devices;
 mod files;
@@ -14,7 +14,7 @@ use std::fmt::Debug;
 use std::process::Abort;
 pub(crate) use watched::{FailingCall, Stage, Watched};
 
-// What an answer holds that is to be no fault.
+// Returns the value of a result that must not be an error.
 pub(crate) fn must<T, E: Debug>(rt: &impl Abort, answer: Result<T, E>) -> T {
     match answer {
         Ok(value) => value,
@@ -22,14 +22,14 @@ pub(crate) fn must<T, E: Debug>(rt: &impl Abort, answer: Result<T, E>) -> T {
     }
 }
 
-// The value whose events these words are.
+// Returns the value with the events of these words.
 pub(crate) fn value_of(rt: &(impl Abort + AllocGlobal), words: &str) -> Value {
     let mut builder = Builder::new(rt.alloc());
     must(rt, write_all(rt.alloc(), &mut builder, words));
     must(rt, builder.finish())
 }
 
-// The words of a value's events.
+// Returns the words of a value's events.
 pub(crate) fn words_of_value(rt: &(impl Abort + AllocGlobal), value: &Value) -> String {
     must(rt, words_of_events(rt.alloc(), value.events(rt.alloc())))
 }

@@ -115,7 +115,7 @@ fn readings_are_written_from_events(rt: HostRuntime) {
     );
 }
 
-// An array in an array, and so on, of this many.
+// Returns this many nested arrays.
 fn nested(rt: &(impl Abort + AllocGlobal), levels: usize) -> Vec<u8> {
     let mut text = Vec::new(rt.alloc());
     for _ in 0..levels {

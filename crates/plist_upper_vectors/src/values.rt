@@ -1,4 +1,4 @@
-//! What `print_value` sends to devices, and what it answers.
+//! What `print_value` writes to devices, and what it returns.
 
 use crate::support::{Stuck, expect_taken, failing, must, sound};
 use plist::Value;
@@ -6,7 +6,7 @@ use plist_commands::print_value;
 use plist_support::expect_io;
 use std::io::ErrorKind;
 
-// The flush comes last: the line had been taken then.
+// The flush is last, after the line was taken.
 #[test]
 fn prints_a_value(rt: HostRuntime) {
     let mut writer = sound(&rt);
@@ -17,7 +17,7 @@ fn prints_a_value(rt: HostRuntime) {
     expect_taken(&rt, &writer, b"Boolean true\n", 14, 13);
 }
 
-// The writer is flushed, and what the flush says comes after what the write said.
+// The writer is flushed after the failed write, whose error is returned, and not that of the flush.
 #[test]
 fn stops_where_the_writer_fails(rt: HostRuntime) {
     let mut writer = Stuck {

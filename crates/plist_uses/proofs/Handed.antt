@@ -1,4 +1,4 @@
--- A writer that is handed one list of events after another.
+-- A writer that takes one list of events after another.
 use Rattle.std.proofs.Common.{◌≡◌, List, [], ◌∷◌, ◌++◌, length, map, refl, append_assoc, arith}
 use Rattle.plist_base.specs.Bracketing.{bracketing, bracketing_of_items}
 use Rattle.plist_base.specs.Events.{PlainEvent, EndCollection}
@@ -8,11 +8,11 @@ use Rattle.plist.specs.WrittenEvents.{TakesAll}
 use Rattle.plist_uses.specs.declared.generated.Reading.{Reading}
 use Rattle.plist_uses.specs.Generated.{reading_tree}
 
--- what stands for an item where there is none
+-- the default where an index has no reading
 abbrev pub none : Reading
 none = record { second = 0; level = 0 }
 
--- the events of an array's items from here on, and its end
+-- the events of an array's remaining items, and its end
 abbrev pub events_left : List Tree → List PlainEvent
 events_left trees = bracketing_of_items (trees_of trees) ++ EndCollection ∷ []
 
@@ -29,7 +29,7 @@ module _ {S : Type 0} (Step : S → PlainEvent → Answer → S → Type 0) wher
   took-more (event ∷ first) second before between after (next, step, took) more =
       (next, step, took-more first second next between after took more)
 
-  -- an item is handed over, and then those after it
+  -- an item is written, and then those after it
   pub item-more : (tree : Tree) (trees : List Tree) (before between after : S)
       → TakesAll Step before (bracketing tree) between
       → TakesAll Step between (events_left trees) after

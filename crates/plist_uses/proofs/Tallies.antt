@@ -1,4 +1,4 @@
--- The events that were counted, and the items that are still to come.
+-- The events that were counted, and the items that remain.
 use Rattle.std.proofs.Common.{◌≡◌, ℕ, ◌+◌, ◌-◌, ◌^◌, min, Bool, true, false, cond, List, [], ◌∷◌, ◌++◌, Option, None, Some, Result, Ok, Err, IfSome, length, map, filter, refl, ap, sym, ◌∙◌, append-nil, arith}
 use Rattle.std.specs.Option.{option_map}
 use Rattle.std.proofs.lemmas.List.{length-append}
@@ -18,7 +18,7 @@ stopped-more : (n old new : ℕ) → old ≡ min n (2 ^ 64 - 1) → new ≡ min 
     → new ≡ min (n + 1) (2 ^ 64 - 1)
 stopped-more n old new is more = omega arith
 
--- a count of one event more
+-- a count after one more event
 number-more : (passes : PlainEvent → Bool) (taken : List PlainEvent) (event : PlainEvent)
     (old new : ℕ) → old ≡ count_passing passes taken → new ≡ one_more (passes event) old
     → new ≡ count_passing passes (taken ++ event ∷ [])
@@ -32,7 +32,7 @@ number-more passes taken event old new is more =
     ] more
     ∙ ap (λ xs. min (length xs) (2 ^ 64 - 1)) (sym (filter-append passes taken (event ∷ [])))
 
--- the events taken so far were counted, and these items are still to come
+-- the events so far were counted, and these items remain
 abbrev pub CountedSoFar : (all coming : Option (List Item)) → Counts → Type 0
 CountedSoFar all coming counts =
     IfSome all (λ items. (taken : List PlainEvent) × (left : List Item) × (coming ≡ Some left)
@@ -58,7 +58,7 @@ tells-more taken event old new tell one = record {
   others = number-more _ taken event old.others new.others tell.others one.others;
 }
 
--- an item came and was counted
+-- an item was yielded and counted
 pub counted : (all before after : Option (List Item)) (item : Result Event Error)
     (old new : Counts) → CountedSoFar all before old → GivesIfKnown before (Some item) after
     → CountsItem (item_of item) old new → CountedSoFar all after new
@@ -74,7 +74,7 @@ counted (Some items) before after (Ok event) old new (taken, left, is, split, te
       tells-more taken (event_of event) old new tell one,
     )
 
--- nothing more came
+-- nothing more was yielded
 pub all-counted : (known : Option (List ℕ)) (all before after : Option (List Item))
     (counts : Counts) → all ≡ option_map items_of_input known → CountedSoFar all before counts
     → GivesIfKnown before None after → IfSome known
@@ -88,7 +88,7 @@ all-counted (Some bytes) all before after counts from so_far gives =
       tell,
     )
 
--- the first fault of the items stopped it, or one from outside
+-- the first fault of the items ended it, or one from outside
 pub stopped : (known : Option (List ℕ)) (all before after : Option (List Item))
     (item : Result Event Error) (error : Error) (counts : Counts)
     → all ≡ option_map items_of_input known → CountedSoFar all before counts

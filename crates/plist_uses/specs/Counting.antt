@@ -1,4 +1,4 @@
--- What the counts of a property list are.
+-- The counts of a property list.
 use Rattle.std.specs.Prelude.{◌≡◌, ℕ, ◌+◌, ◌-◌, ◌^◌, min, Bool, true, false, cond, List, ◌∷◌, ◌++◌, Result, Ok, Err, IfOk, IfErr, length, map, filter, ⊤}
 use Rattle.plist_base.specs.declared.error.Error.{Error}
 use Rattle.plist_base.specs.Faults.{Fault, MatchFault, error_kind_of, fault_of, kind_of}
@@ -18,17 +18,17 @@ abbrev pub is_text : PlainEvent → Bool
 is_text (ScalarEvent (String text)) = true
 is_text event = false
 
--- any other scalar
+-- a scalar that isn't a string
 abbrev pub is_other : PlainEvent → Bool
 is_other (ScalarEvent (String text)) = false
 is_other (ScalarEvent scalar) = true
 is_other event = false
 
--- how many of the events pass, or the largest number of 64 bits where there are more
+-- how many of the events pass, or the greatest number of 64 bits if there are more
 abbrev pub count_passing : (PlainEvent → Bool) → List PlainEvent → ℕ
 count_passing passes events = min (length (filter passes events)) (2 ^ 64 - 1)
 
--- the counts say how many arrays, dictionaries, texts and others these events have
+-- the counts say how many arrays, dictionaries, strings and others these events have
 pub record AreCounts (events : List PlainEvent) (counts : Counts) : Type 0 where
   pub arrays : counts.arrays ≡ count_passing is_array events
   pub dictionaries : counts.dictionaries ≡ count_passing starts_dictionary events
@@ -40,7 +40,7 @@ abbrev pub AreCountsOf : List Item → Counts → Type 0
 AreCountsOf items counts = (events : List PlainEvent) × (items ≡ map Ok events)
     × AreCounts events counts
 
--- the same of what was answered, where it is no fault
+-- if the call succeeded, the items are events without a fault, and it returned their counts
 abbrev pub AreCountedOf : List Item → Result Counts Error → Type 0
 AreCountedOf items answer = IfOk answer (AreCountsOf items)
 
@@ -49,7 +49,7 @@ abbrev pub StopAt : List Item → Fault → Type 0
 StopAt items fault = (events : List PlainEvent) × (behind : List Item)
     × (items ≡ map Ok events ++ Err fault ∷ behind)
 
--- an error is a device's or lack of memory, or the first fault of the items
+-- the error is `Io` or `OutOfMemory`, or the first fault of the items
 abbrev pub IsRefusedBy : List Item → Result Counts Error → Type 0
 IsRefusedBy items answer = IfErr answer (λ error.
     MatchFault (kind_of (error_kind_of error)) ⊤ ⊤ (StopAt items (fault_of error)))
@@ -57,7 +57,7 @@ IsRefusedBy items answer = IfErr answer (λ error.
 abbrev pub nothing : Counts
 nothing = record { arrays = 0; dictionaries = 0; texts = 0; others = 0 }
 
--- one more where it passes, but none past the largest number of 64 bits
+-- one more if it passes, up to the greatest number of 64 bits
 abbrev pub one_more : (passes : Bool) → ℕ → ℕ
 one_more passes count = cond passes (min (count + 1) (2 ^ 64 - 1)) count
 
@@ -68,7 +68,7 @@ pub record CountsOne (event : PlainEvent) (old new : Counts) : Type 0 where
   pub texts : new.texts ≡ one_more (is_text event) old.texts
   pub others : new.others ≡ one_more (is_other event) old.others
 
--- an item was an event, which is counted
+-- the item is an event, which is counted
 abbrev pub CountsItem : Item → (old new : Counts) → Type 0
 CountsItem (Ok event) old new = CountsOne event old new
 CountsItem (Err fault) old new = ⊥

@@ -14,11 +14,11 @@ reading_tree reading =
     ∷ []
     ))
 
--- an array of them, in order
+-- an array of the readings, in order
 abbrev pub readings_tree : List Reading → Tree
 readings_tree readings = Array (trees_of (map reading_tree readings))
 
--- the events of each
+-- the events of a reading
 abbrev pub reading_events : Reading → List PlainEvent
 reading_events reading = bracketing (reading_tree reading)
 

@@ -1,4 +1,4 @@
--- What the root of an archive is.
+-- The root of an archive.
 use Rattle.std.specs.Prelude.{◌≡◌, ◌⊎◌, ℕ, List, Ok, Some, codes, map}
 use Rattle.plist_base.specs.Trees.{Tree}
 use Rattle.plist_keyed.specs.Archives.{resolved_tree}
@@ -9,7 +9,7 @@ use Rattle.plist.specs.declared.value.Value.{Value}
 use Rattle.plist.specs.Accessors.{text_in}
 use Rattle.plist.specs.ValueTrees.{tree_of}
 
--- the tree of the Uid that stands at `root` among the names of the archive
+-- the tree of the Uid at `root` among the names of the archive
 abbrev pub IsRootOf : (archive : Value) → (root : Tree) → Type 0
 IsRootOf archive root =
     (objects : List Value) × (names : List (List ℕ × Value)) × (uid : ℕ)
@@ -21,18 +21,18 @@ abbrev pub HasNoRoot : (archive : Value) → Type 0
 HasNoRoot archive = (objects : List Value) × (names : List (List ℕ × Value))
     × IsArchiveOf archive objects names × ((uid : ℕ) → IsUidAt (codes "root") names uid → ⊥)
 
--- the fault of the Uid that it names, whose tree can't be had
+-- the fault of the Uid that it names, whose tree can't be resolved
 abbrev pub HasFaultyRoot : (archive : Value) → KeyedError → Type 0
 HasFaultyRoot archive error =
     (objects : List Value) × (names : List (List ℕ × Value)) × (uid : ℕ)
     × IsArchiveOf archive objects names × IsUidAt (codes "root") names uid
     × IsFaultOf (resolved_tree (map tree_of objects) uid) error
 
--- it is no archive, or its root has that fault
+-- the value isn't an archive, or its root has that fault
 abbrev pub RefusesRoot : (archive : Value) → KeyedError → Type 0
 RefusesRoot archive error = IsNoArchive archive error ⊎ HasFaultyRoot archive error
 
--- the archive's root is this text
+-- the archive's root is this string
 abbrev pub IsRootText : (archive : Value) → (text : List ℕ) → Type 0
 IsRootText archive text =
     (root : Tree) × IsRootOf archive root × (text_in root ≡ Some text)

@@ -24,30 +24,30 @@ settings_in settings = pairs_of settings.pairs
 abbrev pub tree_in : Settings → Tree
 tree_in settings = Dictionary (pair_trees (settings_in settings))
 
--- where the bytes of a file are known, their items are those of this property list
+-- if the bytes of a file are known, their items are those of this property list
 abbrev pub IsReadOf : (known : Option (List ℕ)) → Tree → Type 0
 IsReadOf known tree = IfSome known (λ bytes. IsValueOf (items_of_input bytes) (Ok tree))
 
--- it is the fault of a device or lack of memory, or that of those items
+-- the fault is `Io` or `OutOfMemory`, or the first one among the file's items
 abbrev pub IsFaultOfFile : (known : Option (List ℕ)) → Fault → Type 0
 IsFaultOfFile known fault = IfSome known (λ bytes. IsValueOf (items_of_input bytes) (Err fault))
 
--- why a file has no settings: its fault, or what it holds is no dictionary
+-- why a file has no settings: its fault, or its value isn't a dictionary
 abbrev pub RefusesOpening : (known : Option (List ℕ)) → SettingsError → Type 0
 RefusesOpening known (settings_error.Fault error) = IsFaultOfFile known (fault_of error)
 RefusesOpening known settings_error.NoDictionary =
     (tree : Tree) × IsReadOf known tree × (dictionary_in tree ≡ None)
 
--- the name has this setting; the others and their order are left
+-- the name has this setting; the others and their order are unchanged
 abbrev pub Sets : Settings → (name : List ℕ) → (setting : Value) → Settings → Type 0
 Sets old name setting new = settings_in new ≡ insert_entry bytes_eq (settings_in old) name setting
 
--- the text that a name has
+-- the string that a name has as its setting
 abbrev pub text_at : (name : List ℕ) → Settings → Option (List ℕ)
 text_at name settings =
     option_and_then (λ setting. text_in (tree_of setting)) (lookup (bytes_eq name) (settings_in settings))
 
--- the bytes are a file of the settings of another one, once the name has this setting
+-- the bytes are a file of the settings of another one, after the name is set
 abbrev pub IsChanged : (known : Option (List ℕ)) → (name : List ℕ) → (setting : Value)
     → (bytes : List ℕ) → Type 0
 IsChanged known name setting bytes =

@@ -8,8 +8,8 @@ use plist::Value;
 use plist_keyed::{Archive, KeyedError};
 use std::alloc::Global;
 
-/// The object that an archive names `root`, with each Uid in it replaced by what it names; none
-/// where it names no root.
+/// Returns the object that an archive names `root`, with each Uid in it replaced by the object to
+/// which it refers, or `None` if the archive names no root.
 ///
 /// # Errors
 ///

@@ -23,7 +23,7 @@ use plist::{Error, Value};
 use plist_keyed::KeyedError;
 use std::alloc::Global;
 
-/// The text of a setting, if it is one.
+/// Returns the string of a setting, if it is one.
 pub fn text_of<'a>(settings: &'a Settings, name: &str) -> Option<&'a str>
     ensures { option_copied result ≡ text_at name.now settings.now }
 {
@@ -33,7 +33,7 @@ pub fn text_of<'a>(settings: &'a Settings, name: &str) -> Option<&'a str>
     }
 }
 
-/// The bytes of a binary file of the settings of a file, once one of them is set.
+/// Returns the bytes of a binary file of a file's settings, after one of them is set.
 ///
 /// # Errors
 ///
@@ -53,7 +53,7 @@ pub fn changed<R: Source>(
     Ok(bytes)
 }
 
-/// The bytes of a binary property list of what these bytes hold.
+/// Returns the bytes of a binary property list with the content of these bytes.
 ///
 /// # Errors
 ///
@@ -66,7 +66,7 @@ pub fn converted(alloc: Global, bytes: &[u8]) -> Result<Vec<u8>, Error>
     Ok(file)
 }
 
-/// The root of an archive, where it is a text.
+/// Returns the root of an archive, if it is a string.
 ///
 /// # Errors
 ///
@@ -80,7 +80,7 @@ pub fn root_text(alloc: Global, archive: &Value) -> Result<Option<String>, Keyed
     }
 }
 
-/// Counts what bytes hold.
+/// Counts the content of bytes.
 ///
 /// # Errors
 ///
@@ -103,7 +103,7 @@ pub fn write_one<W: Writer>(reading: Reading, writer: &mut W) -> Result<(), Erro
     write_readings(&[reading], writer)
 }
 
-/// What a stranger sent, which nests at most 64 collections.
+/// Returns the value of untrusted bytes, which nests at most 64 collections.
 ///
 /// # Errors
 ///

@@ -1,4 +1,4 @@
-//! A converter: a property list of either format to a binary one.
+//! A converter: reads a property list of either format, and writes a binary one.
 
 ghost use Rattle.std.specs.Prelude.{IfErr, IfOk};
 ghost use Rattle.plist_uses.specs.Converting.{IsReadBy, RefusesConverting, SendsFileOf};
@@ -8,8 +8,9 @@ use plist::{Error, Value};
 use std::alloc::Global;
 use std::io::Write;
 
-/// Reads a property list, writes it as a binary one, and returns what it wrote. The file that went
-/// out is one of that value; for the bytes of the source it is the value of their items.
+/// Reads a property list, writes it as a binary one, and returns its value. The file that is
+/// written is one of that value. If the bytes of the source are known, the value is that of their
+/// items.
 ///
 /// # Errors
 ///

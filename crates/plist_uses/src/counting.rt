@@ -1,4 +1,4 @@
-//! Counting what a file holds, with no value of it in memory.
+//! Counting the content of a file, without a value of it in memory.
 
 ghost use Rattle.std.specs.Prelude.{◌≡◌, Err, IfErr, IfSome, OnOk};
 ghost use Rattle.plist_base.specs.Events.{event_of, item_of};
@@ -10,8 +10,8 @@ use plist::stream::reading::EventShape;
 use plist::stream::{OwnedEvent, Reader, Source};
 use std::alloc::Global;
 
-/// How many arrays, dictionaries, texts and other scalars there are. A dictionary's keys are texts
-/// too. No count goes past `u64::MAX`.
+/// The numbers of arrays, dictionaries, strings and other scalars. The keys of a dictionary count
+/// as strings. No count exceeds `u64::MAX`.
 #[derive(Clone, Copy)]
 pub struct Counts {
     pub arrays: u64,
@@ -32,7 +32,7 @@ impl Counts {
         }
     }
 
-    // Counts an item's event, or passes its fault on.
+    // Counts an item's event, or returns its error.
     fn take(&mut self, item: Result<OwnedEvent, Error>) -> Result<(), Error>
         ensures counted { OnOk result (CountsItem (item_of item.entry) self.old self.new) }
         ensures refused { IfErr result (λ error. item.entry ≡ Err error) }
@@ -58,12 +58,12 @@ impl Counts {
     }
 }
 
-/// Counts what a property list holds, binary or in ASCII. It goes from event to event and keeps
-/// none, so it takes no more memory for a larger file than the reader does.
+/// Counts the content of a property list, binary or in ASCII. It keeps no events, so it takes no
+/// more memory for a larger file than the reader does.
 ///
 /// # Errors
 ///
-/// The first fault, as [`Reader`] gives it.
+/// The first error that [`Reader`] yields.
 pub fn count<R: Source>(alloc: Global, source: R) -> Result<Counts, Error>
     ensures value { IfSome (R.known source) (λ bytes. AreCountedOf (items_of_input bytes) result) }
     ensures refused { IfSome (R.known source) (λ bytes. IsRefusedBy (items_of_input bytes) result) }

@@ -1,4 +1,4 @@
-//! Writing a list straight from events, with no value of it in memory.
+//! Writing a list directly from events, without a value of it in memory.
 
 ghost use Rattle.std.specs.Prelude.{OnOk};
 ghost use Rattle.plist.specs.WrittenEvents.{TakesAll};
@@ -8,7 +8,7 @@ use plist::stream::Writer;
 use plist::{Error, Integer};
 use std::borrow::CowStr;
 
-/// A reading of a meter: when, in Unix seconds, and what.
+/// A reading of a meter: the time, in Unix seconds, and the level.
 #[derive(Clone, Copy)]
 pub struct Reading {
     pub second: u64,
@@ -33,7 +33,7 @@ fn write_reading<W: Writer>(reading: &Reading, writer: &mut W) -> Result<(), Err
 ///
 /// # Errors
 ///
-/// The writer's first refusal, after which nothing more is written.
+/// The writer's first error, after which nothing more is written.
 pub fn write_readings<W: Writer>(readings: &[Reading], writer: &mut W) -> Result<(), Error>
     ensures written { OnOk result
         (TakesAll W.Step writer.old (list_events readings.now) writer.new) }

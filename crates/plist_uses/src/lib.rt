@@ -1,6 +1,6 @@
-//! Examples to copy: small callers of the library, each with a contract of its own that follows
-//! from the contracts of what it calls. Three have a proof: `counting` and `generated`, of what
-//! their loop keeps, and `convert`, of a refusal. `callers` has proved callers of theirs.
+//! Examples to copy: small callers of the library, each with its own contract, which follows from
+//! the contracts of what it calls. Three have a proof: `counting` and `generated`, of what their
+//! loops maintain, and `convert`, of an error. `callers` has proved callers of the examples.
 #![tactic(auto)]
 
 pub mod archive;

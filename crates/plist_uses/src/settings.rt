@@ -16,18 +16,18 @@ use plist::{Dictionary, Error, Value};
 use std::alloc::Global;
 use std::io::Write;
 
-/// Settings by name, in the order in which the names came first.
+/// Settings by name, in the order in which the names first occurred.
 #[derive(Drop)]
 pub struct Settings {
     pairs: Dictionary,
 }
 
-/// Why there are no settings.
+/// The error of opening settings.
 #[derive(Debug, Drop)]
 pub enum SettingsError {
-    /// The file has a fault, or a read of it failed.
+    /// The file is invalid, or couldn't be read.
     Fault(Error),
-    /// The property list is no dictionary.
+    /// The property list isn't a dictionary.
     NoDictionary,
 }
 
@@ -42,7 +42,7 @@ impl From<Error> for SettingsError {
     }
 }
 
-// The value of a file.
+// Reads the value of a file.
 fn value_in<R: Source>(alloc: Global, file: R) -> Result<Value, Error>
     ensures read { IfOk result (λ value. IsReadOf (R.known file) (tree_of value)) }
     ensures refused { IfErr result (λ error. IsFaultOfFile (R.known file) (fault_of error)) }
@@ -52,7 +52,7 @@ fn value_in<R: Source>(alloc: Global, file: R) -> Result<Value, Error>
 }
 
 impl Settings {
-    /// The settings of a file, binary or in ASCII.
+    /// Reads the settings of a file, binary or in ASCII.
     ///
     /// # Errors
     ///
@@ -68,18 +68,18 @@ impl Settings {
         }
     }
 
-    /// The setting of a name, if there is one.
+    /// Returns the setting of a name, or `None` if it has none.
     pub fn get(&self, name: &str) -> Option<&Value>
         ensures { option_copied result ≡ lookup (bytes_eq name.now) (settings_in self.now) }
     {
         self.pairs.get(name)
     }
 
-    /// Sets a name, and leaves the others and their order. The old setting goes.
+    /// Sets a name, and leaves the others and their order unchanged. The old setting is dropped.
     ///
     /// # Errors
     ///
-    /// `OutOfMemory`, and nothing changes; name and setting are dropped.
+    /// `OutOfMemory`: nothing changes, and the name and the setting are dropped.
     pub fn set(&mut self, name: String, setting: Value) -> Result<(), Error>
         ensures done { OnOk result (Sets self.old (string_bytes name) setting self.new) }
         ensures memory { OnlyMemory result }

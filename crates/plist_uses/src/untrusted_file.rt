@@ -1,4 +1,4 @@
-//! Reading a file that a stranger sent.
+//! Reading an untrusted file.
 
 ghost use Rattle.std.specs.Prelude.{◌≤◌, ◌^◌, IfOk, length};
 ghost use Rattle.plist_base.specs.Bracketing.{bracketing};
@@ -12,10 +12,10 @@ ghost use Rattle.plist_uses.specs.Uploads.{items_of_upload};
 use plist::{Error, Limits, Value};
 use std::alloc::Global;
 
-/// The value of bytes that anyone may have sent: at most 64 collections within one another, at most
-/// 100,000 events, and at most 16 MiB of strings and data, whatever the bytes say. So no file costs
-/// more memory than these take, or more of the call stack than 64 levels where the value is
-/// dropped, compared or copied.
+/// Reads the value of untrusted bytes: at most 64 levels of collections, at most 100,000 events,
+/// and at most 16 MiB of strings and data, whatever the bytes contain. So no file costs more memory
+/// than these take, or more of the call stack than 64 levels when the value is dropped, compared or
+/// copied.
 ///
 /// # Errors
 ///

@@ -1,4 +1,4 @@
-//! How `AsciiReader` ends, and how far a value's items are read.
+//! How `AsciiReader` ends, and how many items are read for a value.
 
 use crate::support::{expect_value, must};
 use plist::Value;
@@ -9,7 +9,7 @@ use std::alloc::Global;
 use std::io::ErrorKind;
 use std::process::Abort;
 
-// How many items these bytes give.
+// Returns the number of items in these bytes.
 fn count_items(alloc: Global, bytes: &[u8]) -> u64 {
     let mut count = 0u64;
     for _item in AsciiReader::new(alloc, bytes) {
@@ -18,7 +18,7 @@ fn count_items(alloc: Global, bytes: &[u8]) -> u64 {
     count
 }
 
-// No input gives more items than it has bytes.
+// No input has more items than bytes.
 #[test]
 fn every_short_input_ends(rt: HostRuntime) {
     for first in 0..=255u8 {
@@ -29,20 +29,20 @@ fn every_short_input_ends(rt: HostRuntime) {
     }
 }
 
-// A device over this text, with a fault at this call.
+// Makes a device over this text, with a fault at this call.
 fn device_of(rt: &(impl Abort + AllocGlobal), text: &str, call: u64, fault: DeviceFault) -> Device {
     let bytes = must(rt, Vec::from_slice(rt.alloc(), text.as_bytes()));
     Device::with_fault(bytes, call, fault)
 }
 
-// Nothing more comes, however often it is asked.
+// Checks that nothing more is yielded, however often the reader is called.
 fn expect_end(rt: &impl Abort, reader: &mut AsciiReader<Device>) {
     for _ in 0..3 {
         assert!(rt; reader.next().is_none());
     }
 }
 
-// The next item, which is to be there.
+// Returns the next item, which must be there.
 fn next_of(rt: &impl Abort, reader: &mut AsciiReader<Device>) -> Result<OwnedEvent, Error> {
     match reader.next() {
         Some(item) => item,
@@ -50,7 +50,8 @@ fn next_of(rt: &impl Abort, reader: &mut AsciiReader<Device>) -> Result<OwnedEve
     }
 }
 
-// A device's own error is passed on, and after it nothing is read, though the device would go on.
+// Checks that a device's error is passed on, and that nothing is read after it, although the device
+// would go on.
 fn expect_handed_on(rt: &(impl Abort + AllocGlobal), kind: ErrorKind) {
     let device = device_of(rt, "(a)", 1, DeviceFault::Fails(kind));
     let mut reader = AsciiReader::new(rt.alloc(), device);
@@ -68,7 +69,7 @@ fn ends_after_a_failure(rt: HostRuntime) {
     }
 }
 
-// After the end of the input nothing is read, though the device would go on.
+// Nothing is read after the end of the input, although the device would go on.
 #[test]
 fn ends_at_the_end(rt: HostRuntime) {
     let device = device_of(&rt, "(a)", 2, DeviceFault::MovesNothing);
@@ -81,7 +82,7 @@ fn ends_at_the_end(rt: HostRuntime) {
     assert_eq!(rt; device.moved, 2);
 }
 
-// This is the value of a text's items, for which its device is called so often.
+// Checks the value of a text's items, and the number of calls of the device that it takes.
 fn expect_asked(rt: &(impl Abort + AllocGlobal), text: &str, wanted: &str, calls: u64) {
     let mut device = device_of(rt, text, u64::MAX, DeviceFault::MovesNothing);
     let reader = AsciiReader::new(rt.alloc(), &mut device);
@@ -89,7 +90,8 @@ fn expect_asked(rt: &(impl Abort + AllocGlobal), text: &str, wanted: &str, calls
     assert_eq!(rt; device.calls, calls);
 }
 
-// After an item that is refused none is asked for, and after the last one just once.
+// No item is read after one that is rejected, and the reader is called just once after the last
+// one.
 #[test]
 fn a_value_takes_no_item_more(rt: HostRuntime) {
     expect_asked(&rt, "(a)", "[1 'a' end", 4);

@@ -1,4 +1,4 @@
-//! Values built of events, and the events of values.
+//! Values built from events, and the events of values.
 
 use crate::support::{expect_answers, expect_value, must, text_of, words_of_value};
 use plist::{Builder, Dictionary, Value, write_value};
@@ -22,7 +22,7 @@ fn nothing_comes_after_the_root(rt: HostRuntime) {
     expect_finished(&rt, &mut builder, "UnexpectedEndOfEventStream");
 }
 
-// Each scalar in an array, by the writer's own calls.
+// Writes each scalar into an array, by the writer's own methods.
 fn write_scalars<W: Writer>(rt: &impl Abort, writer: &mut W, date: Date) {
     must(rt, writer.write_start_array(None));
     must(rt, writer.write_boolean(true));
@@ -50,7 +50,7 @@ fn text(rt: &(impl Abort + AllocGlobal), text: &str) -> String {
     must(rt, String::from_str(rt.alloc(), text))
 }
 
-// The dictionary of a, which is an array of the text x, and of b, which is the text a.
+// Returns the dictionary of a, which is an array of the string x, and of b, which is the string a.
 fn two_pairs(rt: &(impl Abort + AllocGlobal)) -> Value {
     let mut items = Vec::new(rt.alloc());
     must(rt, items.push(Value::String(text(rt, "x"))));
@@ -72,7 +72,7 @@ fn a_value_is_collected_again(rt: HostRuntime) {
     expect_value(&rt, again, TWO_PAIRS);
 }
 
-// What `write_value` answers.
+// Checks what `write_value` returns.
 fn expect_handed(
     rt: &(impl Abort + AllocGlobal),
     value: &Value,
@@ -95,7 +95,7 @@ fn a_value_is_written_to_a_builder(rt: HostRuntime) {
     expect_finished(&rt, &mut builder, "'a'");
 }
 
-// How many of the events borrow their text or data.
+// Returns how many of the events borrow their string or data.
 fn count_borrowed(rt: &(impl Abort + AllocGlobal), value: &Value) -> u64 {
     let mut count = 0u64;
     for item in value.events(rt.alloc()) {
@@ -110,7 +110,7 @@ fn count_borrowed(rt: &(impl Abort + AllocGlobal), value: &Value) -> u64 {
     count
 }
 
-// The value's events, of which this many borrow.
+// Checks the value's events, of which this many borrow.
 fn expect_borrowed(rt: &(impl Abort + AllocGlobal), value: &Value, words: &str, borrowed: u64) {
     assert_eq!(rt; words_of_value(rt, value).as_str(), words);
     assert_eq!(rt; count_borrowed(rt, value), borrowed);

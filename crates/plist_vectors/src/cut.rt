@@ -1,4 +1,4 @@
-//! Sources that end earlier than they said: at each byte of the objects, and of the table.
+//! Sources that end earlier than they reported: at each byte of the objects, and of the table.
 
 ghost use Rattle.std.specs.Prelude.{◌<◌, ◌≤◌, None, length};
 
@@ -11,20 +11,20 @@ use plist_support::{add_words, words_of};
 use std::io;
 use std::process::Abort;
 
-// How many bytes a trailer has.
+// The number of bytes in a trailer.
 const TRAILER: usize = 32;
 
-// A file of which nothing is there from `end` on up to `resumes`, where its table or trailer begins.
+// A file whose bytes from `end` up to `resumes`, where its table or trailer begins, are missing.
 #[derive(Drop)]
 struct Cut {
     bytes: Vec<u8>,
     end: usize,
     resumes: usize,
-    // The place that the last read was asked for.
+    // The offset of the last read.
     place: u64,
 }
 
-// The bytes from a place on and before an end, of which a buffer takes as many as it can.
+// Copies the bytes from an offset up to an end, as many as fit into the buffer.
 fn copy_between(bytes: &[u8], place: u64, end: usize, buf: &mut [u8]) -> usize
     ensures { result ≤ length buf.new }
 {
@@ -57,7 +57,7 @@ impl Source for Cut {
     }
 }
 
-// Lent to a reader, so that it can be looked at afterwards.
+// A reader borrows the file, so that it can be inspected afterwards.
 impl<'a> Source for &'a mut Cut {
     ghost known = { λ _. None };
 
@@ -72,8 +72,8 @@ impl<'a> Source for &'a mut Cut {
     }
 }
 
-// The items found are a beginning of those wanted, and in the place of the next one stands the end
-// at the last read, which is of no byte that is there.
+// Checks that the items found are a prefix of the expected ones, followed by the end at the last
+// read, which was at a missing byte.
 fn expect_end(rt: &(impl Abort + AllocGlobal), cut: &Cut, found: &str, items: &str) {
     let fault = must(
         rt,
@@ -87,19 +87,19 @@ fn expect_end(rt: &(impl Abort + AllocGlobal), cut: &Cut, found: &str, items: &s
     assert!(rt; cut.place < cut.resumes as u64, "at {}", cut.end);
 }
 
-// The reader of binary files ends so.
+// Checks the items that the reader of binary files yields for a file that is cut.
 fn expect_binary(rt: &(impl Abort + AllocGlobal), cut: &mut Cut, items: &str) {
     let found = words_of(rt.alloc(), BinaryReader::new(rt.alloc(), &mut *cut));
     expect_end(rt, cut, must(rt, found).as_str(), items);
 }
 
-// So does the one that chooses by the format.
+// Checks the items that the reader of either format yields for a file that is cut.
 fn expect_either(rt: &(impl Abort + AllocGlobal), cut: &mut Cut, items: &str) {
     let found = words_of(rt.alloc(), Reader::new(rt.alloc(), &mut *cut));
     expect_end(rt, cut, must(rt, found).as_str(), items);
 }
 
-// No value is read.
+// Checks that no value is read.
 fn expect_no_value(rt: &(impl Abort + AllocGlobal), cut: &mut Cut) {
     match Value::from_reader(rt.alloc(), cut) {
         Ok(_) => panic!(rt; "it gave a value"),
@@ -107,7 +107,7 @@ fn expect_no_value(rt: &(impl Abort + AllocGlobal), cut: &mut Cut) {
     }
 }
 
-// Where the table begins: the last eight bytes say so.
+// Returns the offset of the table, which is in the last eight bytes.
 fn table_of(rt: &impl Abort, file: &[u8]) -> usize {
     match file.last_chunk::<8>() {
         Some(bytes) => u64::from_be_bytes(*bytes).min(file.len() as u64) as usize,
@@ -115,7 +115,7 @@ fn table_of(rt: &impl Abort, file: &[u8]) -> usize {
     }
 }
 
-// The file of these events, cut at every so many bytes.
+// Checks the file of these events, cut at every `step` bytes.
 fn expect_cuts(rt: &(impl Abort + AllocGlobal), items: &str, step: usize)
     requires { 0 < step }
 {
@@ -143,7 +143,7 @@ fn expect_cuts(rt: &(impl Abort + AllocGlobal), items: &str, step: usize)
     }
 }
 
-// Words, in the middle of which a part stands so often.
+// Returns words with a part in the middle, repeated this often.
 fn repeated(rt: &(impl Abort + AllocGlobal), around: [&str; 2], part: &str, times: u32) -> String {
     let mut all = must(rt, String::from_str(rt.alloc(), around[0]));
     for _ in 0..times {
@@ -153,7 +153,7 @@ fn repeated(rt: &(impl Abort + AllocGlobal), around: [&str; 2], part: &str, time
     all
 }
 
-// A text of 200 bytes, data of 200 bytes, and a text of 200 units, in collections.
+// A string of 200 bytes, data of 200 bytes, and a string of 200 units, in collections.
 #[test]
 fn cut_at_each_byte(rt: HostRuntime) {
     let mut items = repeated(&rt, ["[4 'k' {1 'k' '", "' end"], "a", 200);
@@ -164,7 +164,7 @@ fn cut_at_each_byte(rt: HostRuntime) {
     expect_cuts(&rt, items.as_str(), 1);
 }
 
-// Of 100 KB.
+// Contents of 100 KB.
 #[test]
 fn long_contents_cut(rt: HostRuntime) {
     let text = repeated(&rt, ["'", "'"], "a", 100_000);

@@ -1,5 +1,5 @@
-//! That a ledger can be the counter of a reader. Its count is no number at run time: `decoded` of
-//! the examples looks at counts.
+//! A ledger can be the counter of a reader. Its count doesn't exist at run time, so the examples in
+//! `decoded` test counts.
 
 ghost use Rattle.std.specs.Prelude.{◌≡◌, ◌<◌};
 
@@ -10,7 +10,7 @@ use std::alloc::Global;
 use std::marker::Brand;
 use std::sync::ledger::{Blank, Ledger};
 
-// How many items a file has, while a ledger counts.
+// Returns how many items a file has, while a ledger counts.
 fn items_counted<L: Ledger>(alloc: Global, bytes: &[u8], blank: Blank) -> u64
     requires name { blank.name ≡ L.name }
     requires parts { blank.parts ≡ L.parts }

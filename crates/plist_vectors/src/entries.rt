@@ -1,4 +1,4 @@
-//! Values and dictionaries: what they hold, copies, entries, and calls that go over all pairs.
+//! Values and dictionaries: their contents, copies, entries, and calls that visit all pairs.
 
 use crate::support::{expect_value, must, value_of};
 use plist::dictionary::Entry;
@@ -11,7 +11,7 @@ fn text(rt: &(impl Abort + AllocGlobal), text: &str) -> String {
     must(rt, String::from_str(rt.alloc(), text))
 }
 
-// The dictionary of these events.
+// Returns the dictionary of these events.
 fn dictionary_of(rt: &(impl Abort + AllocGlobal), words: &str) -> Dictionary {
     match value_of(rt, words).into_dictionary() {
         Some(pairs) => pairs,
@@ -23,7 +23,7 @@ fn expect_dictionary(rt: &(impl Abort + AllocGlobal), pairs: Dictionary, wanted:
     expect_value(rt, Ok(Value::from(pairs)), wanted);
 }
 
-// Pairs of a key and a number, as `b=2 a=3`.
+// Returns pairs of a key and a number, given as `b=2 a=3`.
 fn pairs_of(rt: &(impl Abort + AllocGlobal), words: &str) -> Vec<(String, Value)> {
     let mut pairs = Vec::new(rt.alloc());
     for word in words.split(' ') {
@@ -38,7 +38,7 @@ fn pairs_of(rt: &(impl Abort + AllocGlobal), words: &str) -> Vec<(String, Value)
     pairs
 }
 
-// The value of a key, which is there.
+// Returns the value of a key, which must be there.
 fn at<'a>(rt: &impl Abort, pairs: &'a Dictionary, key: &str) -> &'a Value {
     if !pairs.contains_key(key) {
         panic!(rt; "{key} isn't there");
@@ -46,7 +46,7 @@ fn at<'a>(rt: &impl Abort, pairs: &'a Dictionary, key: &str) -> &'a Value {
     &pairs[key]
 }
 
-// Sets the value of a key, which is there.
+// Sets the value of a key, which must be there.
 fn set_at(rt: &impl Abort, pairs: &mut Dictionary, key: &str, value: Value) {
     if !pairs.contains_key(key) {
         panic!(rt; "{key} isn't there");
@@ -73,12 +73,12 @@ fn pairs_are_inserted_in_order(rt: HostRuntime) {
     expect_dictionary(&rt, pairs, "{2 'a' 3 'b' 2 end");
 }
 
-// The text of a key, which is there.
+// Checks the string of a key, which must be there.
 fn expect_text(rt: &impl Abort, pairs: &Dictionary, key: &str, wanted: &str) {
     assert_eq!(rt; at(rt, pairs, key).as_string(), Some(wanted));
 }
 
-// A key with a text.
+// Makes a key with a string.
 fn named(rt: &(impl Abort + AllocGlobal), key: &str, content: &str) -> (String, Value) {
     (text(rt, key), Value::from(text(rt, content)))
 }
@@ -175,7 +175,7 @@ fn a_vacant_entry_is_filled(rt: HostRuntime) {
     expect_dictionary(&rt, pairs, "{2 'a' 1 'd' 2 end");
 }
 
-// What the key has after `or_insert` of 2.
+// Checks the value of the key after `or_insert` of 2.
 fn expect_or_insert(rt: &(impl Abort + AllocGlobal), pairs: &mut Dictionary, key: &str, has: u8) {
     match pairs.entry(text(rt, key)).or_insert(number(2)) {
         Err(_back) => panic!(rt; "there is memory"),
@@ -192,7 +192,7 @@ fn or_insert_adds(rt: HostRuntime) {
     expect_dictionary(&rt, pairs, "{2 'a' 1 'd' 2 end");
 }
 
-// What the key has after `or_insert_with` of 2.
+// Checks the value of the key after `or_insert_with` of 2.
 fn expect_or_insert_with(
     rt: &(impl Abort + AllocGlobal),
     pairs: &mut Dictionary,

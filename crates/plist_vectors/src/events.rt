@@ -1,11 +1,11 @@
-//! Events: which are equal, and what their copies are.
+//! Which events are equal, and what their copies are.
 
 use crate::support::must;
 use plist_base::{Event, EventKind, Uid};
 use std::borrow::{CowSlice, CowStr};
 use std::process::Abort;
 
-// Both copies of an event are the same event, and they own what they hold.
+// Checks that both copies of an event are equal to it, and own their contents.
 fn expect_copies(rt: &(impl Abort + AllocGlobal), event: Event<'_>) {
     let copy = must(rt, event.clone(rt.alloc()));
     assert!(rt; !is_borrowed(&copy));

@@ -1,4 +1,4 @@
-//! Faults: their texts, and the errors of devices in them.
+//! Errors: their texts, and the I/O errors in them.
 
 use crate::support::must;
 use plist_base::{Error, ErrorKind, EventKind};
@@ -31,7 +31,7 @@ fn texts_of_kinds(rt: HostRuntime) {
     expect_text(&rt, end.without_position(), text);
 }
 
-// Those that no file can show; the others stand in the tables.
+// The texts of errors that no file can cause. The tables have the others.
 #[test]
 fn texts_of_writers_kinds(rt: HostRuntime) {
     expect_text(
@@ -61,7 +61,7 @@ fn texts_with_an_offset(rt: HostRuntime) {
     expect_text(&rt, failed_device(), "Io (offset 3)");
 }
 
-// The two texts of a kind of events, with a blank between them.
+// Checks the two texts of a kind of events, separated by a blank.
 fn expect_kind(rt: &(impl Abort + AllocGlobal), kind: EventKind, texts: &str) {
     let found = must(rt, format!(in rt.alloc(); "{kind} {kind:?}"));
     assert_eq!(rt; found.as_str(), texts);

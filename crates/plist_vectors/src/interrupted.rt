@@ -1,4 +1,5 @@
-//! What comes after a read that was interrupted, or failed in another way: its error, and no call.
+//! What follows a read that was interrupted, or failed in another way: its error, and no further
+//! call.
 
 use crate::sources::sample;
 use crate::support::must;
@@ -7,8 +8,8 @@ use plist_support::{Device, Disk, expect_io};
 use std::io::ErrorKind;
 use std::process::Abort;
 
-// Asks for the size, for what a short read of a window doesn't reach, and for what is longer than a
-// window. Answers which of the three failed, and the kind of its error.
+// Reads the size, bytes that a short read of a window doesn't reach, and bytes that are longer than
+// a window. Returns which of the three failed, and the kind of its error.
 fn first_failure<S: Source>(source: &mut S) -> Option<(u64, ErrorKind)> {
     if let Err(error) = source.size() {
         return Some((0, error.kind()));
@@ -22,7 +23,8 @@ fn first_failure<S: Source>(source: &mut S) -> Option<(u64, ErrorKind)> {
     }
 }
 
-// The same over a disk that fails at this call in this way, with the number of its calls.
+// Returns the first failure over a disk that fails at this call in this way, and the number of
+// calls of the disk.
 fn failure_of_disk(
     rt: &(impl Abort + AllocGlobal),
     call: u64,
@@ -45,8 +47,8 @@ const KINDS: [ErrorKind; 7] = [
     ErrorKind::Other,
 ];
 
-// The size is one seek. A window is a seek and a read, and so is what lies past it, and what is
-// longer. What fails of that is given as it is, and nothing is tried again.
+// The size takes one seek. A window takes a seek and a read, and so do the bytes past it, and more
+// bytes than a window. A failure of any of these is passed on, and nothing is tried again.
 #[test]
 fn tries_nothing_twice(rt: HostRuntime) {
     for kind in KINDS {
@@ -59,8 +61,8 @@ fn tries_nothing_twice(rt: HostRuntime) {
     }
 }
 
-// Four bytes of ten are read from place 2 on, one a call. A failure is that of its own place, with
-// the device's error, and isn't tried again.
+// Four of ten bytes are read from offset 2 on, one per call. A failure has its own offset and the
+// device's error, and isn't tried again.
 #[test]
 fn a_failed_read_has_its_place(rt: HostRuntime) {
     for call in 0..4 {

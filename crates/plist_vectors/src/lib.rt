@@ -1,5 +1,5 @@
-//! What is called in turn, or fails on the way: tests by public calls alone. What can be said in a
-//! line stands in the tables of `plist_examples`.
+//! Tests, by public calls alone, of sequences of calls, and of calls that fail. What fits in a line
+//! is in the tables of `plist_examples`.
 #![tactic(auto)]
 
 #[cfg(test)]

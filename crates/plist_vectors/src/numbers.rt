@@ -1,4 +1,4 @@
-//! Whole numbers, Uids and the bytes of reals.
+//! Integers, Uids and the bytes of reals.
 
 ghost use Rattle.std.specs.Prelude.{◌≡◌, ◌<ℤ◌, ◌↔◌, IsTrue};
 
@@ -8,7 +8,7 @@ use std::cmp::Ordering;
 use std::hash::{DefaultHasher, Hash, Hasher};
 use std::process::Abort;
 
-// What the number is, and its two texts.
+// Checks the value of a number, and its two texts.
 fn expect(
     rt: &(impl Abort + AllocGlobal),
     number: Integer,
@@ -35,7 +35,7 @@ fn ends_of_the_range(rt: HostRuntime) {
     expect(&rt, greatest, None, Some(u64::MAX), "18446744073709551615");
 }
 
-// Two are the same where the whole numbers are.
+// Returns whether two integers are equal, that is, whether their values are.
 fn is_same(a: &Integer, b: &Integer) -> bool
     ensures { IsTrue result ↔ (a.now ≡ b.now) }
 {
@@ -55,7 +55,7 @@ fn equal_from_each_type(rt: HostRuntime) {
     assert!(rt; !is_same(&seven, &Integer::from(-7i64)));
 }
 
-// One is below another where the whole number is.
+// Returns whether one integer is below another, that is, whether its value is.
 fn is_below(a: &Integer, b: &Integer) -> bool
     ensures { IsTrue result ↔ (a.now <ℤ b.now) }
 {
@@ -91,7 +91,7 @@ fn uids(rt: HostRuntime) {
     assert!(rt; Uid::new(1) != Uid::new(2));
 }
 
-// Reals are equal by their bytes and their width.
+// Reals are compared by their bytes and their width.
 #[test]
 fn reals(rt: HostRuntime) {
     let zero = RealBits::Eight([0; 8]);
@@ -108,7 +108,7 @@ fn hash_of<T: Hash>(value: &T) -> u64 {
     state.finish()
 }
 
-// Two that are equal have one hash, and another has another one.
+// Checks that two equal values have the same hash, and another one has a different hash.
 fn expect_hashes<T: Hash + Eq>(rt: &impl Abort, value: &T, same: &T, other: &T) {
     assert!(rt; value == same);
     assert_eq!(rt; hash_of(value), hash_of(same));
@@ -120,12 +120,12 @@ fn expect_hashes<T: Hash + Eq>(rt: &impl Abort, value: &T, same: &T, other: &T) 
 fn hashes_of_integers(rt: HostRuntime) {
     let (seven, again) = (Integer::from(7u8), Integer::from(7i64));
     expect_hashes(&rt, &seven, &again, &Integer::from(-7i64));
-    // the same 64 bits as -1
+    // the 64 bits are those of -1
     let greatest = Integer::from(u64::MAX);
     expect_hashes(&rt, &greatest, &greatest, &Integer::from(-1i64));
 }
 
-// As of the one field of the Rust crate's.
+// The hash is that of the only field in the Rust crate.
 #[test]
 fn hashes_of_uids(rt: HostRuntime) {
     expect_hashes(&rt, &Uid::new(5), &Uid::new(5), &Uid::new(6));

@@ -1,4 +1,4 @@
-//! How `Reader` reads by windows, and how it ends.
+//! How `Reader` reads in windows, and how it ends.
 
 use crate::support::must;
 use plist_base::{Error, OwnedEvent, Seeking};
@@ -7,7 +7,8 @@ use plist_support::{Device, DeviceFault, Disk, expect_io, file, words_of};
 use std::io::ErrorKind;
 use std::process::Abort;
 
-// These bytes of a file are one text of this many letters, and few calls read them.
+// Checks that these bytes of a file are one string of this many letters, and that few calls read
+// them.
 fn expect_few_calls(rt: &(impl Abort + AllocGlobal), bytes: &[u8], length: usize) {
     let bytes = must(rt, Vec::from_slice(rt.alloc(), bytes));
     let mut disk = Disk::new(bytes, u64::MAX);
@@ -36,7 +37,7 @@ fn ascii_is_read_by_windows(rt: HostRuntime) {
     expect_few_calls(&rt, &bytes, 1);
 }
 
-// The only item, if there is one.
+// Returns the reader's only item, or `None` if it yields none.
 fn only_item(
     rt: &(impl Abort + AllocGlobal),
     device: &mut Device,
@@ -49,7 +50,7 @@ fn only_item(
     first
 }
 
-// A device's own error is passed on, and what failed isn't tried again.
+// Checks that a device's error is passed on, and that the failed call isn't tried again.
 fn expect_handed_on(rt: &(impl Abort + AllocGlobal), bytes: &[u8], call: u64) {
     let bytes = must(rt, Vec::from_slice(rt.alloc(), bytes));
     let mut device = Device::with_fault(bytes, call, DeviceFault::Fails(ErrorKind::TimedOut));
@@ -66,7 +67,7 @@ fn errors_of_devices(rt: HostRuntime) {
     expect_handed_on(&rt, b"bplist00", 3);
     let truth = must(&rt, file(rt.alloc(), "09 08", [1, 1], [1, 0, 9]));
     expect_handed_on(&rt, truth.as_slice(), 12);
-    // the magic, the mark of the byte order, white space, and then the text
+    // the magic, the byte order mark, white space, and then the text
     for call in 0..14 {
         expect_handed_on(&rt, b"  'a'", call);
     }

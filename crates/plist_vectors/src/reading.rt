@@ -7,7 +7,7 @@ use plist_support::{Device, DeviceFault, READ_FAILURES, expect_io, file};
 use std::io::ErrorKind;
 use std::process::Abort;
 
-// A fault at the place 0, after which nothing comes for good.
+// Checks that the items end with an error at offset 0.
 fn expect_end(rt: &(impl Abort + AllocGlobal), bytes: &[u8], is_eof: bool) {
     let mut reader = BinaryReader::new(rt.alloc(), bytes);
     match reader.next() {
@@ -27,7 +27,7 @@ fn ends_for_good(rt: HostRuntime) {
     expect_end(&rt, b"bplist01", false);
 }
 
-// A device over a file of eight events, with a fault at this call.
+// Makes a device over a file of eight events, with a fault at this call.
 fn device_of(rt: &(impl Abort + AllocGlobal), call: u64, fault: DeviceFault) -> Device {
     let body = "d201020301 5161 5162 a104 5178 080d0f1113";
     Device::with_fault(
@@ -37,7 +37,7 @@ fn device_of(rt: &(impl Abort + AllocGlobal), call: u64, fault: DeviceFault) -> 
     )
 }
 
-// The reader's last item, after which nothing comes.
+// Returns the reader's last item, after which nothing may follow.
 fn last_item(
     rt: &(impl Abort + AllocGlobal),
     device: &mut Device,
@@ -56,8 +56,8 @@ fn last_item(
     last
 }
 
-// A device that fails at this call passes its own error on, and what failed isn't tried again,
-// though the device would go on. Tells whether there is such a call.
+// Checks that the error of a device that fails at this call is passed on, and that the failed call
+// isn't tried again, although the device would go on. Returns whether there is such a call.
 fn expect_failure(rt: &(impl Abort + AllocGlobal), call: u64, kind: ErrorKind) -> bool {
     let mut device = device_of(rt, call, DeviceFault::Fails(kind));
     let last = last_item(rt, &mut device);
@@ -72,7 +72,8 @@ fn expect_failure(rt: &(impl Abort + AllocGlobal), call: u64, kind: ErrorKind) -
     true
 }
 
-// So it is at each call of a reader, of which 46 are made for the head alone.
+// Checks that the error of each call that a reader makes is passed on, and that the failed call
+// isn't tried again. The head alone takes 46 calls.
 fn expect_failures(rt: &(impl Abort + AllocGlobal), kind: ErrorKind) {
     for call in 0..1000 {
         if !expect_failure(rt, call, kind) {
@@ -83,7 +84,8 @@ fn expect_failures(rt: &(impl Abort + AllocGlobal), kind: ErrorKind) {
     panic!(rt; "the device never stopped failing")
 }
 
-// And so it is with `read_exact_at`.
+// Checks that a reader and `read_exact_at` pass on the errors of a device, and try no failed call
+// again.
 fn expect_handed_on(rt: &(impl Abort + AllocGlobal), kind: ErrorKind) {
     expect_failures(rt, kind);
     let mut device = device_of(rt, 2, DeviceFault::Fails(kind));
@@ -99,8 +101,8 @@ fn ends_after_a_failure(rt: HostRuntime) {
     }
 }
 
-// A read that gives nothing at this call ends the items at its place, and isn't tried again. Tells
-// whether there is such a call.
+// Checks that a read that returns no byte at this call ends the items at its offset, and isn't
+// tried again. Returns whether there is such a call.
 fn expect_short(rt: &(impl Abort + AllocGlobal), call: u64) -> bool {
     let mut device = device_of(rt, call, DeviceFault::MovesNothing);
     let last = last_item(rt, &mut device);
@@ -118,7 +120,8 @@ fn expect_short(rt: &(impl Abort + AllocGlobal), call: u64) -> bool {
     true
 }
 
-// So it is at each read, the first of which is the second call.
+// Checks that each read that returns no byte ends the items, and isn't tried again. The first read
+// is the second call.
 fn expect_shorts(rt: &(impl Abort + AllocGlobal)) {
     for call in 1..1000 {
         if !expect_short(rt, call) {

@@ -1,4 +1,4 @@
-//! Data as a value, and the refusals of texts.
+//! Data as a value, and the errors of parsing texts.
 
 use crate::support::must;
 use plist_base::{Data, DecodeError, Error, InvalidXmlData, InvalidXmlDate};
@@ -22,7 +22,7 @@ fn data_of_bytes(rt: HostRuntime) {
     assert_eq!(rt; shown.as_str(), "OutOfMemory");
 }
 
-// The text is no data's because of the dash that has this place.
+// Checks that the text isn't data because of the dash at this offset.
 fn expect_dash(rt: &(impl Abort + AllocGlobal), text: &str, place: usize) {
     match Data::from_xml_format(rt.alloc(), text) {
         Err(InvalidXmlData::Decode(DecodeError::InvalidByte(found, b'-'))) => {
@@ -32,7 +32,7 @@ fn expect_dash(rt: &(impl Abort + AllocGlobal), text: &str, place: usize) {
     }
 }
 
-// The places in a fault count what is left without white space.
+// Offsets in an error count the text without white space.
 #[test]
 fn places_in_data_texts(rt: HostRuntime) {
     expect_dash(&rt, "A-AA", 1);

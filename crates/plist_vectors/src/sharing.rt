@@ -1,4 +1,4 @@
-//! How large `SharingWriter`'s files are, and how it fails.
+//! The sizes of `SharingWriter`'s files, and how it fails.
 
 use crate::support::{expect_answers, file_of_true, must, write_all};
 use plist_binwrite::BinaryWriter;
@@ -6,7 +6,7 @@ use plist_share::SharingWriter;
 use plist_support::{Device, file, front};
 use std::process::Abort;
 
-// The file of the events of these words.
+// Returns the file of the events of these words.
 fn shared(rt: &(impl Abort + AllocGlobal), words: &str) -> Vec<u8> {
     let mut writer = SharingWriter::new(rt.alloc(), Vec::new(rt.alloc()));
     write_all(rt, &mut writer, words);
@@ -24,7 +24,8 @@ fn doubled_arrays(rt: HostRuntime) {
     }
 }
 
-// Three arrays, each of the next one twice, have fifteen objects where nothing is shared.
+// Three arrays, each of which contains the next one twice, are fifteen objects if nothing is
+// shared.
 #[test]
 fn beside_the_plain_writer(rt: HostRuntime) {
     let words = "[2 [2 [2 [0 end [0 end end [2 [0 end [0 end end end \
@@ -35,7 +36,7 @@ fn beside_the_plain_writer(rt: HostRuntime) {
     assert_eq!(rt; shared(&rt, words).len(), 54);
 }
 
-// No device's fault is answered where no call of the device failed.
+// No I/O error is returned unless a call of the device fails.
 #[test]
 fn io_without_failing_write(rt: HostRuntime) {
     let device = Device::new(Vec::new(rt.alloc()), u64::MAX);
@@ -53,7 +54,8 @@ fn io_without_failing_write(rt: HostRuntime) {
     assert_eq!(rt; device.failures, 0);
 }
 
-// The device fails at this call: these bytes went out, and the writer never asks it again.
+// Checks that these bytes are written if the device fails at this call, and that it isn't called
+// again.
 fn expect_failure(rt: &(impl Abort + AllocGlobal), fails_at: u64, bytes: &[u8]) {
     let device = Device::new(Vec::new(rt.alloc()), fails_at);
     let mut writer = SharingWriter::new(rt.alloc(), device);

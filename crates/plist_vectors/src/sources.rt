@@ -1,4 +1,4 @@
-//! Sources over a file, and what is read from their front on.
+//! Sources over a file, and reading them from their start on.
 
 use crate::support::must;
 use plist_base::{Seeking, Sequential, Source, read_exact_at};
@@ -7,7 +7,7 @@ use plist_support::{DEVICE_MESSAGE, Device, DeviceFault, Disk, expect_io, file, 
 use std::io::{Cursor, ErrorKind, Read};
 use std::process::Abort;
 
-// What lies at a place of the test's file.
+// Returns the byte at an offset of the test's file.
 fn byte_at(place: u32) -> u8 {
     (place % 251) as u8
 }
@@ -20,7 +20,7 @@ pub(crate) fn sample(rt: &(impl Abort + AllocGlobal), size: u32) -> Vec<u8> {
     bytes
 }
 
-// The bytes are those of the file from this place on.
+// Checks that the bytes are those of the file from this offset on.
 fn expect_bytes(rt: &impl Abort, bytes: &[u8], place: u32) {
     let mut here = place;
     for byte in bytes {
@@ -29,7 +29,7 @@ fn expect_bytes(rt: &impl Abort, bytes: &[u8], place: u32) {
     }
 }
 
-// A read of this many bytes of a file of this size.
+// Checks a read of this many bytes of a file of this size.
 fn expect_read<S: Source>(
     rt: &(impl Abort + AllocGlobal),
     source: &mut S,
@@ -55,7 +55,7 @@ const PLACES: [u32; 17] = [
     80_000, 0, 20_000,
 ];
 
-// Small reads, reads over a window's ends, and reads longer than it give the file's bytes.
+// Small reads, reads across a window's end, and reads longer than a window return the file's bytes.
 #[test]
 fn gives_the_bytes(rt: HostRuntime) {
     let size = 90_000;
@@ -68,7 +68,7 @@ fn gives_the_bytes(rt: HostRuntime) {
     }
 }
 
-// A source begins at byte 0, wherever its reader stands.
+// A source begins at byte 0, wherever its reader is positioned.
 #[test]
 fn begins_at_byte_0(rt: HostRuntime) {
     let size = 9_000;
@@ -78,7 +78,7 @@ fn begins_at_byte_0(rt: HostRuntime) {
     expect_read(&rt, &mut source, size, 0, 9_000);
 }
 
-// What a short read of a window didn't reach is read at its place.
+// Bytes that a short read of a window didn't reach are read at their own offset.
 #[test]
 fn gives_the_bytes_of_short_reads(rt: HostRuntime) {
     let size = 9_000;
@@ -90,7 +90,7 @@ fn gives_the_bytes_of_short_reads(rt: HostRuntime) {
     }
 }
 
-// After small reads at these places, the reader under the source was called so often.
+// Checks the number of calls of the inner reader after small reads at these offsets.
 fn expect_calls(rt: &(impl Abort + AllocGlobal), places: &[u32], calls: u64) {
     let size = 1_100_000;
     let mut source = Seeking::with_windows(rt.alloc(), Disk::new(sample(rt, size), u64::MAX));
@@ -100,8 +100,9 @@ fn expect_calls(rt: &(impl Abort + AllocGlobal), places: &[u32], calls: u64) {
     assert_eq!(rt; source.into_inner().calls, calls, "{places:?}");
 }
 
-// Parts of a file in turn are read once each, two in one slot too. A third one of the slot takes
-// the place of the one that was filled first. What lies over a window's end is held with it.
+// Each part of a file is read once if parts are read alternately, even if two share a slot. A third
+// part of the slot replaces the one that was filled first. Bytes beyond a window's end are buffered
+// with the window.
 #[test]
 fn keeps_its_windows(rt: HostRuntime) {
     expect_calls(&rt, &[0, 8_192, 5, 80_000, 8_200, 3, 80_005], 6);
@@ -117,7 +118,7 @@ fn keeps_its_windows(rt: HostRuntime) {
     expect_calls(&rt, &[8_190, 8_192], 4);
 }
 
-// The calls of the reader under a source, of which this many rounds go over these places.
+// Returns the number of calls of the inner reader for this many rounds over these offsets.
 fn calls_of_rounds(
     rt: &(impl Abort + AllocGlobal),
     windows: bool,
@@ -137,14 +138,15 @@ fn calls_of_rounds(
     source.into_inner().calls
 }
 
-// Four parts of one slot, of which two share one where there are twice as many.
+// Four parts of one slot. If there are twice as many slots, each of two slots has two of them.
 const OF_ONE: [u32; 4] = [0, 32_768, 65_536, 98_304];
 
-// Four parts of the last slot, also where there are twice as many.
+// Four parts of the last slot, even if there are twice as many slots.
 const OF_LAST: [u32; 4] = [57_344, 122_880, 188_416, 253_952];
 
-// The ninth window that is filled again makes twice as many, in which the four have two slots. Of
-// the last slot they have them once the seventeenth after that makes twice as many again.
+// The ninth window that is filled again doubles the windows, so that the four parts have two slots.
+// The parts of the last slot have two only after the seventeenth such window doubles them once
+// more.
 #[test]
 fn windows_grow(rt: HostRuntime) {
     assert_eq!(rt; calls_of_rounds(&rt, true, OF_ONE, 3), 24);
@@ -155,7 +157,7 @@ fn windows_grow(rt: HostRuntime) {
     assert_eq!(rt; calls_of_rounds(&rt, true, OF_LAST, 100), 64);
 }
 
-// Reads three bytes, and answers whether the disk failed.
+// Reads three bytes, and returns whether the disk failed.
 fn fails_at(rt: &impl Abort, source: &mut Seeking<Disk>, place: u32) -> bool {
     let mut buf = [0; 3];
     match read_exact_at(source, u64::from(place), &mut buf) {
@@ -174,7 +176,7 @@ fn fails_at(rt: &impl Abort, source: &mut Seeking<Disk>, place: u32) -> bool {
     }
 }
 
-// The disk fails at this call: one read of three fails.
+// Checks that one of three reads fails if the disk fails at this call.
 fn expect_failure(rt: &(impl Abort + AllocGlobal), call: u64) {
     let mut source = Seeking::with_windows(rt.alloc(), Disk::new(sample(rt, 9_000), call));
     let first = fails_at(rt, &mut source, 5);
@@ -189,7 +191,7 @@ fn expect_failure(rt: &(impl Abort + AllocGlobal), call: u64) {
     );
 }
 
-// Where a seek or a read fails, the answer is its error. A later read gives the bytes again.
+// If a seek or a read fails, its error is returned, and a later read returns the bytes.
 #[test]
 fn goes_on_after_a_failure(rt: HostRuntime) {
     for call in 0..4 {
@@ -197,8 +199,9 @@ fn goes_on_after_a_failure(rt: HostRuntime) {
     }
 }
 
-// Windows of one slot are read in turn, and the disk fails at this call, which is made for the third
-// or the fourth of them. Nothing is held there then, and later reads give the file's bytes.
+// Checks windows of one slot that are read in turn, while the disk fails at this call, which is
+// made for the third or the fourth. Then nothing is buffered there, and later reads return the
+// file's bytes.
 fn expect_failed_window(rt: &(impl Abort + AllocGlobal), call: u64) {
     let mut source = Seeking::with_windows(rt.alloc(), Disk::new(sample(rt, 100_000), call));
     let mut failures = 0u32;
@@ -225,8 +228,9 @@ fn a_failed_window_holds_nothing(rt: HostRuntime) {
     }
 }
 
-// What a short read didn't reach is read at its place, also of windows that were added: each round
-// over the four places fills all their windows again, until there are twice as many.
+// Bytes that a short read didn't reach are read at their own offset, even in windows that were
+// added: each round over the four offsets fills all their windows again, until there are twice as
+// many.
 #[test]
 fn gives_the_bytes_of_short_reads_of_more_windows(rt: HostRuntime) {
     let size = 300_000;
@@ -241,8 +245,8 @@ fn gives_the_bytes_of_short_reads_of_more_windows(rt: HostRuntime) {
     }
 }
 
-// The items of a file of eight events that gives a byte a read and fails at this call, with the
-// offset of `Io` left out. Tells whether it failed.
+// Checks the items of a file of eight events that returns one byte per read and fails at this call.
+// The offset of `Io` is left out. Returns whether it failed.
 fn expect_items_of_disk(rt: &(impl Abort + AllocGlobal), windows: bool, call: u64) -> bool {
     let body = "d201020301 5161 5162 a104 5178 080d0f1113";
     let whole = "{2 'a' [1 'x' end 'b' 'a' end";
@@ -290,7 +294,7 @@ fn items_of_failing_files(rt: HostRuntime) {
     expect_items_of_disks(&rt, true);
 }
 
-// The reader's next bytes, where the buffer has this much room.
+// Checks the reader's next bytes, for a buffer of this size.
 fn expect_next<R: Read>(
     rt: &(impl Abort + AllocGlobal),
     reader: &mut R,
@@ -315,7 +319,7 @@ fn reads_from_the_front(rt: HostRuntime) {
     assert_eq!(rt; reader.into_inner(), b"abcdefg".as_slice());
 }
 
-// A read that fails isn't tried again, and the next one begins at its place.
+// A failed read isn't tried again, and the next one begins at its offset.
 #[test]
 fn a_failed_read_takes_nothing(rt: HostRuntime) {
     let bytes = must(&rt, Vec::from_slice(rt.alloc(), b"abc"));
@@ -332,7 +336,7 @@ fn a_failed_read_takes_nothing(rt: HostRuntime) {
     assert_eq!(rt; device.place, 1);
 }
 
-// The bytes end where a read gives none.
+// The bytes end where a read returns none.
 #[test]
 fn ends_where_no_byte_is(rt: HostRuntime) {
     let mut device = Device::new(sample(&rt, 8), u64::MAX);

@@ -1,4 +1,4 @@
-//! What the examples share, which ends a test that doesn't find what it wants.
+//! What the tests share. A test ends if it doesn't find what it expects.
 
 mod file;
 mod words;
@@ -10,7 +10,7 @@ pub(crate) use words::{
     expect_answers, expect_value, text_of, value_of, words_of_value, write_all,
 };
 
-// What an answer holds that is to be no fault.
+// Returns the value of a result that must not be an error.
 pub(crate) fn must<T, E: Debug>(rt: &impl Abort, answer: Result<T, E>) -> T {
     match answer {
         Ok(value) => value,

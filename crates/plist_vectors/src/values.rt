@@ -9,7 +9,7 @@ fn text(rt: &(impl Abort + AllocGlobal), text: &str) -> String {
     must(rt, String::from_str(rt.alloc(), text))
 }
 
-// What `insert` answers.
+// Checks what `insert` returns.
 fn put(
     rt: &(impl Abort + AllocGlobal),
     pairs: &mut Dictionary,
@@ -19,17 +19,17 @@ fn put(
     must(rt, pairs.insert(text(rt, key), Value::from(value)))?.as_unsigned_integer()
 }
 
-// What `remove` answers.
+// Returns what `remove` returns.
 fn removed(pairs: &mut Dictionary, key: &str) -> Option<u64> {
     pairs.remove(key)?.as_unsigned_integer()
 }
 
-// What `get` answers.
+// Returns what `get` returns.
 fn number_at(pairs: &Dictionary, key: &str) -> Option<u64> {
     pairs.get(key)?.as_unsigned_integer()
 }
 
-// The pairs a = 1, b = 2 and c = 3.
+// Returns the pairs a = 1, b = 2 and c = 3.
 fn three(rt: &(impl Abort + AllocGlobal)) -> Dictionary {
     let mut pairs = Dictionary::new(rt.alloc());
     put(rt, &mut pairs, "a", 1);
@@ -38,7 +38,7 @@ fn three(rt: &(impl Abort + AllocGlobal)) -> Dictionary {
     pairs
 }
 
-// The pairs as ` a=1 b=2`.
+// Checks the pairs, given as ` a=1 b=2`.
 fn expect_pairs(rt: &(impl Abort + AllocGlobal), pairs: &Dictionary, wanted: &str) {
     let mut all = String::new(rt.alloc());
     for (key, value) in pairs {
@@ -94,7 +94,7 @@ fn clear_empties(rt: HostRuntime) {
     assert_eq!(rt; pairs.len(), 1);
 }
 
-// This many are left, as the iterator says by each of its bounds.
+// Checks that this many items remain, by each of the iterator's bounds.
 fn expect_length<I: ExactSizeIterator>(rt: &impl Abort, iter: &I, length: usize) {
     assert_eq!(rt; iter.len(), length);
     assert_eq!(rt; iter.size_hint(), (length, Some(length)));
@@ -136,7 +136,7 @@ fn values_give_the_order(rt: HostRuntime) {
     );
 }
 
-// The next pair of the iterator.
+// Checks the next pair of the iterator.
 fn expect_pair(rt: &impl Abort, next: Option<(String, Value)>, key: &str, value: u64) {
     match next {
         None => panic!(rt; "too few pairs"),
@@ -180,14 +180,14 @@ fn kinds_of_values(rt: HostRuntime) {
     expect_kind(&rt, Value::Uid(Uid::new(1)), EventKind::Uid);
 }
 
-// The dictionary of this one pair.
+// Returns a dictionary of this one pair.
 fn one_pair(rt: &(impl Abort + AllocGlobal), key: &str, value: Value) -> Value {
     let mut pairs = Dictionary::new(rt.alloc());
     must(rt, pairs.insert(text(rt, key), value));
     Value::Dictionary(pairs)
 }
 
-// The array of a dictionary and the number 5.
+// Returns an array of a dictionary and the number 5.
 fn two_items(rt: &(impl Abort + AllocGlobal)) -> Value {
     let mut items = Vec::new(rt.alloc());
     must(rt, items.push(one_pair(rt, "on", Value::Boolean(true))));

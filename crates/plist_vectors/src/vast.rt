@@ -1,4 +1,4 @@
-//! A file that no memory holds.
+//! A file that doesn't fit into any memory.
 
 ghost use Rattle.std.specs.Prelude.{None};
 
@@ -9,21 +9,21 @@ use plist_binread::BinaryReader;
 use plist_support::words_of;
 use std::io;
 
-// The magic, and the front of data of 2^62 bytes.
+// The magic, and the beginning of data of 2^62 bytes.
 const FRONT: &[u8; 18] = b"bplist00\x4f\x13\x40\0\0\0\0\0\0\0";
 
-// The table, and a trailer that counts one object.
+// The table, and a trailer with one object.
 const BACK: &[u8; 33] =
     b"\x08\0\0\0\0\0\0\x01\x01\0\0\0\0\0\0\0\x01\0\0\0\0\0\0\0\0\x40\0\0\0\0\0\0\x12";
 
-// Where the table lies.
+// The offset of the table.
 const TABLE: u64 = (1 << 62) + 18;
 
 /// A file of data whose bytes are all zero.
 #[derive(Drop)]
 struct Vast;
 
-// What lies at a place of it.
+// Returns the byte at an offset.
 fn byte_at(place: u64) -> Option<u8> {
     if place >= TABLE {
         return BACK.get((place - TABLE) as usize).copied();
@@ -54,7 +54,7 @@ impl Source for Vast {
     }
 }
 
-// Data for which there is no memory ends a reader, under limits that allow it too.
+// Data for which there is no memory ends a reader, even under limits that allow it.
 #[test]
 fn ends_where_no_memory_is_found(rt: HostRuntime) {
     let limits = Limits { depth: 9, items: 9 };
@@ -68,7 +68,7 @@ fn ends_where_no_memory_is_found(rt: HostRuntime) {
     assert_eq!(rt; found.as_str(), "OutOfMemory");
 }
 
-// So it is where a value is read.
+// Data for which there is no memory ends the reading of a value.
 #[test]
 fn no_value_is_read(rt: HostRuntime) {
     let limits = Limits { depth: 9, items: 9 };

@@ -1,11 +1,12 @@
-//! That `BinaryWriter` answers no device's fault of its own.
+//! `BinaryWriter` returns no I/O error of its own.
 
 use crate::support::{expect_answers, file_of_true, must, value_of};
 use plist_binwrite::BinaryWriter;
 use plist_support::{Device, file};
 use std::process::Abort;
 
-// Two files went to the device, a byte a call and a flush after each, and no call failed.
+// Checks that two files were written to the device, a byte per call and a flush after each, and
+// that no call failed.
 fn expect_two_sent(rt: &(impl Abort + AllocGlobal), device: &Device) {
     let mut both = file_of_true(rt);
     let second = must(rt, file(rt.alloc(), "a20101 5161 080b", [1, 1], [2, 0, 13]));
@@ -16,7 +17,7 @@ fn expect_two_sent(rt: &(impl Abort + AllocGlobal), device: &Device) {
     assert_eq!(rt; device.failures, 0);
 }
 
-// No device's fault is answered where no call of the device failed.
+// No I/O error is returned unless a call of the device fails.
 #[test]
 fn io_without_failing_write(rt: HostRuntime) {
     let device = Device::new(Vec::new(rt.alloc()), u64::MAX);
@@ -34,7 +35,7 @@ fn io_without_failing_write(rt: HostRuntime) {
     expect_two_sent(&rt, &device);
 }
 
-// The value of these words is sent to the device.
+// Writes the value of these words to the device.
 fn send(rt: &(impl Abort + AllocGlobal), words: &str, device: &mut Device) {
     must(rt, value_of(rt, words).to_writer_binary(rt.alloc(), device));
 }

@@ -1,4 +1,4 @@
--- Which events can follow those that a builder holds, and what it holds then.
+-- Which events can follow those of a builder, and what it contains then.
 use Rattle.std.proofs.Common.{◌≡◌, ℕ, List, [], ◌∷◌, ◌++◌, Option, Some, None, MatchOption, map, refl, sym, ap, ◌∙◌, append_assoc, append-nil, subst, option_and_then}
 use Rattle.std.proofs.lemmas.Option.{none-some}
 use Rattle.plist_base.specs.Events.{PlainEvent, StartArray, StartDictionary, EndCollection, ScalarEvent}
@@ -35,7 +35,7 @@ pairs-append (p ∷ ps) k t =
     (sym (append_assoc (bracketing p.1) (bracketing_of_pairs (members_of ps))
     (ScalarEvent (String k) ∷ bracketing t)))
 
--- a tree that is complete inside collections that take values adds its events
+-- a tree that is completed inside collections that take values adds its events
 tree-goes : (t : Tree) (outer : List OpenCollection) → AllTakeValue outer
     → IsNested (and_tree and_pair t outer)
     × (events_so_far (and_tree and_pair t outer) ≡ events_around outer ++ bracketing t)
@@ -57,8 +57,8 @@ tree-goes t (AfterKey ps k ∷ outer) ok =
           (StartDictionary None ∷ (before ++ ScalarEvent (String k) ∷ [])) (bracketing t)),
     )
 
--- after the events so far the event is refused, or what is held then has them and it, up to
--- lengths
+-- after the events so far, the event is rejected, or what is kept then has their events and this
+-- one, up to lengths
 abbrev Follows : Option FaultKind → List PlainEvent → PlainEvent → Option Unfinished → Type 0
 Follows refusal before e held = MatchOption held (refusal ≡ None → ⊥)
     (λ w. IsNested w × AreAlike (events_so_far w) (before ++ e ∷ []))
@@ -76,7 +76,7 @@ value-goes outer EndCollection ok = λ p. none-some _ (sym p)
 value-goes outer (ScalarEvent x) ok =
     let t = tree-goes (Leaf x) outer ok in (t.0, ap (map without_length) t.1)
 
--- an end makes a tree of its collection, which has the events from its start on
+-- a collection's end completes its tree, whose events begin with the collection's start
 closed-goes : (t : Tree) (start : PlainEvent) (inside : List PlainEvent)
     (outer : List OpenCollection) → AllTakeValue outer
     → AreAlike (bracketing t) (start ∷ (inside ++ EndCollection ∷ []))
@@ -118,13 +118,13 @@ goes (Within (InDictionary ps) outer) e ok = dictionary-goes ps outer e ok
 goes (Within (AfterKey ps k) outer) e ok = value-goes (AfterKey ps k ∷ outer) e (tt, ok)
 goes (Complete t) e ok = λ p. none-some _ (sym p)
 
--- what is held after an event has the events before it, and it, up to lengths
+-- what is kept after an event has the events before it, and this one, up to lengths
 pub extended : (u : Unfinished) (e : PlainEvent) (w : Unfinished) → IsNested u
     → and_event and_pair u e ≡ Some w
     → IsNested w × AreAlike (events_so_far w) (events_so_far u ++ e ∷ [])
 extended u e w ok p = subst (Follows (refusal_at u e) (events_so_far u) e) p (goes u e ok)
 
--- what isn't refused is carried on
+-- an event that isn't rejected is added
 pub taken_before : (u : Unfinished) (e : PlainEvent) → IsNested u → refusal_at u e ≡ None
     → (w : Unfinished) × (and_event and_pair u e ≡ Some w) × IsNested w
     × AreAlike (events_so_far w) (events_so_far u ++ e ∷ [])
@@ -137,15 +137,15 @@ taken_before u e ok r = by (and_event and_pair u e) refl (goes u e ok)
     by None q g = absurd (g r)
     by (Some w) q g = (w, q, g.0, g.1)
 
--- ---- what is expected after what is held
+-- ---- what is expected after the events so far
 
--- what is expected in a collection, once a value that is open in it is complete
+-- what is expected in a collection after a value that is open in it is complete
 abbrev expect_around : OpenCollection → Expect
 expect_around (InArray items) = Items
 expect_around (InDictionary pairs) = Pairs
 expect_around (AfterKey pairs key) = Pairs
 
--- what is expected after what is expected within it
+-- what is expected after everything that is expected within a collection
 abbrev stack_within : OpenCollection → (round : Stack) → Stack
 stack_within (AfterKey pairs key) round = Pairs ∷ round
 stack_within collection round = round
@@ -205,7 +205,7 @@ wanted (Within c outer) ok =
     ∙ steps-within c outer [] ok
 wanted (Complete t) ok = all_taken (bracketing t) t refl
 
--- ---- an event that is refused can't come next
+-- ---- an event that is rejected can't come next
 
 change-stops : (c : Change) (kind : FaultKind) (top : Expect) (rest : Stack)
     → (if_refused c kind ≡ None → ⊥) → changed c top rest ≡ None
@@ -229,16 +229,16 @@ refused-ends u e ok no_ can =
     (steps_snoc (events_so_far u) (OneValue ∷ []) e
     ∙ ap (option_and_then (λ s. step s e)) (wanted u ok) ∙ stops u e no_) g.1
 
--- ---- an event that is taken
+-- ---- an event that is added
 
--- an event after which something is held could come next
+-- an event after which there is an unfinished tree could come next
 pub taken-continues : (u w : Unfinished) (e : PlainEvent) → IsNested w
     → AreAlike (events_so_far w) (events_so_far u ++ e ∷ []) → CanContinue (events_so_far u) e
 taken-continues u w e ok a =
     can_continue (events_so_far u) e (stack_of w)
     (sym (wanted_alike (events_so_far w) (events_so_far u ++ e ∷ []) a) ∙ wanted w ok)
 
--- an event that isn't refused can come next
+-- an event that isn't rejected can come next
 pub accepted-continues : (u : Unfinished) (e : PlainEvent) → IsNested u → refusal_at u e ≡ None
     → CanContinue (events_so_far u) e
 accepted-continues u e ok r =
@@ -252,7 +252,7 @@ continues-accepted u e ok c = by _ refl
     by None q = q
     by (Some kind) q = absurd (refused-ends u e ok (λ r. none-some _ (sym r ∙ q)) c)
 
--- the last values change nothing in what can come next
+-- taking last values doesn't change what can come next
 pub refusal-last : (u : Unfinished) (e : PlainEvent)
     → refusal_at (last_wins_so_far u) e ≡ refusal_at u e
 refusal-last NotBegun e = refl
@@ -289,9 +289,9 @@ last-continues u es ok a e = (
       ∙ continues-accepted u e ok ((continue_alike (events_so_far u) es a e).1 c)),
 )
 
--- ---- a tree that is complete
+-- ---- a complete tree
 
--- where the events so far are a tree's, it is complete
+-- if the events so far are a tree's, it is complete
 pub complete : (u : Unfinished) (t : Tree) → IsNested u → AreAlike (events_so_far u) (bracketing t)
     → u ≡ Complete t
 complete u t ok p = by u p (sym (wanted u ok) ∙ all_taken (events_so_far u) t p)
@@ -304,7 +304,7 @@ complete u t ok p = by u p (sym (wanted u ok) ∙ all_taken (events_so_far u) t 
     by (Within (AfterKey ps k) outer) p q = absurd (cc)
     by (Complete v) p q = ap Complete (one_tree v t p)
 
--- where no tree is complete, the events so far are no tree's
+-- if no tree is complete, the events so far are no tree's
 pub without-tree : (u : Unfinished) → IsNested u → None ≡ complete_tree u → (t : Tree)
     → AreAlike (events_so_far u) (bracketing t) → ⊥
 without-tree u ok p t a = absurd (none-some t (p ∙ ap complete_tree (complete u t ok a)))

@@ -1,4 +1,4 @@
--- The law of writers, at a builder.
+-- The law of writers, for a builder.
 use Rattle.std.specs.Prelude.{◌≡◌, ◌++◌, ◌∷◌, [], true, false, Some, None, Ok, Err}
 use Rattle.std.proofs.Common.{inr}
 use Rattle.std.proofs.Common.{refl, sym, ◌∙◌, subst, true≢false}
@@ -17,7 +17,7 @@ use Rattle.plist.specs.Building.{Unfinished, NotBegun, Within, Complete, Built, 
 use Rattle.plist.specs.Builder.{built_of, IsBuildingStep}
 use Rattle.plist.specs.inner.Following.{refused-ends, taken-continues, accepted-continues, last-continues}
 
--- a refusal of an event that can't come next
+-- the fault of an event that can't come next
 abbrev IsForOrder : FaultKind → Type 0
 IsForOrder kind = MatchKind kind (Unit {0}) ⊥ ⊥
 
@@ -29,7 +29,7 @@ change-order : (c : Change) (kind other : FaultKind) → if_refused c other ≡ 
 change-order change.Refused kind other p x = for_order _ _ p x
 change-order c kind other p x = absurd (none-some _ p)
 
--- what is refused can't come next
+-- an event that is rejected can't come next
 pub refusal-order : (u : Unfinished) (e : PlainEvent) (kind : FaultKind)
     → refusal_at u e ≡ Some kind → IsForOrder kind
 refusal-order NotBegun e kind p = change-order (change_of OneValue e) _ _ p tt
@@ -37,7 +37,7 @@ refusal-order (Within c outer) e kind p = change-order (change_of (expected_with
 refusal-order (Complete tree) e kind p =
     for_order _ _ p tt
 
--- what a refusal says of the event, and of what is held after it
+-- what a rejection says of the event, and of the builder after it
 module _ (before after : Built) (event : PlainEvent) (unchanged : Type 0)
     (ok : IsNested before.unfinished) (f : before.failed ≡ false) where
   abbrev Refused : Type 0
@@ -85,7 +85,7 @@ building_law before event (Err fault) after s f = (
       s.1.1,
 )
 
--- a failed builder's refusal
+-- the fault of a builder that has failed
 failed_kind : (before after : Built) (event : PlainEvent) (unchanged : Type 0) (kind : FaultKind)
     → IsRefusedStep before event kind after unchanged → before.failed ≡ true → (kind ≡ WriterFailed)
     × unchanged

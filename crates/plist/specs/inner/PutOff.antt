@@ -1,4 +1,4 @@
--- Pairs of values whose comparison is put off.
+-- Pairs of values whose comparison is deferred.
 use Rattle.std.specs.Prelude.{◌≡◌, ◌≤◌, ℕ, ◌+◌, ◌-◌, Bool, true, false, ◌&&◌, Option, None, Some, List, [], ◌∷◌, ◌++◌, MatchOption, drop, bytes_eq}
 use Rattle.std.specs.Map.{lookup, values_of}
 use Rattle.std.specs.Option.{option_eq}
@@ -12,20 +12,20 @@ use Rattle.plist_pairs.specs.Equal.{same_pairs}
 use Rattle.plist.specs.ValueTrees.{item_trees, pair_trees, tree_of}
 use Rattle.plist.specs.inner.Weights.{weight, weights}
 
--- whether values are equal
+-- equality of values
 abbrev pub same_values : Value → Value → Bool
 same_values value other = same (tree_of value) (tree_of other)
 
--- whether pairs are, whatever their order
+-- equality of pairs, whatever their order
 abbrev pub same_values_at : (pairs others : List (List ℕ × Value)) → Bool
 same_values_at pairs others = same_pairs same_values pairs others
 
--- whether all these pairs are equal
+-- all these pairs are equal
 abbrev pub are_same : List Pair → Bool
 are_same [] = true
 are_same (pair ∷ pairs) = same_values pair.value.now pair.other.now && are_same pairs
 
--- how many values there are to compare
+-- the number of values to compare
 abbrev pub to_compare : List Pair → ℕ
 to_compare [] = 0
 to_compare (pair ∷ pairs) = weight pair.value.now + to_compare pairs
@@ -34,7 +34,7 @@ abbrev pub listed : Option (Vec Pair Global) → List Pair
 listed None = []
 listed (Some pairs) = pairs.items
 
--- the pairs that were put off
+-- the deferred pairs
 abbrev pub waiting : Later → List Pair
 waiting later = listed later.pairs
 
@@ -45,14 +45,15 @@ are_covered (pair ∷ pairs) others =
     option_eq same_values (Some pair.1) (lookup (bytes_eq pair.0) others)
     && are_covered pairs others
 
--- The answer is this one once what is put off is compared; no more than these values were put off.
+-- Once the deferred pairs are compared, the result is this one; no more than `most` values were
+-- deferred.
 abbrev pub Compares : (equal : Bool) → (most : ℕ) → (before : Later) → (answer : Bool)
     → (after : Later) → Type 0
 Compares equal most before answer after =
     (answer && are_same (waiting after) ≡ equal && are_same (waiting before))
     × (to_compare (waiting after) ≤ to_compare (waiting before) + most)
 
--- the pair is among those that are put off, or nothing changed
+-- the pair is deferred, or nothing changed
 abbrev pub PutsOff : (value other : Value) → (before : Later) → (done : Bool) → (after : Later)
     → Type 0
 PutsOff value other before true after =
@@ -60,7 +61,7 @@ PutsOff value other before true after =
     × (to_compare (waiting after) ≡ weight value + to_compare (waiting before))
 PutsOff value other before false after = waiting after ≡ waiting before
 
--- the same of the items of arrays, and of the pairs of dictionaries
+-- the items of arrays, or the pairs of dictionaries, are compared
 abbrev pub ComparesItems : (items others : List Value) → (before : Later) → (answer : Bool)
     → (after : Later) → Type 0
 ComparesItems items others before answer after =
@@ -72,7 +73,7 @@ ComparesPairs pairs others before answer after =
     Compares (same_members (pair_trees pairs) (pair_trees others)) (weights (values_of pairs))
     before answer after
 
--- the items from a place on, and what is put off, decide whether the arrays are equal
+-- the items from an index on, and the deferred pairs, decide whether the arrays are equal
 abbrev pub ItemsLeft : (items others : List Value) → (start : Later) → (place : ℕ) → (now : Later)
     → Type 0
 ItemsLeft items others start place now =
@@ -82,7 +83,7 @@ ItemsLeft items others start place now =
     × (to_compare (waiting now) + weights (drop place items)
     ≤ to_compare (waiting start) + weights items)
 
--- the pairs from a place on do, of dictionaries
+-- the pairs from an index on, and the deferred pairs, decide whether the dictionaries are equal
 abbrev pub PairsLeft : (pairs others : List (List ℕ × Value)) → (start : Later) → (place : ℕ)
     → (now : Later) → Type 0
 PairsLeft pairs others start place now =
@@ -91,12 +92,12 @@ PairsLeft pairs others start place now =
     × (to_compare (waiting now) + weights (values_of (drop place pairs))
     ≤ to_compare (waiting start) + weights (values_of pairs))
 
--- the pair that was put off last is taken, if one was
+-- the pair that was deferred last is taken, or no pair is deferred
 abbrev pub TakesLast : (before : Later) → Option Pair → (after : Later) → Type 0
 TakesLast before found after = MatchOption found (waiting before ≡ [])
     (λ pair. waiting before ≡ waiting after ++ pair ∷ [])
 
--- the same of two values, which may be put off themselves, and of their contents
+-- two values, which may be deferred themselves, or their contents are compared
 abbrev pub ComparesValues : (value other : Value) → (before : Later) → (answer : Bool)
     → (after : Later) → Type 0
 ComparesValues value other before answer after =

@@ -1,4 +1,4 @@
--- That sameness of dictionaries is an equivalence.
+-- Sameness of dictionaries is an equivalence.
 use Rattle.std.specs.Cmp.{IsEquivalence}
 use Rattle.plist_pairs.specs.Equal.{same_pairs}
 use Rattle.plist_pairs.specs.inner.PairsSame.{same_pairs_equiv}

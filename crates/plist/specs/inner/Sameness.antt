@@ -1,4 +1,4 @@
--- That sameness is reflexive, symmetric and transitive, over all trees.
+-- Sameness is reflexive, symmetric and transitive, for all trees.
 use Rattle.std.proofs.Common.{◌≡◌, ℕ, Bool, true, false, ◌||◌, cond, Option, Some, None, is_some, List, [], ◌∷◌, refl, sym, ◌↔◌}
 use Rattle.std.specs.Str.{bytes_eq}
 use Rattle.std.specs.Cmp.{IsEquivalence, equiv, both_ways}
@@ -14,7 +14,7 @@ found_at : (o : Option Tree) (t : Tree)
 found_at None t = (λ h. absurd (cc), λ h. absurd h)
 found_at (Some u) t = (λ h. h, λ h. h)
 
--- what is found in the first is found in the second
+-- a key of the first has the same value in the second
 covered_key : (b : Bool) (seen : List (List ℕ)) (l : List ℕ) (u : Tree) (ms ns : Members)
     (k : List ℕ) (t : Tree) → bytes_eq k l ≡ b
     → is_among l seen || if_found (first_value l ns) (λ v. same u v) ≡ true
@@ -29,7 +29,7 @@ covered_key true seen l u ms ns k t is h fresh e later =
 covered_key false seen l u ms ns k t is h fresh e later =
     later (rw (is, fresh) refl) (rw is at e)
 
--- and back
+-- a key whose values are the same is covered
 covered_here : (b : Bool) (seen : List (List ℕ)) (l : List ℕ) (u : Tree) (ns : Members)
     → is_among l seen ≡ b → (is_among l seen ≡ false → AreSameAt (Some u) (first_value l ns))
     → is_among l seen || if_found (first_value l ns) (λ v. same u v) ≡ true
@@ -85,7 +85,7 @@ at_each None None = (λ h. (λ t e. absurd (cc), λ e. e), λ f. tt)
 at_each None (Some u) = (λ h. absurd h, λ f. let h = f.1 refl in absurd (cc))
 at_each (Some t) b = (λ h. (λ s e. rw (← same_Some t s e) h, λ e. refl), λ f. f.0 t refl)
 
--- the same at every key
+-- dictionaries are the same if and only if they are at every key
 pub dictionaries_alike : (ms ns : Members) → (same (Dictionary ms) (Dictionary ns) ≡ true)
     ↔ ((k : List ℕ) → AreSameAt (first_value k ms) (first_value k ns))
 dictionaries_alike ms ns = (
@@ -102,7 +102,7 @@ dictionaries_alike ms ns = (
       (λ k e. ((at_each (first_value k ms) (first_value k ns)).0 (f k)).1 e)),
 )
 
--- a first value found is one of the values
+-- the first value that is found is one of the values
 found_go : (b : Bool) (u : Tree) (o : Option Tree) (t : Tree) (P : Tree → Type 0)
     → cond b (Some u) o ≡ Some t → P u → (o ≡ Some t → P t) → P t
 found_go true u o t P e here later = rw (← same_Some u t e) here
@@ -138,7 +138,7 @@ both_at (Some t) None c h g f = absurd h
 both_at (Some t) (Some u) None h g f = absurd g
 both_at (Some t) (Some u) (Some v) h g f = f t u v refl h g
 
--- trees that are the same as one are the same
+-- trees that are the same as one tree are the same
 mutual
   both : (t u v : Tree) → same t u ≡ true → same t v ≡ true → same u v ≡ true
   both (Leaf x) (Leaf y) (Leaf z) h g = rw (← scalar_is x y h) g
@@ -190,7 +190,7 @@ module _ {V : Type 0} (tree : V → Tree) where
             (tree u) (tree v) (tree w);
       }) same_by_refl
 
--- the laws as a caller sees them
+-- the laws in the form that callers see
 pub symmetric : (t u : Tree) → same t u ≡ same u t
 symmetric t u = both_ways (same t u) (same u t) (sym_tree t u) (sym_tree u t)
 

@@ -1,4 +1,4 @@
--- How much of a value there is to drop.
+-- How many values have to be dropped.
 use Rattle.std.specs.Prelude.{◌≡◌, ◌<◌, ◌≤◌, ◌⊎◌, ℕ, ◌+◌, ◌*◌, List, [], ◌∷◌, map, sum, length, Option, MatchOption}
 use Rattle.std.specs.declared.alloc.Global.{Global}
 use Rattle.std.specs.declared.vec.Vec.{Vec}
@@ -14,7 +14,7 @@ weight_step other = 1
 abbrev pub pairs_step : Dictionary-F ℕ ℕ → ℕ
 pairs_step dictionary = sum (values_of dictionary.pairs)
 
--- how many values a value holds, itself among them
+-- the number of values in a value, including itself
 abbrev pub weight : Value → ℕ
 weight = fold-Value ℕ ℕ weight_step pairs_step
 
@@ -26,20 +26,21 @@ abbrev pub others : List Value → List Value
 others [] = []
 others (value ∷ values) = values
 
--- What falls as values are dropped: there are fewer, or as many, of which fewer stand after the
--- first.
+-- A number that decreases as values are dropped: either there are fewer values, or there are as
+-- many and fewer of them follow the first.
 abbrev pub to_drop : List Value → ℕ
 to_drop values = weights values * weights values + weights (others values)
 
--- One list of the values of two, of which a collection held the second: fewer than there were with
--- the collection, or as many, and no more after the first than the collection held.
+-- Two lists of values joined into one, where the second was the content of a collection: there are
+-- fewer values than with the collection, or as many, and no more after the first than the
+-- collection contained.
 abbrev pub IsLess : (joined left below : List Value) → Type 0
 IsLess joined left below =
     (weights joined < weights left + 1 + weights below)
     ⊎ ((0 < length left) × (weights joined ≡ weights left + 1 + weights below)
     × (weights (others joined) ≤ weights below))
 
--- what a value holds, if it holds any, weighs one less than it
+-- the content of a value, if it has any, weighs one less than the value
 abbrev pub SplitsInto : Option (Vec Value Global) → Value → Type 0
 SplitsInto found value =
     MatchOption found (weight value ≡ 1) (λ items. weight value ≡ 1 + weights items.items)

@@ -1,4 +1,4 @@
-//! Calls that go over all pairs of a dictionary.
+//! Calls that visit all pairs of a dictionary.
 
 ghost use Rattle.std.specs.Prelude.{◌≡◌, IfOk, OnErr, OnOk, IsPermutation, IsSorted};
 ghost use Rattle.std.specs.Cmp.Lexicographic.{slice_cmp};
@@ -15,8 +15,8 @@ use plist_pairs::Pairs;
 use std::alloc::Global;
 
 impl Dictionary {
-    /// Keeps the pairs for which the closure answers `true`, in their order, and drops the others.
-    /// It asks once for each pair, in their order.
+    /// Keeps the pairs for which the closure returns `true`, in their order, and drops the others.
+    /// The closure is called once for each pair, in their order.
     pub fn retain<F: Fn(&String, &Value) -> bool>(&mut self, keep: F)
         requires { F.IsAlwaysCallable keep }
         ensures kept { Retains F.Fn keep (pairs_of self.old) (pairs_of self.new) }
@@ -24,13 +24,12 @@ impl Dictionary {
         self.pairs.retain(keep);
     }
 
-    /// Inserts each of the pairs, in their order. Values that are replaced are dropped without
-    /// recursion.
+    /// Inserts the pairs, in their order. Values that are replaced are dropped without recursion.
     ///
     /// # Errors
     ///
-    /// `OutOfMemory`: the pairs before the one that found no memory are inserted; that one and
-    /// those after it are dropped.
+    /// `OutOfMemory`: the pairs that precede the one that couldn't be stored are inserted; that one
+    /// and those after it are dropped.
     pub fn extend<I: IntoIterator<Item = (String, Value)>>(&mut self, more: I) -> Result<(), Error>
         requires asked { IterableEnds I.into_iter_gives I.IntoIter.can_next I.IntoIter.remaining
             more }
@@ -41,7 +40,7 @@ impl Dictionary {
         self.pairs.extend(more)
     }
 
-    /// The dictionary of these pairs, inserted in their order.
+    /// Makes a dictionary from these pairs, inserted in their order.
     ///
     /// # Errors
     ///
@@ -66,7 +65,8 @@ impl Dictionary {
     ///
     /// # Errors
     ///
-    /// `OutOfMemory`: the pairs stay as they are. Memory is taken before the first pair moves.
+    /// `OutOfMemory`: the pairs are unchanged, since memory is allocated before the first pair
+    /// moves.
     pub fn sort_keys(&mut self) -> Result<(), Error>
         ensures sorted { OnOk result (IsSorted (slice_cmp nat_cmp) (keys_of (pairs_of self.new))) }
         ensures pairs { OnOk result (IsPermutation (pairs_of self.old) (pairs_of self.new)) }
@@ -76,7 +76,7 @@ impl Dictionary {
         self.pairs.sort_keys()
     }
 
-    /// A copy: the same pairs, in the same order, stored where this one is.
+    /// Copies the pairs, in the same order and with the same allocator.
     ///
     /// # Errors
     ///

@@ -1,6 +1,6 @@
-//! The place of a key in a dictionary.
+//! The entry of a key in a dictionary.
 //!
-//! A clause `writes_back` says what the pairs are once the borrow that the call returns has ended.
+//! A clause `writes_back` says what the pairs are once the returned borrow has ended.
 
 ghost use Rattle.std.specs.Prelude.{◌≡◌, ◌<◌, false, length, None, Some, IfErr, IfOk, OnErr, is_some, string_bytes, unwrap_or};
 ghost use Rattle.std.specs.Str.{bytes_eq};
@@ -10,7 +10,7 @@ ghost use Rattle.plist.specs.Dictionaries.{pairs_of};
 use crate::{Dictionary, Value};
 use std::mem;
 
-/// The place of a key in a dictionary: its pair, or none yet.
+/// The entry of a key in a dictionary, which has a pair or is vacant.
 #[derive(Drop)]
 pub enum Entry<'a> {
     /// The key isn't there.
@@ -19,7 +19,7 @@ pub enum Entry<'a> {
     Occupied(OccupiedEntry<'a>),
 }
 
-/// The place of a key that isn't there. It holds the key.
+/// The entry of a key that isn't there. It owns the key.
 #[derive(Drop)]
 pub struct VacantEntry<'a> {
     pairs: &'a mut Dictionary,
@@ -27,7 +27,7 @@ pub struct VacantEntry<'a> {
     ghost absent: { is_some (lookup (bytes_eq (string_bytes key)) (pairs_of pairs.now)) ≡ false },
 }
 
-/// The pair of a key that is there.
+/// The entry of a key that is there.
 #[derive(Drop)]
 pub struct OccupiedEntry<'a> {
     pairs: &'a mut Dictionary,
@@ -38,7 +38,8 @@ pub struct OccupiedEntry<'a> {
 impl Dictionary {
     ghost use Rattle.plist.specs.Entries.{Inserts, Removes, entry_key, entry_pairs, entry_ref, entry_value, kept_key, unless_there};
 
-    /// The place of the key. It takes no memory: a vacant one takes it with its insert.
+    /// Returns the entry of the key. It allocates no memory; only the insert of a vacant entry
+    /// does.
     pub fn entry(&mut self, key: String) -> Entry<'_>
         // The answer.
         ensures now { entry_pairs result ≡ pairs_of self.old }
@@ -63,14 +64,14 @@ impl<'a> OccupiedEntry<'a> {
     ghost use Rattle.std.specs.Map.{values_of};
     ghost use Rattle.plist.specs.Entries.{IsSameEntry, IsTaken, Occupied, entry_key, entry_lends, entry_pairs, entry_value, occupied_lends, with_value};
 
-    /// The key.
+    /// Returns the key.
     pub fn key(&self) -> &String
         ensures { entry_key (Occupied self.now) ≡ Some (string_bytes result.now) }
     {
         self.pairs.key_at(self.at)
     }
 
-    /// The key's value.
+    /// Returns the key's value.
     #[tactic(auto, using(plist_pairs::proofs::EntrySteps::entries))]
     pub fn get(&self) -> &Value
         ensures value { entry_value (Occupied self.now) ≡ Some result.now }
@@ -79,7 +80,7 @@ impl<'a> OccupiedEntry<'a> {
         self.pairs.pair_at(self.at).1
     }
 
-    /// The key's value, to be changed.
+    /// Returns a mutable reference to the key's value.
     pub fn get_mut(&mut self) -> &mut Value
         ensures value { entry_value (Occupied self.old) ≡ Some result.now }
         ensures* writes_back { sem 𝓛 (occupied_lends self.entry result) }
@@ -88,7 +89,7 @@ impl<'a> OccupiedEntry<'a> {
         self.pairs.value_at(index)
     }
 
-    /// The key's value, to be changed for as long as the dictionary is borrowed.
+    /// Returns a mutable reference to the key's value, for as long as the dictionary is borrowed.
     pub fn into_mut(self) -> &'a mut Value
         ensures value { entry_value (Occupied self.entry) ≡ Some result.now }
         ensures member { IsAmong (values_of (entry_pairs (Occupied self.entry))) result.now }
@@ -98,7 +99,7 @@ impl<'a> OccupiedEntry<'a> {
         pairs.value_at(at)
     }
 
-    /// Sets the key's value, and returns the one that it had.
+    /// Sets the key's value, and returns the value that it had.
     #[tactic(auto, using(plist_pairs::proofs::EntrySteps::entries))]
     pub fn insert(&mut self, value: Value) -> Value
         ensures old { entry_value (Occupied self.old) ≡ Some result }
@@ -109,7 +110,7 @@ impl<'a> OccupiedEntry<'a> {
         mem::replace(self.pairs.value_at(at), value)
     }
 
-    /// Removes the key, and returns its value. The last pair moves to its place.
+    /// Removes the key, and returns its value. The last pair moves to its index.
     pub fn remove(self) -> Value
         ensures value { entry_value (Occupied self.entry) ≡ Some result }
         ensures pairs { IsTaken (Occupied self.entry) (pairs_of self.exit.0.now) }
@@ -123,7 +124,7 @@ impl<'a> VacantEntry<'a> {
     ghost use Rattle.std.specs.Borrow.{sem};
     ghost use Rattle.plist.specs.Entries.{HandsBack, Vacant, entry_lends_ok, kept_key};
 
-    /// The key that an insert would add.
+    /// Returns the key that an insert would add.
     pub fn key(&self) -> &String
         ensures { kept_key (Vacant self.now) ≡ Some result.now }
     {
@@ -134,7 +135,7 @@ impl<'a> VacantEntry<'a> {
     ///
     /// # Errors
     ///
-    /// If memory runs out, the dictionary stays as it is, and the key and the value come back.
+    /// If memory runs out, the dictionary is unchanged, and the key and the value are returned.
     pub fn insert(self, value: Value) -> Result<&'a mut Value, (String, Value)>
         ensures value { IfOk result (λ lent. lent.now ≡ value) }
         ensures handed_back { IfErr result (HandsBack (Vacant self.entry) value) }
@@ -151,7 +152,7 @@ impl<'a> Entry<'a> {
     ghost use Rattle.std.specs.Borrow.{sem};
     ghost use Rattle.plist.specs.Entries.{HandsBack, HandsBackMade, HasOrMakes, entry_key, entry_lends_ok, entry_value};
 
-    /// The key.
+    /// Returns the key.
     pub fn key(&self) -> &String
         ensures { entry_key self.now ≡ Some (string_bytes result.now) }
     {
@@ -161,7 +162,8 @@ impl<'a> Entry<'a> {
         }
     }
 
-    /// The key's value, to be changed: the one that it has, or else this one, which is added.
+    /// Returns a mutable reference to the key's value: the one that it has, or else this one, which
+    /// is added.
     ///
     /// # Errors
     ///
@@ -181,8 +183,8 @@ impl<'a> Entry<'a> {
         }
     }
 
-    /// Like [`Entry::or_insert`], with the value that the closure returns, which is called only if
-    /// the key isn't there.
+    /// Like [`Entry::or_insert`], but with the value that the closure returns. The closure is
+    /// called only if the key isn't there.
     ///
     /// # Errors
     ///

@@ -8,7 +8,7 @@ ghost use Rattle.plist.specs.Dictionaries.{pairs_of};
 use crate::{Dictionary, Value};
 use std::ops::{Index, IndexMut};
 
-/// The value of a key that is there: [`Dictionary::contains_key`] is the test.
+/// Returns the value of a key, which must be there; [`Dictionary::contains_key`] tests that.
 impl<'q> Index<&'q str> for Dictionary {
     type Output = Value;
 
@@ -22,7 +22,7 @@ impl<'q> Index<&'q str> for Dictionary {
     }
 }
 
-/// The value of a key that is there, to be changed.
+/// Returns a mutable reference to the value of a key, which must be there.
 impl<'q> IndexMut<&'q str> for Dictionary {
     ghost use Rattle.std.specs.Borrow.{sem};
     ghost use Rattle.plist.specs.DictionaryLends.{DictionaryLendsValue};

@@ -1,4 +1,4 @@
-//! The iterator over a dictionary by value. Contracts see the list of what it has left.
+//! The iterator over a dictionary by value. Contracts see the list of its remaining pairs.
 
 ghost use Rattle.std.specs.Prelude.{◌≡◌, length, Some, IfSome};
 ghost use Rattle.std.specs.Iterator.{at_most, UpTo};
@@ -10,7 +10,8 @@ use crate::{Dictionary, Value};
 use plist_pairs::dictionary;
 use std::marker::Model;
 
-/// The pairs by value, in their order. What it has left is dropped without recursion.
+/// An iterator over the pairs by value, in their order. The remaining values are dropped without
+/// recursion.
 pub struct IntoIter {
     pairs: dictionary::IntoIter<Value>,
 }
@@ -64,7 +65,7 @@ impl ExactSizeIterator for IntoIter {
     }
 }
 
-/// The pairs by value, in their order.
+/// Iterates over the pairs by value, in their order.
 impl IntoIterator for Dictionary {
     ghost use Rattle.std.specs.Prelude.{◌≡◌};
     ghost use Rattle.std.specs.Str.{bytes_eq};

@@ -1,4 +1,4 @@
-//! A value from its events.
+//! Builds a value from its events.
 
 ghost use Rattle.std.specs.Prelude.{◌≡◌, IfOk, None, Ok, OnErr, OnOk, Some, false, true};
 ghost use Rattle.plist_base.specs.Events.{event_of};
@@ -14,11 +14,11 @@ use std::alloc::Global;
 
 /// Builds a value from its events.
 ///
-/// It holds the events that it has taken, up to lengths, with each key in its first place with its
-/// last value. An event that can't come next is refused and changes nothing: with
-/// `UnexpectedEventType` before the root is complete, and with `ExpectedEndOfEventStream` after
-/// it. If memory runs out, the builder has failed: what it held is dropped, and each later call
-/// answers `WriterFailed`.
+/// A builder keeps the events that it has taken, up to lengths, with each key in its first position
+/// with its last value. An event that can't come next is rejected and changes nothing: with
+/// `UnexpectedEventType` before the root is complete, and with `ExpectedEndOfEventStream` after it.
+/// If memory runs out, the builder has failed: its contents are dropped, and each later call
+/// returns `WriterFailed`.
 #[derive(Drop)]
 pub struct Builder {
     alloc: Global,
@@ -32,7 +32,7 @@ impl Builder {
     ghost use Rattle.plist.specs.Builder.{BuilderAddsEvent, HasAllEventsOf, IsBuilt, IsBuildingStep, RefusesUnlessFailed, RefusesWith, TakesItem, built_of};
     ghost use Rattle.plist.specs.Collecting.{item_by};
 
-    /// A builder that holds no events.
+    /// Creates a builder without events.
     pub fn new(alloc: Global) -> Builder
         ensures { built_of result ≡ nothing_built }
     {
@@ -66,7 +66,7 @@ impl Builder {
         }
     }
 
-    // Takes the event of an item, or passes its fault on.
+    // Takes the event of an item, or returns its error.
     pub(crate) fn take_item<E: AnyEvent>(&mut self, item: Result<E, Error>) -> Result<(), Error>
         requires { (built_of self.old).failed ≡ false }
         ensures taken { OnOk result (TakesItem self.old (item_by E.plain item) self.new) }
@@ -76,11 +76,11 @@ impl Builder {
         event.write_to(self)
     }
 
-    /// The value of the events, which leaves the builder empty. It takes no memory.
+    /// Returns the value of the events, and leaves the builder empty. It allocates no memory.
     ///
     /// # Errors
     ///
-    /// The builder stays as it was.
+    /// The builder is unchanged by an error.
     ///
     /// - `WriterFailed` if it has failed.
     /// - `UnexpectedEndOfEventStream` if the events aren't those of a value yet.
@@ -116,6 +116,7 @@ pub trait AnyEvent: Drop {
     /// Writes the event to a builder that hasn't failed.
     ///
     /// # Errors
+    ///
     /// Those of the builder's `write`.
     fn write_to(self, builder: &mut Builder) -> Result<(), Error>
         requires { (built_of builder.old).failed ≡ false }

@@ -13,14 +13,14 @@ use plist_base::{Error, ErrorKind, Event};
 use std::alloc::Global;
 use std::borrow::{CowSlice, CowStr};
 
-// An open collection: what is left of it.
+// An open collection, with what is left of it.
 #[derive(Drop)]
 enum Level<'a> {
     Array(&'a [Value]),
     Dictionary(Iter<'a>),
 }
 
-// What comes next.
+// What is next.
 #[derive(Drop)]
 enum Next<'a> {
     Nothing,
@@ -29,12 +29,13 @@ enum Next<'a> {
     Value(&'a Value),
 }
 
-/// The events of a value, depth first: each start has its length, and texts and data are borrowed
-/// from the value.
+/// An iterator over the events of a value, depth first: each start has its length, and strings and
+/// data are borrowed from the value.
 ///
 /// # Errors
-/// `OutOfMemory`, without an offset, in the place of a start; then the events have ended. No other
-/// event takes memory.
+///
+/// `OutOfMemory`, without an offset, in place of a start; then the iterator has ended. No other
+/// event allocates memory.
 #[derive(Drop)]
 pub struct Events<'a> {
     value: Option<&'a Value>,
@@ -53,7 +54,7 @@ impl<'a> Events<'a> {
         }
     }
 
-    // What comes next, which is no longer left then.
+    // Removes and returns what is next.
     fn advance(&mut self) -> Next<'a>
         ensures { ComesNext self.old result self.new }
     {
@@ -80,7 +81,7 @@ impl<'a> Events<'a> {
         }
     }
 
-    // Opens a collection. Where there is no memory for that, no events are left.
+    // Opens a collection. If memory for that runs out, no events are left.
     fn open(&mut self, level: Level<'a>) -> Result<(), Error>
         requires { self.old.value ≡ None }
         ensures opened { OnOk result (OpensLevel self.old level.entry self.new) }
@@ -96,7 +97,7 @@ impl<'a> Events<'a> {
         }
     }
 
-    // The first event of a value, whose others are left then.
+    // Returns the first event of a value, whose others are left then.
     fn begin(&mut self, value: &'a Value) -> Result<Event<'a>, Error>
         requires { self.old.value ≡ None }
         ensures { BeginsValue (tree_of value.now) self.old result self.new }

@@ -1,4 +1,4 @@
-//! What a program needs beside the readers: the format of a source, items under limits, and the
+//! What a program needs besides the readers: the format of a source, items under limits, and the
 //! traits and types that the readers' contracts name.
 
 pub use plist_ascii::ByteReader;

@@ -1,4 +1,4 @@
-//! What stands in a value of a kind. None of these calls takes memory.
+//! Access to the content of a value of a known kind. No call allocates memory.
 
 ghost use Rattle.std.specs.Prelude.{◌≡◌, ◌↔◌, IfSome, IsSome, IsSomeAnd, Some, option_map, pos};
 ghost use Rattle.std.specs.Option.{option_copied};
@@ -15,7 +15,7 @@ impl Value {
     ghost use Rattle.plist.specs.declared.value.Value.TheVariants as made;
     ghost use Rattle.plist.specs.MutAccessors.{LendsArray, LendsDictionary, items_lent, pairs_lent};
 
-    /// The array, if the value is one.
+    /// Returns the array, or `None` if the value isn't one.
     pub fn as_array(&self) -> Option<&Vec<Value>>
         ensures value { option_map (λ a. item_trees a.now.items) result
             ≡ array_in (tree_of self.now) }
@@ -27,7 +27,7 @@ impl Value {
         Some(array)
     }
 
-    /// The array, to be changed, if the value is one.
+    /// Returns a mutable reference to the array, or `None` if the value isn't one.
     pub fn as_array_mut(&mut self) -> Option<&mut Vec<Value>>
         ensures value { items_lent result ≡ array_in (tree_of self.old) }
         ensures made { IfSome result (λ items. self.old ≡ made.Array items.now) }
@@ -39,7 +39,7 @@ impl Value {
         Some(lent)
     }
 
-    /// The dictionary, if the value is one.
+    /// Returns the dictionary, or `None` if the value isn't one.
     pub fn as_dictionary(&self) -> Option<&Dictionary>
         ensures value { option_map (λ d. pair_trees (pairs_of d.now)) result
             ≡ dictionary_in (tree_of self.now) }
@@ -51,7 +51,7 @@ impl Value {
         Some(dictionary)
     }
 
-    /// The dictionary, to be changed, if the value is one.
+    /// Returns a mutable reference to the dictionary, or `None` if the value isn't one.
     pub fn as_dictionary_mut(&mut self) -> Option<&mut Dictionary>
         ensures value { pairs_lent result ≡ dictionary_in (tree_of self.old) }
         ensures made { IfSome result (λ pairs. self.old ≡ made.Dictionary pairs.now) }
@@ -63,7 +63,7 @@ impl Value {
         Some(lent)
     }
 
-    /// The truth value, if the value is one.
+    /// Returns the Boolean, or `None` if the value isn't one.
     pub fn as_boolean(&self) -> Option<bool>
         ensures { result ≡ boolean_in (tree_of self.now) }
     {
@@ -73,7 +73,7 @@ impl Value {
         Some(*value)
     }
 
-    /// The bytes of data, if the value is data.
+    /// Returns the bytes of data, or `None` if the value isn't data.
     pub fn as_data(&self) -> Option<&[u8]>
         ensures { option_copied result ≡ data_in (tree_of self.now) }
     {
@@ -83,7 +83,7 @@ impl Value {
         Some(bytes.as_slice())
     }
 
-    /// The date, if the value is one.
+    /// Returns the date, or `None` if the value isn't one.
     pub fn as_date(&self) -> Option<Date>
         ensures { result ≡ date_in (tree_of self.now) }
     {
@@ -93,7 +93,7 @@ impl Value {
         Some(*date)
     }
 
-    /// The bytes of a real, if the value is one.
+    /// Returns the bytes of a real, or `None` if the value isn't one.
     pub fn as_real(&self) -> Option<RealBits>
         ensures { result ≡ real_in (tree_of self.now) }
     {
@@ -103,7 +103,7 @@ impl Value {
         Some(*bits)
     }
 
-    /// The number, if the value is an integer that fits an `i64`.
+    /// Returns the number if the value is an integer that fits into an `i64`, and otherwise `None`.
     pub fn as_signed_integer(&self) -> Option<i64>
         ensures fits { IsSome result ↔ IsSomeAnd (integer_in (tree_of self.now)) IsBelowSigned }
         ensures value { IfSome result (λ n. integer_in (tree_of self.now) ≡ Some n) }
@@ -114,7 +114,7 @@ impl Value {
         number.as_signed()
     }
 
-    /// The number, if the value is an integer that isn't negative.
+    /// Returns the number if the value is an integer that isn't negative, and otherwise `None`.
     pub fn as_unsigned_integer(&self) -> Option<u64>
         ensures fits { IsSome result ↔ IsSomeAnd (integer_in (tree_of self.now)) IsNatural }
         ensures value { IfSome result (λ n. integer_in (tree_of self.now) ≡ Some (pos n)) }
@@ -125,7 +125,7 @@ impl Value {
         number.as_unsigned()
     }
 
-    /// The text, if the value is one.
+    /// Returns the string, or `None` if the value isn't one.
     pub fn as_string(&self) -> Option<&str>
         ensures { option_copied result ≡ text_in (tree_of self.now) }
     {
@@ -135,7 +135,7 @@ impl Value {
         Some(text.as_str())
     }
 
-    /// The identifier, if the value is one.
+    /// Returns the identifier, or `None` if the value isn't one.
     pub fn into_uid(self) -> Option<Uid>
         ensures { result ≡ uid_in (tree_of self) }
     {
@@ -148,7 +148,7 @@ impl Value {
         }
     }
 
-    /// The identifier, if the value is one.
+    /// Returns the identifier, or `None` if the value isn't one.
     pub fn as_uid(&self) -> Option<&Uid>
         ensures { option_copied result ≡ uid_in (tree_of self.now) }
     {
@@ -158,7 +158,7 @@ impl Value {
         Some(lent)
     }
 
-    // Where a collection is stored.
+    // Returns the allocator of a collection.
     pub(crate) fn allocator(&self) -> Option<Global> {
         if let Value::Array(items) = self {
             return Some(*items.allocator());

@@ -1,5 +1,6 @@
-//! How a value is dropped without recursion: the values that are left lie in one list, which is kept
-//! as an array in the next one, in the place of a value that was taken out of that one.
+//! How values are dropped without recursion. The values that are left are in one list. When the
+//! values of a collection are added, that list is stored among them as an array, in a slot that one
+//! of them leaves, so that no memory is allocated.
 
 ghost use Rattle.std.specs.Prelude.{◌<◌, vec_len};
 ghost use Rattle.std.specs.Vec.{vec_capacity};
@@ -10,7 +11,7 @@ use crate::dictionary::Discard;
 use std::mem;
 
 impl Value {
-    // What a collection contains, without its keys; a scalar is dropped.
+    // Returns the values in a collection, without its keys. A scalar is dropped.
     fn into_children(self) -> Option<Vec<Value>>
         ensures { SplitsInto result self }
     {
@@ -27,11 +28,11 @@ impl Value {
         }
     }
 
-    /// Drops the value without recursion and without memory, however deep it is.
+    /// Drops the value without recursion and without allocating memory, however deep it is.
     ///
-    /// When a value goes out of scope, the arrays in it are dropped by recursion, and at some
-    /// 100,000 levels of arrays the call stack overflows. Call this instead for a value that may
-    /// nest that deep, such as one that was read from a stranger's file without [`Limits`].
+    /// When a value goes out of scope, the arrays in it are dropped recursively, and at some
+    /// 100,000 levels of arrays the call stack overflows. Call this method instead for a value that
+    /// may be that deep, such as one that was read from an untrusted file without [`Limits`].
     pub fn destroy(self) {
         match self.into_children() {
             None => {}
@@ -46,7 +47,7 @@ impl Discard for Value {
     }
 }
 
-/// Drops the values without recursion and without memory.
+/// Drops the values without recursion and without allocating memory.
 pub(crate) fn destroy_all(values: Vec<Value>) {
     let mut left = values;
     while let Some(value) = left.pop() {
@@ -58,10 +59,10 @@ pub(crate) fn destroy_all(values: Vec<Value>) {
     left.destroy_empty();
 }
 
-// One list of the values that are left and of those that a collection contained.
+// Joins the values that are left and those that a collection contained into one list.
 //
-// It takes no memory: the collection was taken out of the first list, which has capacity for one
-// value then, and so has the second.
+// It allocates no memory: the collection was taken out of the first list, which therefore has
+// capacity for one more value, and so has the second.
 fn joined(mut left: Vec<Value>, mut below: Vec<Value>) -> Vec<Value>
     requires { vec_len left < vec_capacity left }
     ensures { IsLess result.items left.items below.items }

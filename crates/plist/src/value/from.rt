@@ -1,4 +1,4 @@
-//! Values from what they hold. None of these calls takes memory.
+//! Conversions into values. None of them allocates memory.
 
 ghost use Rattle.std.specs.Prelude.{◌≡◌, pos};
 ghost use Rattle.plist.specs.declared.value.Value.TheVariants as made;

@@ -1,5 +1,5 @@
--- What calls of an input do to the bytes that are still to be taken, to the place where those taken
--- end, and to the count of failures.
+-- How calls of an input change the bytes that are left to be taken, the number of bytes taken, and
+-- the count of failures.
 use Rattle.std.specs.Prelude.{◌≡◌, ◌⊎◌, ℕ, ◌+◌, ◌-◌, ◌^◌, ◌<◌, ◌≤◌, Bool, true, false, List, [], ◌∷◌, ◌++◌, take, drop, Option, None, Some, Result, IfOk, IfSome, IfErr, MatchOption, vec_items}
 use Rattle.std.specs.Option.{option_map}
 use Rattle.std.specs.declared.alloc.Global.{Global}
@@ -22,30 +22,30 @@ use Rattle.plist_ascii.specs.inner.Parts.{escaped_bytes, Parts, EndsRun}
 
 -- ---- failures
 
--- `Io` only where the count of the device's failures rose
+-- the inner reader's count of failures rose if the call returned `Io`, and else is unchanged
 abbrev pub CountsFailed : {R A : Type 0} → (R → Option ℕ) → Input R → Result A Error → Input R
     → Type 0
 CountsFailed failures old answer new = AnswersIoIfCounted answer (failures old.inner)
     (failures new.inner)
 
--- the same of an item
+-- the inner reader's count of failures rose if the item is `Io`, and else is unchanged
 abbrev pub ItemCountsFailed : {R A : Type 0} → (R → Option ℕ) → Input R
     → Option (Result A Error) → Input R → Type 0
 ItemCountsFailed failures old item new = ItemCountsIoIfCounted item (failures old.inner)
     (failures new.inner)
 
--- a device's fault or lack of memory alone, where the bytes taken end
+-- the only errors are `Io` and `OutOfMemory`, and the offset is the number of bytes taken
 abbrev pub OnlyIoOrMemory : {R A : Type 0} → Result A Error → Input R → Type 0
 OnlyIoOrMemory answer input = IfErr answer (λ error. IsFaultAt (fault_of error) input.taken
     × (is_io_or_memory (kind_of (error_kind_of error)) ≡ true))
 
 -- ---- one byte
 
--- where a byte came, this is so of it
+-- if a byte was returned, this is true of it
 abbrev pub IfCame : {A : Type 0} → Result (Option A) Error → (A → Type 0) → Type 0
 IfCame answer P = IfOk answer (λ came. IfSome came P)
 
--- a byte that came can be taken
+-- a byte that was returned can be taken
 abbrev pub CanTakeByte : {R : Type 0} → Input R → Option ℕ → Type 0
 CanTakeByte new byte = IfSome byte (λ _.
     (new.peeked ≡ byte) × (new.ended ≡ false) × (new.taken < 2 ^ 64 - 1))
@@ -58,7 +58,7 @@ TakesNoMore input = (input.ended ≡ true) ⊎ (input.taken ≡ 2 ^ 64 - 1)
 abbrev pub TakesOneMore : {R : Type 0} → Input R → Input R → Type 0
 TakesOneMore old new = (new.taken ≡ old.taken + 1) × (new.taken < 2 ^ 64)
 
--- one more byte is taken where one came, else none
+-- one more byte is taken if one was returned, and else none
 abbrev pub CountsByte : {R : Type 0} → Input R → Option ℕ → Input R → Type 0
 CountsByte old byte new = MatchOption byte (new.taken ≡ old.taken) (λ _. TakesOneMore old new)
 
@@ -68,9 +68,9 @@ CountsByte old byte new = MatchOption byte (new.taken ≡ old.taken) (λ _. Take
 abbrev pub TakesSomeMore : {R : Type 0} → Input R → Input R → Type 0
 TakesSomeMore old new = (old.taken < new.taken) × (old.taken < 2 ^ 64)
 
--- ---- what stands at the front
+-- ---- what is at the front
 
--- a bare text, and the token that a byte begins, where this ends a run
+-- a bare string, and the token that a byte begins, if this ends a run
 abbrev pub bare_until : Stop → ℕ → List ℕ → Token
 bare_until stop byte = bare (stops stop) byte
 
@@ -81,12 +81,12 @@ token_until stop byte = token_by (stops stop) (lead_of byte) byte
 abbrev pub StopsAtBracket : {R : Type 0} → Input R → Event → Type 0
 StopsAtBracket new event = IfBracket (event_of event) (new.peeked ≡ None)
 
--- more than the items that are still to come
+-- an upper bound on the number of remaining items
 abbrev pub input_steps : {R : Type 0} → Input R → ℕ
 input_steps input = bytes_to_come input.ended input.taken
 
 module _ {R : Type 0} (known : R → Option (List ℕ)) where
-  -- the byte is the first of those to be taken, which stay
+  -- the byte is the first of those left, which stay
   abbrev pub Peeks : Input R → Option ℕ → Input R → Type 0
   Peeks old byte new =
       IfKnown (unread known old) (λ xs. (unread known new ≡ Some xs) × (byte ≡ first xs))
@@ -95,7 +95,7 @@ module _ {R : Type 0} (known : R → Option (List ℕ)) where
   abbrev pub DropsOne : Input R → Input R → Type 0
   DropsOne old new = IfKnown (unread known old) (λ xs. unread known new ≡ Some (drop 1 xs))
 
-  -- this byte was the first, and is taken
+  -- this byte was the first, and it is taken
   abbrev pub TakesByte : Input R → ℕ → Input R → Type 0
   TakesByte old byte new = FirstIsTaken (unread known old) byte (unread known new)
 
@@ -104,18 +104,18 @@ module _ {R : Type 0} (known : R → Option (List ℕ)) where
   HasNothingLeft old new =
       IfKnown (unread known old) (λ xs. (unread known new ≡ Some xs) × (xs ≡ []))
 
-  -- the bytes to be taken stay, and the run is at its end
+  -- the bytes stay, and the run is at its end
   abbrev pub StopsRun : Stop → Input R → Input R → Type 0
   StopsRun stop old new =
       IfKnown (unread known old) (λ xs. (unread known new ≡ Some xs) × (run (stops stop) xs ≡ 0))
 
-  -- this byte was taken, which doesn't end the run
+  -- this byte was taken, and doesn't end the run
   abbrev pub TakesPlain : Stop → Input R → ℕ → Input R
       → Type 0
   TakesPlain stop old byte new = IfKnown (unread known old) (λ xs.
       (ys : List ℕ) × (xs ≡ byte ∷ ys) × (unread known new ≡ Some ys) × (stops stop byte ≡ false))
 
-  -- a device's fault or lack of memory; or the text isn't closed, where nothing is left
+  -- the error is `Io` or `OutOfMemory`, or the string isn't closed and nothing is left
   abbrev pub IsUnclosedText : Input R → Input R → Error → Type 0
   IsUnclosedText old new error = IsFaultAt (fault_of error) new.taken
       × (is_io_or_memory (kind_of (error_kind_of error)) ≡ false
@@ -127,7 +127,7 @@ module _ {R : Type 0} (known : R → Option (List ℕ)) where
       (unread known new ≡ Some (drop (run (stops stop) xs) xs))
       × (new.taken ≡ old.taken + run (stops stop) xs))
 
-  -- the run was taken, and stands after the text
+  -- the run was taken, and appended to the text
   abbrev pub AddsRun : Stop → Input R
       → (text : Vec ℕ Global) → Input R → (longer : Vec ℕ Global) → Type 0
   AddsRun stop old text new longer = IfKnown (unread known old) (λ xs.
@@ -140,27 +140,27 @@ module _ {R : Type 0} (known : R → Option (List ℕ)) where
   SkipsSome stop old new = IfKnown (unread known old) (λ xs. (part : List ℕ)
       × TakesPart (stops stop) old.taken [] (unread known new) new.taken part xs)
 
-  -- some of the run was taken, and stands after the text
+  -- some of the run was taken, and appended to the text
   abbrev pub AddsTo : Stop → Input R
       → (text : Vec ℕ Global) → Input R → (longer : Vec ℕ Global) → Type 0
   AddsTo stop old text new longer = IfKnown (unread known old)
       (TakesPart (stops stop) old.taken text.items (unread known new) new.taken longer.items)
 
-  -- what stands after a run was taken: the closing quote, or an escape that stands for a piece
+  -- what follows a run was taken: the closing quote, or an escape that stands for a piece
   abbrev pub TakesEnd : (quote : ℕ) → Input R → Input R
       → Option Escaped → Type 0
   TakesEnd quote old new piece = IfKnown (unread known old) (λ xs. (n : ℕ)
       × EndsRun quote xs piece n × (unread known new ≡ Some (drop n xs))
       × (new.taken ≡ old.taken + n))
 
-  -- a run and what stands after it were taken, and what they mean stands after the text
+  -- a run and what follows it were taken, and their meaning was appended to the text
   abbrev pub Quotes : (quote : ℕ) → Input R
       → (text : Vec ℕ Global) → Input R → (longer : Vec ℕ Global) → (closed : Bool) → Type 0
   Quotes quote old text new longer closed = IfKnown (unread known old) (λ xs. (n : ℕ)
       × (part : List ℕ) × Parts quote xs closed n part × (longer.items ≡ text.items ++ part)
       × (unread known new ≡ Some (drop n xs)) × (new.taken ≡ old.taken + n))
 
-  -- a device's fault or lack of memory; or a fault that n bytes have, which were taken
+  -- the error is `Io` or `OutOfMemory`, or a fault of n bytes, which were taken
   abbrev pub FailsAfter : (fails : List ℕ → FaultKind → ℕ → Type 0) → Input R → Input R → Error
       → Type 0
   FailsAfter fails old new error = IsFaultAt (fault_of error) new.taken
@@ -169,50 +169,50 @@ module _ {R : Type 0} (known : R → Option (List ℕ)) where
       → IfKnown (unread known old) (λ xs. (n : ℕ) × fails xs (kind_of (error_kind_of error)) n
       × (unread known new ≡ Some (drop n xs)) × (new.taken ≡ old.taken + n)))
 
-  -- what stands at the front was taken, and gave what the answer says, seen by view
+  -- what is at the front was taken, and its meaning or fault is the result, seen by view
   abbrev pub GivesBy : {X A : Type 0} → (view : X → A) → (List ℕ → Taken A) → Input R
       → Result X Error → Input R → Type 0
   GivesBy view front old answer new =
       GivesFront view front (unread known old) old.taken (unread known new) new.taken answer
 
-  -- the same of a token, which gives an event or nothing
+  -- a token was taken, whose event, if it has one, is the result
   abbrev pub GivesToken : (List ℕ → Token) → Input R → Result (Option Event) Error → Input R
       → Type 0
   GivesToken = GivesBy (option_map event_of)
 
-  -- of a token that gives an event
+  -- a token was taken, whose event is the result
   abbrev pub GivesOne : (List ℕ → Token) → Input R → Result Event Error → Input R → Type 0
   GivesOne = GivesBy (λ e. Some (event_of e))
 
-  -- of a text's bytes
+  -- a string was taken, whose bytes are the result
   abbrev pub GivesText : (List ℕ → Taken (List ℕ)) → Input R → Result (Vec ℕ Global) Error → Input R
       → Type 0
   GivesText = GivesBy vec_items
 
-  -- of what an escape stands for
+  -- an escape was taken, and what it stands for is the result
   abbrev pub GivesEscaped : (List ℕ → Taken (List ℕ)) → Input R → Result Escaped Error → Input R
       → Type 0
   GivesEscaped = GivesBy escaped_bytes
 
-  -- and of a unit of UTF-16
+  -- the digits of a UTF-16 unit were taken, and the unit is the result
   abbrev pub GivesUnit : (List ℕ → Taken (Option ℕ)) → Input R → Result (Option ℕ) Error → Input R
       → Type 0
   GivesUnit = GivesBy (λ u. u)
 
-  -- memory is needed only for a text
+  -- `OutOfMemory` is returned only for a string
   abbrev pub AllocatesForText : (List ℕ → Token) → Input R
       → Error → Type 0
   AllocatesForText front old error = kind_of (error_kind_of error) ≡ OutOfMemory
       → IfKnown (unread known old) (λ xs. IsTextToken (front xs).gives)
 
-  -- the first item of the bytes to be taken came
+  -- the first item of the bytes that were left is returned
   abbrev pub GivesToStop : Stop → Input R
       → Option (Result Event Error) → Input R → Type 0
   GivesToStop stop old item new = IfKnown (unread known old) (λ xs. (ys : List ℕ)
       × (unread known new ≡ Some ys)
       × GivesAsciiItem (stops stop) xs old.taken item ys new.taken)
 
-  -- after a quoted text no byte has been looked at
+  -- after a quoted string no byte has been looked at
   abbrev pub StopsAtQuote : Stop → Input R → Option (Result Event Error) → Input R → Type 0
   StopsAtQuote stop old item new = IfKnown (unread known old) (λ xs.
       IfQuotedItem (placed_items (stops stop) xs old.taken) item (new.peeked ≡ None))

@@ -1,4 +1,4 @@
--- What has been taken of a text: its characters, escapes, and parts that end at one.
+-- What has been taken of a string: its characters, escapes, and parts that end with one.
 use Rattle.std.specs.Prelude.{◌≡◌, ℕ, ◌<◌, Bool, true, false, List, [], ◌∷◌, drop, Option, None, Some, Result, Ok, Err, MatchOption, encode_utf8, string_bytes}
 use Rattle.std.specs.Char.{is_digit, digit_value}
 use Rattle.std.specs.Str.{is_utf8}
@@ -12,35 +12,34 @@ use Rattle.plist_ascii.specs.declared.unescape.Escaped.TheVariants as piece
 use Rattle.plist_ascii.specs.Taken.{Taken, taken}
 use Rattle.plist_ascii.specs.Quoted.{piece_then, run_end, quoted_by}
 
--- the bytes of the text that a piece stands for
+-- the bytes that an escape stands for
 abbrev pub escaped_bytes : Escaped → List ℕ
 escaped_bytes (piece.Byte byte) = byte ∷ []
 escaped_bytes (piece.Char c) = encode_utf8 c
 
--- these bytes are UTF-8, and the text's
+-- these bytes are UTF-8, and those of the string
 abbrev pub IsTextOf : List ℕ → String Global → Type 0
 IsTextOf bytes text = (is_utf8 bytes ≡ true) × (string_bytes text ≡ bytes)
 
--- these bytes aren't UTF-8, which is the fault
+-- these bytes aren't UTF-8, and the error says so
 abbrev pub IsNoText : List ℕ → ErrorKind → Type 0
 IsNoText bytes kind = (is_utf8 bytes ≡ false) × (kind_of kind ≡ InvalidUtf8AsciiStream)
 
--- the byte is a digit, of this value
+-- the byte is a digit with this value
 abbrev pub IsDigitOf : (byte radix value : ℕ) → Type 0
 IsDigitOf byte radix value =
     (is_digit byte radix ≡ true) × (value ≡ digit_value byte) × (value < radix)
 
--- the unit is no surrogate, and this character
+-- the unit isn't a surrogate, and is this character
 abbrev pub IsCharOfUnit : (unit c : ℕ) → Type 0
 IsCharOfUnit unit c = (is_surrogate unit ≡ false) × (c ≡ unit)
 
--- the outcome is the character's bytes, or this fault where there is none
+-- the outcome is the character's bytes or, without a character, this fault
 abbrev pub IsCharOr : FaultKind → Result (List ℕ) FaultKind → Option ℕ → Type 0
 IsCharOr fault outcome char =
     MatchOption char (outcome ≡ Err fault) (λ c. outcome ≡ Ok (encode_utf8 c))
 
--- From these bytes n were taken, which stand for `part`; after them the text is closed, or goes
--- on.
+-- Of these bytes n were taken, which stand for `part`. After them the string is closed, or goes on.
 abbrev pub Parts : (quote : ℕ) → List ℕ → (closed : Bool) → ℕ → List ℕ → Type 0
 Parts quote bytes true n part =
     (more : List ℕ → Taken (List ℕ)) → quoted_by quote more bytes ≡ taken n (Ok part)
@@ -48,12 +47,12 @@ Parts quote bytes false n part =
     (more : List ℕ → Taken (List ℕ)) → quoted_by quote more bytes
     ≡ piece_then n part (more (drop n bytes))
 
--- or there is a fault at their end
+-- n bytes were taken, and end with a fault
 abbrev pub PartFails : (quote : ℕ) → List ℕ → FaultKind → ℕ → Type 0
 PartFails quote bytes kind n =
     (more : List ℕ → Taken (List ℕ)) → quoted_by quote more bytes ≡ taken n (Err kind)
 
--- after a run stands the closing quote, or an escape that stands for a piece
+-- a run is followed by the closing quote, or by an escape that stands for a piece
 abbrev pub EndsRun : (quote : ℕ) → List ℕ → Option Escaped → ℕ → Type 0
 EndsRun quote bytes None n =
     (more : List ℕ → Taken (List ℕ)) → run_end quote more bytes ≡ taken n (Ok [])
@@ -61,7 +60,7 @@ EndsRun quote bytes (Some piece) n =
     (more : List ℕ → Taken (List ℕ)) → run_end quote more bytes
     ≡ piece_then n (escaped_bytes piece) (more (drop n bytes))
 
--- or a fault
+-- a run is followed by a fault
 abbrev pub EndFails : (quote : ℕ) → List ℕ → FaultKind → ℕ → Type 0
 EndFails quote bytes kind n =
     (more : List ℕ → Taken (List ℕ)) → run_end quote more bytes ≡ taken n (Err kind)

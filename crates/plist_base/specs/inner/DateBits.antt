@@ -3,11 +3,11 @@ use Rattle.std.specs.Prelude.{◌≡◌, ℕ, ◌+◌, ◌-◌, ◌*◌, ◌^◌
 use Rattle.std.specs.Int.Count.{count_leading_zeros}
 use Rattle.plist_base.specs.Date.{is_second_of_date}
 
--- there is none exactly where the number isn't below this limit
+-- the result is none if and only if the number isn't below this limit
 abbrev pub IsNoneFrom : {A : Type 0} → (limit number : ℕ) → Option A → Type 0
 IsNoneFrom limit number answer = MatchOption answer (limit ≤ number) (λ _. number < limit)
 
--- the bits of a whole number below 2 ^ 53; its highest bit adds one to the exponent
+-- the bits of an integer below 2 ^ 53; its highest bit adds one to the exponent
 unfoldable pub whole_bits : ℕ → ℕ
 whole_bits n =
     if n == 0 then 0 else (1085 - count_leading_zeros 64 n) * 2 ^ 52
@@ -17,6 +17,6 @@ unfoldable pub second_bits : ℤ → ℕ
 second_bits (pos n) = whole_bits n
 second_bits (negsuc n) = 2 ^ 63 + whole_bits (n + 1)
 
--- the bits are those of the second, which is one of a date
+-- these are the bits of the second, which is one of a date
 abbrev pub AreBitsAt : ℤ → (bits : ℕ) → Type 0
 AreBitsAt second bits = (is_second_of_date second ≡ true) × (bits ≡ second_bits second)

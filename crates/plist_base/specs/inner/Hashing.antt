@@ -1,4 +1,4 @@
--- What an event feeds to a hasher: one write of what it shows.
+-- What an event writes to a hasher: its content, in one write.
 use Rattle.std.specs.Prelude.{◌≡◌, ◌==◌, ℕ, Bool, true, List, []}
 use Rattle.std.proofs.Common.{ap, refl, rules}
 use Rattle.std.specs.Bool.{Decides}
@@ -25,7 +25,7 @@ eq_of_events x y = (impl.ghosts).eq x y
 pub same_list : (a b : List ℕ) → Decides (pointwise (λ x y. x == y) a b) (a ≡ b)
 same_list a b = slice_eq-Decides Decides-eqb a b _ refl
 
--- events that are equal show the same
+-- equal events have the same content
 pub same_event : (x y : Event) → eq_of_events x y ≡ true → event_of x ≡ event_of y
 same_event (event.Data a) (event.Data b) h =
     ap (λ l. ScalarEvent (Data l)) ((same_list (cow_slice_items a) (cow_slice_items b)).0 h)

@@ -2,7 +2,7 @@
 use Rattle.std.specs.Prelude.{List, ℕ, codes}
 use Rattle.plist_base.specs.Faults.{FaultKind, UnknownObjectType, UnexpectedEventType, ExpectedEndOfEventStream, LimitReached, kind_text}
 
--- the name of a kind, without what it holds
+-- the name of a kind, without its fields
 abbrev pub kind_name : FaultKind → List ℕ
 kind_name (UnknownObjectType marker) = codes "UnknownObjectType"
 kind_name (UnexpectedEventType expected found) = codes "UnexpectedEventType"

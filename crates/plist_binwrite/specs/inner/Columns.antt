@@ -13,14 +13,14 @@ kind_in (entry.Dictionary behind) = kind.Dictionary
 kind_in (entry.Scalar index) = kind.Scalar
 kind_in entry.End = kind.End
 
--- its number: that of an end is 0
+-- the number of an entry, which is 0 for an end
 abbrev pub number_in : EventEntry → ℕ
 number_in (entry.Array behind) = behind
 number_in (entry.Dictionary behind) = behind
 number_in (entry.Scalar index) = index
 number_in entry.End = 0
 
--- the scalar that an entry names
+-- the scalar that an entry refers to
 abbrev pub scalar_named : EventEntry → Option ℕ
 scalar_named (entry.Scalar index) = Some index
 scalar_named other = None
@@ -32,12 +32,12 @@ entry_of kind.Dictionary number = entry.Dictionary number
 entry_of kind.Scalar number = entry.Scalar number
 entry_of kind.End number = entry.End
 
--- with this number an entry is that of its kind
+-- this number and its kind make up the entry
 abbrev pub IsEntryNumber : List EventEntry → (index number : ℕ) → Type 0
 IsEntryNumber entries index number =
     entry_of (kind_in (entry_at entries index)) number ≡ entry_at entries index
 
--- the entries, index by index
+-- the entries, one for each index
 abbrev pub entries_from : List EntryKind → List ℕ → List EventEntry
 entries_from (k ∷ kinds) (n ∷ numbers) = entry_of k n ∷ entries_from kinds numbers
 entries_from kinds numbers = []

@@ -1,4 +1,5 @@
--- The entries by which events are held: what they show, and what holds of them.
+-- The entries in which events are buffered: the events that they stand for, and what is always true
+-- of them.
 use Rattle.std.specs.Prelude.{◌≡◌, ℕ, ◌+◌, ◌<◌, ◌==◌, Bool, true, false, List, [], ◌∷◌, ◌++◌, length, get_or, set, map, reverse, None, Some, slice_get}
 use Rattle.std.specs.List.{list_any}
 use Rattle.plist_base.specs.Bracketing.{without_length}
@@ -8,7 +9,7 @@ use Rattle.plist_binwrite.specs.inner.UnclosedStarts.{unclosed_after, skip_after
 use Rattle.plist_binwrite.specs.declared.entries.EventEntry.{EventEntry}
 use Rattle.plist_binwrite.specs.declared.entries.EventEntry.TheVariants as entry
 
--- no key stands twice
+-- no key occurs twice
 abbrev pub AreDistinct : {K : Type 0} → List K → Type 0
 AreDistinct {K} keys = (i j : ℕ) (k : K) → slice_get keys i ≡ Some k → slice_get keys j ≡ Some k
     → i ≡ j
@@ -21,7 +22,7 @@ is_leaf event = false
 abbrev pub entry_at : List EventEntry → ℕ → EventEntry
 entry_at entries index = get_or entries index entry.End
 
--- the event of an entry, where these are the different scalars
+-- the event of an entry, given the different scalars
 abbrev pub event_of_entry : (scalars : List PlainEvent) → EventEntry → PlainEvent
 event_of_entry scalars (entry.Array behind) = StartArray None
 event_of_entry scalars (entry.Dictionary behind) = StartDictionary None
@@ -31,12 +32,12 @@ event_of_entry scalars entry.End = EndCollection
 abbrev pub events_of_entries : (scalars : List PlainEvent) → List EventEntry → List PlainEvent
 events_of_entries scalars entries = map (event_of_entry scalars) entries
 
--- where an entry names a scalar, that is one
+-- if the entry refers to a scalar, that is one
 abbrev pub is_sound : (scalars : List PlainEvent) → EventEntry → Bool
 is_sound scalars (entry.Scalar index) = is_leaf (get_or scalars index EndCollection)
 is_sound scalars other = true
 
--- does the entry name the scalar of this number?
+-- does the entry refer to the scalar with this number?
 abbrev pub names : (scalar : ℕ) → EventEntry → Bool
 names scalar (entry.Scalar index) = index == scalar
 names scalar other = false
@@ -47,7 +48,7 @@ is_start (entry.Array behind) = true
 is_start (entry.Dictionary behind) = true
 is_start other = false
 
--- the index after the tree that begins with the entry here
+-- the index after the tree that begins with the entry at this index
 abbrev pub index_after_entry : (index : ℕ) → EventEntry → ℕ
 index_after_entry index (entry.Array behind) = behind
 index_after_entry index (entry.Dictionary behind) = behind
@@ -56,7 +57,7 @@ index_after_entry index other = index + 1
 abbrev pub index_after_at : List EventEntry → (index : ℕ) → ℕ
 index_after_at entries index = index_after_entry index (entry_at entries index)
 
--- a start that has no end yet has the index after itself
+-- a start that is still open has the index after itself
 abbrev pub IsUnclosed : (index : ℕ) → EventEntry → Type 0
 IsUnclosed index entry = index_after_entry index entry ≡ index + 1
 
@@ -66,14 +67,14 @@ closed_at (entry.Array old) behind = entry.Array behind
 closed_at (entry.Dictionary old) behind = entry.Dictionary behind
 closed_at other behind = other
 
--- an end after the entries, which closes the start here
+-- an end is appended, which closes the start at this index
 abbrev pub ended_at : List EventEntry → (start : ℕ) → List EventEntry
 ended_at entries start =
     set (entries ++ entry.End ∷ []) start
     (closed_at (entry_at (entries ++ entry.End ∷ []) start) (length entries + 1))
 
--- each entry of a scalar names one; these are the starts that have no end, the innermost last; and
--- the entries say where trees end
+-- each entry of a scalar refers to one; these are the open starts, the innermost last; and the
+-- entries say where trees end
 pub record AreEntriesOf (scalars : List PlainEvent) (entries : List EventEntry)
     (unclosed : List ℕ) : Type 0 where
   pub sound : (p : ℕ) → p < length entries → is_sound scalars (entry_at entries p) ≡ true
@@ -81,13 +82,13 @@ pub record AreEntriesOf (scalars : List PlainEvent) (entries : List EventEntry)
   pub skips : (p : ℕ) → p < length entries
       → index_after_at entries p ≡ skip_after (events_of_entries scalars entries) p
 
--- what always holds: the scalars are different ones, and each of them is named
+-- what is always true: the scalars differ, and an entry refers to each
 pub record IsValidTable (scalars : List PlainEvent) (entries : List EventEntry)
     (unclosed : List ℕ) : Type 0 where
   pub apart : AreDistinct scalars
   pub used : (i : ℕ) → i < length scalars → list_any (names i) entries ≡ true
   pub entries_are : AreEntriesOf scalars entries unclosed
 
--- the same of events, which are the different scalars
+-- what is always true, for events that are the different scalars
 abbrev pub AreValidEntries : List Event → List EventEntry → (unclosed : List ℕ) → Type 0
 AreValidEntries scalars entries unclosed = IsValidTable (map event_of scalars) entries unclosed

@@ -1,5 +1,5 @@
--- What may come after held events: the innermost collection that has no end yet says whether that
--- is an item or a pair, unless a key came last.
+-- What is expected after buffered events: the innermost open collection decides whether that is an
+-- item or a pair, unless the last event is a key.
 use Rattle.std.specs.Prelude.{◌≡◌, List, [], ◌∷◌, Option, None, Some, map}
 use Rattle.plist_base.specs.Events.{PlainEvent, StartArray, StartDictionary, EndCollection, ScalarEvent}
 use Rattle.plist_base.specs.Expects.{change_of, expected_after}
@@ -8,7 +8,7 @@ use Rattle.plist_base.specs.declared.expects.Expect.TheVariants.{OneValue, Items
 use Rattle.plist_base.specs.declared.expects.Change.{Change}
 use Rattle.plist_base.specs.declared.expects.Change.TheVariants.{Refused, Popped, Kept, Pushed, Replaced}
 
--- a collection that has no end yet
+-- an open collection
 pub data OpenKind : Type 0 where
   OpenArray : OpenKind
   OpenDictionary : OpenKind
@@ -21,17 +21,17 @@ open_after_event EndCollection [] = []
 open_after_event EndCollection (kind ∷ outer) = outer
 open_after_event (ScalarEvent x) kinds = kinds
 
--- the same after these events
+-- the open collections after these events, innermost first
 abbrev pub open_after : List PlainEvent → List OpenKind → List OpenKind
 open_after [] kinds = kinds
 open_after (event ∷ events) kinds = open_after events (open_after_event event kinds)
 
--- what may come in a collection
+-- what is expected in a collection
 abbrev pub expects_in : OpenKind → Expect
 expects_in OpenArray = Items
 expects_in OpenDictionary = Pairs
 
--- what may come in each open collection after these events, innermost first
+-- what is expected in each open collection after these events, innermost first
 abbrev pub expected_inside : List PlainEvent → List Expect
 expected_inside events = map expects_in (open_after events [])
 
@@ -39,23 +39,23 @@ abbrev pub innermost : List Expect → Option Expect
 innermost [] = None
 innermost (expect ∷ outer) = Some expect
 
--- all that is to come, where this may come next and these in the open collections
+-- all that is expected, given what is next and what the open collections expect
 abbrev pub all_expected : (next : Option Expect) → (inside : List Expect) → List Expect
 all_expected None inside = []
 all_expected (Some OneValue) inside = OneValue ∷ inside
 all_expected (Some expect) inside = inside
 
--- this may come next after these events, or nothing
+-- this is expected next after these events, or nothing is
 pub record ExpectsNext (events : List PlainEvent) (next : Option Expect) : Type 0 where
   pub all : expected_after events ≡ Some (all_expected next (expected_inside events))
   pub first : next ≡ innermost (all_expected next (expected_inside events))
 
--- what an event does to what may come next
+-- how an event changes what is expected next
 abbrev pub change_on : (next : Option Expect) → PlainEvent → Change
 change_on None event = Refused
 change_on (Some expect) event = change_of expect event
 
--- what may come after a change
+-- what is expected next after a change
 abbrev pub next_expected : Change → (next inside : Option Expect) → Option Expect
 next_expected Refused next inside = next
 next_expected Kept next inside = next

@@ -1,4 +1,4 @@
--- The law of writers, of a call of a writer that sends files.
+-- The law of writers, for a call of a writer of files.
 use Rattle.std.proofs.Common.{◌≡◌, ◌⊎◌, inl, inr, ℕ, Bool, true, false, List, [], ◌∷◌, ◌++◌, Option, Ok, Err, MatchBool, ap, ◌∙◌, map}
 use Rattle.std.specs.declared.io.traits.Write.{Ghosts}
 use Rattle.plist_base.specs.Bracketing.{without_length}
@@ -12,7 +12,7 @@ use Rattle.plist_binwrite.specs.declared.sharing.Sharing.{Ghosts as SharingGhost
 use Rattle.plist_binwrite.specs.declared.writer.FileWriter.{FileWriter}
 use Rattle.plist_binwrite.specs.FileWriter.{IsWriterStep, TakesEvent, Completes, Holds, open_events, failed_of}
 
--- each part of a fact by kind in turn
+-- a fact by kind implies another one if each of its parts does
 by_kind : (kind : FaultKind) (a b c d : Type 0) → (a → c) → (b → d) → MatchKind kind a b ⊥
     → MatchKind kind c d ⊥
 by_kind (UnexpectedEventType expected found) a b c d f g h = f h

@@ -1,11 +1,12 @@
--- The objects of a file in order, and a file as far as it is laid out.
+-- The objects of a file in order, and the part of a file that is laid out.
 use Rattle.std.specs.Prelude.{◌≡◌, ◌≢◌, ◌↔◌, ℕ, ◌<◌, true, false, eqb, List, ◌++◌, length, get_or}
 use Rattle.std.specs.List.{list_any, IsDistinct}
 use Rattle.plist_format.specs.Container.{magic}
 use Rattle.plist_format.specs.Object.{Object}
 use Rattle.plist_binwrite.specs.Written.{object_table, table_and_trailer}
 
--- some of the numbers below a count in order, none twice; each of them has a mark that isn't 0
+-- some of the numbers below a count in order, without repetition; each of them has a mark that
+-- isn't 0
 pub record IsOrder (count : ℕ) (order marks : List ℕ) : Type 0 where
   pub long : length marks ≡ count
   pub distinct : IsDistinct eqb order
@@ -13,11 +14,11 @@ pub record IsOrder (count : ℕ) (order marks : List ℕ) : Type 0 where
   pub marked : (k : ℕ) → list_any (eqb k) order ≡ true → get_or marks k 0 ≢ 0
   pub others : (k : ℕ) → list_any (eqb k) order ≡ false → get_or marks k 0 ≡ 0
 
--- each number below the count stands in the order
+-- each number below the count is in the order
 abbrev pub HasAll : (count : ℕ) → (order : List ℕ) → Type 0
 HasAll count order = (k : ℕ) → k < count → list_any (eqb k) order ≡ true
 
--- no mark is taken away
+-- no mark is removed
 abbrev pub KeepsMarks : (old new : List ℕ) → Type 0
 KeepsMarks old new = (k : ℕ) → get_or old k 0 ≢ 0 → get_or new k 0 ≢ 0
 
@@ -25,11 +26,11 @@ KeepsMarks old new = (k : ℕ) → get_or old k 0 ≢ 0 → get_or new k 0 ≢ 0
 abbrev pub laid_out : (width : ℕ) (objects : ℕ → Object) (order : List ℕ) → List ℕ
 laid_out width objects order = magic ++ object_table width objects order
 
--- each number below a count stands in the order once
+-- each number below a count is in the order, once
 pub record AllOnce (count : ℕ) (order : List ℕ) : Type 0 where
   pub distinct : IsDistinct eqb order
   pub numbered : (k : ℕ) → (list_any (eqb k) order ≡ true) ↔ (k < count)
 
--- the file with its table and trailer
+-- the file with its offset table and trailer
 abbrev pub with_table_and_trailer : (file places : List ℕ) → List ℕ
 with_table_and_trailer file places = file ++ table_and_trailer places (length file)

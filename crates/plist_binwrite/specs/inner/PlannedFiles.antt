@@ -1,4 +1,4 @@
--- A planned file, and what sending it does.
+-- A planned file, and what writing it does.
 use Rattle.std.specs.Prelude.{◌≡◌, ℕ, List, length, Option, Some, Ok, Err, IfSome, ⊤}
 use Rattle.std.specs.Io.KnownBytes.{Appends}
 use Rattle.plist_base.specs.Faults.{Fault, Io, MatchFault, fault_nowhere}
@@ -19,17 +19,17 @@ use Rattle.plist_binwrite.specs.inner.Planning.{IsPlanned, IsPlanByClass, count_
 use Rattle.plist_binwrite.specs.inner.Sizing.{ExceedsWith, FitsWith}
 use Rattle.plist_binwrite.specs.Widths.{reference_width}
 
--- by event, the number of its object
+-- for each event, the number of its object
 abbrev pub numbers_in : Ready → List ℕ
 numbers_in ready = numbers_of ready.plan
 
--- the file that is planned, where its objects are these
+-- the planned file, if its objects are these
 abbrev pub file_of : Ready → (ℕ → Object) → List ℕ
 file_of ready objects =
     with_table_and_trailer (laid_out (reference_width (length ready.places)) objects ready.order)
     ready.places
 
--- all is ready for sending the file of the tree whose events these are
+-- the file of the tree with these events is ready to be written
 pub record IsReady (es : List PlainEvent) (ready : Ready) : Type 0 where
   pub planned : IsPlanned es ready.plan
   pub order : AllBelow (count_of ready.plan) ready.order
@@ -41,23 +41,23 @@ pub record IsReady (es : List PlainEvent) (ready : Ready) : Type 0 where
       → (class : ℕ → ℕ) → IsPlanByClass es class ready.plan → (t : Tree) → es ≡ lengthless t
       → IsFileBy class t (file_of ready objects)
 
--- a planned file whose table lies here
+-- a planned file whose offset table lies at `table`
 abbrev pub ready_at : Draft → (table : ℕ) → Ready
 ready_at draft table =
     record { plan = draft.plan; order = draft.order; places = draft.places; table = table }
 
--- it has 2^64 bytes or more
+-- the file has 2^64 bytes or more
 abbrev pub IsDraftTooLarge : Draft → Type 0
 IsDraftTooLarge draft = IfSome draft.table (λ table. ExceedsWith table (length draft.places))
 
--- it has less
+-- the file has less than 2^64 bytes
 pub record IsFitting (draft : Draft) (ready : Ready) : Type 0 where
   pub same : ready ≡ ready_at draft ready.table
   pub placed : draft.table ≡ Some ready.table
   pub fits : FitsWith ready.table (length draft.places)
 
--- the file of the tree whose events these are is planned: where it has less than 2^64 bytes it is
--- ready, and else it is too large, by any classes that it goes by
+-- the file of the tree with these events is planned: if it has less than 2^64 bytes it is ready,
+-- and else it is too large for any classes that the plan follows
 pub record IsDraftOf (es : List PlainEvent) (draft : Draft) : Type 0 where
   pub ready : (table : ℕ) → draft.table ≡ Some table → FitsWith table (length draft.places)
       → IsReady es (ready_at draft table)
@@ -67,12 +67,12 @@ pub record IsDraftOf (es : List PlainEvent) (draft : Draft) : Type 0 where
 abbrev pub IsDraftBy : Classes → EventTable → Draft → Type 0
 IsDraftBy classes held draft = IsPlanByClass (plain_events held) (nth_number classes.of) draft.plan
 
--- lack of memory isn't why
+-- the error isn't `OutOfMemory`
 abbrev pub NeedsNoMemory : Fault → Type 0
 NeedsNoMemory fault = MatchFault fault.kind ⊤ ⊥ ⊤
 
 module _ {W : Type 0} (contents : W → Option (List ℕ)) where
-  -- the file goes out; or a device fails, and a beginning of it did
+  -- the file is written; or an I/O operation fails, and a prefix of it is
   abbrev pub SendsReady : List PlainEvent → Ready → Answer → (old new : W) → Type 0
   SendsReady es ready (Ok done) old new = (objects : ℕ → Object)
       → Describes es (numbers_of ready.plan) objects

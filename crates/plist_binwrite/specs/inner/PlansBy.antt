@@ -1,5 +1,5 @@
--- The numbers given so far, where indices of one class share theirs: `firsts` holds, by number, the
--- index of the first event of that object.
+-- The numbers so far, where indices of one class share theirs: `firsts` is, by number, the index of
+-- the first event of that object.
 use Rattle.std.specs.Prelude.{◌≡◌, ◌⊎◌, ℕ, ◌-◌, ◌^◌, ◌<◌, false, List, length, get_or}
 use Rattle.plist_base.specs.Events.{PlainEvent}
 use Rattle.plist_binwrite.specs.EventTable.{is_end, event_at, IsNumbered, AllBelow, nth_number}
@@ -17,7 +17,7 @@ pub record IsPlan (es : List PlainEvent) (class : ℕ → ℕ) (numbers firsts :
   pub apart : (k l : ℕ) → k < length firsts → l < length firsts
       → class (get_or firsts k 0) ≡ class (get_or firsts l 0) → k ≡ l
 
--- by class, the number that it has so far
+-- for each class, its number so far
 pub record HaveIds (classes ids firsts : List ℕ) : Type 0 where
   pub below : AllBelow (length ids) classes
   pub sound : (c : ℕ) → c < length ids → get_or ids c 0 < length firsts

@@ -1,4 +1,4 @@
--- Words for what is put and sent of a planned file.
+-- Words for what is put and written of a planned file.
 use Rattle.std.specs.Prelude.{ℕ, ◌+◌, Bool, List, map, Option, Result}
 use Rattle.plist_base.specs.Writing.{answer_of}
 use Rattle.plist_base.specs.declared.error.Error.{Error}
@@ -21,13 +21,13 @@ use Rattle.plist_binwrite.specs.inner.Planning.{IsPlanByClass}
 pub use Rattle.plist_binwrite.specs.inner.Planning.{numbers_of, events_in, numbers_by}
 
 module _ {W : Type 0} (contents : W → Option (List ℕ)) (old : Sink W) where
-  -- references to the items of an array go out from here on
+  -- the references to the items of an array are put, from this index on
   abbrev pub PutsItems : Planned → (from : ℕ) → Result (Unit {0}) Error → (new : Sink W) → Type 0
   PutsItems file from result new = (ts : Trees) → ItemsOccurAt (events_in file) ts from
       → Puts contents old
       (table_form file.width (map (numbers_by file) (item_indices ts from))) result new
 
-  -- those to the values of a dictionary, or to its keys
+  -- the references to the values of a dictionary, or to its keys, are put
   abbrev pub PutsKeysOrValues : Planned → (of_values : Bool) → (from : ℕ) → Result (Unit {0}) Error
       → (new : Sink W) → Type 0
   PutsKeysOrValues file of_values from result new =
@@ -36,7 +36,7 @@ module _ {W : Type 0} (contents : W → Option (List ℕ)) (old : Sink W) where
       (table_form file.width (map (numbers_by file) (key_or_value_indices of_values ms from)))
       result new
 
-  -- the object of the array that begins here, of the dictionary, and of any tree
+  -- the object of the array, of the dictionary, and of any tree that begins at this index is put
   abbrev pub PutsArray : Planned → (index : ℕ) → Result (Unit {0}) Error → (new : Sink W) → Type 0
   PutsArray file index result new = (ts : Trees) → ItemsOccurAt (events_in file) ts
       (index + 1)
@@ -54,7 +54,7 @@ module _ {W : Type 0} (contents : W → Option (List ℕ)) (old : Sink W) where
       → Puts contents old
       (form file.width (object_of (numbers_by file) t index)) result new
 
-  -- the objects in this order
+  -- the objects are put in this order
   abbrev pub PutsOrder : Planned → (order : List ℕ) → Result (Unit {0}) Error → (new : Sink W) → Type 0
   PutsOrder file order result new = (objects : ℕ → Object)
       → Describes (events_in file) (numbers_of file.plan.now) objects
@@ -68,12 +68,12 @@ module _ {W : Type 0} (contents : W → Option (List ℕ)) where
       → Describes (plain_events held) (numbers_in ready) objects
       → Puts contents old (file_of ready objects) result new
 
-  -- or sent
+  -- the whole file is written
   abbrev pub SendsPlanned : EventTable → Ready → Result (Unit {0}) Error → (old new : W) → Type 0
   SendsPlanned held ready result old new =
       SendsReady contents (plain_events held) ready (answer_of result) old new
 
-  -- or is sent or refused, whatever classes it goes by
+  -- the whole file is written, or is too large, for any classes that the plan follows
   abbrev pub SendsDraft : EventTable → Draft → Result (Unit {0}) Error → (old new : W) → Type 0
   SendsDraft held draft result old new =
       (class : ℕ → ℕ) → IsPlanByClass (plain_events held) class draft.plan

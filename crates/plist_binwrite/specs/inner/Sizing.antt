@@ -1,4 +1,4 @@
--- Words for the order of a planned file's objects, their places, and its size.
+-- Words for the order of a planned file's objects, their offsets, and its size.
 use Rattle.std.specs.Prelude.{◌≡◌, ◌≢◌, ℕ, ◌+◌, ◌^◌, ◌<◌, ◌≤◌, false, List, length, get_or, Option, IfSome}
 use Rattle.plist_base.specs.Trees.{Tree, Trees, number_of_trees}
 use Rattle.plist_format.specs.Object.{Object}
@@ -14,18 +14,19 @@ use Rattle.plist_binwrite.specs.declared.plan.Planned.{Planned}
 use Rattle.plist_binwrite.specs.inner.Laying.{laid_out}
 use Rattle.plist_binwrite.specs.inner.Planning.{numbers_of, events_in, numbers_by}
 
--- the object of an item that stands here has a mark
+-- the object of the item at this index has a mark
 abbrev pub MarksItem : EventTable → Plan → (index : ℕ) → (marks : List ℕ) → Type 0
 MarksItem held plan index marks = index < length (plain_events held)
     → is_end (table_event held index) ≡ false
     → get_or marks (nth_number (numbers_of plan) index) 0 ≢ 0
 
--- this many items of an array stand from here on
+-- the number of an array's items from this index on
 abbrev pub CountsItems : EventTable → (from count : ℕ) → Type 0
 CountsItems held from count =
     (ts : Trees) → ItemsOccurAt (plain_events held) ts from → count ≡ number_of_trees ts
 
--- a file with this many objects, whose offset table lies here, has less than 2^64 bytes, or hasn't
+-- a file with this many objects, whose offset table lies at `table`, has less than 2^64 bytes, or
+-- doesn't
 abbrev pub FitsWith : (table count : ℕ) → Type 0
 FitsWith table count =
     (objects : ℕ) → table ≡ 8 + objects → size_with count objects < 2 ^ 64
@@ -35,23 +36,23 @@ ExceedsWith table count =
     (objects : ℕ) → table ≡ 8 + objects → 2 ^ 64 ≤ size_with count objects
 
 module _ (file : Planned) where
-  -- the object of the tree that begins here has this size
+  -- the object of the tree that begins at this index has this size
   abbrev pub IsSizeOrNoneAt : (index : ℕ) → Option ℕ → Type 0
   IsSizeOrNoneAt index found =
       (t : Tree) → OccursAt (events_in file) t index → IsSizeOrNone found (object_size file.width t)
 
-  -- the form holds the object of the tree that begins here
+  -- the object of the tree that begins at this index can be written
   abbrev pub IsWritableAt : (index : ℕ) → Type 0
   IsWritableAt index = (t : Tree) → OccursAt (events_in file) t index
       → IsWritable file.width (object_of (numbers_by file) t index)
 
-  -- the objects of the plan end here, in this order
+  -- the length of the magic and the objects in this order, or none if it is 2^64 or more
   abbrev pub IsEndOrNone : (order : List ℕ) → Option ℕ → Type 0
   IsEndOrNone order found = (objects : ℕ → Object)
       → Describes (events_in file) (numbers_of file.plan.now) objects
       → IsSizeOrNone found (length (laid_out file.width objects order))
 
-  -- they lie at these places, if there is an end
+  -- the objects lie at these offsets, if their end is known
   abbrev pub AreLaid : (order places : List ℕ) → (found : Option ℕ) → Type 0
   AreLaid order places found = IfSome found (λ _. (objects : ℕ → Object)
       → Describes (events_in file) (numbers_of file.plan.now) objects

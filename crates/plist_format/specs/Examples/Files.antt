@@ -1,4 +1,4 @@
--- How the worked examples write a file down.
+-- How the worked examples denote a file.
 use Rattle.std.specs.Prelude.{⊤, ℕ, ◌≡◌, map, Some, Ok, Err, ◌+◌, ◌-◌, ◌*◌, not, filter, List, [], ◌∷◌, ◌++◌, ◌==◌, nat_lt, if◌then◌else◌, codes}
 use Prim.Native.String.{String}
 use Rattle.std.specs.Int.{bytes_high_first}
@@ -17,7 +17,7 @@ use Rattle.plist_format.specs.Unfolding.{unfolding_of, items_of_file}
 abbrev pub digit_value : (code : ℕ) → ℕ
 digit_value code = if nat_lt code 58 then code - 48 else code - 87
 
--- the bytes that these digits spell, two a byte; a space may stand between two bytes
+-- the bytes that these digits spell, two a byte; spaces are allowed between bytes
 abbrev pub bytes_of_digits : List ℕ → List ℕ
 bytes_of_digits (high ∷ low ∷ rest) =
     (16 * digit_value high + digit_value low) ∷ bytes_of_digits rest
@@ -27,8 +27,8 @@ bytes_of_digits rest = []
 abbrev pub hex : String → List ℕ
 hex text = bytes_of_digits (filter (λ code. not (code == 32)) (codes text))
 
--- a trailer: how wide a place and a reference are, how many objects there are, the root's
--- number, and the place of the table
+-- a trailer: the widths of an offset and of a reference, the number of objects, the root's number,
+-- and the offset of the table
 abbrev pub trailer : (offset_width reference_width count root table : ℕ) → Trailer
 trailer offset_width reference_width count root table = record {
   offset_width = offset_width;
@@ -48,13 +48,13 @@ bytes_of_trailer t =
 abbrev pub file : (objects : String) → Trailer → List ℕ
 file objects t = magic ++ hex objects ++ bytes_of_trailer t
 
--- a file with one object: the table, then the object, whose place is 9
+-- a file with one object: the table, then the object, whose offset is 9
 abbrev pub one_object : String → List ℕ
 one_object object = magic ++ 9 ∷ hex object ++ bytes_of_trailer (trailer 1 1 1 0 8)
 
 -- ---- the items of a file
 
--- the fault that ends them
+-- the fault that ends the items
 abbrev pub refused : FaultKind → (place : ℕ) → List Item
 refused kind place = Err (fault_at kind place) ∷ []
 
@@ -75,7 +75,7 @@ abbrev pub AreWorked : List (List ℕ × List Item) → Type 0
 AreWorked examples =
     map (λ example. items_of_file example.0) examples ≡ map (λ example. example.1) examples
 
--- what a worked example unfolds, to compute the items of a file
+-- what has to be unfolded in a worked example to compute the items of a file
 unfoldable pub worked_files : ⊤
 unfolding head_of object_in unfolding_of items_of_file is_utf8 chars encode utf16_chars
     real_exponent

@@ -1,29 +1,29 @@
--- Worked examples: texts, and the lengths of texts and collections.
+-- Worked examples: strings, and the lengths of strings and collections.
 use Rattle.std.specs.Prelude.{[], ◌∷◌, refl, codes}
 use Rattle.plist_base.specs.Faults.{ObjectOffsetTooLarge, InvalidUtf8String}
 use Rattle.plist_base.specs.Trees.{String}
 use Rattle.plist_format.specs.Examples.Files.{AreWorked, hex, file, one_object, trailer, refused, scalar, worked_files}
 
 lengths : AreWorked (
-    -- a text
+    -- a string
     (one_object "526162", scalar (String (codes "ab")) ∷ [])
-    -- a text that runs into the trailer
+    -- a string that extends into the trailer
     ∷ (one_object "536162", refused ObjectOffsetTooLarge 9)
-    -- the extent is reported before the text
+    -- the extent is checked before the UTF-8
     ∷ (one_object "52ff", refused ObjectOffsetTooLarge 9)
     -- a character of two bytes
     ∷ (one_object "52c3a9", scalar (String (hex "c3a9")) ∷ [])
-    -- half of it
+    -- the first half of a character
     ∷ (one_object "51c3", refused InvalidUtf8String 9)
-    -- a surrogate is no character
+    -- a surrogate isn't a character
     ∷ (one_object "53eda080", refused InvalidUtf8String 9)
-    -- a zero byte is one
+    -- a zero byte is a character
     ∷ (one_object "5100", scalar (String (0 ∷ [])) ∷ [])
-    -- no character
+    -- no characters
     ∷ (one_object "50", scalar (String []) ∷ [])
-    -- a length that is missing
+    -- the length is missing
     ∷ (one_object "5f", refused ObjectOffsetTooLarge 9)
-    -- a length whose number is missing
+    -- the number of the length is missing
     ∷ (one_object "5f10", refused ObjectOffsetTooLarge 9)
     -- a long length of zero
     ∷ (one_object "5f1000", scalar (String []) ∷ [])
@@ -33,13 +33,13 @@ lengths : AreWorked (
     ∷ (one_object "5f400161", scalar (String (codes "a")) ∷ [])
     -- two bits that say eight bytes
     ∷ (one_object "5fff000000000000000161", scalar (String (codes "a")) ∷ [])
-    -- fourteen is a length, too
+    -- a length of fourteen fits into the marker
     ∷ (one_object "5e6161616161616161616161616161", scalar (String (codes "aaaaaaaaaaaaaa")) ∷ [])
     -- a length of 2^63 bytes
     ∷ (one_object "5f138000000000000000", refused ObjectOffsetTooLarge 9)
     -- as many references of eight bytes as 64 bits can count
     ∷ (file "af13ffffffffffffffff 08" (trailer 1 8 1 0 18), refused ObjectOffsetTooLarge 8)
-    -- 2^63 pairs, whose size 64 bits would take for zero
+    -- 2^63 pairs, whose size is zero modulo 2^64
     ∷ (one_object "df138000000000000000", refused ObjectOffsetTooLarge 9)
     -- fewer references than the length says
     ∷ (one_object "a70000", refused ObjectOffsetTooLarge 9) ∷ [])

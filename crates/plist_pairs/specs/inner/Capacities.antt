@@ -1,10 +1,10 @@
--- Room that is made for pairs.
+-- Memory that is reserved for pairs.
 use Rattle.std.specs.Prelude.{◌≡◌, ◌≤◌, ℕ, []}
 use Rattle.std.specs.Vec.{vec_capacity}
 use Rattle.indexmap.specs.IndexSet.{spare}
 use Rattle.plist_pairs.specs.declared.dictionary.store.sorted.Capacity.{Capacity}
 
--- it is empty, and this many pairs fit into it
+-- nothing is stored, and this many pairs fit
 pub record HasCapacity {V : Type 0} (count : ℕ) (capacity : Capacity V) : Type 0 where
   pub no_rows : capacity.rows.items ≡ []
   pub no_keys : capacity.keys.keys ≡ []

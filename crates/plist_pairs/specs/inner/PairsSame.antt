@@ -1,5 +1,4 @@
--- That sameness of pairs is an equivalence where that of their values is one, and that look-ups
--- decide it.
+-- Sameness of pairs is an equivalence if that of their values is, and look-ups decide it.
 use Rattle.plist_pairs.specs.Bulk.{Rows}
 use Rattle.std.proofs.Common.{ℕ, Bool, List}
 use Rattle.std.specs.Str.{bytes_eq}

@@ -1,4 +1,4 @@
--- What is borrowed of a store of pairs by `&mut`.
+-- What a mutable reference into a store of pairs borrows.
 use Rattle.std.specs.Prelude.{ℕ, List, bytes_eq, Option}
 use Rattle.std.specs.Map.{set_value}
 use Rattle.std.specs.Borrow.{Lends, LendsIf, MutBor, Fml}
@@ -6,14 +6,14 @@ use Rattle.indexmap.specs.IndexMap.{set_value_at}
 use denote.RattleType.{RattleType}
 use Rattle.plist_pairs.specs.contracts.dictionary.store.Store.{the_row}
 
--- the pairs end with the last value behind the reference at the key, and as they are where there is
--- no reference
+-- when the reference ends, its last value is that of the key; without a reference the pairs are
+-- unchanged
 abbrev pub StoreLendsAtKey : (V : RattleType) → MutBor (List (List ℕ × V.Denot)) → List ℕ
     → Option (MutBor V.Denot) → Fml
 StoreLendsAtKey V pairs key value =
     LendsIf (the_row V) V pairs value (set_value (bytes_eq key) pairs.now) pairs.now
 
--- the pairs end with the last value behind the reference at the index
+-- when the reference ends, its last value is that at the index
 abbrev pub StoreLendsIndex : (V : RattleType) → MutBor (List (List ℕ × V.Denot)) → ℕ
     → MutBor V.Denot → Fml
 StoreLendsIndex V pairs index value = Lends (the_row V) V pairs value (set_value_at pairs.now index)

@@ -1,4 +1,4 @@
-//! Calls that go over all pairs.
+//! Calls that visit all pairs.
 
 ghost use Rattle.std.specs.Prelude.{◌≡◌, IfOk, OnErr, OnOk, IsPermutation, IsSorted, string_bytes};
 ghost use Rattle.std.specs.Cmp.Lexicographic.{slice_cmp};
@@ -14,8 +14,8 @@ use std::alloc::Global;
 impl<V> Pairs<V> {
     ghost use Rattle.plist_pairs.specs.Bulk.{ExtendsByIterable, IterableEnds, IsMadeOfIterable, Retains};
 
-    /// Keeps the pairs for which the closure answers `true`, in their order, and drops the others.
-    /// It asks once for each pair, in their order.
+    /// Keeps the pairs for which the closure returns `true`, in their order, and drops the others.
+    /// The closure is called once for each pair, in their order.
     pub fn retain<F: Fn(&String, &V) -> bool>(&mut self, keep: F)
     where
         V: Discard,
@@ -32,11 +32,11 @@ impl<V> Pairs<V> {
         self.truncate(kept);
     }
 
-    /// Sets the key's value. The value that it had is dropped, and this one where memory runs out.
+    /// Sets the key's value, and drops the value that it had.
     ///
     /// # Errors
     ///
-    /// `OutOfMemory`: the pairs stay as they are.
+    /// `OutOfMemory`: the pairs are unchanged, and the new value is dropped.
     pub fn set(&mut self, key: String, value: V) -> Result<(), Error>
     where
         V: Discard,
@@ -58,12 +58,12 @@ impl<V> Pairs<V> {
         }
     }
 
-    /// Inserts each of the pairs, in their order.
+    /// Inserts the pairs, in their order.
     ///
     /// # Errors
     ///
-    /// `OutOfMemory`: the pairs before the one that found no memory are inserted; that one and
-    /// those after it are dropped.
+    /// `OutOfMemory`: the pairs that precede the one that couldn't be stored are inserted; that one
+    /// and those after it are dropped.
     pub fn extend<I: IntoIterator<Item = (String, V)>>(&mut self, more: I) -> Result<(), Error>
     where
         V: Discard,
@@ -80,7 +80,7 @@ impl<V> Pairs<V> {
         Ok(())
     }
 
-    /// The dictionary of these pairs, inserted in their order.
+    /// Makes a dictionary from these pairs, inserted in their order.
     ///
     /// # Errors
     ///
@@ -111,7 +111,8 @@ impl<V> Pairs<V> {
     ///
     /// # Errors
     ///
-    /// `OutOfMemory`: the pairs stay as they are. Memory is taken before the first pair moves.
+    /// `OutOfMemory`: the pairs are unchanged, since memory is allocated before the first pair
+    /// moves.
     pub fn sort_keys(&mut self) -> Result<(), Error>
     where
         V: Drop,

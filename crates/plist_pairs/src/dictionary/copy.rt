@@ -8,19 +8,19 @@ use crate::dictionary::{Discard, Pairs};
 use plist_base::Error;
 use std::alloc::{AllocError, Global};
 
-/// What is copied where memory is found for it. Contracts see what a value shows.
+/// A type whose values can be copied, unless memory runs out. Contracts see the view of a value.
 pub trait TryCopy: Sized {
-    /// What is shown.
+    /// What contracts see of a value.
     ghost View: { Type 0 };
-    /// What a value shows.
+    /// The view of a value.
     ghost shown: { Self → View };
 
-    /// A copy, which shows the same, or no memory for it.
+    /// Copies the value. The copy has the same view.
     fn try_copy(&self, alloc: Global) -> Result<Self, AllocError>
         ensures { IfOk result (λ copy. shown copy ≡ shown self.now) };
 }
 
-// Copies the pairs into others, of which there are none yet.
+// Copies the pairs into others, which must be empty.
 fn copy_pairs<V: TryCopy + Discard>(
     alloc: Global,
     pairs: &Pairs<V>,
@@ -41,7 +41,7 @@ fn copy_pairs<V: TryCopy + Discard>(
 }
 
 impl<V: TryCopy + Discard> Pairs<V> {
-    /// A copy: the same pairs, in the same order, stored where this one is.
+    /// Copies the pairs, in the same order and with the same allocator.
     ///
     /// # Errors
     ///

@@ -2,7 +2,7 @@
 
 use crate::dictionary::Pairs;
 
-/// Equal values at each key of either, whatever the order.
+/// Pairs are equal if both have equal values at each key of either. Their order doesn't matter.
 impl<V: PartialEq> PartialEq for Pairs<V> {
     ghost use Rattle.plist_pairs.specs.Equal.{same_pairs};
     ghost use Rattle.plist_pairs.specs.inner.PairsSame.{same_pairs_partial};

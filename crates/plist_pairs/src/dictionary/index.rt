@@ -7,7 +7,7 @@ ghost use Rattle.std.specs.Str.{bytes_eq};
 use crate::dictionary::Pairs;
 use std::ops::{Index, IndexMut};
 
-/// The value of a key that is there: [`Pairs::contains_key`] is the test.
+/// Returns the value of a key, which must be there; [`Pairs::contains_key`] tests that.
 impl<'q, V> Index<&'q str> for Pairs<V> {
     type Output = V;
 
@@ -20,7 +20,7 @@ impl<'q, V> Index<&'q str> for Pairs<V> {
     }
 }
 
-/// The value of a key that is there, to be changed.
+/// Returns a mutable reference to the value of a key, which must be there.
 impl<'q, V> IndexMut<&'q str> for Pairs<V> {
     ghost use Rattle.std.specs.Borrow.{sem};
     ghost use Rattle.plist_pairs.specs.Lends.{LendsValue};

@@ -1,4 +1,4 @@
-//! Pairs by their indices, for the calls that look a key up once.
+//! Pairs by their indices, for calls that look up a key only once.
 
 ghost use Rattle.std.specs.Prelude.{◌≡◌, ◌<◌, ◌++◌, ◌∷◌, Some, MatchOption, slice_get, swap, take, [], length, string_bytes, OnOk, IfErr, OnErr};
 ghost use Rattle.std.specs.Str.{bytes_eq};
@@ -13,14 +13,14 @@ impl<V> Pairs<V> {
     ghost use Rattle.std.specs.List.{IsDistinct};
     ghost use Rattle.plist_pairs.specs.EntryLends.{IsRemovedAt, LendsIndex};
 
-    /// The index of a key, if it is there.
+    /// Returns the index of a key, or `None` if the key isn't there.
     pub fn index_of(&self, key: &str) -> Option<usize>
         ensures { MatchOption result (HasNone key.now self.now) (IsIndexOf key.now self.now) }
     {
         self.store.as_ref()?.index_of(key)
     }
 
-    /// The key at an index.
+    /// Returns the key at an index.
     pub fn key_at(&self, index: usize) -> &String
         requires { index < length self.now }
         ensures { slice_get (keys_of self.now) index ≡ Some (string_bytes result.now) }
@@ -28,7 +28,7 @@ impl<V> Pairs<V> {
         self.store.as_ref().unwrap().key_at(index)
     }
 
-    /// The value at an index, to be changed.
+    /// Returns a mutable reference to the value at an index.
     pub fn value_at(&mut self, index: usize) -> &mut V
         requires { index < length self.old }
         ensures value { slice_get (values_of self.old) index ≡ Some result.now }
@@ -37,11 +37,11 @@ impl<V> Pairs<V> {
         self.store.as_mut().unwrap().value_at(index)
     }
 
-    /// Adds a pair whose key isn't there.
+    /// Adds a pair whose key must not be there.
     ///
     /// # Errors
     ///
-    /// If memory runs out, the pairs stay as they are, and the key and the value come back.
+    /// If memory runs out, the pairs are unchanged, and the key and the value are returned.
     pub fn push(&mut self, key: String, value: V) -> Result<(), (String, V)>
         requires { IsAbsent (string_bytes key) self.old }
         ensures pairs { OnOk result (self.new ≡ self.old ++ (string_bytes key, value) ∷ []) }
@@ -60,7 +60,7 @@ impl<V> Pairs<V> {
         answer
     }
 
-    /// Takes the pair at an index; the last one moves there.
+    /// Removes the pair at an index, to which the last pair moves, and returns its value.
     pub fn swap_remove_at(&mut self, index: usize) -> V
         requires { index < length self.old }
         ensures value { slice_get (values_of self.old) index ≡ Some result }
@@ -69,7 +69,7 @@ impl<V> Pairs<V> {
         self.store.as_mut().unwrap().swap_remove_at(index)
     }
 
-    // Swaps two pairs. It takes no memory.
+    // Swaps two pairs. It allocates nothing.
     pub(crate) fn swap(&mut self, first: usize, second: usize)
         requires first { first < length self.old }
         requires second { second < length self.old }
@@ -78,12 +78,12 @@ impl<V> Pairs<V> {
         self.store.as_mut().unwrap().swap(first, second);
     }
 
-    /// Where the pairs are stored.
+    /// Returns the allocator of the pairs.
     pub fn allocator(&self) -> Global {
         self.alloc
     }
 
-    /// The number of pairs, whose keys are distinct.
+    /// Returns the number of pairs, whose keys are distinct.
     #[tactic(auto, using(crate::proofs::Columns::no_keys))]
     pub fn pair_count(&self) -> usize
         ensures count { result ≡ length self.now }
@@ -95,7 +95,7 @@ impl<V> Pairs<V> {
         }
     }
 
-    /// The pair at an index.
+    /// Returns the pair at an index.
     pub fn pair_at(&self, index: usize) -> (&str, &V)
         requires { index < length self.now }
         ensures { slice_get self.now index ≡ Some (result.0.now, result.1.now) }
@@ -103,7 +103,7 @@ impl<V> Pairs<V> {
         self.store.as_ref().unwrap().pair_at(index)
     }
 
-    // Drops the pairs after the first ones.
+    // Drops the pairs after the first `count`.
     pub(crate) fn truncate(&mut self, count: usize)
     where
         V: Discard,

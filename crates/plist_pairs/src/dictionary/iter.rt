@@ -1,5 +1,5 @@
-//! The iterators over a dictionary. Contracts see each as the list of what it has left, keys as
-//! their bytes.
+//! The iterators over a dictionary. Contracts see each as the list of its remaining items, with
+//! keys as their bytes.
 
 ghost use Rattle.std.specs.Prelude.{◌≡◌, length, Some, IfSome, map, string_bytes};
 ghost use Rattle.std.specs.Iterator.{at_most, UpTo};
@@ -12,7 +12,7 @@ use indexmap::{IndexSet, set};
 use std::marker::Model;
 use std::{slice, vec};
 
-/// The pairs, in their order.
+/// An iterator over the pairs, in their order.
 #[derive(Drop)]
 pub struct Iter<'a, V> {
     keys: slice::Iter<'a, String>,
@@ -75,7 +75,7 @@ impl<'a, V> ExactSizeIterator for Iter<'a, V> {
     }
 }
 
-/// The keys, in the order of the pairs.
+/// An iterator over the keys, in the order of the pairs.
 #[derive(Drop)]
 pub struct Keys<'a> {
     texts: slice::Iter<'a, String>,
@@ -128,7 +128,7 @@ impl<'a> ExactSizeIterator for Keys<'a> {
     }
 }
 
-/// The values, in the order of the pairs.
+/// An iterator over the values, in the order of the pairs.
 #[derive(Drop)]
 pub struct Values<'a, V> {
     values: slice::Iter<'a, V>,
@@ -180,7 +180,7 @@ impl<'a, V> ExactSizeIterator for Values<'a, V> {
     }
 }
 
-/// The pairs by value, in their order.
+/// An iterator over the pairs by value, in their order.
 #[derive(Drop)]
 pub struct IntoIter<V> {
     keys: set::IntoIter<String>,

@@ -1,4 +1,4 @@
-//! Where pairs are stored: their keys in a set, and their values in a list beside it.
+//! How pairs are stored: their keys in a set, and their values in a vector beside it.
 
 ghost use Rattle.std.specs.Prelude.{◌≡◌, ◌<◌, ◌++◌, ◌∷◌, [], Some, IfErr, IfOk, MatchOption, OnErr, OnOk, is_some, length, slice_get, string_bytes, swap, take};
 ghost use Rattle.std.specs.Option.{option_copied, option_copied_mut};
@@ -15,7 +15,7 @@ use std::alloc::Global;
 use std::marker::Model;
 use std::mem;
 
-/// Pairs, as a list of them: a key as its bytes, and each key once.
+/// Pairs. Contracts see the list of them, with each key as its bytes, and no key twice.
 #[derive(Drop)]
 pub(crate) struct Store<V> {
     keys: IndexSet<String>,
@@ -46,7 +46,7 @@ impl<V> Store<V> {
     ghost use Rattle.plist_pairs.specs.Keys.{HasNone, IsIndexOf};
     ghost use Rattle.plist_pairs.specs.inner.StoreLends.{StoreLendsAtKey, StoreLendsIndex};
 
-    // No pairs. It takes no memory.
+    // Makes a store without pairs, which takes no memory.
     pub(crate) fn new(alloc: Global) -> Store<V>
         ensures { result ≡ [] }
     {
@@ -56,7 +56,7 @@ impl<V> Store<V> {
         }
     }
 
-    // Drops a store without pairs, whatever the values' type.
+    // Drops a store without pairs, whatever the type of values.
     pub(crate) fn destroy_empty(self)
         requires { self ≡ [] }
     {
@@ -96,7 +96,7 @@ impl<V> Store<V> {
         }
     }
 
-    // Sets the key's value, and returns the one that it had.
+    // Sets the key's value, and returns the value that it had.
     #[tactic(auto, using(crate::proofs::Rebuilt::inserting))]
     pub(crate) fn insert(&mut self, key: String, value: V) -> Result<Option<V>, (String, V)>
         // The answer.
@@ -118,7 +118,7 @@ impl<V> Store<V> {
         }
     }
 
-    // Adds a pair whose key isn't there.
+    // Adds a pair whose key must not be there.
     #[tactic(auto, using(crate::proofs::Rebuilt::inserting))]
     pub(crate) fn push(&mut self, key: String, value: V) -> Result<(), (String, V)>
         requires { IsAbsent (string_bytes key) self.old }
@@ -139,7 +139,7 @@ impl<V> Store<V> {
         }
     }
 
-    // Removes the key; the last pair moves to its place.
+    // Removes the key. The last pair moves to its index.
     pub(crate) fn remove(&mut self, key: &str) -> Option<V>
         ensures value { result ≡ lookup (bytes_eq key.now) self.old }
         ensures pairs { IsTakenAt self.old key.now self.new }
@@ -168,7 +168,7 @@ impl<V> Store<V> {
         Values::new(self.items.as_slice())
     }
 
-    // The pairs by value.
+    // Returns an iterator over the pairs by value.
     pub(crate) fn into_pairs(self) -> IntoIter<V>
         ensures pairs { result ≡ self }
         ensures distinct { IsDistinct bytes_eq (keys_of self) }
@@ -177,7 +177,7 @@ impl<V> Store<V> {
         IntoIter::new(keys, items)
     }
 
-    // The values, without their keys.
+    // Returns the values, without their keys.
     pub(crate) fn into_items(self) -> Vec<V>
         ensures { result.items ≡ values_of self }
     {
@@ -206,7 +206,7 @@ impl<V> Store<V> {
         &mut self.items[index]
     }
 
-    // Takes the pair at an index; the last one moves there.
+    // Removes the pair at an index, to which the last pair moves.
     pub(crate) fn swap_remove_at(&mut self, index: usize) -> V
         requires { index < length self.old }
         ensures value { slice_get (values_of self.old) index ≡ Some result }
@@ -225,7 +225,7 @@ impl<V> Store<V> {
         self.items.swap(first, second);
     }
 
-    // The number of pairs, whose keys are distinct.
+    // Returns the number of pairs, whose keys are distinct.
     pub(crate) fn pair_count(&self) -> usize
         ensures count { result ≡ length self.now }
         ensures distinct { IsDistinct bytes_eq (keys_of self.now) }
@@ -240,7 +240,7 @@ impl<V> Store<V> {
         (self.keys.as_slice()[index].as_str(), &self.items[index])
     }
 
-    // Drops the pairs after the first ones.
+    // Drops the pairs after the first `count`.
     pub(crate) fn truncate(&mut self, count: usize)
     where
         V: Discard,

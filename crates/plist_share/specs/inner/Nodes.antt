@@ -24,7 +24,7 @@ node_of collection = (collection.is_dictionary, collection.children.items)
 abbrev pub nodes_seen : List Collection → List Node
 nodes_seen collections = map node_of collections
 
--- some came after those that were there, which stayed
+-- collections were appended to those that were there, which stay
 pub record Extends (old new : List Node) : Type 0 where
   pub keeps : (i : ℕ) → i < length old → slice_get new i ≡ slice_get old i
   pub grows : length old ≤ length new
@@ -36,13 +36,13 @@ module _ (class : ℕ → ℕ) (count : ℕ) where
   abbrev pub node_by : (is_dictionary : Bool) → Tree → ℕ → Node
   node_by is_dictionary t p = (is_dictionary, map class (keys_in t p) ++ map class (values_in t p))
 
-  -- a collection's class: after `count` others, its index among the collections seen
+  -- a collection's class: `count` plus its index among the collections found so far
   abbrev pub IsIndexed : List Node → (is_dictionary : Bool) → Tree → ℕ → ℕ → Type 0
   IsIndexed keys is_dictionary t p c =
       (i : ℕ) × (c ≡ count + i) × (slice_get keys i ≡ Some (node_by is_dictionary t p))
 
   module _ (scalar : ℕ → ℕ) where
-    -- the class that a tree at an index has; a scalar's is known
+    -- the class of the tree at an index; a scalar's is given
     abbrev pub IsClass : List Node → Tree → ℕ → ℕ → Type 0
     IsClass keys (Leaf x) p c = c ≡ scalar p
     IsClass keys (Array items) p c = IsIndexed keys false (Array items) p c
@@ -54,23 +54,23 @@ module _ (class : ℕ → ℕ) (count : ℕ) where
       pub before : (p : ℕ) → p < from → class p ≡ scalar p
       pub below : (p : ℕ) → p < length es → class p < count + length keys
 
--- two indices have one class exactly where the same tree begins
+-- two indices have the same class if and only if the same tree begins at both
 abbrev pub SeparatesTrees : List PlainEvent → (class : ℕ → ℕ) → Type 0
 SeparatesTrees es class =
     (t u : Tree) (p q : ℕ) → OccursAt es t p → OccursAt es u q → (class p ≡ class q) ↔ (t ≡ u)
 
--- ---- of held events
+-- ---- classes of buffered events
 
--- this is the index of a collection among those seen
+-- this is the index of a collection among those found so far
 abbrev pub IsNodeAt : (seen : List Collection) → Collection → (index : ℕ) → Type 0
 IsNodeAt seen collection index = slice_get (nodes_seen seen) index ≡ Some (node_of collection)
 
--- the classes of the events at these indices are added
+-- the classes of the events at these indices are appended
 abbrev pub AddsClasses : (old : Vec ℕ Global) → (classes indices : List ℕ) → (new : Vec ℕ Global)
     → Type 0
 AddsClasses old classes indices new = new.items ≡ old.items ++ map (nth_number classes) indices
 
--- the classes of the children of the collection that begins here
+-- the classes of the children of the collection that begins at an index
 abbrev pub AreClassesWithin : EventTable → (classes : List ℕ) → (index : ℕ) → Vec ℕ Global → Type 0
 AreClassesWithin held classes index found = (t : Tree) → OccursAt (plain_events held) t index
     → found.items ≡ map (nth_number classes) (keys_in t index)
@@ -83,7 +83,7 @@ is_dictionary kind.Dictionary = true
 is_dictionary kind.Scalar = false
 is_dictionary kind.End = false
 
--- the class of the collection that begins here, after this many others
+-- the class of the collection that begins at an index; the classes of collections start at `base`
 abbrev pub IsClassAt : EventTable → (classes : List ℕ) → (base : ℕ) → (seen : List Collection)
     → (index class : ℕ) → Type 0
 IsClassAt held classes base seen index class = (t : Tree) → OccursAt (plain_events held) t index
@@ -91,14 +91,14 @@ IsClassAt held classes base seen index class = (t : Tree) → OccursAt (plain_ev
     (is_dictionary (entry_kind_of (table_event held index)))
     t index class
 
--- from this index on each tree has its class, and before it the scalars have theirs
+-- from this index on each tree has its class, and before it only the scalars have theirs
 abbrev pub AreClassesFrom : EventTable → (base : ℕ) → (classes : List ℕ) → (seen : List Collection)
     → (from : ℕ) → Type 0
 AreClassesFrom held base classes seen from =
     (scalar : ℕ → ℕ) × AreIdentities (plain_events held) scalar base
     × HaveTreeClasses (nth_number classes) base scalar (plain_events held) (nodes_seen seen) from
 
--- each event has a class below the count, and they tell the trees that begin there apart
+-- each event has a class below the count, and the classes tell the trees apart that begin there
 pub record SeparatesAll (held : EventTable) (found : Classes) : Type 0 where
   pub objects : AreClasses (plain_events held) (nth_number found.of)
   pub trees : SeparatesTrees (plain_events held) (nth_number found.of)

@@ -1,4 +1,4 @@
-//! Devices that take one byte a call and can fail, and a file that can't be read.
+//! Devices that take one byte per call and can fail, and a file that can't be read.
 
 use crate::support::must;
 use plist_base::Seeking;
@@ -7,18 +7,18 @@ use std::io;
 use std::io::{ErrorKind, Write};
 use std::process::Abort;
 
-// A device that fails at this call, counting from 0; a second try would succeed.
+// Makes a device that fails at this call, counted from 0. A second try would succeed.
 pub(crate) fn failing(rt: &impl AllocGlobal, call: u64, kind: ErrorKind) -> Device {
     Device::with_fault(Vec::new(rt.alloc()), call, DeviceFault::Fails(kind))
 }
 
-// One that fails at none.
+// Makes a device that doesn't fail.
 pub(crate) fn sound(rt: &impl AllocGlobal) -> Device {
     Device::new(Vec::new(rt.alloc()), u64::MAX)
 }
 
-// A device took just these bytes, in this many calls, the last flush of which that was done came
-// after this many bytes.
+// Checks that a device took just these bytes, in this many calls, and that its last successful
+// flush was after this many bytes.
 pub(crate) fn expect_taken(
     rt: &impl Abort,
     device: &Device,
@@ -31,7 +31,7 @@ pub(crate) fn expect_taken(
     assert_eq!(rt; device.flushed, flushed);
 }
 
-// A file of 64 bytes that fails at this call, counting from 0.
+// Makes a file of 64 bytes that fails at this call, counted from 0.
 pub(crate) fn broken_file(rt: &(impl Abort + AllocGlobal), call: u64) -> Seeking<Disk> {
     let bytes = must(rt, Vec::from_slice(rt.alloc(), &[0; 64]));
     Seeking::with_windows(rt.alloc(), Disk::new(bytes, call))

@@ -8,7 +8,8 @@ use std::io::Write;
 use std::process::Abort;
 use std::rt::Files;
 
-// A word of a line: after an `@` stands the name of a file in the folder for temporary files.
+// Returns a word of a line. After an `@` follows the name of a file in the folder for temporary
+// files.
 fn word_of(rt: &(impl Abort + AllocGlobal + Env), word: &str) -> String {
     match word.strip_prefix('@') {
         Some(name) => path_of(rt, name),
@@ -16,7 +17,7 @@ fn word_of(rt: &(impl Abort + AllocGlobal + Env), word: &str) -> String {
     }
 }
 
-// Runs the words of a line, and answers the status.
+// Runs the words of a line, and returns the status.
 pub(crate) fn run<O: Write, E: Messages>(
     rt: &(impl Abort + AllocGlobal + Env + Files),
     line: &str,
@@ -30,7 +31,7 @@ pub(crate) fn run<O: Write, E: Messages>(
     run_words(rt, rt.alloc(), words.as_slice(), out, err)
 }
 
-// The arguments of a run, the first of which is the program's name.
+// The arguments of a run. The first one is the program's name.
 #[derive(Drop)]
 struct Given<'a> {
     words: &'a [&'a [u8]],
@@ -58,7 +59,8 @@ impl<'a> Env for Given<'a> {
     }
 }
 
-// A run of these arguments prints nothing, says this on standard error, and ends with this status.
+// Checks that a run of these arguments prints nothing, reports this on standard error, and ends
+// with this status.
 pub(crate) fn expect_given(
     rt: &(impl Abort + AllocGlobal + Env + Files),
     words: &[&[u8]],
@@ -74,7 +76,8 @@ pub(crate) fn expect_given(
     assert_eq!(rt; found, status);
 }
 
-// A run of these words prints this, says that on standard error, and ends with this status.
+// Checks that a run of these words prints this, reports that on standard error, and ends with this
+// status.
 pub(crate) fn expect_run(
     rt: &(impl Abort + AllocGlobal + Env + Files),
     line: &str,
@@ -90,7 +93,7 @@ pub(crate) fn expect_run(
     assert_eq!(rt; found, status, "at {line}");
 }
 
-// It prints this, and is done.
+// Checks that a run prints this, and succeeds.
 pub(crate) fn expect_done(
     rt: &(impl Abort + AllocGlobal + Env + Files),
     line: &str,
@@ -99,7 +102,7 @@ pub(crate) fn expect_done(
     expect_run(rt, line, printed, b"", 0);
 }
 
-// It prints nothing, and says why it isn't done.
+// Checks that a run prints nothing, and reports this error.
 pub(crate) fn expect_fault(rt: &(impl Abort + AllocGlobal + Env + Files), line: &str, said: &[u8]) {
     expect_run(rt, line, b"", said, 1);
 }

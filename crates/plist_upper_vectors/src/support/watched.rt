@@ -1,4 +1,4 @@
-//! A runtime whose files are watched: how far the one has come that is written.
+//! A runtime whose files are watched: which stage the written file has reached.
 
 use plist_support::device_error;
 use std::alloc::Allocator;
@@ -8,38 +8,38 @@ use std::io;
 use std::io::{ErrorKind, Read, Seek, SeekFrom, Write};
 use std::rt::Files;
 
-// How far the file has come that is written.
+// The stage that the written file has reached.
 #[derive(Clone, Copy, Debug, PartialEq, Eq)]
 pub(crate) enum Stage {
-    // Another one may be opened, and read.
+    // Other files may be opened and read.
     Untouched,
-    // No stage that is reached: it names a read of that.
+    // A name for a read of another file. This stage is never reached.
     Read,
     Made,
     Written,
     Flushed,
     Stored,
-    // Something came out of turn: it was made again, nothing was written before it was to be
-    // stored, it was removed, or anything came after that; or a file was read once it was made.
+    // A call was out of order: the file was created again, was to be stored before anything was
+    // written, was removed, or was used after that; or a file was read after it was created.
     OutOfTurn,
 }
 
-// The call that leads to this stage fails with a device's own error of this kind. That to the first
-// one opens a file to be read.
+// The call that leads to this stage fails with a device's error of this kind. For the first stage
+// this is the call that opens a file to be read.
 #[derive(Clone, Copy)]
 pub(crate) struct FailingCall {
     pub stage: Stage,
     pub kind: ErrorKind,
 }
 
-// Files of another runtime, and how many were opened. One call may fail.
+// The files of another runtime, and how many were opened. One call may fail.
 #[derive(Drop)]
 pub(crate) struct Watched<'a, R> {
     pub rt: &'a R,
     pub stage: &'a Cell<Stage>,
     pub opened: &'a Cell<u64>,
     pub failure: Option<FailingCall>,
-    // Is what is written a regular file, and no pipe or other device?
+    // Whether the written file is a regular one, and not a pipe or another device.
     pub is_regular: bool,
 }
 
@@ -51,7 +51,7 @@ pub(crate) struct WatchedFile<'a, F> {
     is_regular: bool,
 }
 
-// The failure of the call that leads to this stage.
+// Fails if this is the stage whose call fails.
 fn fail_at(failure: Option<FailingCall>, stage: Stage) -> io::Result<()> {
     match failure {
         Some(failure) if failure.stage == stage => Err(device_error(failure.kind)),
@@ -59,7 +59,7 @@ fn fail_at(failure: Option<FailingCall>, stage: Stage) -> io::Result<()> {
     }
 }
 
-// Goes on to a stage, where the file stands at one of these two.
+// Goes on to a stage if the file is at one of these two, and otherwise to `OutOfTurn`.
 fn go_on(stage: &Cell<Stage>, from: [Stage; 2], to: Stage) {
     let now = stage.get();
     stage.set(if now == from[0] || now == from[1] {
@@ -155,7 +155,7 @@ impl<'a, R: Files> Files for Watched<'a, R> {
         self.rt.symlink_metadata(path)
     }
 
-    // Nothing copies, renames or removes a file, or touches a folder.
+    // No command copies, renames or removes a file, or uses a folder.
     fn copy(&self, _from: &str, _to: &str) -> io::Result<u64> {
         self.stage.set(Stage::OutOfTurn);
         Ok(0)

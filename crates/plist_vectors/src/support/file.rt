@@ -4,7 +4,7 @@ use crate::support::must;
 use plist_support::file_of_object;
 use std::process::Abort;
 
-// The file of `true`.
+// Returns the file of `true`.
 pub(crate) fn file_of_true(rt: &(impl Abort + AllocGlobal)) -> Vec<u8> {
     must(rt, file_of_object(rt.alloc(), "09"))
 }

@@ -1,4 +1,4 @@
-//! Events of words, and what comes of them.
+//! Events written as words, and what becomes of them.
 
 use crate::support::must;
 use plist::{Builder, Value};
@@ -6,19 +6,19 @@ use plist_base::{Error, Writer};
 use plist_support::words_of_events;
 use std::process::Abort;
 
-// The value whose events these words are.
+// Returns the value with the events of these words.
 pub(crate) fn value_of(rt: &(impl Abort + AllocGlobal), words: &str) -> Value {
     let mut builder = Builder::new(rt.alloc());
     write_all(rt, &mut builder, words);
     must(rt, builder.finish())
 }
 
-// The words of a value's events.
+// Returns the words of a value's events.
 pub(crate) fn words_of_value(rt: &(impl Abort + AllocGlobal), value: &Value) -> String {
     must(rt, words_of_events(rt.alloc(), value.events(rt.alloc())))
 }
 
-// An answer: `ok`, or the text of the fault.
+// Returns the text of a result: `ok`, or that of the error.
 pub(crate) fn text_of(rt: &(impl Abort + AllocGlobal), answer: Result<(), Error>) -> String {
     let text = match answer {
         Ok(()) => String::from_str(rt.alloc(), "ok"),
@@ -27,7 +27,7 @@ pub(crate) fn text_of(rt: &(impl Abort + AllocGlobal), answer: Result<(), Error>
     must(rt, text)
 }
 
-// The events of a value, or the text of the error that came in its place.
+// Checks the events of a value, or the text of the error in its place.
 pub(crate) fn expect_value(
     rt: &(impl Abort + AllocGlobal),
     found: Result<Value, Error>,
@@ -40,12 +40,12 @@ pub(crate) fn expect_value(
     assert_eq!(rt; words.as_str(), wanted);
 }
 
-// A writer accepts the events of these words.
+// Writes the events of these words to a writer, which must accept them.
 pub(crate) fn write_all<W: Writer>(rt: &(impl Abort + AllocGlobal), writer: &mut W, words: &str) {
     must(rt, plist_support::write_all(rt.alloc(), writer, words));
 }
 
-// The answers of a writer to the events of these words.
+// Checks what a writer returns for the events of these words.
 pub(crate) fn expect_answers<W: Writer>(
     rt: &(impl Abort + AllocGlobal),
     writer: &mut W,

@@ -1,4 +1,4 @@
--- What the loop of `collect_from` keeps, and why it ends.
+-- What the loop of `collect_from` maintains, and why it ends.
 use Rattle.std.specs.Prelude.{map}
 use Rattle.std.specs.Iterator.{EndsFrom, items_left}
 use Rattle.std.proofs.iter.Next as it

@@ -1,4 +1,4 @@
--- What the loop of `write_value` keeps.
+-- What the loop of `write_value` maintains.
 use Rattle.plist_base.specs.Bracketing.{bracketing}
 use Rattle.plist.specs.ValueTrees.{tree_of}
 use Rattle.plist.proofs.Handed.{HandedSoFar}

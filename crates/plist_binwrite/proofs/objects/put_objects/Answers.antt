@@ -21,7 +21,7 @@ first-first-requires g c =
     (omega (arith, c.len-index-end.ensures)) in
     omega arith
 
--- the object that comes next is put after the others
+-- the next object is put after the others
 next : (g : _) (c : After-put_object g) (objects : ℕ → Object)
     → Describes (events_in c.args.file.now) (numbers_of c.args.file.now.plan.now) objects
     → (c.loop-index.index < length c.args.order.now)

@@ -1,4 +1,4 @@
--- `Pairs` as a type that may hold the type that holds it, by the values in its store.
+-- `Pairs` as a type that may contain the type that contains it, by the values in its store.
 use Rattle.std.specs.Prelude.{◌≡◌, ℕ, List, [], Option, None, Some}
 use mathlib.Core.Path.{refl}
 use mathlib.Core.Logic.{◌⊎◌, inl, inr}

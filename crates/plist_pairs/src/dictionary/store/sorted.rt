@@ -17,7 +17,7 @@ use std::alloc::{AllocError, Global};
 use std::cmp::Ordering;
 use std::mem;
 
-// Capacity for pairs: in rows, and in the columns of a store.
+// Memory that is reserved for pairs, in rows and in the columns of a store.
 #[derive(Drop)]
 pub(crate) struct Capacity<V> {
     rows: Vec<(String, V)>,
@@ -26,7 +26,7 @@ pub(crate) struct Capacity<V> {
 }
 
 impl<V: Drop> Store<V> {
-    // Sorts the pairs by the bytes of their keys. Memory is taken before the first pair moves.
+    // Sorts the pairs by the bytes of their keys. Memory is allocated before the first pair moves.
     pub(crate) fn sort_keys(&mut self, alloc: Global) -> Result<(), AllocError>
         ensures sorted { OnOk result (IsSorted (slice_cmp nat_cmp) (keys_of self.new)) }
         ensures pairs { OnOk result (IsPermutation self.old self.new) }
@@ -38,7 +38,7 @@ impl<V: Drop> Store<V> {
     }
 }
 
-// Capacity for `count` pairs.
+// Reserves memory for `count` pairs.
 fn capacity_for<V: Drop>(alloc: Global, count: usize) -> Result<Capacity<V>, AllocError>
     ensures { IfOk result (HasCapacity count) }
 {
@@ -49,7 +49,7 @@ fn capacity_for<V: Drop>(alloc: Global, count: usize) -> Result<Capacity<V>, All
     })
 }
 
-// The pairs in the order of their keys, in memory that was taken for them.
+// Returns the pairs in the order of their keys, in the memory that is reserved for them.
 fn sorted<V: Drop>(pairs: Store<V>, capacity: Capacity<V>) -> Store<V>
     requires { HasCapacity (length pairs) capacity }
     ensures sorted { IsSorted (slice_cmp nat_cmp) (keys_of result) }
@@ -65,7 +65,7 @@ fn sorted<V: Drop>(pairs: Store<V>, capacity: Capacity<V>) -> Store<V>
     store_of(rows, keys, items)
 }
 
-// The pairs by value, in memory that was taken for them.
+// Moves the pairs into rows, in the memory that is reserved for them.
 fn rows_of<V: Drop>(pairs: Store<V>, capacity: Vec<(String, V)>) -> Vec<(String, V)>
     requires empty { capacity.items ≡ [] }
     requires fits { length pairs ≤ vec_capacity capacity }
@@ -79,7 +79,7 @@ fn rows_of<V: Drop>(pairs: Store<V>, capacity: Vec<(String, V)>) -> Vec<(String,
     rows
 }
 
-// The pairs of these rows, in columns that have capacity for them.
+// Moves the pairs of these rows into columns, in which memory is reserved for them.
 fn store_of<V: Drop>(
     rows: Vec<(String, V)>,
     mut keys: IndexSet<String>,

@@ -11,7 +11,7 @@ use Rattle.plist_ascii.proofs.Answering.{passed_on, answers_passed, answers_same
 use Rattle.plist_ascii.proofs.Texts.{led_by, wants_led, bare_wants, quoted_wants, text_came, text_no_bracket, texts_no_bracket}
 use Rattle.plist_ascii.proofs.input.Input.token_by.Goals as goal
 
--- ---- a quoted text
+-- ---- a quoted string
 
 pub returns-in_ok-event-in-Quote-clause-answers : goal.returns-in_ok-event-in-Quote-clause-answers
 returns-in_ok-event-in-Quote-clause-answers g c =
@@ -40,7 +40,7 @@ returns-in_err-event-in-Quote-clause-memory g c =
     (λ m xs e. wants_led (stops c.args.stop) c.args.byte _ _ c.lead_of.ensures c.in-Quote.is xs
     (quoted_wants c.args.byte xs))
 
--- ---- a comment, or a bare text
+-- ---- a comment, or a bare string
 
 pub returns-in-Slash-clause-answers : goal.returns-in-Slash-clause-answers
 returns-in-Slash-clause-answers g c =
@@ -61,7 +61,7 @@ returns-in-Slash-clause-memory g c =
     (token_by (stops c.args.stop) l c.args.byte) c.args.self.now))
     (sym (sym c.lead_of.ensures ∙ c.in-Slash.is)) c.slash.ensures.memory
 
--- ---- a bare text
+-- ---- a bare string
 
 pub returns-in_ok-event-in-Bare-clause-answers : goal.returns-in_ok-event-in-Bare-clause-answers
 returns-in_ok-event-in-Bare-clause-answers g c =

@@ -7,7 +7,7 @@ use Rattle.plist_binwrite.proofs.PlannedBy.{plan_new, plan_known, ids_new, none_
 use Rattle.plist_binwrite.proofs.numbering.Numbered.number_one.Goals as goal
 use Rattle.plist_binwrite.proofs.numbering.Numbered.number_one.Goals.{In_ok-set-3 as Anew, In_ok-set as Known}
 
--- ---- it has a number
+-- ---- the event has a number
 
 pub returns-then-not-has_item-clause-keeps : goal.returns-then-not-has_item-clause-keeps
 returns-then-not-has_item-clause-keeps c = keeps_self
@@ -18,7 +18,7 @@ returns-then-get-len-clause-keeps c = keeps_self
 pub returns-then-get-len-clause-first : goal.returns-then-get-len-clause-first
 returns-then-get-len-clause-first c = λ none s. absurd (omega arith)
 
--- ---- its class has one
+-- ---- its class has a number
 
 low : (c : Known) → c.get-number.result < length c.args.self.now.firsts
 low c = omega arith
@@ -61,7 +61,7 @@ returns-then-number-len-clause-keeps c =
     rw c.in_ok-set.ensures.set (keeps_set found.numbers found.firsts found.firsts c.args.index
     c.get-number.result (here c) (low c) (omega arith) (λ h. refl))
 
--- ---- it gets the next one, as its class
+-- ---- it gets the next number, and so does its class
 
 small : (c : Anew) → length c.args.self.now.firsts + 1 < 2 ^ 64
 small c =

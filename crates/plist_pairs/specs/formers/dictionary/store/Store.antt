@@ -1,4 +1,4 @@
--- `Store` as a type that may hold the type that holds it, by its values.
+-- `Store` as a type that may contain the type that contains it, by its values.
 use Rattle.std.specs.Prelude.{◌≡◌, ℕ, List, [], ◌∷◌, map, length, string_bytes, String, zip, bytes_eq}
 use Rattle.std.specs.List.{IsDistinct, IsDistinct-prop}
 use Rattle.std.specs.Map.{values_of}
@@ -28,7 +28,7 @@ use Rattle.plist_pairs.specs.declared.dictionary.store.Store.TheView.{view, inva
 use Rattle.plist_pairs.specs.contracts.dictionary.store.Store as C
 use Rattle.plist_pairs.specs.contracts.dictionary.store.Store.TheInside as I
 
--- a key beside one of g's values
+-- a key with one of g's values
 abbrev pub entry : Former {0} → Former {0}
 entry g = pair (const (List ℕ)) g
 
@@ -59,7 +59,7 @@ pub the_items_listed : (X : Type 0) (ps : List (List ℕ × X))
 the_items_listed X [] = refl
 the_items_listed X (p ∷ ps) = ap (λ l. p.1 ∷ l) (the_items_listed X ps)
 
--- what holds the keys
+-- the set that stores the keys
 abbrev Keys : Type 0
 Keys = IndexSet (String Global) (BuildHasherDefault FoldHasher)
 
@@ -86,7 +86,7 @@ zip-held X (k ∷ ks) [] e = absurd (omega arith)
 zip-held X (k ∷ ks) (v ∷ vs) e =
     λ i. (one_more (zip-held X ks vs (omega arith) i).0, (v, (zip-held X ks vs (omega arith) i).1))
 
--- as many values as keys, and each key once
+-- there are as many values as keys, and each key occurs once
 abbrev Sound : {X : Type 0} → Inside X → Type 0
 Sound u =
     (length u.items.items ≡ length u.keys.keys) × IsDistinct bytes_eq (map string_bytes u.keys.keys)

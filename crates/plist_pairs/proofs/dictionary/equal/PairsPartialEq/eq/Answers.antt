@@ -15,7 +15,7 @@ returns-then-count-pair_count g c =
     (as_map c.args.other.now) a.distinct b.distinct
     (λ e. c.if-count-pair_count.true (a.count ∙ e ∙ sym b.count))
 
--- at a key of the first, the values of both are compared
+-- at a key of the first pairs, the values of both are compared
 at-key : {V : Type 0} (eq : V → V → Bool) (ps qs : List (List ℕ × V)) (i n : ℕ) (k : List ℕ) (v : V)
     (found : Option V) → slice_get ps i ≡ Some (k, v) → IsDistinct bytes_eq (keys_of ps)
     → n ≡ length ps → i < n → found ≡ lookup (bytes_eq k) qs
