@@ -6,6 +6,9 @@ prints and converts files that are made here. Each run has 8 MiB of call stack, 
 allows. What is printed is compared with what these files hold by their making; how long each run
 took is told beside it.
 
+Then the same calls and commands run on a few levels, and it is measured how small their call stack
+may be: none may take more than 250 KiB.
+
 Usage: deep.py [LEVELS [PROGRAM]]      1000000 levels where none are named, a multiple of 4.
 
 Without the built program of `tests/outside/deep` it is proved and built first, by the kit's `rt` in
@@ -22,7 +25,10 @@ import time
 HERE = pathlib.Path(__file__).resolve().parent
 CRATES = HERE.parents[1] / "crates"
 TOOL = CRATES / "plist_tool/out/plist_tool"
+SETTINGS, ARCHIVE = (CRATES.parent / "examples" / name for name in ("settings.plist", "archive.plist"))
 STACK = 8 << 20
+# how many KiB of call stack a run on a few levels may take
+SMALL_STACK, LEVELS = 250, 20
 # what twenty values take one after the other, of which one takes a fifth
 ROOM = 2 << 30
 
@@ -55,18 +61,28 @@ def binary(levels):
     return b"bplist00" + objects + table + trailer
 
 
-def run(*words, room=resource.RLIM_INFINITY):
+def run(*words, room=resource.RLIM_INFINITY, stack=STACK, wanted=0):
     """What a command printed, and the seconds that it took; nothing where it failed."""
     def bound():
-        resource.setrlimit(resource.RLIMIT_STACK, (STACK, STACK))
+        resource.setrlimit(resource.RLIMIT_STACK, (stack, stack))
         resource.setrlimit(resource.RLIMIT_AS, (room, room))
     start = time.monotonic()
     answer = subprocess.run([str(word) for word in words], stdout=subprocess.PIPE,
-                            preexec_fn=bound)
+                            stderr=subprocess.DEVNULL, env={}, preexec_fn=bound)
     seconds = time.monotonic() - start
-    if answer.returncode:
+    if answer.returncode != wanted:
         return None, f"status {answer.returncode}"
     return answer.stdout, f"{seconds:.2f} s"
+
+
+def least_stack(*words, wanted=0):
+    """How many KiB of call stack a command needs at least."""
+    fails, works = 0, STACK >> 10
+    while works - fails > 1:
+        middle = (fails + works) // 2
+        printed, _ = run(*words, stack=middle << 10, wanted=wanted)
+        fails, works = (middle, works) if printed is None else (fails, middle)
+    return works
 
 
 def nested_events(levels):
@@ -74,39 +90,73 @@ def nested_events(levels):
     return 2 * levels + levels // 4 + 3 * (levels // 4) + 1
 
 
+def answers(levels):
+    """What the program prints after each call, on so many levels."""
+    calls = ("make", "clone", "equal", "write", "share")
+    events = {call: nested_events(levels) for call in calls}
+    events["text"] = 2 * levels + 1
+    events["archive"] = 3 * (levels - 1) + 1
+    events["refused"] = 1
+    events["let go"] = 1
+    return {call: f"{count}\n".encode() for call, count in events.items()}
+
+
+def files(folder, levels):
+    """A binary file and one in ASCII of so many levels, and what `print` gives of both."""
+    deep, flat = folder / "binary", folder / "ASCII"
+    deep.write_bytes(binary(levels))
+    flat.write_bytes(b"(" * levels + b")" * levels)
+    starts = b"StartArray 1\n" * (levels - 1) + b"StartArray 0\n"
+    return deep, flat, starts + b"EndCollection\n" * levels
+
+
+def few_levels(folder, built):
+    """The words of each call and command on a few levels, with the status that it ends with."""
+    deep, flat, _ = files(folder, LEVELS)
+    for call in answers(LEVELS):
+        yield call, (built, LEVELS, call), 0
+    yield "files", (built, LEVELS, "files", folder / "again"), 0
+    for source in (deep, flat, SETTINGS):
+        name, is_binary = source.name, source != flat
+        yield f"plist_tool print, {name}", (TOOL, "print", source), 0 if is_binary else 1
+        yield f"plist_tool convert, {name}", (TOOL, "convert", source, folder / "again"), 0
+        yield f"plist_tool keyed, {name}", (TOOL, "keyed", source, "root"), 1
+    yield "plist_tool keyed, an archive", (TOOL, "keyed", ARCHIVE, "root"), 0
+    yield "plist_tool print, no file", (TOOL, "print", folder / "none"), 1
+    yield "plist_tool convert, no file", (TOOL, "convert", folder / "none", folder / "again"), 1
+    yield "plist_tool without words", (TOOL,), 2
+
+
 def main():
     levels = int(sys.argv[1]) if len(sys.argv) > 1 else 1_000_000
     bad = 0
 
-    def tell(name, answer, wanted):
+    def tell(name, right, how):
         nonlocal bad
-        shown, how = answer
-        right = shown == wanted
         bad += not right
         print(f"{name}: {'' if right else 'OTHERWISE, '}{how}", flush=True)
+
+    def expect(name, answer, wanted):
+        shown, how = answer
+        tell(name, shown == wanted, how)
 
     with tempfile.TemporaryDirectory() as name:
         folder = pathlib.Path(name)
         built = pathlib.Path(sys.argv[2]) if len(sys.argv) > 2 else program(folder)
-        calls = ("make", "clone", "equal", "write", "share")
-        events = {call: nested_events(levels) for call in calls}
-        events["text"] = 2 * levels + 1
-        events["archive"] = 3 * (levels - 1) + 1
-        events["refused"] = 1
-        events["let go"] = 1
-        for call, count in events.items():
-            tell(call, run(built, levels, call), f"{count}\n".encode())
-        count = nested_events(levels)
-        tell("often", run(built, levels, "often", room=ROOM), f"{count}\n".encode())
-        deep, flat, again = folder / "binary", folder / "ASCII", folder / "again"
-        deep.write_bytes(binary(levels))
-        flat.write_bytes(b"(" * levels + b")" * levels)
-        starts = b"StartArray 1\n" * (levels - 1) + b"StartArray 0\n"
-        lines = starts + b"EndCollection\n" * levels
-        tell("plist_tool print", run(TOOL, "print", deep), lines)
+        again = folder / "again"
+        for call, wanted in answers(levels).items():
+            expect(call, run(built, levels, call), wanted)
+        wanted = answers(levels)["make"]
+        expect("often", run(built, levels, "often", room=ROOM), wanted)
+        expect("files", run(built, levels, "files", again), wanted)
+        deep, flat, lines = files(folder, levels)
+        expect("plist_tool print", run(TOOL, "print", deep), lines)
         for source in (deep, flat):
-            tell(f"plist_tool convert, {source.name}", run(TOOL, "convert", source, again), b"")
-            tell("plist_tool print of what it made", run(TOOL, "print", again), lines)
+            expect(f"plist_tool convert, {source.name}", run(TOOL, "convert", source, again), b"")
+            expect("plist_tool print of what it made", run(TOOL, "print", again), lines)
+        for name, words, status in few_levels(folder, built):
+            least = least_stack(*words, wanted=status)
+            tell(f"call stack of {name}", least <= SMALL_STACK, f"{least} KiB")
     return bad > 0
 
 

@@ -1,6 +1,9 @@
 -- What a window holds from a place on.
-use Rattle.std.proofs.Common.{◌≡◌, ℕ, ◌+◌, ◌-◌, ◌≤◌, List, take, drop, sym, ap, ◌∙◌, arith}
+use Rattle.std.proofs.Common.{◌≡◌, ℕ, ◌+◌, ◌*◌, ◌-◌, ◌%◌, ◌≤◌, List, take, drop, get_or, sym, ap, ◌∙◌, arith, inr}
 use Rattle.std.proofs.lemmas.List.{drop-drop, drop-take}
+use Rattle.std.proofs.lemmas.Option.{get_or_from_slice_get}
+use Rattle.plist_base.specs.declared.window.Header.{Header}
+use Rattle.plist_base.specs.inner.Windows.{BeginsAt, LendsFrom}
 
 pub rest_of_part : (start from size : ℕ) (bytes : List ℕ) → from ≤ size
     → take (size - from) (drop (start + from) bytes) ≡ drop from (take size (drop start bytes))
@@ -9,10 +12,19 @@ rest_of_part start from size bytes within =
     ∙ sym (drop-take from (size - from) (drop start bytes))
     ∙ ap (λ n. drop from (take n (drop start bytes))) (omega (arith, within))
 
--- the same of the part between two places
-pub rest_between : (start from size : ℕ) (bytes : List ℕ) → from ≤ size
-    → take (start + size - (start + from)) (drop (start + from) bytes)
-    ≡ drop from (take size (drop start bytes))
-rest_between start from size bytes within =
-    ap (λ n. take n (drop (start + from) bytes)) (omega (arith, within))
-    ∙ rest_of_part start from size bytes within
+-- the same of the window that a place lies in
+pub lends_part : (size place i : ℕ) (headers : List Header) (bytes lent : List ℕ) (none : Header)
+    → BeginsAt size headers i place → place % size ≤ (get_or headers i none).filled
+    → lent ≡ take ((get_or headers i none).filled - place % size)
+    (drop (i * (size + 64) + place % size) bytes)
+    → LendsFrom size headers bytes place lent
+lends_part size place i headers bytes lent none (header, found, begins) within is =
+    let same = get_or_from_slice_get headers i header none found in
+    inr (
+      i,
+      header,
+      found,
+      begins,
+      is ∙ ap (λ h. take (h.filled - place % size) (drop (i * (size + 64) + place % size) bytes)) same
+          ∙ rest_of_part (i * (size + 64)) (place % size) header.filled bytes (rw (sym same) within),
+    )

@@ -5,7 +5,7 @@ ghost use Rattle.plist_base.specs.Sources.{CountsFailure};
 ghost use Rattle.plist_base.specs.Seeking.{failures_of, seekable_of};
 
 use crate::source::{Source, copy_at};
-use crate::windows::{WINDOW, Windows};
+use crate::windows::Windows;
 use std::alloc::Global;
 use std::io;
 use std::io::{Read, Seek, SeekFrom};
@@ -13,11 +13,14 @@ use std::io::{Read, Seek, SeekFrom};
 /// A source over a reader that can seek, such as a file. Its bytes aren't known, since others may
 /// change them.
 ///
-/// It keeps windows of 8 KiB, which it lends, so that small reads near one another, in several
-/// parts of a file in turn, cost one read of `R`: eight of them, and up to 1,024 where it is given
-/// an allocator and windows have to be filled again. What begins in a window and has at most 64
-/// bytes lies whole in what it lends, unless its read was short. A read or seek that answers
-/// `Interrupted` is a failure, too.
+/// It keeps windows, which it lends, so that small reads near one another, in several parts of a
+/// file in turn, cost one read of `R`. By itself it has eight of 512 bytes. Given an allocator, it
+/// has eight of 8 KiB in memory, and up to 1,024 where windows have to be filled again. What begins
+/// in a window and has at most 64 bytes lies whole in what it lends, unless its read was short. A
+/// read or seek that answers `Interrupted` is a failure, too.
+///
+/// It has less than 5 KiB itself, since a call takes as much of the call stack for each time that
+/// it is passed on by value.
 #[derive(Drop)]
 pub struct Seeking<R> {
     inner: R,
@@ -26,7 +29,8 @@ pub struct Seeking<R> {
 }
 
 impl<R: Read + Seek> Seeking<R> {
-    /// A source over this reader, from its byte 0 on, wherever it stands. It keeps eight windows.
+    /// A source over this reader, from its byte 0 on, wherever it stands. It keeps eight windows of
+    /// 512 bytes, and asks for no memory. A large file is read faster by [`Seeking::with_windows`].
     pub fn new(inner: R) -> Self
         ensures inner { seekable_of result ≡ inner }
         ensures failures { failures_of result ≡ 0 }
@@ -34,24 +38,25 @@ impl<R: Read + Seek> Seeking<R> {
         Seeking::with_memory(inner, None)
     }
 
-    /// The same, but where windows have to be filled again, it asks the allocator for memory for as
-    /// many more as it has, up to 1,024 windows (8.5 MB). Where that is refused, those that it has
-    /// serve on.
+    /// The same, but its windows have 8 KiB. It asks the allocator for memory for eight of them once
+    /// a window is to be filled, and where windows have to be filled again, for as many more as it
+    /// has, up to 1,024 windows (8.5 MB). Where that is refused, the windows that it has serve on:
+    /// at first those of [`Seeking::new`].
     pub fn with_windows(alloc: Global, inner: R) -> Self
         ensures inner { seekable_of result ≡ inner }
         ensures failures { failures_of result ≡ 0 }
     {
-        Seeking::with_memory(inner, Some(Vec::new(alloc)))
+        Seeking::with_memory(inner, Some(alloc))
     }
 
-    fn with_memory(inner: R, more: Option<Vec<u8>>) -> Self
+    fn with_memory(inner: R, alloc: Option<Global>) -> Self
         ensures inner { seekable_of result ≡ inner }
         ensures failures { failures_of result ≡ 0 }
     {
         Seeking {
             inner,
             failed: 0,
-            windows: Windows::new(more),
+            windows: Windows::new(alloc),
         }
     }
 
@@ -104,7 +109,7 @@ impl<R: Read + Seek> Seeking<R> {
         if buf.is_empty() {
             return Ok(0);
         }
-        if buf.len() < WINDOW {
+        if buf.len() < self.windows.size() {
             let held = self.copy_from_window(place, buf)?;
             if held > 0 {
                 return Ok(held);

@@ -1,31 +1,37 @@
 -- What the windows of a file hold.
-use Rattle.std.specs.Prelude.{◌≡◌, ℕ, ◌*◌, ◌-◌, ◌%◌, ◌⊎◌, List, [], ◌++◌, take, drop, Option, None, Some, nat_lt, if◌then◌else◌, slice_index, Vec}
+use Rattle.std.specs.Prelude.{◌≡◌, ℕ, ◌+◌, ◌*◌, ◌-◌, ◌%◌, ◌⊎◌, List, [], ◌++◌, take, drop, Some, slice_get}
+use Rattle.plist_base.specs.declared.window.Header.{Header}
+use Rattle.plist_base.specs.declared.windows.ManyWindows.{ManyWindows}
 use Rattle.plist_base.specs.declared.windows.Windows.{Windows}
 
--- the memory for more windows that may have been given
-abbrev pub memory_of : {A : Type 0} → Option (Vec ℕ A) → List ℕ
-memory_of None = []
-memory_of (Some more) = more.items
+-- this window is the one that a place lies in
+abbrev pub BeginsAt : (size : ℕ) → List Header → (window place : ℕ) → Type 0
+BeginsAt size headers i place =
+    (header : Header) × (slice_get headers i ≡ Some header) × (header.start ≡ place - place % size)
 
--- what one read gave from a window's start on; the first eight have memory of their own
-abbrev pub bytes_of_window : Windows → (window : ℕ) → List ℕ
-bytes_of_window windows i =
-    take (slice_index windows.filled i)
-    (if nat_lt i 8 then drop (i * 8256) windows.own
-    else drop ((i - 8) * 8256) (memory_of windows.more))
+-- what one read gave from a window's start on; each has 64 bytes more than its size
+abbrev pub bytes_of_window : (size : ℕ) → Header → List ℕ → (window : ℕ) → List ℕ
+bytes_of_window size header bytes i = take header.filled (drop (i * (size + 64)) bytes)
 
--- nothing, or the window's bytes from a place on that it has
-abbrev pub LendsFrom : Windows → (window place : ℕ) → List ℕ → Type 0
-LendsFrom windows i place lent =
-    (lent ≡ []) ⊎ ((slice_index windows.starts i ≡ place - place % 8192)
-    × (lent ≡ drop (place % 8192) (bytes_of_window windows i)))
+-- nothing, or the bytes from a place on of the window that it lies in
+abbrev pub LendsFrom : (size : ℕ) → List Header → (bytes : List ℕ) → (place : ℕ) → (lent : List ℕ) → Type 0
+LendsFrom size headers bytes place lent =
+    (lent ≡ []) ⊎ ((i : ℕ) × (header : Header) × (slice_get headers i ≡ Some header)
+    × (header.start ≡ place - place % size)
+    × (lent ≡ drop (place % size) (bytes_of_window size header bytes i)))
 
--- the bytes begin with these
-abbrev pub IsBeginning : (front bytes : List ℕ) → Type 0
-IsBeginning front bytes = (more : List ℕ) × (bytes ≡ front ++ more)
+-- the same of all windows: the long ones, or else the short ones
+abbrev pub Lends : Windows → (place : ℕ) → (lent : List ℕ) → Type 0
+Lends windows place lent =
+    ((many : ManyWindows) × (windows.many ≡ Some many)
+    × LendsFrom 8192 many.headers.items many.bytes.items place lent)
+    ⊎ LendsFrom 512 windows.few.headers windows.few.bytes place lent
+
+-- the elements begin with these
+abbrev pub IsBeginning : {A : Type 0} → (front whole : List A) → Type 0
+IsBeginning {A = A} front whole = (more : List A) × (whole ≡ front ++ more)
 
 -- what was held is held
-abbrev pub KeepsWindows : (old new : Windows) → Type 0
+abbrev pub KeepsWindows : (old new : ManyWindows) → Type 0
 KeepsWindows old new =
-    (new.starts ≡ old.starts) × (new.filled ≡ old.filled) × (new.own ≡ old.own)
-    × IsBeginning (memory_of old.more) (memory_of new.more)
+    IsBeginning old.headers.items new.headers.items × IsBeginning old.bytes.items new.bytes.items

@@ -1,0 +1,149 @@
+//! Windows of a file in two slices: what is known of each, and their bytes.
+
+ghost use Rattle.std.specs.Prelude.{◌≡◌, ◌+◌, ◌*◌, ◌<◌, ◌≤◌, ◌^◌, length, drop, take, IfSome, OnErr};
+ghost use Rattle.plist_base.specs.inner.Windows.{BeginsAt, LendsFrom};
+
+use std::io;
+use std::io::{Read, Seek, SeekFrom};
+
+/// A window also has this many bytes of the next one, so that whatever begins in it and is no
+/// longer than that lies whole in it.
+pub(crate) const OVERLAP: usize = 64;
+
+/// How many windows there are at most.
+pub(crate) const MOST: usize = 1024;
+
+/// What is known of a window.
+#[derive(Clone, Copy)]
+pub(crate) struct Header {
+    // Where it begins, and how many bytes it has from there on.
+    start: u64,
+    filled: usize,
+    // Whether the other window of its slot is the next one to be filled. It counts in the first of
+    // the two alone.
+    turn: bool,
+}
+
+/// A window that was never filled.
+pub(crate) const UNFILLED: Header = Header {
+    start: u64::MAX,
+    filled: 0,
+    turn: false,
+};
+
+// The first of the two windows of a slot, which the window's number names.
+#[inline(always)]
+fn first_window(count: usize, number: u64) -> usize
+    ensures { result + 1 < 1024 }
+{
+    let last_slot = (count / 2).saturating_sub(1) as u64;
+    2 * ((number & last_slot) as usize % (MOST / 2))
+}
+
+/// The window that a place lies in, if it is buffered.
+#[inline(always)]
+pub(crate) fn window_at(headers: &[Header], size: usize, place: u64) -> Option<usize>
+    requires { 0 < size }
+    ensures within { IfSome result (λ i. (i < 1024) × (i < length headers.now)) }
+    ensures start { IfSome result (λ i. BeginsAt size headers.now i place) }
+{
+    let start = place - place % size as u64;
+    let i = first_window(headers.len(), place / size as u64);
+    if i + 1 >= headers.len() {
+        None
+    } else if headers[i].start == start {
+        Some(i)
+    } else if headers[i + 1].start == start {
+        Some(i + 1)
+    } else {
+        None
+    }
+}
+
+// The `size` bytes from an index on, or as many of them as there are.
+#[inline(always)]
+fn part(bytes: &[u8], first: usize, size: usize) -> &[u8]
+    ensures { result.now ≡ take size (drop first bytes.now) }
+{
+    let rest = &bytes[first.min(bytes.len())..];
+    &rest[..size.min(rest.len())]
+}
+
+/// The bytes that are buffered from a place on, perhaps none.
+#[inline(always)]
+pub(crate) fn buffered_in<'a>(
+    headers: &[Header],
+    bytes: &'a [u8],
+    size: usize,
+    place: u64,
+) -> &'a [u8]
+    requires { (0 < size) × (size ≤ 8192) }
+    ensures bytes { LendsFrom size headers.now bytes.now place result.now }
+{
+    let Some(i) = window_at(headers, size, place) else {
+        return &[];
+    };
+    let from = (place % size as u64) as usize;
+    let filled = headers[i].filled;
+    if from >= filled {
+        return &[];
+    }
+    part(bytes, i * (size + OVERLAP) + from, filled - from)
+}
+
+// The window that is to be filled for a place: its own one, or else of the two of its slot the one
+// that was filled first.
+fn window_for(headers: &mut [Header], size: usize, place: u64) -> usize
+    requires { 0 < size }
+    ensures within { result < 1024 }
+    ensures length { length headers.new ≡ length headers.old }
+{
+    if let Some(i) = window_at(headers, size, place) {
+        return i;
+    }
+    let first = first_window(headers.len(), place / size as u64);
+    if first >= headers.len() {
+        return first;
+    }
+    let turn = headers[first].turn;
+    headers[first].turn = !turn;
+    if turn { first + 1 } else { first }
+}
+
+// Fills a window from its start on by one read. It is empty after a failure.
+fn fill_window<R: Read + Seek>(
+    header: &mut Header,
+    memory: &mut [u8],
+    start: u64,
+    reader: &mut R,
+) -> Result<(), io::Error>
+    ensures start { header.new.start ≡ start }
+    ensures failed { OnErr result (header.new.filled ≡ 0) }
+{
+    header.start = start;
+    header.filled = 0;
+    reader.seek(SeekFrom::Start(start))?;
+    header.filled = reader.read(memory)?;
+    Ok(())
+}
+
+/// Fills the window that a place lies in, if there is one.
+pub(crate) fn fill_in<R: Read + Seek>(
+    headers: &mut [Header],
+    bytes: &mut [u8],
+    size: usize,
+    place: u64,
+    reader: &mut R,
+) -> Result<(), io::Error>
+    requires { (0 < size) × (size ≤ 8192) }
+{
+    let i = window_for(headers, size, place);
+    let first = i * (size + OVERLAP);
+    let end = first + size + OVERLAP;
+    if i < headers.len() && end <= bytes.len() {
+        let start = place - place % size as u64;
+        fill_window(&mut headers[i], &mut bytes[first..end], start, reader)
+    } else {
+        Ok(())
+    }
+}
