@@ -213,6 +213,103 @@ fn merge_into(over: Dictionary, base: &mut Dictionary) -> Result<(), Error> {
     Ok(())
 }
 
+/// Like [`merge`], by entries.
+///
+/// # Errors
+///
+/// `OutOfMemory`; a part has been merged then.
+pub fn merge_by_entries(over: Dictionary, base: &mut Dictionary) -> Result<(), Error> {
+    for (key, value) in over {
+        match value {
+            Value::Dictionary(inner) => {
+                let empty = Value::Dictionary(Dictionary::new(base.allocator()));
+                let below = base.entry(key).or_insert(empty)?;
+                match below.as_dictionary_mut() {
+                    Some(below) => merge_by_entries(inner, below)?,
+                    None => *below = Value::Dictionary(inner),
+                }
+            }
+            other => {
+                let _old = base.insert(key, other)?;
+            }
+        }
+    }
+    Ok(())
+}
+
+/// Like [`merge`], by taking both apart.
+///
+/// # Errors
+///
+/// `OutOfMemory`.
+pub fn merge_by_value(over: Dictionary, mut base: Dictionary) -> Result<Dictionary, Error> {
+    for (key, value) in over {
+        let new = match (value, base.remove(key.as_str())) {
+            (Value::Dictionary(inner), Some(Value::Dictionary(below))) => {
+                Value::Dictionary(merge_by_value(inner, below)?)
+            }
+            (value, _) => value,
+        };
+        let _old = base.insert(key, new)?;
+    }
+    Ok(base)
+}
+
+/// Like [`merge`], of two dictionaries that stay as they are.
+///
+/// # Errors
+///
+/// `OutOfMemory`.
+pub fn merged(alloc: Global, over: &Dictionary, base: &Dictionary) -> Result<Dictionary, Error> {
+    let mut all = base.clone()?;
+    for (key, value) in over {
+        let new = match (value, base.get(key.as_str())) {
+            (Value::Dictionary(inner), Some(Value::Dictionary(below))) => {
+                Value::Dictionary(merged(alloc, inner, below)?)
+            }
+            _ => value.clone(alloc)?,
+        };
+        let _old = all.insert(key.clone()?, new)?;
+    }
+    Ok(all)
+}
+
+/// Merges a value into another one: two dictionaries as [`merge`] does, and else the value is set.
+///
+/// # Errors
+///
+/// `OutOfMemory`; a part has been merged then.
+#[cycle(merging)]
+pub fn merge_value(over: Value, base: &mut Value) -> Result<(), Error> {
+    match over {
+        Value::Dictionary(pairs) => match base.as_dictionary_mut() {
+            Some(below) => merge_each(pairs, below),
+            None => {
+                *base = Value::Dictionary(pairs);
+                Ok(())
+            }
+        },
+        other => {
+            *base = other;
+            Ok(())
+        }
+    }
+}
+
+// Merges each value of a dictionary into the one of its key.
+#[cycle(merging)]
+fn merge_each(over: Dictionary, base: &mut Dictionary) -> Result<(), Error> {
+    for (key, value) in over {
+        match base.get_mut(key.as_str()) {
+            Some(below) => merge_value(value, below)?,
+            None => {
+                let _old = base.insert(key, value)?;
+            }
+        }
+    }
+    Ok(())
+}
+
 /// Counts the keys that two dictionaries have in common, at any depth.
 ///
 /// # Errors

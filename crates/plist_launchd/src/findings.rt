@@ -1,0 +1,182 @@
+//! What is wrong with a job.
+
+use crate::keys::{Shape, advice_for, shape_of};
+use plist::{Dictionary, Error, Value};
+use std::alloc::Global;
+use std::fmt;
+
+/// One thing that is wrong with a job.
+#[derive(Debug, Drop)]
+pub enum Finding<'a> {
+    /// A key that every job needs is missing.
+    Missing(&'static str),
+    /// A value has another type.
+    WrongType {
+        key: &'a str,
+        wanted: Shape,
+        found: &'static str,
+    },
+    /// An item of an array of strings has another type.
+    WrongItem {
+        key: &'a str,
+        index: usize,
+        found: &'static str,
+    },
+    /// A key is not known.
+    Unknown(&'a str),
+    /// A key is deprecated.
+    Deprecated {
+        key: &'a str,
+        advice: &'static str,
+    },
+    /// A path is relative.
+    Relative {
+        key: &'a str,
+        path: &'a str,
+    },
+}
+
+impl Finding<'_> {
+    /// Whether launchd doesn't load such a job.
+    pub fn is_error(&self) -> bool {
+        matches!(
+            self,
+            Finding::Missing(_) | Finding::WrongType { .. } | Finding::WrongItem { .. }
+        )
+    }
+}
+
+impl fmt::Display for Finding<'_> {
+    fn fmt<W: fmt::Write>(&self, f: &mut fmt::Formatter<W>) -> fmt::Result {
+        match self {
+            Finding::Missing(keys) => write!(f, "error: {keys} is missing"),
+            Finding::WrongType { key, wanted, found } => {
+                write!(f, "error: {key} has to be {wanted}, not {found}")
+            }
+            Finding::WrongItem { key, index, found } => {
+                write!(
+                    f,
+                    "error: item {index} of {key} has to be a string, not {found}"
+                )
+            }
+            Finding::Unknown(key) => write!(f, "warning: {key} is not a known key"),
+            Finding::Deprecated { key, advice } => {
+                write!(f, "warning: {key} is deprecated: {advice}")
+            }
+            Finding::Relative { key, path } => {
+                write!(f, "warning: the path {path:?} of {key} is relative")
+            }
+        }
+    }
+}
+
+// The type of a value, in words.
+fn type_of(value: &Value) -> &'static str {
+    match value {
+        Value::Array(_) => "an array",
+        Value::Dictionary(_) => "a dictionary",
+        Value::Boolean(_) => "a Boolean",
+        Value::Data(_) => "data",
+        Value::Date(_) => "a date",
+        Value::Real(_) => "a real",
+        Value::Integer(_) => "an integer",
+        Value::String(_) => "a string",
+        Value::Uid(_) => "a UID",
+    }
+}
+
+// What is found in a job so far.
+type Findings<'a> = Vec<Finding<'a>>;
+
+// Looks at a path.
+fn check_path<'a>(key: &'a str, path: &'a str, to: &mut Findings<'a>) -> Result<(), Error> {
+    if !path.starts_with('/') {
+        to.push(Finding::Relative { key, path })?;
+    }
+    Ok(())
+}
+
+// Looks at an item of an array of strings.
+fn check_item<'a>(
+    key: &'a str,
+    index: usize,
+    item: &'a Value,
+    shape: Shape,
+    to: &mut Findings<'a>,
+) -> Result<(), Error> {
+    match item {
+        Value::String(path) if shape == Shape::Paths => check_path(key, path.as_str(), to),
+        Value::String(_) => Ok(()),
+        other => {
+            let found = type_of(other);
+            to.push(Finding::WrongItem { key, index, found })?;
+            Ok(())
+        }
+    }
+}
+
+// Looks at a value that has the shape of its key.
+fn check_content<'a>(
+    key: &'a str,
+    value: &'a Value,
+    shape: Shape,
+    to: &mut Findings<'a>,
+) -> Result<(), Error> {
+    match (shape, value) {
+        (Shape::Path, Value::String(path)) => check_path(key, path.as_str(), to),
+        (Shape::Texts | Shape::Paths | Shape::TextOrTexts, Value::Array(items)) => {
+            for (index, item) in items.iter().enumerate() {
+                check_item(key, index, item, shape, to)?;
+            }
+            Ok(())
+        }
+        _ => Ok(()),
+    }
+}
+
+// Looks at a key and its value.
+fn check_pair<'a>(key: &'a str, value: &'a Value, to: &mut Findings<'a>) -> Result<(), Error> {
+    let Some(wanted) = shape_of(key) else {
+        to.push(Finding::Unknown(key))?;
+        return Ok(());
+    };
+    if let Some(advice) = advice_for(key) {
+        to.push(Finding::Deprecated { key, advice })?;
+    }
+    if wanted.admits(value) {
+        return check_content(key, value, wanted, to);
+    }
+    let found = type_of(value);
+    to.push(Finding::WrongType { key, wanted, found })?;
+    Ok(())
+}
+
+// Looks for what has to be started: a program, or else the first of the arguments.
+fn check_program<'a>(job: &'a Dictionary, to: &mut Findings<'a>) -> Result<(), Error> {
+    if job.contains_key("Program") {
+        return Ok(());
+    }
+    match job.get("ProgramArguments") {
+        None => to.push(Finding::Missing("Program or ProgramArguments"))?,
+        Some(Value::Array(items)) => match items.first() {
+            None => to.push(Finding::Missing("the first item of ProgramArguments"))?,
+            Some(Value::String(path)) => check_path("ProgramArguments", path.as_str(), to)?,
+            Some(_) => {}
+        },
+        Some(_) => {}
+    }
+    Ok(())
+}
+
+/// What is wrong with a job: first what is missing, then what its keys have, in their order.
+pub fn check(alloc: Global, job: &Dictionary) -> Result<Findings<'_>, Error> {
+    let mut findings = Vec::new(alloc);
+    if !job.contains_key("Label") {
+        findings.push(Finding::Missing("Label"))?;
+    }
+    check_program(job, &mut findings)?;
+    for (key, value) in job {
+        check_pair(key.as_str(), value, &mut findings)?;
+    }
+    Ok(findings)
+}

@@ -1,0 +1,106 @@
+//! What differs between two dictionaries, by key path.
+
+use crate::Failure;
+use crate::text::text_of;
+use plist::{Dictionary, Value};
+use std::alloc::Global;
+use std::io::Write;
+
+// Whether two arrays are the same.
+#[cycle(same)]
+fn are_same_items(items: &[Value], others: &[Value]) -> bool {
+    if items.len() != others.len() {
+        return false;
+    }
+    for (item, other) in items.iter().zip(others.iter()) {
+        if !is_same(item, other) {
+            return false;
+        }
+    }
+    true
+}
+
+// Whether two dictionaries have the same at each key.
+#[cycle(same)]
+fn are_same_pairs(pairs: &Dictionary, others: &Dictionary) -> bool {
+    if pairs.len() != others.len() {
+        return false;
+    }
+    for (key, value) in pairs {
+        match others.get(key.as_str()) {
+            Some(other) if is_same(value, other) => {}
+            _ => return false,
+        }
+    }
+    true
+}
+
+// Whether two values are the same: reals where they are equal as numbers, as in the Rust crate, and
+// not where their bytes are equal, as `==` says.
+#[cycle(same)]
+fn is_same(value: &Value, other: &Value) -> bool {
+    match (value, other) {
+        (Value::Real(number), Value::Real(another)) => number.to_f64() == another.to_f64(),
+        (Value::Array(items), Value::Array(others)) => are_same_items(items, others),
+        (Value::Dictionary(pairs), Value::Dictionary(others)) => are_same_pairs(pairs, others),
+        _ => value == other,
+    }
+}
+
+// Prints how the value of a path has changed.
+#[cycle(diff)]
+fn diff_value<W: Write>(
+    alloc: Global,
+    out: &mut W,
+    before: &Value,
+    after: &Value,
+    path: &str,
+) -> Result<(), Failure> {
+    match (before, after) {
+        (Value::Dictionary(old), Value::Dictionary(new)) => {
+            let below = format!(in alloc; "{path}.")?;
+            diff(alloc, out, old, new, below.as_str())
+        }
+        _ if is_same(before, after) => Ok(()),
+        _ => {
+            let (old, new) = (text_of(alloc, before)?, text_of(alloc, after)?);
+            writeln!(out, "~ {path} {old} {new}")?;
+            Ok(())
+        }
+    }
+}
+
+// Prints the keys of a dictionary that another one hasn't.
+fn print_added<W: Write>(
+    out: &mut W,
+    old: &Dictionary,
+    new: &Dictionary,
+    path: &str,
+) -> Result<(), Failure> {
+    for key in new.keys() {
+        if !old.contains_key(key.as_str()) {
+            writeln!(out, "+ {path}{key}")?;
+        }
+    }
+    Ok(())
+}
+
+/// Prints a line for each key that was removed, changed or added, in dictionaries within
+/// dictionaries too; `path` is what comes before the keys.
+#[cycle(diff)]
+pub fn diff<W: Write>(
+    alloc: Global,
+    out: &mut W,
+    old: &Dictionary,
+    new: &Dictionary,
+    path: &str,
+) -> Result<(), Failure> {
+    for (key, before) in old {
+        let at = format!(in alloc; "{path}{key}")?;
+        match new.get(key.as_str()) {
+            Some(after) => diff_value(alloc, out, before, after, at.as_str())?,
+            None => writeln!(out, "- {at}")?,
+        }
+    }
+    print_added(out, old, new, path)
+}

@@ -1,0 +1,54 @@
+//! How a value is printed.
+
+use plist::{Date, Dictionary, Error, ErrorKind, Value};
+use std::alloc::Global;
+
+// The text of a date; of one that has none, as one with a fraction of a second, its second.
+fn date_text(alloc: Global, date: Date) -> Result<String, Error> {
+    match date.to_xml_format(alloc) {
+        Ok(text) => Ok(text),
+        Err(error) => match error.kind() {
+            ErrorKind::OutOfMemory => Err(error),
+            _ => Ok(format!(in alloc; "second {}", date.unix_secs())?),
+        },
+    }
+}
+
+// The texts of the items of an array.
+#[cycle(text)]
+fn items_text(alloc: Global, items: &[Value]) -> Result<String, Error> {
+    let mut text = String::new(alloc);
+    for item in items {
+        let separator = if text.is_empty() { "" } else { ", " };
+        text.push_str(separator)?;
+        text.push_str(text_of(alloc, item)?.as_str())?;
+    }
+    Ok(text)
+}
+
+// The keys of a dictionary.
+fn keys_text(alloc: Global, pairs: &Dictionary) -> Result<String, Error> {
+    let mut text = String::new(alloc);
+    for key in pairs.keys() {
+        let separator = if text.is_empty() { "" } else { ", " };
+        text.push_str(separator)?;
+        text.push_str(key.as_str())?;
+    }
+    Ok(text)
+}
+
+/// The text of a value: of an array with its items, of a dictionary with its keys.
+#[cycle(text)]
+pub fn text_of(alloc: Global, value: &Value) -> Result<String, Error> {
+    match value {
+        Value::Array(items) => Ok(format!(in alloc; "({})", items_text(alloc, items)?)?),
+        Value::Dictionary(pairs) => Ok(format!(in alloc; "{{{}}}", keys_text(alloc, pairs)?)?),
+        Value::Boolean(flag) => Ok(format!(in alloc; "{flag}")?),
+        Value::Data(bytes) => Ok(format!(in alloc; "<{} bytes>", bytes.len())?),
+        Value::Date(date) => date_text(alloc, *date),
+        Value::Real(number) => Ok(format!(in alloc; "{:?}", number.to_f64())?),
+        Value::Integer(number) => Ok(format!(in alloc; "{number}")?),
+        Value::String(text) => Ok(format!(in alloc; "{text:?}")?),
+        Value::Uid(uid) => Ok(format!(in alloc; "object {}", uid.get())?),
+    }
+}

@@ -1,0 +1,197 @@
+//! Merges property lists over the Rust crate `plist`, and prints what differs. Its words are done in
+//! turn: `diff=OLD,NEW` and `merge=BASE,OVER,OUT`. `crates/plist_merge` is its port.
+
+use plist::{Dictionary, Error, Value};
+use std::env;
+use std::fmt;
+use std::io::{self, Write};
+use std::process::ExitCode;
+
+/// Why a word isn't done.
+#[derive(Debug)]
+enum Failure {
+    /// A file can't be read or written.
+    Plist(Error),
+    /// A line can't be printed.
+    Output(io::Error),
+    /// The file holds no dictionary.
+    NoDictionary,
+    /// The word is no command.
+    Usage,
+}
+
+impl From<Error> for Failure {
+    fn from(error: Error) -> Failure {
+        Failure::Plist(error)
+    }
+}
+
+impl From<io::Error> for Failure {
+    fn from(error: io::Error) -> Failure {
+        Failure::Output(error)
+    }
+}
+
+impl fmt::Display for Failure {
+    fn fmt(&self, f: &mut fmt::Formatter<'_>) -> fmt::Result {
+        match self {
+            Failure::Plist(error) => write!(f, "{error}"),
+            Failure::Output(error) => write!(f, "{error}"),
+            Failure::NoDictionary => f.write_str("the file holds no dictionary"),
+            Failure::Usage => f.write_str("diff=OLD,NEW merge=BASE,OVER,OUT"),
+        }
+    }
+}
+
+// Merges a dictionary into another one: where both have a dictionary at a key, these are merged;
+// any other value replaces the one of its key.
+fn merge(base: &mut Dictionary, over: Dictionary) {
+    for (key, value) in over {
+        match value {
+            Value::Dictionary(inner) => match base.get_mut(&key) {
+                Some(Value::Dictionary(below)) => merge(below, inner),
+                _ => {
+                    base.insert(key, Value::Dictionary(inner));
+                }
+            },
+            other => {
+                base.insert(key, other);
+            }
+        }
+    }
+}
+
+// The text of a value: of an array with its items, of a dictionary with its keys.
+fn text_of(value: &Value) -> String {
+    match value {
+        Value::Array(items) => {
+            let texts: Vec<String> = items.iter().map(text_of).collect();
+            format!("({})", texts.join(", "))
+        }
+        Value::Dictionary(pairs) => {
+            let keys: Vec<&str> = pairs.keys().map(String::as_str).collect();
+            format!("{{{}}}", keys.join(", "))
+        }
+        Value::Boolean(flag) => format!("{flag}"),
+        Value::Data(bytes) => format!("<{} bytes>", bytes.len()),
+        Value::Date(date) => date.to_xml_format(),
+        Value::Real(number) => format!("{number:?}"),
+        Value::Integer(number) => format!("{number}"),
+        Value::String(text) => format!("{text:?}"),
+        Value::Uid(uid) => format!("object {}", uid.get()),
+        _ => String::new(),
+    }
+}
+
+// Prints how the value of a path has changed.
+fn diff_value<W: Write>(
+    out: &mut W,
+    before: &Value,
+    after: &Value,
+    path: &str,
+) -> Result<(), Failure> {
+    match (before, after) {
+        (Value::Dictionary(old), Value::Dictionary(new)) => {
+            diff(out, old, new, &format!("{path}."))
+        }
+        _ if before == after => Ok(()),
+        _ => {
+            let (old, new) = (text_of(before), text_of(after));
+            writeln!(out, "~ {path} {old} {new}")?;
+            Ok(())
+        }
+    }
+}
+
+// Prints the keys of a dictionary that another one hasn't.
+fn print_added<W: Write>(
+    out: &mut W,
+    old: &Dictionary,
+    new: &Dictionary,
+    path: &str,
+) -> Result<(), Failure> {
+    for key in new.keys() {
+        if !old.contains_key(key) {
+            writeln!(out, "+ {path}{key}")?;
+        }
+    }
+    Ok(())
+}
+
+// Prints a line for each key that was removed, changed or added, in dictionaries within dictionaries
+// too; `path` is what comes before the keys.
+fn diff<W: Write>(
+    out: &mut W,
+    old: &Dictionary,
+    new: &Dictionary,
+    path: &str,
+) -> Result<(), Failure> {
+    for (key, before) in old {
+        let at = format!("{path}{key}");
+        match new.get(key) {
+            Some(after) => diff_value(out, before, after, &at)?,
+            None => writeln!(out, "- {at}")?,
+        }
+    }
+    print_added(out, old, new, path)
+}
+
+// The dictionary of a file.
+fn open(path: &str) -> Result<Dictionary, Failure> {
+    match Value::from_file(path)? {
+        Value::Dictionary(pairs) => Ok(pairs),
+        _ => Err(Failure::NoDictionary),
+    }
+}
+
+// Prints what differs between two files.
+fn print_diff<W: Write>(out: &mut W, names: &str) -> Result<(), Failure> {
+    let (old, new) = names.split_once(',').ok_or(Failure::Usage)?;
+    let before = open(old)?;
+    let after = open(new)?;
+    writeln!(out, "--- {old}")?;
+    writeln!(out, "+++ {new}")?;
+    diff(out, &before, &after, "")
+}
+
+// Merges a file into another one, prints what that changes, and writes the result.
+fn merge_files<W: Write>(out: &mut W, names: &str) -> Result<(), Failure> {
+    let (base, rest) = names.split_once(',').ok_or(Failure::Usage)?;
+    let (over, result) = rest.split_once(',').ok_or(Failure::Usage)?;
+    let before = open(base)?;
+    let mut after = before.clone();
+    merge(&mut after, open(over)?);
+    writeln!(out, "--- {base}")?;
+    writeln!(out, "+++ {result}")?;
+    diff(out, &before, &after, "")?;
+    Value::Dictionary(after).to_file_binary(result)?;
+    Ok(())
+}
+
+// Does what a word says.
+fn perform<W: Write>(out: &mut W, word: &str) -> Result<(), Failure> {
+    let (verb, names) = word.split_once('=').unwrap_or((word, ""));
+    match verb {
+        "diff" => print_diff(out, names),
+        "merge" => merge_files(out, names),
+        _ => Err(Failure::Usage),
+    }
+}
+
+fn run() -> Result<(), Failure> {
+    let mut out = io::stdout();
+    for word in env::args().skip(1) {
+        perform(&mut out, &word)?;
+    }
+    Ok(())
+}
+
+fn main() -> ExitCode {
+    match run() {
+        Ok(()) => ExitCode::SUCCESS,
+        Err(failure) => {
+            eprintln!("merge: {failure}");
+            ExitCode::FAILURE
+        }
+    }
+}
