@@ -7,20 +7,20 @@ use Rattle.std.specs.List.{list_any}
 use Rattle.std.proofs.lemmas.List.{map-append}
 use Rattle.std.proofs.lemmas.List.Concat.{flat_map-append}
 use Rattle.std.proofs.lemmas.Option.{slice_get-map}
-use Rattle.plist_base.specs.Events.{PlainEvent, Item, StartArray, StartDictionary, EndCollection, ScalarEvent}
+use Rattle.plist_base.specs.Events.{PlainEvent, StartArray, StartDictionary, EndCollection, ScalarEvent}
 use Rattle.plist_base.specs.Trees as trees
 use Rattle.plist_base.specs.Trees.{Tree, Leaf, Array, Dictionary, Trees, NoTrees, TreeAnd, Members, NoMembers, MemberAnd, number_of_trees, number_of_members}
 use Rattle.plist_base.specs.Bracketing.{bracketing, bracketing_of_items, bracketing_of_pairs, without_length, AreAlike}
 use Rattle.plist_base.proofs.Grammar.{alike_with}
 use Rattle.plist_binwrite.specs.RepeatedKeys.{HasKeysOnce, ItemsHaveKeysOnce, ValuesHaveKeysOnce, HasDistinctKeys, Lacks}
 use Rattle.plist_keyed.specs.Archives.{ArchiveFault, UidOutOfRange, RecursiveUid, and_then, replaced, replaced_items, replaced_pairs, tree_found, resolved}
-use Rattle.plist_keyed.specs.inner.Walks.{Step, fault_of_archive, items_of_steps, steps_of_event, steps_of_events, steps_found, steps_at}
+use Rattle.plist_keyed.specs.inner.Walks.{Given, Step, given_by, steps_of_event, steps_of_events, steps_found, steps_at}
 
-pub items_of-append : (a b : List Step) → items_of_steps (a ++ b)
-    ≡ items_of_steps a ++ items_of_steps b
-items_of-append [] b = refl
-items_of-append (Some i ∷ a) b = ap (λ l. i ∷ l) (items_of-append a b)
-items_of-append (None ∷ a) b = items_of-append a b
+pub given_by-append : (a b : List Step) → given_by (a ++ b)
+    ≡ given_by a ++ given_by b
+given_by-append [] b = refl
+given_by-append (Some i ∷ a) b = ap (λ l. i ∷ l) (given_by-append a b)
+given_by-append (None ∷ a) b = given_by-append a b
 
 -- the events can go on to those of something
 abbrev pub Begins : {W : Type 0} → (events : W → List PlainEvent) → List PlainEvent → Type 0
@@ -28,21 +28,21 @@ Begins {W} events es = (rest : List PlainEvent) × (whole : W) × AreAlike (es +
 
 -- these items are the events, up to lengths, or some that can go on, and then the fault
 abbrev pub AreItemsOf : {W : Type 0} → (events : W → List PlainEvent) → Result W ArchiveFault
-    → List Item → Type 0
+    → List Given → Type 0
 AreItemsOf events (Ok whole) items =
     (es : List PlainEvent) × (items ≡ map Ok es) × AreAlike es (events whole)
 AreItemsOf events (Err fault) items =
-    (es : List PlainEvent) × (more : List Item) × (items ≡ map Ok es
-    ++ Err (fault_of_archive fault) ∷ more)
+    (es : List PlainEvent) × (more : List Given) × (items ≡ map Ok es
+    ++ Err fault ∷ more)
     × Begins events es
 
 -- what a tree's items are
-abbrev pub Gives : Result Tree ArchiveFault → List Item → Type 0
+abbrev pub Gives : Result Tree ArchiveFault → List Given → Type 0
 Gives answer items = AreItemsOf bracketing answer items
 
 module _ {V : Type 0} (inner : V → List PlainEvent) where
   -- after one event, and after some
-  behind-one : (e : PlainEvent) (a : Result V ArchiveFault) (xs : List Item) → AreItemsOf inner a xs
+  behind-one : (e : PlainEvent) (a : Result V ArchiveFault) (xs : List Given) → AreItemsOf inner a xs
       → AreItemsOf (λ v. e ∷ inner v) a (Ok e ∷ xs)
   behind-one e (Ok v) xs (es, is, alike) =
       (e ∷ es, ap (λ l. Ok e ∷ l) is, ap (λ l. without_length e ∷ l) alike)
@@ -50,7 +50,7 @@ module _ {V : Type 0} (inner : V → List PlainEvent) where
       (e ∷ es, more, ap (λ l. Ok e ∷ l) is, (rest, v, ap (λ l. without_length e ∷ l) alike))
 
   -- with an event after
-  before-one : (e : PlainEvent) (a : Result V ArchiveFault) (xs : List Item) → AreItemsOf inner a xs
+  before-one : (e : PlainEvent) (a : Result V ArchiveFault) (xs : List Given) → AreItemsOf inner a xs
       → AreItemsOf (λ v. inner v ++ e ∷ []) a (xs ++ Ok e ∷ [])
   before-one e (Ok v) xs (es, is, alike) =
       (es ++ e ∷ [], rw is (sym (map-append Ok es (e ∷ []))), alike_with es (inner v) _ alike)
@@ -69,7 +69,7 @@ module _ {V : Type 0} (inner : V → List PlainEvent) where
   -- what is made of it
   made : {W : Type 0} (outer : W → List PlainEvent) (make : V → W)
       → ((v : V) → AreAlike (inner v) (outer (make v)))
-      → (a : Result V ArchiveFault) (xs : List Item) → AreItemsOf inner a xs
+      → (a : Result V ArchiveFault) (xs : List Given) → AreItemsOf inner a xs
       → AreItemsOf outer (and_then a (λ v. Ok (make v))) xs
   made outer make h (Ok v) xs (es, is, alike) = (es, is, alike ∙ h v)
   made outer make h (Err f) xs (es, more, is, (rest, v, alike)) =
@@ -78,7 +78,7 @@ module _ {V : Type 0} (inner : V → List PlainEvent) where
 -- what a collection's items are, between its start and its end
 bracketed : {V : Type 0} (inner : V → List PlainEvent) (start : PlainEvent) (make : V → Tree)
     → ((v : V) → AreAlike (start ∷ (inner v ++ EndCollection ∷ [])) (bracketing (make v)))
-    → (a : Result V ArchiveFault) (xs : List Item) → AreItemsOf inner a xs
+    → (a : Result V ArchiveFault) (xs : List Given) → AreItemsOf inner a xs
     → Gives (and_then a (λ v. Ok (make v))) (Ok start ∷ (xs ++ Ok EndCollection ∷ []))
 bracketed inner start make alike a xs h =
     made (λ v. start ∷ (inner v ++ EndCollection ∷ [])) bracketing make alike a _
@@ -86,7 +86,7 @@ bracketed inner start make alike a xs h =
     (before-one inner EndCollection a xs h))
 
 behind : {V : Type 0} (inner : V → List PlainEvent) (es : List PlainEvent)
-    (a : Result V ArchiveFault) (xs : List Item) → AreItemsOf inner a xs
+    (a : Result V ArchiveFault) (xs : List Given) → AreItemsOf inner a xs
     → AreItemsOf (λ v. es ++ inner v) a (map Ok es ++ xs)
 behind inner [] a xs h = h
 behind inner (e ∷ es) a xs h = behind-one (λ v. es ++ inner v) e a _ (behind inner es a xs h)
@@ -95,7 +95,7 @@ behind inner (e ∷ es) a xs h = behind-one (λ v. es ++ inner v) e a _ (behind 
 both : {V W : Type 0} (first : V → List PlainEvent) (events outer : W → List PlainEvent)
     (make : V → W → W) (none : W) → events none ≡ []
     → ((v : V) (w : W) → outer (make v w) ≡ first v ++ events w)
-    → (a : Result V ArchiveFault) (b : Result W ArchiveFault) (xs ys : List Item)
+    → (a : Result V ArchiveFault) (b : Result W ArchiveFault) (xs ys : List Given)
     → AreItemsOf first a xs → AreItemsOf events b ys
     → AreItemsOf outer (and_then a (λ v. and_then b (λ w. Ok (make v w)))) (xs ++ ys)
 both first events outer make none nothing is (Ok v) b xs ys (es, p, alike) q =
@@ -109,15 +109,15 @@ both first events outer make none nothing is (Err f) b xs ys (es, more, p, (rest
 )
 
 module _ (answer : ℕ → Result Tree ArchiveFault) (follow : ℕ → List Step)
-    (h : (uid : ℕ) → Gives (answer uid) (items_of_steps (follow uid))) where
+    (h : (uid : ℕ) → Gives (answer uid) (given_by (follow uid))) where
   -- the items of some events
-  abbrev run : List PlainEvent → List Item
-  run es = items_of_steps (steps_of_events follow es)
+  abbrev run : List PlainEvent → List Given
+  run es = given_by (steps_of_events follow es)
 
   run-append : (a b : List PlainEvent) → run (a ++ b) ≡ run a ++ run b
   run-append a b =
-      ap items_of_steps (flat_map-append (steps_of_event follow) a b)
-      ∙ items_of-append (steps_of_events follow a) (steps_of_events follow b)
+      ap given_by (flat_map-append (steps_of_event follow) a b)
+      ∙ given_by-append (steps_of_events follow a) (steps_of_events follow b)
 
   mutual
     tree-gives : (t : Tree) → Gives (replaced answer t) (run (bracketing t))
@@ -151,23 +151,23 @@ module _ (answer : ℕ → Result Tree ArchiveFault) (follow : ℕ → List Step
         (pairs-give ms))
 
 -- a fault alone: any tree can come
-at-once : (fault : ArchiveFault) → Gives (Err fault) (Err (fault_of_archive fault) ∷ [])
+at-once : (fault : ArchiveFault) → Gives (Err fault) (Err fault ∷ [])
 at-once fault = ([], [], refl, (bracketing (Leaf (trees.Uid 0)), Leaf (trees.Uid 0), refl))
 
 found-gives : (found : Option Tree) (is_open : Bool) (uid : ℕ)
     (answer : Tree → Result Tree ArchiveFault) (steps : List PlainEvent → List Step)
-    → ((t : Tree) → is_open ≡ false → Gives (answer t) (items_of_steps (steps (bracketing t))))
+    → ((t : Tree) → is_open ≡ false → Gives (answer t) (given_by (steps (bracketing t))))
     → Gives (tree_found found is_open uid answer)
-    (items_of_steps (steps_found (option_map bracketing found) is_open uid steps))
+    (given_by (steps_found (option_map bracketing found) is_open uid steps))
 found-gives None o uid answer steps h = at-once (UidOutOfRange uid)
 found-gives (Some t) true uid answer steps h = at-once (RecursiveUid uid)
 found-gives (Some t) false uid answer steps h =
-    rw (items_of-append (steps (bracketing t)) (None ∷ []), append-nil _) (h t refl)
+    rw (given_by-append (steps (bracketing t)) (None ∷ []), append-nil _) (h t refl)
 
 -- the items of a Uid's walk are the events of its tree, or some events and then its fault
 pub uid-gives : (objects : List Tree) (fuel : ℕ) (path : List ℕ) (uid : ℕ)
     → Gives (resolved objects fuel path uid)
-    (items_of_steps (steps_at (map bracketing objects) fuel path uid))
+    (given_by (steps_at (map bracketing objects) fuel path uid))
 unfolding resolved steps_at
 uid-gives objects zero path uid =
     rw (slice_get-map bracketing objects uid)

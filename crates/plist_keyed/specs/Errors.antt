@@ -1,9 +1,10 @@
 -- Faults: their texts, and what they say of an archive.
-use Rattle.std.specs.Prelude.{◌≡◌, ℕ, ◌++◌, List, Option, Some, Result, Err, codes, decimal, ⊤}
-use Rattle.plist_base.specs.Faults.{FaultKind, Fault, ObjectReferenceTooLarge, RecursiveObject}
+use Rattle.std.specs.Prelude.{◌≡◌, ℕ, ◌++◌, List, Result, Err, codes, decimal, ⊤}
 use Rattle.plist_keyed.specs.Archives.{ArchiveFault, UidOutOfRange, RecursiveUid}
 use Rattle.plist_keyed.specs.declared.error.KeyedError.{KeyedError}
 use Rattle.plist_keyed.specs.declared.error.KeyedError.TheVariants as error
+use Rattle.plist_keyed.specs.declared.error.WalkError.{WalkError}
+use Rattle.plist_keyed.specs.declared.error.WalkError.TheVariants as walk
 
 -- the text of a fault: its name, and in brackets the number that it holds
 abbrev pub text_of_error : KeyedError → List ℕ
@@ -24,12 +25,14 @@ MatchError error.OutOfMemory closed memory fault = memory
 abbrev pub IsFaultOf : {A : Type 0} → Result A ArchiveFault → KeyedError → Type 0
 IsFaultOf answer e = MatchError e ⊥ ⊤ (λ fault. answer ≡ Err fault)
 
--- the fault of an archive that stands in the place of an event, and lack of memory for every other
--- one
-abbrev pub error_by : FaultKind → (offset : Option ℕ) → KeyedError
-error_by ObjectReferenceTooLarge (Some uid) = error.UidOutOfRange uid
-error_by RecursiveObject (Some uid) = error.RecursiveUid uid
-error_by kind offset = error.OutOfMemory
+-- one fact for lack of memory, and one for a fault of the archive that a walk met
+abbrev pub MatchWalkError : WalkError → (memory : Type 0) → (ArchiveFault → Type 0) → Type 0
+MatchWalkError (walk.MissingObject uid) memory fault = fault (UidOutOfRange uid)
+MatchWalkError (walk.OpenObject uid) memory fault = fault (RecursiveUid uid)
+MatchWalkError walk.OutOfMemory memory fault = memory
 
-abbrev pub error_of_fault : Fault → KeyedError
-error_of_fault fault = error_by fault.kind fault.offset
+-- what a walk's error is in the words of an archive
+abbrev pub error_of_walk : WalkError → KeyedError
+error_of_walk (walk.MissingObject uid) = error.UidOutOfRange uid
+error_of_walk (walk.OpenObject uid) = error.RecursiveUid uid
+error_of_walk walk.OutOfMemory = error.OutOfMemory

@@ -113,7 +113,7 @@ impl<'a> Archive<'a> {
     {
         match value_at(alloc, self.objects.as_slice(), uid) {
             Ok(value) => Ok(value),
-            Err(error) => Err(KeyedError::of_error(&error)),
+            Err(error) => Err(KeyedError::of_walk(error)),
         }
     }
 }

@@ -1,10 +1,10 @@
 //! Why an archive, or a tree of it, can't be had.
 
 ghost use Rattle.std.specs.Prelude.{◌≡◌, Some};
-ghost use Rattle.plist_base.specs.Faults.{fault_of};
-ghost use Rattle.plist_keyed.specs.Errors.{error_of_fault, text_of_error};
+ghost use Rattle.plist_keyed.specs.Errors.{error_of_walk, text_of_error};
+ghost use Rattle.plist_keyed.specs.declared.error.WalkError.TheVariants.{OutOfMemory as NoMemory};
 
-use plist::{Error, ErrorKind};
+use std::alloc::{AllocError, AllocFailed};
 use std::fmt;
 
 /// Why an archive, or a tree of it, can't be had.
@@ -21,21 +21,43 @@ pub enum KeyedError {
     OutOfMemory,
 }
 
+/// Why a walk over the objects of an archive stops.
+#[derive(Clone, Copy)]
+pub(crate) enum WalkError {
+    /// No object has this Uid.
+    MissingObject(u64),
+    /// This Uid was met while its own object was open.
+    OpenObject(u64),
+    /// An allocation failed.
+    OutOfMemory,
+}
+
+impl From<AllocError> for WalkError {
+    ghost from_gives = { λ _ e. e ≡ NoMemory };
+
+    fn from(_error: AllocError) -> WalkError {
+        WalkError::OutOfMemory
+    }
+}
+
+impl<T: Drop> From<AllocFailed<T>> for WalkError {
+    ghost from_gives = { λ _ e. e ≡ NoMemory };
+
+    fn from(_failed: AllocFailed<T>) -> WalkError {
+        WalkError::OutOfMemory
+    }
+}
+
 impl KeyedError {
-    // The fault of a walk over an archive, in the words of an archive; any other is `OutOfMemory`.
-    pub(crate) fn of_error(error: &Error) -> KeyedError
-        ensures { result ≡ error_of_fault (fault_of error.now) }
+    // The error of a walk over an archive, in the words of an archive.
+    pub(crate) fn of_walk(error: WalkError) -> KeyedError
+        ensures { result ≡ error_of_walk error }
     {
-        let Some(uid) = error.offset() else {
-            return KeyedError::OutOfMemory;
-        };
-        if let ErrorKind::ObjectReferenceTooLarge = error.kind() {
-            return KeyedError::UidOutOfRange(uid);
+        match error {
+            WalkError::MissingObject(uid) => KeyedError::UidOutOfRange(uid),
+            WalkError::OpenObject(uid) => KeyedError::RecursiveUid(uid),
+            WalkError::OutOfMemory => KeyedError::OutOfMemory,
         }
-        if let ErrorKind::RecursiveObject = error.kind() {
-            return KeyedError::RecursiveUid(uid);
-        }
-        KeyedError::OutOfMemory
     }
 }
 

@@ -6,6 +6,7 @@
 #![tactic(auto)]
 
 mod archive;
+mod check;
 mod error;
 mod walk;
 

@@ -1,19 +1,23 @@
-//! The walk over an archive, by a list of the open places of its own.
+//! The walk over an archive that gives the events of a Uid's tree.
 
-ghost use Rattle.std.specs.Prelude.{◌≡◌, ◌<◌, [], false, length, None, OnErr, OnOk, OnSome, nat_eq, slice_get};
-ghost use Rattle.std.specs.Option.{option_copied};
+ghost use Rattle.std.specs.Prelude.{◌≡◌, ◌<◌, [], ◌∷◌, IfErr, IfOk, length, None, Ok, OnErr, OnOk, OnSome, Some, nat_eq, slice_get};
+ghost use Rattle.indexmap.specs.IndexMap.{get};
 ghost use Rattle.plist_base.specs.Events.{event_of};
-ghost use Rattle.plist_base.specs.Outcomes.{IfFault, OnlyMemory};
-ghost use Rattle.indexmap.specs.IndexSet.{contains};
+ghost use Rattle.plist_base.specs.Outcomes.{OnlyMemory};
+ghost use Rattle.plist_keyed.specs.inner.Walks.{IsFaultless, IsFirstFaultOf, steps_from};
 ghost use Rattle.plist.specs.Collecting.{built_tree};
 ghost use Rattle.plist.specs.ValueOfItems.{IsValueOf};
 ghost use Rattle.plist.specs.LastWins.{last_wins};
 ghost use Rattle.plist.specs.ValueTrees.{tree_of};
-ghost use Rattle.plist_keyed.specs.inner.RemainingSteps.{items_at, uid_of_event, Enters, YieldsFor};
+ghost use Rattle.plist_keyed.specs.inner.Checking.{objects_seen};
+ghost use Rattle.plist_keyed.specs.inner.RemainingSteps.{items_at};
+ghost use Rattle.plist_keyed.specs.inner.Settled.{IsSettledBelow};
 
-use indexmap::IndexSet;
+use crate::check::{settled_below, uid_of};
+use crate::error::WalkError;
+use indexmap::IndexMap;
 use plist::stream::{Event, Events};
-use plist::{Error, ErrorKind, Uid, Value};
+use plist::{Error, Uid, Value};
 use std::alloc::Global;
 
 // What a step of the walk does.
@@ -27,92 +31,78 @@ enum Move<'a> {
     Passed,
 }
 
-// The number of a Uid's event.
-fn uid_of(event: &Event<'_>) -> Option<u64>
-    ensures { result ≡ uid_of_event (event_of event.now) }
-{
-    let Event::Uid(uid) = event else {
-        return None;
-    };
-    Some(uid.get())
-}
-
-// The events of an object's tree, as the readers of values give theirs: a Uid that names no object
-// is a reference that is too large, one on its own path a recursive object, and its number stands
-// where a place in a file would.
+// The events of a tree in which each Uid is settled, so that no fault is met.
 #[derive(Drop)]
 struct Walk<'a> {
     alloc: Global,
     objects: &'a [Value],
-    // The Uids that are open, outermost first.
-    path: IndexSet<u64>,
-    // What is left of each.
+    // The settled Uids, each with the end of its chain.
+    ends: IndexMap<u64, u64>,
+    // What is left of the objects that are open, outermost first.
     levels: Vec<Events<'a>>,
 }
 
 impl<'a> Walk<'a> {
-    ghost use Rattle.plist_keyed.specs.inner.RemainingSteps.{FailsAt, GivesItemOfUid, WalkIsKept, IsOpened, IsWalk, Yields, follow, remaining_steps};
+    ghost use Rattle.plist_keyed.specs.inner.RemainingSteps.{GivesItemOfUid, IsWalk, KeepsArchive, Skips, Yields, remaining_steps, remaining_from_event, remaining_from};
+    ghost use Rattle.plist_keyed.specs.inner.Settled.{IsIn, NameOnly, settled_in};
+    ghost use Rattle.std.specs.Option.{unwrap_or};
 
-    fn new(alloc: Global, objects: &'a [Value]) -> Walk<'a>
+    fn new(alloc: Global, objects: &'a [Value], ends: IndexMap<u64, u64>) -> Walk<'a>
         ensures objects { result.objects ≡ objects.entry }
-        ensures path { result.path.keys ≡ [] }
+        ensures ends { result.ends ≡ ends }
         ensures levels { result.levels.items ≡ [] }
     {
         Walk {
             alloc,
             objects,
-            path: IndexSet::new(alloc),
+            ends,
             levels: Vec::new(alloc),
         }
     }
 
-    // Opens an object that isn't open.
-    fn open(&mut self, uid: u64, object: &'a Value) -> Result<(), Error>
-        requires { contains nat_eq self.old.path uid ≡ false }
-        ensures opened { OnOk result (IsOpened self.old uid object.now self.new) }
-        ensures memory { OnlyMemory result }
-        ensures unchanged { OnErr result (WalkIsKept self.old self.new) }
+    // The end of a Uid's chain.
+    fn end_of(&self, uid: u64) -> u64
+        ensures { result ≡ unwrap_or (get nat_eq self.now.ends uid) uid }
     {
-        self.levels.reserve(1)?;
-        self.path.insert(uid)?;
-        self.levels.push_reserved(object.events(self.alloc));
-        Ok(())
+        match self.ends.get(&uid) {
+            Some(end) => *end,
+            None => uid,
+        }
     }
 
-    // The object of a Uid, if there is one.
-    fn look_up(&self, uid: u64) -> Option<&'a Value>
-        ensures { option_copied result ≡ slice_get self.now.objects.now uid }
+    // The object of a Uid that has one.
+    fn object_at(&self, uid: u64) -> &'a Value
+        requires { uid < length self.now.objects.now }
+        ensures { slice_get self.now.objects.now uid ≡ Some result.now }
     {
-        self.objects.get(uid as usize)
+        let objects = self.objects;
+        &objects[uid as usize]
     }
 
-    // Enters the object of a Uid.
+    // Enters the object at the end of a settled Uid's chain.
     fn enter(&mut self, uid: u64) -> Result<(), Error>
-        requires { IsWalk self.old }
-        // The answer.
-        ensures entered { OnOk result (Enters self.old uid self.new) }
-        // A refusal.
-        ensures refused { IfFault result (FailsAt (follow self.old uid)) }
-        // The state after it.
+        requires walk { IsWalk self.old }
+        requires settled { IsIn uid (settled_in self.old.ends) }
+        ensures entered { OnOk result (Skips (remaining_from self.old uid) (remaining_steps self.new)) }
+        ensures memory { OnlyMemory result }
         ensures path { IsWalk self.new }
-        ensures objects { self.new.objects ≡ self.old.objects }
+        ensures archive { KeepsArchive self.old self.new }
         ensures unchanged { OnErr result (remaining_steps self.new ≡ remaining_steps self.old) }
     {
-        let Some(object) = self.look_up(uid) else {
-            return Err(ErrorKind::ObjectReferenceTooLarge.with_byte_offset(uid));
-        };
-        if self.path.contains(&uid) {
-            return Err(ErrorKind::RecursiveObject.with_byte_offset(uid));
-        }
-        self.open(uid, object)
+        let end = self.end_of(uid);
+        let object = self.object_at(end);
+        self.levels.push(object.events(self.alloc))?;
+        Ok(())
     }
 
     // The step of an event.
     fn pass(&mut self, event: Event<'a>) -> Result<Move<'a>, Error>
-        requires { IsWalk self.old }
+        requires walk { IsWalk self.old }
+        requires settled { NameOnly (event_of event ∷ []) (settled_in self.old.ends) }
         ensures path { IsWalk self.new }
-        ensures objects { self.new.objects ≡ self.old.objects }
-        ensures yields { YieldsFor self.old (event_of event.entry) result self.new }
+        ensures archive { KeepsArchive self.old self.new }
+        ensures yields { Yields (remaining_from_event self.old (event_of event.entry)) result
+            (remaining_steps self.new) }
     {
         match uid_of(&event) {
             None => Ok(Move::Gave(event)),
@@ -127,17 +117,14 @@ impl<'a> Walk<'a> {
     fn step(&mut self) -> Result<Move<'a>, Error>
         requires { IsWalk self.old }
         ensures path { IsWalk self.new }
-        ensures objects { self.new.objects ≡ self.old.objects }
+        ensures archive { KeepsArchive self.old self.new }
         ensures yields { Yields (remaining_steps self.old) result (remaining_steps self.new) }
     {
         let Some(mut left) = self.levels.pop() else {
             return Ok(Move::Done);
         };
         match left.next() {
-            None => {
-                self.path.pop();
-                Ok(Move::Passed)
-            }
+            None => Ok(Move::Passed),
             Some(item) => {
                 self.levels.push_reserved(left);
                 self.pass(item?)
@@ -149,7 +136,7 @@ impl<'a> Walk<'a> {
     fn advance(&mut self) -> Option<Result<Event<'a>, Error>>
         requires { IsWalk self.old }
         ensures path { IsWalk self.new }
-        ensures objects { self.new.objects ≡ self.old.objects }
+        ensures archive { KeepsArchive self.old self.new }
         ensures gives { GivesItemOfUid self.old result self.new }
         ensures shorter { OnSome result (length (remaining_steps self.new) < length
             (remaining_steps self.old)) }
@@ -182,18 +169,37 @@ impl<'a> Iterator for Walk<'a> {
     }
 }
 
+// The value of a settled Uid.
+fn value_below(
+    alloc: Global,
+    objects: &[Value],
+    uid: u64,
+    ends: IndexMap<u64, u64>,
+) -> Result<Value, Error>
+    requires { IsSettledBelow (objects_seen objects.now) uid ends }
+    ensures read { IsValueOf (items_at objects.now uid) (built_tree result) }
+    ensures itself { OnOk result ((value : Value) → last_wins (tree_of value) ≡ tree_of value) }
+{
+    let mut walk = Walk::new(alloc, objects, ends);
+    walk.enter(uid)?;
+    Value::from_events(alloc, walk)
+}
+
 /// The value of what a Uid finds among the objects, with each Uid in it followed.
 ///
 /// # Errors
 ///
-/// The first fault of the walk, depth first: `ObjectReferenceTooLarge` for a Uid that names no
-/// object, and `RecursiveObject` for one on its own path, each with the Uid's number in the place
-/// of an offset; and `OutOfMemory`.
-pub(crate) fn value_at(alloc: Global, objects: &[Value], uid: Uid) -> Result<Value, Error>
-    ensures read { IsValueOf (items_at objects.now uid) (built_tree result) }
+/// The first fault of the walk, depth first: `MissingObject` for a Uid that has no object, and
+/// `OpenObject` for one on its own path; and `OutOfMemory`.
+pub(crate) fn value_at(alloc: Global, objects: &[Value], uid: Uid) -> Result<Value, WalkError>
+    ensures read { IfOk result (λ value. IsFaultless (steps_from (objects_seen objects.now) uid)
+        × IsValueOf (items_at objects.now uid) (Ok (tree_of value))) }
     ensures itself { OnOk result ((value : Value) → last_wins (tree_of value) ≡ tree_of value) }
+    ensures refused { IfErr result (IsFirstFaultOf (steps_from (objects_seen objects.now) uid)) }
 {
-    let mut walk = Walk::new(alloc, objects);
-    walk.enter(uid.get())?;
-    Value::from_events(alloc, walk)
+    let ends = settled_below(alloc, objects, uid.get())?;
+    match value_below(alloc, objects, uid.get(), ends) {
+        Ok(value) => Ok(value),
+        Err(_) => Err(WalkError::OutOfMemory),
+    }
 }

@@ -51,7 +51,8 @@ fn looks_up(rt: HostRuntime) {
 }
 
 // Returns an archive of arrays, each of which refers to the next one this often. The last one
-// refers to the object after it, which is a string, or to the first one.
+// refers to the object after it, which is a string, or to the first one. After the string there is
+// an array that refers to the first one, and to an object that isn't there.
 fn chain_of(rt: &(impl Abort + AllocGlobal), length: u64, times: u64, last: u64) -> Value {
     let mut builder = Builder::new(rt.alloc());
     must(
@@ -66,6 +67,47 @@ fn chain_of(rt: &(impl Abort + AllocGlobal), length: u64, times: u64, last: u64)
         }
         must(rt, builder.write(Event::EndCollection));
     }
+    must(
+        rt,
+        write_all(
+            rt.alloc(),
+            &mut builder,
+            "'x' [ uid:0 uid:1000000 end end end",
+        ),
+    );
+    must(rt, builder.finish())
+}
+
+// Writes an array of so many references to the Uid 1.
+fn write_visits(rt: &(impl Abort + AllocGlobal), builder: &mut Builder, visits: u64) {
+    must(rt, builder.write(Event::StartArray(None)));
+    for _ in 0..visits {
+        must(rt, builder.write(Event::Uid(Uid::new(1))));
+    }
+    must(rt, builder.write(Event::EndCollection));
+}
+
+// Writes so many Uids, each of which names the object after it, and one that names `last`.
+fn write_uids(rt: &(impl Abort + AllocGlobal), builder: &mut Builder, length: u64, last: u64) {
+    for uid in 0..length {
+        must(
+            rt,
+            builder.write(Event::Uid(Uid::new(uid.saturating_add(2)))),
+        );
+    }
+    must(rt, builder.write(Event::Uid(Uid::new(last))));
+}
+
+// An archive of an array that refers so often to the first of a chain of Uids, of this chain, and
+// of a text. Each Uid of the chain names the next one, and the last one names `last`.
+fn visited_chain(rt: &(impl Abort + AllocGlobal), visits: u64, length: u64, last: u64) -> Value {
+    let mut builder = Builder::new(rt.alloc());
+    must(
+        rt,
+        write_all(rt.alloc(), &mut builder, "{ '$top' { end '$objects' ["),
+    );
+    write_visits(rt, &mut builder, visits);
+    write_uids(rt, &mut builder, length, last);
     must(rt, write_all(rt.alloc(), &mut builder, "'x' end end"));
     must(rt, builder.finish())
 }
@@ -102,4 +144,40 @@ fn a_cycle_of_many_objects(rt: HostRuntime) {
     let root = chain_of(&rt, 100_000, 1, 0);
     let answer = words_of_answer(&rt, tree_of(&rt, &root, 7));
     assert_eq!(rt; answer.as_str(), "RecursiveUid(7)");
+}
+
+// With a step for each Uid of the chain at each visit this would take 400 million steps.
+#[test]
+fn a_long_chain_visited_often(rt: HostRuntime) {
+    let root = visited_chain(&rt, 20_000, 20_000, 20_002);
+    let tree = must(&rt, tree_of(&rt, &root, 0));
+    assert_eq!(rt; count_texts(&rt, &tree), 20_000);
+}
+
+// The last Uid names one in the middle of the chain, which is the first that is met again.
+#[test]
+fn a_long_chain_that_ends_in_a_circle(rt: HostRuntime) {
+    let root = visited_chain(&rt, 20_000, 20_000, 10_000);
+    let answer = words_of_answer(&rt, tree_of(&rt, &root, 0));
+    assert_eq!(rt; answer.as_str(), "RecursiveUid(10000)");
+    let answer = words_of_answer(&rt, tree_of(&rt, &root, 15_000));
+    assert_eq!(rt; answer.as_str(), "RecursiveUid(15000)");
+}
+
+// The array is open while the chain leads back to it.
+#[test]
+fn a_long_chain_back_to_its_array(rt: HostRuntime) {
+    let root = visited_chain(&rt, 2, 20_000, 0);
+    let answer = words_of_answer(&rt, tree_of(&rt, &root, 0));
+    assert_eq!(rt; answer.as_str(), "RecursiveUid(0)");
+    let answer = words_of_answer(&rt, tree_of(&rt, &root, 9_000));
+    assert_eq!(rt; answer.as_str(), "RecursiveUid(9000)");
+}
+
+// The tree before the fault has 2^60 leaves.
+#[test]
+fn a_fault_after_a_large_tree(rt: HostRuntime) {
+    let root = chain_of(&rt, 60, 2, 60);
+    let answer = words_of_answer(&rt, tree_of(&rt, &root, 61));
+    assert_eq!(rt; answer.as_str(), "UidOutOfRange(1000000)");
 }

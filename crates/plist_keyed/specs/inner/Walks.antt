@@ -1,27 +1,37 @@
 -- The steps of a walk over an archive: the events of its objects, with each Uid in them replaced by
 -- the steps of what it finds.
-use Rattle.std.specs.Prelude.{ℕ, zero, suc, Bool, true, false, List, [], ◌∷◌, ◌++◌, Option, Some, None, Ok, Err, nat_eq, slice_get}
+use Rattle.std.specs.Prelude.{◌≡◌, ℕ, zero, suc, ◌-◌, ◌<◌, Bool, true, false, List, [], ◌∷◌, ◌++◌, length, map, Option, Some, None, Result, Ok, Err, nat_eq, slice_get, ⊤}
 use Rattle.std.specs.List.{list_any, flat_map}
 use Rattle.std.specs.Option.{option_map_or}
-use Rattle.plist_base.specs.Events.{PlainEvent, ScalarEvent, Item}
-use Rattle.plist_base.specs.Faults.{Fault, fault_at, ObjectReferenceTooLarge, RecursiveObject}
+use Rattle.plist_base.specs.Events.{PlainEvent, ScalarEvent}
+use Rattle.plist_keyed.specs.declared.error.WalkError.{WalkError}
 use Rattle.plist_keyed.specs.Archives.{ArchiveFault, UidOutOfRange, RecursiveUid, number_of_uid}
+use Rattle.plist_keyed.specs.Errors.{MatchWalkError}
 
--- the fault in the place of an event: a Uid is a reference, and its number stands where a place in
--- a file would
-abbrev pub fault_of_archive : ArchiveFault → Fault
-fault_of_archive (UidOutOfRange uid) = fault_at ObjectReferenceTooLarge uid
-fault_of_archive (RecursiveUid uid) = fault_at RecursiveObject uid
+-- an event, or the fault in its place
+abbrev pub Given : Type 0
+Given = Result PlainEvent ArchiveFault
 
--- a step gives an item, or it enters or leaves an object and gives nothing
+-- a step gives one of these, or it enters or leaves an object and gives nothing
 abbrev pub Step : Type 0
-Step = Option Item
+Step = Option Given
 
--- the items of some steps
-abbrev pub items_of_steps : List Step → List Item
-items_of_steps [] = []
-items_of_steps (Some item ∷ steps) = item ∷ items_of_steps steps
-items_of_steps (None ∷ steps) = items_of_steps steps
+-- what some steps give
+abbrev pub given_by : List Step → List Given
+given_by [] = []
+given_by (Some given ∷ steps) = given ∷ given_by steps
+given_by (None ∷ steps) = given_by steps
+
+-- the events among it
+abbrev pub events_given : List Given → List PlainEvent
+events_given [] = []
+events_given (Ok event ∷ more) = event ∷ events_given more
+events_given (Err fault ∷ more) = events_given more
+
+-- the number of a Uid's event
+abbrev pub uid_of_event : PlainEvent → Option ℕ
+uid_of_event (ScalarEvent scalar) = number_of_uid scalar
+uid_of_event event = None
 
 -- the steps of an event, where a Uid is followed
 abbrev pub steps_of_event : (follow : ℕ → List Step) → PlainEvent → List Step
@@ -35,8 +45,8 @@ steps_of_events follow es = flat_map (steps_of_event follow) es
 -- the steps of what a Uid finds
 abbrev pub steps_found : (found : Option (List PlainEvent)) (is_open : Bool) (uid : ℕ)
     → (List PlainEvent → List Step) → List Step
-steps_found None is_open uid steps = Some (Err (fault_of_archive (UidOutOfRange uid))) ∷ []
-steps_found (Some object) true uid steps = Some (Err (fault_of_archive (RecursiveUid uid))) ∷ []
+steps_found None is_open uid steps = Some (Err (UidOutOfRange uid)) ∷ []
+steps_found (Some object) true uid steps = Some (Err (RecursiveUid uid)) ∷ []
 steps_found (Some object) false uid steps = None ∷ (steps object ++ None ∷ [])
 
 module _ (objects : List (List PlainEvent)) where
@@ -46,3 +56,27 @@ module _ (objects : List (List PlainEvent)) where
   steps_at (suc fuel) path uid =
       steps_found (slice_get objects uid) (list_any (nat_eq uid) path) uid
       (λ object. steps_of_events (steps_at fuel (uid ∷ path)) object)
+
+  -- the steps of a Uid after the path
+  abbrev pub follow_in : (path : List ℕ) → ℕ → List Step
+  follow_in path uid = steps_at (length objects - length path) path uid
+
+  -- the steps of a Uid where nothing is open
+  abbrev pub steps_from : ℕ → List Step
+  steps_from uid = follow_in [] uid
+
+-- some events are given, and no fault, before what remains
+abbrev pub PassesEvents : (before after : List Step) → Type 0
+PassesEvents before after =
+    (length after < length before)
+    × ((events : List PlainEvent) × (given_by before ≡ map Ok events ++ given_by after))
+
+-- no fault is given
+abbrev pub IsFaultless : List Step → Type 0
+IsFaultless steps = (events : List PlainEvent) × (given_by steps ≡ map Ok events)
+
+-- the error is the first fault, or memory ran out
+abbrev pub IsFirstFaultOf : (steps : List Step) → WalkError → Type 0
+IsFirstFaultOf steps error =
+    MatchWalkError error ⊤ (λ fault. (events : List PlainEvent) × (more : List Given)
+    × (given_by steps ≡ map Ok events ++ Err fault ∷ more))

@@ -1,13 +1,13 @@
 use Rattle.std.proofs.Common.{◌≡◌, ◌≤◌, length}
-use Rattle.plist_keyed.specs.inner.RemainingSteps.{IsWalk, remaining_steps}
-use Rattle.plist_keyed.specs.inner.Walks.{items_of_steps}
+use Rattle.plist_keyed.specs.inner.RemainingSteps.{IsWalk, KeepsArchive, remaining_steps}
+use Rattle.plist_keyed.specs.inner.Walks.{given_by}
 use Rattle.plist_keyed.proofs.walk.Walk.advance.Given as goal
 
 abbrev pub invariant-steps : goal.invariant-steps
 invariant-steps l = record {
   path : IsWalk l.self;
-  objects : l.self.objects ≡ l.initial.self.objects;
-  items : items_of_steps (remaining_steps l.initial.self) ≡ items_of_steps (remaining_steps l.self);
+  archive : KeepsArchive l.initial.self l.self;
+  given : given_by (remaining_steps l.initial.self) ≡ given_by (remaining_steps l.self);
   shorter : length (remaining_steps l.self) ≤ length (remaining_steps l.initial.self);
 }
 

@@ -1,37 +1,42 @@
-use Rattle.std.proofs.Common.{◌∙◌, ap, sym, None, Some}
-use Rattle.std.specs.Option.{option_copied}
-use Rattle.plist_base.specs.Bracketing.{bracketing}
-use Rattle.plist_base.specs.Faults.{fault_of}
-use Rattle.plist.specs.ValueTrees.{tree_of}
-use Rattle.plist_keyed.proofs.Walked.{seen_at, missing, open_already, entered-walk, entered-remains}
+use Rattle.std.proofs.Common.{◌≡◌, ◌∙◌, ap, nat_eq, refl, reverse, sym, Some}
+use Rattle.std.specs.Prelude.{slice_get}
+use Rattle.indexmap.specs.IndexMap.{get}
+use Rattle.plist.specs.Events.{remaining_events}
+use Rattle.plist_keyed.specs.inner.RemainingSteps.{AllNameOnly, Skips, objects_walked, remaining_from, steps_in_levels, walk_levels}
+use Rattle.plist_keyed.specs.inner.Settled.{IsEndOf, settled_in}
+use Rattle.plist_keyed.proofs.Checked.{reverse-snoc, seen_at}
+use Rattle.plist_keyed.proofs.Walked.{end-found, end-within, seen-length, skips-entered}
 use Rattle.plist_keyed.proofs.walk.Walk.enter.Goals as goal
 
-pub returns-in_default-clause-refused : goal.returns-in_default-clause-refused
-returns-in_default-clause-refused c =
-    missing c.args.self.now c.args.uid (fault_of c.with_byte_offset.result)
-    c.with_byte_offset.ensures.fault
-    (seen_at _ c.args.uid _ None c.look_up.ensures (ap option_copied c.in_default.is))
+pub object_at-object-requires : goal.object_at-object-requires
+object_at-object-requires c =
+    let walk = c.args.self.now in
+    let ends = end-found (objects_walked walk) (settled_in walk.ends) (get nat_eq walk.ends)
+    c.requires.walk.0.1 c.args.uid c.requires.settled in
+    rw (c.end_of-end.ensures) (seen-length walk.objects.now _ (end-within (objects_walked walk)
+    (settled_in walk.ends) c.requires.walk.0.0 c.args.uid _ ends))
 
-pub returns-then-contains-clause-refused : goal.returns-then-contains-clause-refused
-returns-then-contains-clause-refused c =
-    open_already c.args.self.now c.args.uid (bracketing (tree_of c.in-Some.object.now))
-    (fault_of c.with_byte_offset-then-contains.result)
-    c.with_byte_offset-then-contains.ensures.fault
-    (seen_at _ c.args.uid _ (Some c.in-Some.object.now) c.look_up.ensures
-    (ap option_copied c.in-Some.is))
-    (sym c.contains.ensures ∙ c.if-contains.true)
-
-pub returns-clause-path : goal.returns-clause-path
-returns-clause-path c =
-    let at = seen_at _ c.args.uid _ (Some c.in-Some.object.now) c.look_up.ensures
-    (ap option_copied c.in-Some.is) in
-    entered-walk c.args.self.now c.open.new.self c.args.uid c.in-Some.object.now c.requires at
-    (sym c.contains.ensures ∙ c.if-contains.false) c.open.result
-    c.open.ensures.opened c.open.ensures.unchanged
+entered : (c : goal.In_ok-push)
+    → Skips (remaining_from c.args.self.now c.args.uid) (steps_in_levels
+    (objects_walked c.args.self.now) (reverse c.push.new.self.items))
+    × AllNameOnly (reverse c.push.new.self.items) (settled_in c.args.self.now.ends)
+entered c =
+    let walk = c.args.self.now in
+    let uids = settled_in walk.ends in
+    let ends : IsEndOf (objects_walked walk) uids c.args.uid c.end_of-end.result =
+    rw (c.end_of-end.ensures) (end-found (objects_walked walk) uids (get nat_eq walk.ends)
+    c.requires.walk.0.1 c.args.uid c.requires.settled) in
+    let at : slice_get (objects_walked walk) c.end_of-end.result ≡ Some
+    (remaining_events c.events.result) =
+    seen_at walk.objects.now c.end_of-end.result _ (Some c.object_at-object.result.now)
+    (sym c.object_at-object.ensures) refl ∙ ap Some (sym c.events.ensures.items) in
+    let (steps, names) = skips-entered (objects_walked walk) uids c.requires.walk.0.0 c.args.uid
+    c.end_of-end.result ends (walk_levels walk) c.events.result at in
+    rw (c.in_ok-push.ensures.items, reverse-snoc walk.levels.items c.events.result)
+    (steps, (names, c.requires.walk.1))
 
 pub returns-clause-entered : goal.returns-clause-entered
-returns-clause-entered c =
-    let at = seen_at _ c.args.uid _ (Some c.in-Some.object.now) c.look_up.ensures
-    (ap option_copied c.in-Some.is) in
-    entered-remains c.args.self.now c.open.new.self c.args.uid c.in-Some.object.now c.requires at
-    (sym c.contains.ensures ∙ c.if-contains.false) c.open.result c.open.ensures.opened
+returns-clause-entered c = (entered c).0
+
+pub returns-clause-path : goal.returns-clause-path
+returns-clause-path c = (c.requires.walk.0, (entered c).1)

@@ -1,0 +1,129 @@
+-- The state of the walk that settles an archive's Uids, and the steps that remain of it. Lists of
+-- open Uids have the innermost one first.
+use Rattle.std.specs.Prelude.{◌≡◌, ◌⊎◌, ℕ, List, [], ◌∷◌, ◌++◌, length, map, Option, Some, None, reverse, nat_eq, slice_get, ⊤}
+use Rattle.indexmap.specs.IndexMap.{get}
+use Rattle.plist_base.specs.Bracketing.{bracketing}
+use Rattle.plist_base.specs.inner.Paths.{IsPath}
+use Rattle.plist_base.specs.Events.{PlainEvent, ScalarEvent}
+use Rattle.plist_base.specs.Trees.{Uid}
+use Rattle.plist.specs.declared.stream.events.Events.{Events}
+use Rattle.plist.specs.declared.value.Value.{Value}
+use Rattle.plist.specs.Events.{remaining_events}
+use Rattle.plist.specs.ValueTrees.{tree_of}
+use Rattle.plist_keyed.specs.declared.check.Check.{Check}
+use Rattle.plist_keyed.specs.inner.Settled.{AreApart, AreEnds, AreSettled, IsIn, NameOnly, settled_in}
+use Rattle.plist_keyed.specs.inner.Walks.{Step, follow_in, steps_of_event, steps_of_events}
+
+-- the events of each object
+abbrev pub objects_seen : List Value → List (List PlainEvent)
+objects_seen objects = map bracketing (map tree_of objects)
+
+module _ (objects : List (List PlainEvent)) where
+  -- the steps that remain of the open places: those of the events left of the innermost one, its
+  -- end, and what remains of those below
+  abbrev pub unchecked_steps_in : List Events → (path : List ℕ) → List Step
+  unchecked_steps_in [] path = []
+  unchecked_steps_in (level ∷ below) [] = []
+  unchecked_steps_in (level ∷ below) (uid ∷ path) =
+      steps_of_events (follow_in objects (uid ∷ path)) (remaining_events level)
+      ++ None ∷ unchecked_steps_in below path
+
+  -- In each open object the Uids before those taken are settled, and those taken come before what
+  -- is left of it. Of an outer object the next inner one is taken.
+  abbrev pub Covers : (uids : List ℕ) → List Events → (path : List ℕ) → (taken : List PlainEvent)
+      → Type 0
+  Covers uids [] path taken = ⊤
+  Covers uids (level ∷ below) [] taken = ⊤
+  Covers uids (level ∷ below) (uid ∷ path) taken =
+      ((before : List PlainEvent)
+      × (slice_get objects uid ≡ Some (before ++ (taken ++ remaining_events level)))
+      × NameOnly before uids)
+      × Covers uids below path (ScalarEvent (Uid uid) ∷ [])
+
+  -- the open Uids are a path, with what is left of each, and apart from the settled ones
+  pub record IsCheckOf (path uids : List ℕ) (levels : List Events) (find : ℕ → Option ℕ)
+      (taken : List PlainEvent) : Type 0 where
+    pub is_path : IsPath (length objects) path
+    pub each_left : length levels ≡ length path
+    pub are_settled : AreSettled objects uids
+    pub are_apart : AreApart path uids
+    pub is_covered : Covers uids levels path taken
+    pub are_ends : AreEnds objects uids find
+
+-- the events of the objects
+abbrev pub objects_checked : Check → List (List PlainEvent)
+objects_checked check = objects_seen check.objects.now
+
+abbrev pub open_uids : Check → List ℕ
+open_uids check = reverse check.path.keys
+
+abbrev pub check_levels : Check → List Events
+check_levels check = reverse check.levels.items
+
+abbrev pub settled_uids : Check → List ℕ
+settled_uids check = settled_in check.ends
+
+-- its parts fit together, where these events were taken of the innermost object and not passed yet
+abbrev pub IsCheckAt : Check → (taken : List PlainEvent) → Type 0
+IsCheckAt check taken =
+    IsCheckOf (objects_checked check) (open_uids check) (settled_uids check) (check_levels check)
+    (get nat_eq check.ends) taken
+
+abbrev pub IsCheck : Check → Type 0
+IsCheck check = IsCheckAt check []
+
+-- the Uid is open or settled
+abbrev pub IsReached : Check → ℕ → Type 0
+IsReached check uid = IsIn uid (open_uids check) ⊎ IsIn uid (settled_uids check)
+
+abbrev pub KeepsReached : (before after : Check) → Type 0
+KeepsReached before after = (uid : ℕ) → IsReached before uid → IsReached after uid
+
+-- the steps that remain
+abbrev pub unchecked_steps : Check → List Step
+unchecked_steps check =
+    unchecked_steps_in (objects_checked check) (check_levels check) (open_uids check)
+
+-- the steps of a Uid in its place, and those of an event, before what remains
+abbrev pub unchecked_from : Check → ℕ → List Step
+unchecked_from check uid =
+    follow_in (objects_checked check) (open_uids check) uid ++ unchecked_steps check
+
+abbrev pub unchecked_from_event : Check → PlainEvent → List Step
+unchecked_from_event check event =
+    steps_of_event (follow_in (objects_checked check) (open_uids check)) event ++ unchecked_steps check
+
+-- this object was opened
+abbrev pub IsOpened : Check → ℕ → Value → Check → Type 0
+IsOpened old uid object new =
+    (new.objects ≡ old.objects) × (new.path.keys ≡ old.path.keys ++ uid ∷ [])
+    × ((level : Events) × (new.levels.items ≡ old.levels.items ++ level ∷ [])
+    × (remaining_events level ≡ bracketing (tree_of object)))
+    × (new.ends ≡ old.ends)
+
+-- the same state before what is left of the innermost object was taken out of it
+abbrev pub IsCheckWith : Check → (left : Events) → Type 0
+IsCheckWith check left =
+    IsCheckOf (objects_checked check) (open_uids check) (settled_uids check)
+    (left ∷ check_levels check) (get nat_eq check.ends) []
+
+abbrev pub unchecked_with : Check → (left : Events) → List Step
+unchecked_with check left =
+    unchecked_steps_in (objects_checked check) (left ∷ check_levels check) (open_uids check)
+
+-- nothing is left of the innermost object
+abbrev pub IsLeaving : Check → Type 0
+IsLeaving check = (left : Events) × (remaining_events left ≡ []) × IsCheckWith check left
+
+-- it is left, and settled
+abbrev pub Leaves : (before after : Check) → Type 0
+Leaves before after =
+    (uid : ℕ) × (open_uids before ≡ uid ∷ open_uids after)
+    × (settled_uids after ≡ uid ∷ settled_uids before) × (after.levels ≡ before.levels)
+
+-- the end of a Uid's chain: that of the Uid that its object is, or the Uid itself
+abbrev pub HasEnd : Check → (uid end : ℕ) → Type 0
+HasEnd check uid end =
+    (end ≡ uid) ⊎ ((next : ℕ)
+    × (slice_get (objects_checked check) uid ≡ Some (ScalarEvent (Uid next) ∷ []))
+    × (get nat_eq check.ends next ≡ Some end))

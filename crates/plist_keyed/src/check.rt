@@ -1,0 +1,225 @@
+//! The walk that finds the first fault of an archive, or that there is none below a Uid.
+//!
+//! It follows each Uid once: where one is met again, all below it is known to be without a fault.
+
+ghost use Rattle.std.specs.Prelude.{◌≡◌, ◌⊎◌, [], ◌∷◌, false, IfErr, IfOk, IfSome, None, OnOk, Some, nat_eq, slice_get};
+ghost use Rattle.std.specs.Option.{option_copied};
+ghost use Rattle.indexmap.specs.IndexMap.{get};
+ghost use Rattle.indexmap.specs.IndexSet.{contains};
+ghost use Rattle.plist_base.specs.Bracketing.{bracketing};
+ghost use Rattle.plist_base.specs.Events.{ScalarEvent, event_of};
+ghost use Rattle.plist_base.specs.Trees.{Uid as PlainUid};
+ghost use Rattle.plist.specs.ValueTrees.{tree_of};
+ghost use Rattle.plist_keyed.specs.declared.error.WalkError.TheVariants.{OutOfMemory as NoMemory};
+ghost use Rattle.plist_keyed.specs.inner.Checking.{objects_seen};
+ghost use Rattle.plist_keyed.specs.inner.Settled.{IsSettledBelow};
+ghost use Rattle.plist_keyed.specs.inner.Walks.{IsFirstFaultOf, steps_from, uid_of_event};
+
+use crate::error::WalkError;
+use indexmap::{IndexMap, IndexSet};
+use plist::Value;
+use plist::stream::{Event, Events};
+use std::alloc::Global;
+
+// The number of a Uid's event.
+pub(crate) fn uid_of(event: &Event<'_>) -> Option<u64>
+    ensures { result ≡ uid_of_event (event_of event.now) }
+{
+    let Event::Uid(uid) = event else {
+        return None;
+    };
+    Some(uid.get())
+}
+
+// The number of the Uid that an object is.
+fn uid_in(object: &Value) -> Option<u64>
+    ensures { IfSome result (λ uid. bracketing (tree_of object.now) ≡ ScalarEvent (PlainUid uid)
+        ∷ []) }
+{
+    let Value::Uid(uid) = object else {
+        return None;
+    };
+    Some(uid.get())
+}
+
+// The state of the walk.
+#[derive(Drop)]
+struct Check<'a> {
+    alloc: Global,
+    objects: &'a [Value],
+    // The Uids that are open, outermost first.
+    path: IndexSet<u64>,
+    // What is left of the object of each.
+    levels: Vec<Events<'a>>,
+    // The settled Uids, whose objects were walked whole, in that order. Each has the Uid at which
+    // its chain ends: the next one of a chain is the Uid that is the object of the one before.
+    ends: IndexMap<u64, u64>,
+}
+
+impl<'a> Check<'a> {
+    ghost use Rattle.plist_keyed.specs.inner.Checking.{HasEnd, IsCheck, IsCheckAt, IsLeaving, IsOpened, IsReached, KeepsReached, IsCheckWith, Leaves, unchecked_steps, objects_checked, unchecked_from, unchecked_from_event, unchecked_with};
+    ghost use Rattle.plist_keyed.specs.inner.Walks.{PassesEvents};
+
+    fn new(alloc: Global, objects: &'a [Value]) -> Check<'a>
+        ensures objects { result.objects ≡ objects.entry }
+        ensures path { result.path.keys ≡ [] }
+        ensures levels { result.levels.items ≡ [] }
+        ensures ends { result.ends.entries ≡ [] }
+    {
+        Check {
+            alloc,
+            objects,
+            path: IndexSet::new(alloc),
+            levels: Vec::new(alloc),
+            ends: IndexMap::new(alloc),
+        }
+    }
+
+    // The object of a Uid, if there is one.
+    fn look_up(&self, uid: u64) -> Option<&'a Value>
+        ensures { option_copied result ≡ slice_get self.now.objects.now uid }
+    {
+        self.objects.get(uid as usize)
+    }
+
+    // Opens an object that isn't open.
+    fn open(&mut self, uid: u64, object: &'a Value) -> Result<(), WalkError>
+        requires { contains nat_eq self.old.path uid ≡ false }
+        ensures opened { OnOk result (IsOpened self.old uid object.now self.new) }
+        ensures memory { IfErr result (λ e. e ≡ NoMemory) }
+    {
+        self.path.insert(uid)?;
+        self.levels.push(object.events(self.alloc))?;
+        Ok(())
+    }
+
+    // Enters the object of a Uid, unless it is settled.
+    fn follow(&mut self, uid: u64) -> Result<(), WalkError>
+        requires { IsCheckAt self.old (ScalarEvent (PlainUid uid) ∷ []) }
+        // The answer.
+        ensures passed { OnOk result (PassesEvents (unchecked_from self.old uid) (unchecked_steps self.new)) }
+        ensures reached { OnOk result (IsReached self.new uid) }
+        // A refusal.
+        ensures refused { IfErr result (IsFirstFaultOf (unchecked_from self.old uid)) }
+        // The state after it.
+        ensures check { OnOk result (IsCheck self.new) }
+        ensures objects { OnOk result (self.new.objects ≡ self.old.objects) }
+        ensures kept { OnOk result (KeepsReached self.old self.new) }
+    {
+        if self.ends.contains_key(&uid) {
+            return Ok(());
+        }
+        let Some(object) = self.look_up(uid) else {
+            return Err(WalkError::MissingObject(uid));
+        };
+        if self.path.contains(&uid) {
+            return Err(WalkError::OpenObject(uid));
+        }
+        self.open(uid, object)
+    }
+
+    // The step of an event.
+    fn pass(&mut self, event: &Event<'a>) -> Result<(), WalkError>
+        requires { IsCheckAt self.old (event_of event.now ∷ []) }
+        ensures passed { OnOk result (PassesEvents (unchecked_from_event self.old (event_of event.now))
+            (unchecked_steps self.new)) }
+        ensures refused { IfErr result (IsFirstFaultOf
+            (unchecked_from_event self.old (event_of event.now))) }
+        ensures check { OnOk result (IsCheck self.new) }
+        ensures objects { OnOk result (self.new.objects ≡ self.old.objects) }
+        ensures kept { OnOk result (KeepsReached self.old self.new) }
+    {
+        match uid_of(event) {
+            None => Ok(()),
+            Some(uid) => self.follow(uid),
+        }
+    }
+
+    // The Uid at which the chain ends that begins with this one, all others of which are settled.
+    fn end_of(&self, uid: u64) -> u64
+        ensures { HasEnd self.now uid result }
+    {
+        let Some(object) = self.look_up(uid) else {
+            return uid;
+        };
+        let Some(next) = uid_in(object) else {
+            return uid;
+        };
+        match self.ends.get(&next) {
+            Some(end) => *end,
+            None => uid,
+        }
+    }
+
+    // Settles the innermost Uid, of whose object nothing is left.
+    fn leave(&mut self) -> Result<(), WalkError>
+        requires { IsLeaving self.old }
+        ensures left { OnOk result (Leaves self.old self.new) }
+        ensures memory { IfErr result (λ e. e ≡ NoMemory) }
+        ensures check { OnOk result (IsCheck self.new) }
+        ensures objects { OnOk result (self.new.objects ≡ self.old.objects) }
+    {
+        let Some(uid) = self.path.pop() else {
+            return Ok(());
+        };
+        let end = self.end_of(uid);
+        self.ends.insert(uid, end)?;
+        Ok(())
+    }
+
+    // One step of the walk, at what is left of the innermost object.
+    fn step(&mut self, left: Events<'a>) -> Result<(), WalkError>
+        requires { IsCheckWith self.old left }
+        ensures passed { OnOk result (PassesEvents (unchecked_with self.old left.entry)
+            (unchecked_steps self.new)) }
+        ensures refused { IfErr result (IsFirstFaultOf (unchecked_with self.old left.entry)) }
+        ensures check { OnOk result (IsCheck self.new) }
+        ensures objects { OnOk result (self.new.objects ≡ self.old.objects) }
+        ensures kept { OnOk result (KeepsReached self.old self.new) }
+    {
+        let mut rest = left;
+        match rest.next() {
+            None => self.leave(),
+            Some(Ok(event)) => {
+                self.levels.push(rest)?;
+                self.pass(&event)
+            }
+            Some(Err(_)) => Err(WalkError::OutOfMemory),
+        }
+    }
+
+    // Walks over all that a Uid leads to.
+    fn run(&mut self, uid: u64) -> Result<(), WalkError>
+        requires path { self.old.path.keys ≡ [] }
+        requires levels { self.old.levels.items ≡ [] }
+        requires ends { self.old.ends.entries ≡ [] }
+        ensures settled { OnOk result (IsSettledBelow (objects_checked self.old) uid self.new.ends) }
+        ensures refused { IfErr result (IsFirstFaultOf (steps_from (objects_checked self.old) uid)) }
+    {
+        self.follow(uid)?;
+        while let Some(left) = self.levels.pop() {
+            self.step(left)?;
+        }
+        Ok(())
+    }
+}
+
+/// The settled Uids of the walk over all that a Uid leads to, each with the end of its chain.
+///
+/// # Errors
+///
+/// The first fault of the walk, depth first: `MissingObject` for a Uid that has no object, and
+/// `OpenObject` for one on its own path; and `OutOfMemory`.
+pub(crate) fn settled_below(
+    alloc: Global,
+    objects: &[Value],
+    uid: u64,
+) -> Result<IndexMap<u64, u64>, WalkError>
+    ensures settled { IfOk result (IsSettledBelow (objects_seen objects.now) uid) }
+    ensures refused { IfErr result (IsFirstFaultOf (steps_from (objects_seen objects.now) uid)) }
+{
+    let mut check = Check::new(alloc, objects);
+    check.run(uid)?;
+    let Check { ends, .. } = check;
+    Ok(ends)
+}
