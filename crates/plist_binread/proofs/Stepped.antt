@@ -18,7 +18,7 @@ use Rattle.plist_binread.specs.DecodeOutcome.{YieldsNext}
 use Rattle.plist_binread.specs.Step.{CachesNext, LightensNext}
 use Rattle.plist_base.specs.Events.{PlainEvent}
 use Rattle.plist_base.specs.Visits.{Flow}
-use Rattle.plist_binread.specs.Advancing.{Walks, plain_item}
+use Rattle.plist_binread.specs.Advancing.{Walks, item_with}
 use Rattle.plist_binread.specs.declared.fault_slot.Refused.{Refused}
 use Rattle.plist_binread.specs.Slot.{AnswersInSlot, ItemAnswersInSlot, answer_in, item_in}
 use Rattle.plist_binread.specs.NextChild.{is_fresh, is_walking, state_after}
@@ -59,19 +59,19 @@ tells_fault known error count same = IfSome_then known same (λ bytes same.
 module _ {R C : Type 0} {g : Ghosts R} {h : CounterGhosts C} (known : R → Option (List ℕ))
     (failed : R → ℕ) (counts : Type 0) (count : C → ℕ) (old new : BinaryReader R C g h)
     (same : known new.source ≡ known old.source)
-    (counted : counts → count new.counter ≡ cached_in new.walk)
+    (counted : counts → count new.decoder.counter ≡ cached_in new.walk)
     (limiter : new.limiter ≡ old.limiter) where
   pub first_walks : (noted : Result Flow Refused) (event : PlainEvent) → old.state ≡ Fresh
       → new.state ≡ state_after (Some noted)
-      → IfSome (known old.source) (GivesRoot (answer_in noted new.slot) event new.bounds new.walk)
-      → ErrWithin 0 (2 ^ 64) (answer_in noted new.slot)
+      → IfSome (known old.source) (GivesRoot (answer_in noted new.decoder.slot) event new.decoder.bounds new.walk)
+      → ErrWithin 0 (2 ^ 64) (answer_in noted new.decoder.slot)
       → IfSome (known old.source) (IsBounded new.walk)
-      → IfSome (known old.source) (CountsRoot noted new.slot new.walk)
-      → OnOk noted (IsKnownWalk (known old.source) new.bounds new.walk)
-      → IfSome (known old.source) (CachesRoot (answer_in noted new.slot) event new.walk)
+      → IfSome (known old.source) (CountsRoot noted new.decoder.slot new.walk)
+      → OnOk noted (IsKnownWalk (known old.source) new.decoder.bounds new.walk)
+      → IfSome (known old.source) (CachesRoot (answer_in noted new.decoder.slot) event new.walk)
       → OnOk noted (weight_in new.walk < walk_steps (walk_objects new.walk))
-      → AnswersInSlot failed noted new.slot old.source new.source
-      → Walks known failed counts count old (plain_item (item_in (Some noted) new.slot) event) new
+      → AnswersInSlot failed noted new.decoder.slot old.source new.source
+      → Walks known failed counts count old (item_with (item_in (Some noted) new.decoder.slot) event) new
   first_walks (Ok value) event fresh is yields within bounded objects held kept falls failures = record {
     gives = record {
       unchanged = same;
@@ -81,7 +81,7 @@ module _ {R C : Type 0} {g : Ghosts R} {h : CounterGhosts C} (known : R → Opti
       ends = tt;
       begun = ap is_fresh is;
       faults = tt;
-      head = holds_head (known old.source) new.bounds new.walk (is_walking new.state ≡ true) held;
+      head = holds_head (known old.source) new.decoder.bounds new.walk (is_walking new.state ≡ true) held;
       cached = simp fresh kept;
       leaves = left_behind known counts count old new counted bounded;
       objects = objects;
@@ -110,19 +110,19 @@ module _ {R C : Type 0} {g : Ghosts R} {h : CounterGhosts C} (known : R → Opti
     falls = simp (fresh, is) (omega arith);
   }
 
-  pub item_walks : (noted : Option (Result Flow Refused)) (event : PlainEvent) → old.state ≡ Walking
+  item_walks_at : (noted : Option (Result Flow Refused)) (event : PlainEvent) → old.state ≡ Walking
       → new.state ≡ state_after noted
-      → IfSome (known old.source) (λ bytes. YieldsNext (remaining_in bytes old.bounds old.walk)
-      (item_in noted new.slot) event (remaining_in bytes new.bounds new.walk))
-      → ItemWithin 0 old.bounds.trailer (item_in noted new.slot)
+      → IfSome (known old.source) (λ bytes. YieldsNext (remaining_in bytes old.decoder.bounds old.walk)
+      (item_in noted new.decoder.slot) event (remaining_in bytes new.decoder.bounds new.walk))
+      → ItemWithin 0 old.decoder.bounds.trailer (item_in noted new.decoder.slot)
       → walk_objects new.walk ≡ walk_objects old.walk
       → IfSome (known old.source) (IsBounded old.walk)
-      → IsKnownWalk (known old.source) new.bounds new.walk
-      → CachesNext (known old.source) old.bounds old.walk (item_in noted new.slot) event new.walk
+      → IsKnownWalk (known old.source) new.decoder.bounds new.walk
+      → CachesNext (known old.source) old.decoder.bounds old.walk (item_in noted new.decoder.slot) event new.walk
       → LightensNext old.walk noted new.walk
-      → ItemAnswersInSlot failed noted new.slot old.source new.source
-      → Walks known failed counts count old (plain_item (item_in noted new.slot) event) new
-  item_walks None event walking is yields within size bounded held kept falls failures = record {
+      → ItemAnswersInSlot failed noted new.decoder.slot old.source new.source
+      → Walks known failed counts count old (item_with (item_in noted new.decoder.slot) event) new
+  item_walks_at None event walking is yields within size bounded held kept falls failures = record {
     gives = record {
       unchanged = same;
       items = simp (walking, is) (IfSome_then (known old.source) yields
@@ -132,7 +132,7 @@ module _ {R C : Type 0} {g : Ghosts R} {h : CounterGhosts C} (known : R → Opti
       ends = is;
       begun = ap is_fresh is;
       faults = tt;
-      head = holds_head (known old.source) new.bounds new.walk (is_walking new.state ≡ true) held;
+      head = holds_head (known old.source) new.decoder.bounds new.walk (is_walking new.state ≡ true) held;
       cached = IfSome-all (known old.source) (λ bytes. tt);
       leaves = left_behind known counts count old new counted (rw (size, IsBounded) bounded);
       objects = IfSome-all (known old.source) (λ bytes. tt);
@@ -140,7 +140,7 @@ module _ {R C : Type 0} {g : Ghosts R} {h : CounterGhosts C} (known : R → Opti
     };
     falls = tt;
   }
-  item_walks (Some (Ok x)) event walking is yields within size bounded held kept falls failures = record {
+  item_walks_at (Some (Ok x)) event walking is yields within size bounded held kept falls failures = record {
     gives = record {
       unchanged = same;
       items = simp (walking, is) yields;
@@ -149,7 +149,7 @@ module _ {R C : Type 0} {g : Ghosts R} {h : CounterGhosts C} (known : R → Opti
       ends = tt;
       begun = ap is_fresh is;
       faults = tt;
-      head = holds_head (known old.source) new.bounds new.walk (is_walking new.state ≡ true) held;
+      head = holds_head (known old.source) new.decoder.bounds new.walk (is_walking new.state ≡ true) held;
       cached = simp walking kept;
       leaves = left_behind known counts count old new counted (rw (size, IsBounded) bounded);
       objects = IfSome_then (known old.source) held (λ bytes held. sym held.size);
@@ -157,7 +157,7 @@ module _ {R C : Type 0} {g : Ghosts R} {h : CounterGhosts C} (known : R → Opti
     };
     falls = simp (walking, is, size) falls.1;
   }
-  item_walks (Some (Err r)) event walking is yields within size bounded held kept falls failures = record {
+  item_walks_at (Some (Err r)) event walking is yields within size bounded held kept falls failures = record {
     gives = record {
       unchanged = same;
       items = simp (walking, is) (IfSome_then (known old.source) yields (λ bytes next. (
@@ -168,14 +168,32 @@ module _ {R C : Type 0} {g : Ghosts R} {h : CounterGhosts C} (known : R → Opti
       ended = λ e. absurd (cc);
       ends = is;
       begun = ap is_fresh is;
-      faults = from_within _ 0 old.bounds.trailer 0 (2 ^ 64) within (omega arith)
-          (omega (arith, old.bounds.small));
-      head = holds_head (known old.source) new.bounds new.walk (is_walking new.state ≡ true) held;
+      faults = from_within _ 0 old.decoder.bounds.trailer 0 (2 ^ 64) within (omega arith)
+          (omega (arith, old.decoder.bounds.small));
+      head = holds_head (known old.source) new.decoder.bounds new.walk (is_walking new.state ≡ true) held;
       cached = IfSome-all (known old.source) (λ bytes. tt);
       leaves = left_behind known counts count old new counted (rw (size, IsBounded) bounded);
-      objects = tells_fault (known old.source) new.slot.fault (walk_objects new.walk)
+      objects = tells_fault (known old.source) new.decoder.slot.fault (walk_objects new.walk)
           (IfSome_then (known old.source) held (λ bytes held. sym held.size));
       kept = (ap is_some limiter, λ _. size);
     };
     falls = simp (walking, is) falls.0;
   }
+
+  pub item_walks : (noted : Option (Result Flow Refused)) (event : PlainEvent) → old.state ≡ Walking
+      → new.decoder.bounds ≡ old.decoder.bounds → new.state ≡ state_after noted
+      → IfSome (known old.source) (λ bytes. YieldsNext
+      (remaining_in bytes old.decoder.bounds old.walk)
+      (item_in noted new.decoder.slot) event (remaining_in bytes old.decoder.bounds new.walk))
+      → ItemWithin 0 old.decoder.bounds.trailer (item_in noted new.decoder.slot)
+      → walk_objects new.walk ≡ walk_objects old.walk
+      → IfSome (known old.source) (IsBounded old.walk)
+      → IsKnownWalk (known old.source) old.decoder.bounds new.walk
+      → CachesNext (known old.source) old.decoder.bounds old.walk (item_in noted new.decoder.slot) event
+      new.walk
+      → LightensNext old.walk noted new.walk
+      → ItemAnswersInSlot failed noted new.decoder.slot old.source new.source
+      → Walks known failed counts count old (item_with (item_in noted new.decoder.slot) event) new
+  item_walks noted event walking bounds is yields within size bounded held kept falls failures =
+      item_walks_at noted event walking is (rw bounds yields) within size bounded (rw bounds held) kept
+      falls failures

@@ -36,7 +36,7 @@ lists_within (Some bytes) tags contents fs few same bounded =
 
 pub left_behind : {R C : Type 0} {g : Ghosts R} {h : CounterGhosts C}
     (known : R → Option (List ℕ)) (counts : Type 0) (count : C → ℕ) (old new : BinaryReader R C g h)
-    → (counts → count new.counter ≡ cached_in new.walk)
+    → (counts → count new.decoder.counter ≡ cached_in new.walk)
     → IfSome (known old.source) (IsBounded new.walk) → KeepsInvariant known counts count old new
 left_behind known counts count old new counted bounded =
     let walk = new.walk in

@@ -17,10 +17,10 @@ abbrev pub GivesCurrent : {A : Type 0} → (new : Bool) (before : List Item) →
 GivesCurrent new before item current after = GivesAs (λ _. current) new before item after
 
 -- the item, with this event where it has one
-abbrev pub plain_item : {A : Type 0} → Option (Result A Error) → PlainEvent → PlainItem
-plain_item None event = None
-plain_item (Some (Ok value)) event = Some (Ok event)
-plain_item (Some (Err error)) event = Some (Err error)
+abbrev pub item_with : {A : Type 0} → Option (Result A Error) → PlainEvent → PlainItem
+item_with None event = None
+item_with (Some (Ok value)) event = Some (Ok event)
+item_with (Some (Err error)) event = Some (Err error)
 
 module _ {R C : Type 0} {g : Ghosts R} {h : CounterGhosts C} (known : R → Option (List ℕ))
     (failed : R → ℕ) (counts : Type 0) (count : C → ℕ) (old : BinaryReader R C g h) where
@@ -44,8 +44,7 @@ pub record EndsThere {R C : Type 0} {g : Ghosts R} {h : CounterGhosts C} (old ne
     : Type 0 where
   pub ended : HasEndedBinary new
   pub source : new.source ≡ old.source
-  pub counter : new.counter ≡ old.counter
-  pub bounds : new.bounds ≡ old.bounds
+  pub decoder : new.decoder ≡ old.decoder
   pub walk : new.walk ≡ old.walk
   pub limiter : new.limiter ≡ old.limiter
 

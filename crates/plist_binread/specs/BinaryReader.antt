@@ -59,7 +59,7 @@ module _ {R C : Type 0} {g : Ghosts R} {h : CounterGhosts C} where
 
   -- the items of the file that are still to come, were there no limits
   abbrev pub unlimited_items : List ℕ → BinaryReader R C g h → List Item
-  unlimited_items bytes reader = remaining_now bytes reader.state reader.bounds reader.walk.frames
+  unlimited_items bytes reader = remaining_now bytes reader.state reader.decoder.bounds reader.walk.frames
 
   -- the items still to come, where these are the file's bytes
   abbrev pub items_to_come : List ℕ → BinaryReader R C g h → List Item
@@ -87,12 +87,12 @@ module _ {R C : Type 0} {g : Ghosts R} {h : CounterGhosts C} where
 
   -- the number of the object whose item comes next, or none where that is an end
   abbrev pub number_to_come : List ℕ → BinaryReader R C g h → Option ℕ
-  number_to_come bytes reader = upcoming_number bytes reader.state reader.bounds reader.walk.frames
+  number_to_come bytes reader = upcoming_number bytes reader.state reader.decoder.bounds reader.walk.frames
 
   -- a reader that has begun and not ended holds the head of these bytes
   abbrev pub HoldsHead : List ℕ → BinaryReader R C g h → Type 0
   HoldsHead bytes reader =
-      is_walking reader.state ≡ true → AreBoundsOf (head_of bytes) reader.bounds
+      is_walking reader.state ≡ true → AreBoundsOf (head_of bytes) reader.decoder.bounds
       × (objects_in_file reader ≡ objects_in_head bytes)
 
   -- after a fault, and where nothing comes, the reader has ended
@@ -102,7 +102,7 @@ module _ {R C : Type 0} {g : Ghosts R} {h : CounterGhosts C} where
 
   -- the counter inside
   abbrev pub counter_of : BinaryReader R C g h → C
-  counter_of reader = reader.counter
+  counter_of reader = reader.decoder.counter
 
   -- how many objects are cached
   abbrev pub cached_objects : BinaryReader R C g h → ℕ

@@ -12,6 +12,7 @@ use Rattle.plist_binread.specs.declared.fault_slot.Refused.{Refused}
 use Rattle.plist_base.specs.Faults.{MatchFault, kind_of, error_kind_of}
 use Rattle.plist_base.specs.declared.error.Error.{Error}
 use Rattle.plist_binread.specs.declared.enter.Known.{Known}
+use Rattle.plist_binread.specs.declared.references.Reference.{Reference}
 use Rattle.plist_binread.specs.NextChild.{IsFound, IsCurrentCached, WeightFalls, TakesNextChild}
 use Rattle.plist_format.specs.Unfolding.{TableEntry, until_fault}
 use Rattle.plist_binread.specs.Walking.{IsWalkOf, walk_objects, open_in, remaining_entering, remaining_in, weight_entering, weight_in}
@@ -115,11 +116,11 @@ abbrev pub CachesEntered : {A : Type 0} → (known : Option (List ℕ)) → (num
 CachesEntered known number answer event walk = IfSome known (λ _.
     IsCurrentCached (Some number) (Some answer) event walk.tags.items)
 
--- its first item comes, where it is referred to from `at`
+-- its first item comes
 abbrev pub EntersObject : {A : Type 0} → (known : Option (List ℕ)) → Bounds → (old : Walk)
-    → (at number : ℕ) → Result A Error → (event : PlainEvent) → (new : Walk) → Type 0
-EntersObject known bounds old at number answer event new = IfSome known (λ bytes.
-    YieldsAnswer (remaining_entering bytes bounds old at number) answer event
+    → Reference → Result A Error → (event : PlainEvent) → (new : Walk) → Type 0
+EntersObject known bounds old reference answer event new = IfSome known (λ bytes.
+    YieldsAnswer (remaining_entering bytes bounds old reference.at reference.number) answer event
     (remaining_in bytes bounds new))
 
 -- the next item is the first that remained, and cached if it is small

@@ -11,10 +11,10 @@ ghost use Rattle.plist_binread.specs.Reading.{AreReferencesOf};
 ghost use Rattle.plist_binread.specs.Step.{CachesNext, LightensNext, YieldsItem};
 
 use crate::counter::DecodeCounter;
+use crate::decoder::Decoder;
 use crate::enter::enter;
-use crate::fault_slot::{FaultSlot, Refused};
-use crate::head::Bounds;
-use crate::references::{References, read_child};
+use crate::fault_slot::Refused;
+use crate::references::{Reference, References, read_child};
 use crate::walk::{NextChild, Walk};
 use plist_base::{EventVisitor, Source};
 use std::ops::ControlFlow;
@@ -23,40 +23,42 @@ use std::ops::ControlFlow;
 #[inline(always)]
 pub fn advance<S: Source, C: DecodeCounter, V: EventVisitor>(
     source: &mut S,
-    counter: &mut C,
-    bounds: &Bounds,
+    decoder: &mut Decoder<C>,
     walk: &mut Walk,
     references: &mut References,
-    slot: &mut FaultSlot,
     visitor: &mut V,
 ) -> Option<Result<ControlFlow<()>, Refused>>
-    requires known { IfSome (S.known source.old) (λ bytes. IsWalkOf bytes bounds.now walk.old) }
-    requires counted { C.counts → C.count counter.old ≡ cached_in walk.old }
-    requires references { AreReferencesOf (S.known source.old) bounds.now references.old }
+    requires known { IfSome (S.known source.old) (λ bytes. IsWalkOf bytes decoder.old.bounds walk.old) }
+    requires counted { C.counts → C.count decoder.old.counter ≡ cached_in walk.old }
+    requires references { AreReferencesOf (S.known source.old) decoder.old.bounds references.old }
     // The answer.
     ensures handed { HandsItem V.step visitor.old visitor.new result (λ event.
-        YieldsItem (S.known source.old) bounds.now walk.old (item_in result slot.new) event walk.new
-        × CachesNext (S.known source.old) bounds.now walk.old (item_in result slot.new) event
+        YieldsItem (S.known source.old) decoder.old.bounds walk.old (item_in result decoder.new.slot) event walk.new
+        × CachesNext (S.known source.old) decoder.old.bounds walk.old (item_in result decoder.new.slot) event
         walk.new
         × (closes (open_in walk.old) ≡ true → IsCurrentEnd result event)) }
     // A refusal.
-    ensures fault { ItemWithin 0 bounds.now.trailer (item_in result slot.new) }
+    ensures fault { ItemWithin 0 decoder.old.bounds.trailer (item_in result decoder.new.slot) }
     // The state after it.
     ensures size { walk_objects walk.new ≡ walk_objects walk.old }
-    ensures known { IfSome (S.known source.old) (λ bytes. IsWalkOf bytes bounds.now walk.new) }
-    ensures counted { C.counts → C.count counter.new ≡ cached_in walk.new }
-    ensures references { AreReferencesOf (S.known source.old) bounds.now references.new }
+    ensures known { IfSome (S.known source.old) (λ bytes. IsWalkOf bytes decoder.old.bounds walk.new) }
+    ensures bounds { decoder.new.bounds ≡ decoder.old.bounds }
+    ensures counted { C.counts → C.count decoder.new.counter ≡ cached_in walk.new }
+    ensures references { AreReferencesOf (S.known source.old) decoder.old.bounds references.new }
     ensures falls { LightensNext walk.old result walk.new }
     ensures unchanged { S.known source.new ≡ S.known source.old }
-    ensures failures { ItemAnswersInSlot S.failures result slot.new source.old source.new }
+    ensures failures { ItemAnswersInSlot S.failures result decoder.new.slot source.old source.new }
 {
     match walk.next_child() {
         NextChild::Done => None,
         NextChild::Closed => Some(Ok(visitor.end_collection())),
         NextChild::Child(object, index) => {
             let at = walk.contents[object as usize];
-            match read_child(source, bounds, references, at, index, slot) {
-                Ok(number) => Some(enter(source, counter, bounds, walk, slot, at, number, visitor)),
+            match read_child(source, decoder, references, at, index) {
+                Ok(number) => {
+                    let reference = Reference { at, number };
+                    Some(enter(source, decoder, walk, reference, visitor))
+                }
                 Err(refused) => Some(Err(refused)),
             }
         }

@@ -10,9 +10,11 @@ ghost use Rattle.plist_binread.specs.Walking.{IsEmptyWalk, cached_in, walk_objec
 ghost use Rattle.plist_binread.specs.Beginning.{CountsRoot, GivesRoot, IsBounded, IsKnownWalk, CachesRoot};
 
 use crate::counter::DecodeCounter;
+use crate::decoder::Decoder;
 use crate::enter::enter;
-use crate::fault_slot::{FaultSlot, Refused};
+use crate::fault_slot::Refused;
 use crate::head::{Bounds, Head};
+use crate::references::Reference;
 use crate::walk::Walk;
 use plist_base::{Error, EventVisitor, Source};
 use std::alloc::Global;
@@ -31,45 +33,47 @@ fn no_tags(alloc: Global, count: usize) -> Result<Vec<u8>, Error>
 #[cold]
 #[inline(never)]
 pub fn begin<S: Source, C: DecodeCounter, V: EventVisitor>(
-    alloc: Global,
     source: &mut S,
-    counter: &mut C,
-    bounds: &mut Bounds,
+    decoder: &mut Decoder<C>,
     walk: &mut Walk,
-    slot: &mut FaultSlot,
     visitor: &mut V,
 ) -> Result<ControlFlow<()>, Refused>
     requires empty { IsEmptyWalk walk.old }
-    requires counted { C.counts → C.count counter.old ≡ cached_in walk.old }
+    requires counted { C.counts → C.count decoder.old.counter ≡ cached_in walk.old }
     // The answer.
     ensures handed { Hands V.step visitor.old visitor.new result (λ event.
-        IfSome (S.known source.old) (GivesRoot (answer_in result slot.new) event bounds.new
+        IfSome (S.known source.old) (GivesRoot (answer_in result decoder.new.slot) event decoder.new.bounds
         walk.new)
-        × IfSome (S.known source.old) (CachesRoot (answer_in result slot.new) event walk.new)) }
+        × IfSome (S.known source.old) (CachesRoot (answer_in result decoder.new.slot) event walk.new)) }
     // A refusal.
-    ensures fault { ErrWithin 0 (2 ^ 64) (answer_in result slot.new) }
+    ensures fault { ErrWithin 0 (2 ^ 64) (answer_in result decoder.new.slot) }
     // The state after it.
-    ensures counted { C.counts → C.count counter.new ≡ cached_in walk.new }
+    ensures counted { C.counts → C.count decoder.new.counter ≡ cached_in walk.new }
     ensures bounded { IfSome (S.known source.old) (IsBounded walk.new) }
-    ensures objects { IfSome (S.known source.old) (CountsRoot result slot.new walk.new) }
-    ensures known { OnOk result (IsKnownWalk (S.known source.old) bounds.new walk.new) }
+    ensures objects { IfSome (S.known source.old) (CountsRoot result decoder.new.slot walk.new) }
+    ensures known { OnOk result (IsKnownWalk (S.known source.old) decoder.new.bounds walk.new) }
     ensures falls { OnOk result (weight_in walk.new < walk_steps (walk_objects walk.new)) }
     ensures unchanged { S.known source.new ≡ S.known source.old }
-    ensures failures { AnswersInSlot S.failures result slot.new source.old source.new }
+    ensures failures { AnswersInSlot S.failures result decoder.new.slot source.old source.new }
 {
-    let head = slot.keep_error(Head::read(alloc, source))?;
-    let none = slot.keep_error(no_tags(alloc, head.places.len()))?;
+    let alloc = decoder.slot.alloc;
+    let head = decoder.slot.keep_error(Head::read(alloc, source))?;
+    let none = decoder.slot.keep_error(no_tags(alloc, head.places.len()))?;
     let Head {
         trailer,
         reference_width,
         root,
         places,
     } = head;
-    *bounds = Bounds {
+    decoder.bounds = Bounds {
         trailer,
         reference_width,
     };
     walk.tags = none;
     walk.contents = places;
-    enter(source, counter, bounds, walk, slot, trailer, root, visitor)
+    let reference = Reference {
+        at: trailer,
+        number: root,
+    };
+    enter(source, decoder, walk, reference, visitor)
 }

@@ -12,11 +12,12 @@ ghost use Rattle.plist_binread.specs.Slot.{AnswersInSlot, answer_in};
 
 use crate::counter::DecodeCounter;
 use crate::decoded::Decoded;
+use crate::decoder::Decoder;
 use crate::fault_slot::{FaultSlot, Refused};
 use crate::hand::{hand_decoded, hand_small};
-use crate::head::Bounds;
 use crate::object::decode;
 use crate::packed::{PackedKind, cache, is_open, mark_open};
+use crate::references::Reference;
 use crate::walk::Walk;
 use plist_base::{ErrorKind, EventVisitor, Source};
 use std::ops::ControlFlow;
@@ -137,49 +138,50 @@ fn cache_or_open(walk: &mut Walk, number: u64, decoded: Decoded) -> bool
     }
 }
 
-/// Hands the first event of an object over, referred to from `at`. A collection is then open.
+/// Hands the first event of an object over, and opens it if it is a collection.
 #[inline(always)]
 pub fn enter<S: Source, C: DecodeCounter, V: EventVisitor>(
     source: &mut S,
-    counter: &mut C,
-    bounds: &Bounds,
+    decoder: &mut Decoder<C>,
     walk: &mut Walk,
-    slot: &mut FaultSlot,
-    at: u64,
-    number: u64,
+    reference: Reference,
     visitor: &mut V,
 ) -> Result<ControlFlow<()>, Refused>
-    requires known { IfSome (S.known source.old) (λ bytes. IsWalkOf bytes bounds.now walk.old) }
-    requires counted { C.counts → C.count counter.old ≡ cached_in walk.old }
+    requires known { IfSome (S.known source.old) (λ bytes.
+        IsWalkOf bytes decoder.old.bounds walk.old) }
+    requires counted { C.counts → C.count decoder.old.counter ≡ cached_in walk.old }
     // The answer.
     ensures handed { Hands V.step visitor.old visitor.new result (λ event.
-        EntersObject (S.known source.old) bounds.now walk.old at number
-        (answer_in result slot.new) event walk.new
-        × CachesEntered (S.known source.old) number (answer_in result slot.new) event walk.new) }
+        EntersObject (S.known source.old) decoder.old.bounds walk.old reference
+        (answer_in result decoder.new.slot) event walk.new
+        × CachesEntered (S.known source.old) reference.number (answer_in result decoder.new.slot)
+        event walk.new) }
     // A refusal.
-    ensures fault { ErrWithin 0 bounds.now.trailer (answer_in result slot.new) }
+    ensures fault { ErrWithin 0 decoder.old.bounds.trailer (answer_in result decoder.new.slot) }
     // The state after it.
     ensures size { walk_objects walk.new ≡ walk_objects walk.old }
-    ensures known { IfSome (S.known source.old) (λ bytes. IsWalkOf bytes bounds.now walk.new) }
-    ensures counted { C.counts → C.count counter.new ≡ cached_in walk.new }
+    ensures known { IfSome (S.known source.old) (λ bytes.
+        IsWalkOf bytes decoder.old.bounds walk.new) }
+    ensures bounds { decoder.new.bounds ≡ decoder.old.bounds }
+    ensures counted { C.counts → C.count decoder.new.counter ≡ cached_in walk.new }
     ensures falls { OnOk result (IsLighterEntered walk.old walk.new) }
     ensures unchanged { S.known source.new ≡ S.known source.old }
-    ensures failures { AnswersInSlot S.failures result slot.new source.old source.new }
+    ensures failures { AnswersInSlot S.failures result decoder.new.slot source.old source.new }
 {
-    match look_up(walk, slot, at, number)? {
+    match look_up(walk, &mut decoder.slot, reference.at, reference.number)? {
         Known::Small(kind, content) => match hand_small(kind, content, visitor) {
             Some(flow) => Ok(flow),
-            None => Err(slot.refuse_memory()),
+            None => Err(decoder.slot.refuse_memory()),
         },
         Known::At(place) => {
-            let decoded = decode(source, counter, bounds, place, slot);
+            let decoded = decode(source, decoder, place);
             if decoded.is_unread() {
                 return Err(Refused);
             }
-            if cache_or_open(walk, number, decoded) {
-                return hand_decoded(source, bounds, place, decoded, slot, visitor);
+            if cache_or_open(walk, reference.number, decoded) {
+                return hand_decoded(source, decoder, place, decoded, visitor);
             }
-            Err(slot.refuse_memory())
+            Err(decoder.slot.refuse_memory())
         }
     }
 }

@@ -11,9 +11,10 @@ ghost use Rattle.plist_binread.specs.Packed.{content_bytes, is_small_event, text
 ghost use Rattle.plist_binread.specs.Slot.{AnswersInSlot, answer_in};
 ghost use Rattle.plist_binread.specs.declared.decoded.ContentKind.TheVariants.{Text as KindText};
 
+use crate::counter::DecodeCounter;
 use crate::decoded::{Content, ContentKind, Decoded, ObjectFault};
+use crate::decoder::Decoder;
 use crate::fault_slot::{FaultSlot, Refused};
-use crate::head::Bounds;
 use crate::long_content::{read_long, wide_text_event};
 use crate::packed::PackedKind;
 use crate::utf8::text_in;
@@ -227,39 +228,41 @@ fn hand_content<S: Source, V: EventVisitor>(
 
 /// Hands the event of the object at an offset over, or keeps the error of one that is faulty.
 #[inline(always)]
-pub fn hand_decoded<S: Source, V: EventVisitor>(
+pub fn hand_decoded<S: Source, C: DecodeCounter, V: EventVisitor>(
     source: &mut S,
-    bounds: &Bounds,
+    decoder: &mut Decoder<C>,
     place: u64,
     decoded: Decoded,
-    slot: &mut FaultSlot,
     visitor: &mut V,
 ) -> Result<ControlFlow<()>, Refused>
-    requires { FitsBefore bounds.now.trailer place decoded }
+    requires { FitsBefore decoder.old.bounds.trailer place decoded }
     // The answer.
     ensures handed { Hands V.step visitor.old visitor.new result (λ event.
-        SetsDecoded (S.known source.old) bounds.now place decoded (answer_in result slot.new) event
+        SetsDecoded (S.known source.old) decoder.old.bounds place decoded
+        (answer_in result decoder.new.slot) event
         × SetsAsSmall decoded result event) }
     ensures found { OnOk result (is_refused decoded ≡ false) }
     // A refusal.
-    ensures fault { ErrWithin place bounds.now.trailer (answer_in result slot.new) }
+    ensures fault { ErrWithin place decoder.old.bounds.trailer (answer_in result decoder.new.slot) }
     // The state after it.
     ensures unchanged { S.known source.new ≡ S.known source.old }
-    ensures failures { AnswersInSlot S.failures result slot.new source.old source.new }
+    ensures bounds { decoder.new.bounds ≡ decoder.old.bounds }
+    ensures counter { decoder.new.counter ≡ decoder.old.counter }
+    ensures failures { AnswersInSlot S.failures result decoder.new.slot source.old source.new }
 {
     match decoded {
         Decoded::Small(kind, content) => match hand_small(kind, content, visitor) {
             Some(flow) => Ok(flow),
-            None => Err(slot.refuse_memory()),
+            None => Err(decoder.slot.refuse_memory()),
         },
-        Decoded::Date(content) => hand_date(content, place, slot, visitor),
+        Decoded::Date(content) => hand_date(content, place, &mut decoder.slot, visitor),
         Decoded::Long(kind, start, count) => {
             let content = Content { kind, start, count };
-            hand_content(source, place, content, slot, visitor)
+            hand_content(source, place, content, &mut decoder.slot, visitor)
         }
         Decoded::Array(count) => Ok(visitor.start_array(Some(count))),
         Decoded::Dictionary(count) => Ok(visitor.start_dictionary(Some(count))),
-        Decoded::Faulty(fault) => Err(slot.refuse_object(fault, place)),
+        Decoded::Faulty(fault) => Err(decoder.slot.refuse_object(fault, place)),
         Decoded::Unread => unreachable!(),
     }
 }

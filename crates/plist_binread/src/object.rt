@@ -5,9 +5,8 @@ ghost use Rattle.plist_binread.specs.Decoded.{CountsSmall, CountsUnread, Decodes
 
 use crate::counter::DecodeCounter;
 use crate::decoded::{Decoded, ObjectFault};
-use crate::fault_slot::FaultSlot;
+use crate::decoder::Decoder;
 use crate::front::decode_seen;
-use crate::head::Bounds;
 use plist_base::{Source, read_exact_at};
 
 // As many bytes as any object needs but a long text or data: a marker, a length of nine bytes, and
@@ -19,29 +18,39 @@ const FRONT: usize = 26;
 #[inline(never)]
 fn read_front<S: Source, C: DecodeCounter>(
     source: &mut S,
-    counter: &mut C,
-    bounds: &Bounds,
+    decoder: &mut Decoder<C>,
     place: u64,
-    slot: &mut FaultSlot,
 ) -> Decoded
-    requires place { place < bounds.now.trailer }
+    requires place { place < decoder.old.bounds.trailer }
     // The answer.
-    ensures decoded { DecodesAt (S.known source.old) bounds.now place result slot.new }
-    ensures fits { is_unread result ≡ false → FitsBefore bounds.now.trailer place result }
+    ensures decoded { DecodesAt (S.known source.old) decoder.old.bounds place result decoder.new.slot }
+    ensures fits { is_unread result ≡ false → FitsBefore decoder.old.bounds.trailer place result }
     // A refusal.
-    ensures fault { FailsUnread place bounds.now.trailer result slot.new }
+    ensures fault { FailsUnread place decoder.old.bounds.trailer result decoder.new.slot }
     // The state after it.
-    ensures counted { CountsSmall C.counts C.count counter.old counter.new result }
+    ensures counted { CountsSmall C.counts C.count decoder.old.counter decoder.new.counter
+        result }
+    ensures bounds { decoder.new.bounds ≡ decoder.old.bounds }
     ensures unchanged { S.known source.new ≡ S.known source.old }
-    ensures failures { CountsUnread result slot.new (S.failures source.old) (S.failures source.new) }
+    ensures failures { CountsUnread result decoder.new.slot (S.failures source.old) (S.failures source.new) }
 {
+    let bounds = decoder.bounds;
     let extent = bounds.trailer - place;
     let mut front = [0; FRONT];
     let seen = &mut front[..extent.min(FRONT as u64) as usize];
     match read_exact_at(source, place, seen) {
-        Ok(()) => decode_seen(slot.alloc, seen, extent, bounds.reference_width, counter),
+        Ok(()) => {
+            let alloc = decoder.slot.alloc;
+            decode_seen(
+                alloc,
+                seen,
+                extent,
+                bounds.reference_width,
+                &mut decoder.counter,
+            )
+        }
         Err(error) => {
-            slot.refuse(error);
+            decoder.slot.refuse(error);
             Decoded::Unread
         }
     }
@@ -51,21 +60,22 @@ fn read_front<S: Source, C: DecodeCounter>(
 #[inline(always)]
 pub fn decode<S: Source, C: DecodeCounter>(
     source: &mut S,
-    counter: &mut C,
-    bounds: &Bounds,
+    decoder: &mut Decoder<C>,
     place: u64,
-    slot: &mut FaultSlot,
 ) -> Decoded
     // The answer.
-    ensures decoded { DecodesAt (S.known source.old) bounds.now place result slot.new }
-    ensures fits { is_unread result ≡ false → FitsBefore bounds.now.trailer place result }
+    ensures decoded { DecodesAt (S.known source.old) decoder.old.bounds place result decoder.new.slot }
+    ensures fits { is_unread result ≡ false → FitsBefore decoder.old.bounds.trailer place result }
     // A refusal.
-    ensures fault { FailsUnread place bounds.now.trailer result slot.new }
+    ensures fault { FailsUnread place decoder.old.bounds.trailer result decoder.new.slot }
     // The state after it.
-    ensures counted { CountsSmall C.counts C.count counter.old counter.new result }
+    ensures counted { CountsSmall C.counts C.count decoder.old.counter decoder.new.counter
+        result }
+    ensures bounds { decoder.new.bounds ≡ decoder.old.bounds }
     ensures unchanged { S.known source.new ≡ S.known source.old }
-    ensures failures { CountsUnread result slot.new (S.failures source.old) (S.failures source.new) }
+    ensures failures { CountsUnread result decoder.new.slot (S.failures source.old) (S.failures source.new) }
 {
+    let bounds = decoder.bounds;
     if place >= bounds.trailer {
         return Decoded::Faulty(ObjectFault::Overrun);
     }
@@ -73,7 +83,14 @@ pub fn decode<S: Source, C: DecodeCounter>(
     let buffered = source.buffered(place);
     let seen = &buffered[..extent.min(buffered.len() as u64) as usize];
     if seen.len() >= FRONT || seen.len() as u64 == extent {
-        return decode_seen(slot.alloc, seen, extent, bounds.reference_width, counter);
+        let alloc = decoder.slot.alloc;
+        return decode_seen(
+            alloc,
+            seen,
+            extent,
+            bounds.reference_width,
+            &mut decoder.counter,
+        );
     }
-    read_front(source, counter, bounds, place, slot)
+    read_front(source, decoder, place)
 }

@@ -9,11 +9,22 @@ ghost use Rattle.plist_base.specs.Sources.{AnswersIo};
 ghost use Rattle.plist_binread.specs.Slot.{AnswersInSlot, answer_in, found_in};
 
 use crate::counted_content::front_length;
+use crate::counter::DecodeCounter;
+use crate::decoder::Decoder;
 use crate::fault_slot::{FaultSlot, Refused};
 use crate::head::Bounds;
 use crate::numbers::{buffered_number, read_far_number};
 use plist_base::{Source, read_exact_at};
 use plist_format::{CountedKind, Marker};
+
+/// A reference to an object.
+#[derive(Clone, Copy)]
+pub struct Reference {
+    /// The offset of the reference, or of the trailer for the root.
+    pub at: u64,
+    /// The number of the object.
+    pub number: u64,
+}
 
 /// Where the references of a collection stand.
 #[derive(Clone, Copy)]
@@ -237,37 +248,39 @@ fn read_reference<S: Source>(
 
 /// Finds the number of a child of the collection at a place.
 #[inline(always)]
-pub fn read_child<S: Source>(
+pub fn read_child<S: Source, C: DecodeCounter>(
     source: &mut S,
-    bounds: &Bounds,
+    decoder: &mut Decoder<C>,
     references: &mut References,
     place: u64,
     index: u64,
-    slot: &mut FaultSlot,
 ) -> Result<u64, Refused>
-    requires references { AreReferencesOf (S.known source.old) bounds.now references.old }
+    requires references { AreReferencesOf (S.known source.old) decoder.old.bounds references.old }
     // The answer.
-    ensures child { ReadsChildAt (answer_in result slot.new) (S.known source.old) bounds.now place
-        index }
+    ensures child { ReadsChildAt (answer_in result decoder.new.slot) (S.known source.old)
+        decoder.old.bounds place index }
     // A refusal.
-    ensures fault { ErrWithin place bounds.now.trailer (answer_in result slot.new) }
+    ensures fault { ErrWithin place decoder.old.bounds.trailer (answer_in result decoder.new.slot) }
     // The state after it.
-    ensures references { AreReferencesOf (S.known source.old) bounds.now references.new }
+    ensures references { AreReferencesOf (S.known source.old) decoder.old.bounds references.new }
+    ensures bounds { decoder.new.bounds ≡ decoder.old.bounds }
+    ensures counter { decoder.new.counter ≡ decoder.old.counter }
     ensures unchanged { S.known source.new ≡ S.known source.old }
-    ensures failures { AnswersInSlot S.failures result slot.new source.old source.new }
+    ensures failures { AnswersInSlot S.failures result decoder.new.slot source.old source.new }
 {
-    refer_to(source, bounds, references, place, slot)?;
+    let bounds = decoder.bounds;
+    refer_to(source, &bounds, references, place, &mut decoder.slot)?;
     let width = bounds.reference_width;
     match reference_place(references, index, width) {
         Some(at) if at < bounds.trailer && width as u64 <= bounds.trailer - at => {
             match buffered_number(source, at, width) {
                 Some(number) => Ok(number),
-                None => match read_reference(source, at, width, slot) {
+                None => match read_reference(source, at, width, &mut decoder.slot) {
                     Some(number) => Ok(number),
                     None => Err(Refused),
                 },
             }
         }
-        _ => Err(slot.refuse_overrun(place)),
+        _ => Err(decoder.slot.refuse_overrun(place)),
     }
 }

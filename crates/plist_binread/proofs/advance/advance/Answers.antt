@@ -13,7 +13,7 @@ use Rattle.plist_binread.proofs.advance.advance.Goals.{In-Child, After-read_chil
 
 -- what taking the next child does
 taken : (g : _) (c : In-Child g) → IfSome (g.S.Source.known c.args.source.now) (λ bytes.
-    ChildTaken bytes c.args.bounds.now c.args.walk.now (Child c.in-Child.object c.in-Child.index)
+    ChildTaken bytes c.args.decoder.now.bounds c.args.walk.now (Child c.in-Child.object c.in-Child.index)
     c.next_child.new.self)
 taken g c =
     known_child_taken _ _ c.args.walk.now c.next_child.new.self (Child _ _) c.requires.known
@@ -70,15 +70,15 @@ returns-in-Ok-clause-handed g c =
     let t = goal.at.returns-in-Ok-clause-handed g c in
     let at = place g t.After-read_child in
     let h = c.enter.ensures.handed in
-    let answer = answer_in c.enter.result c.enter.new.slot in
+    let answer = answer_in c.enter.result c.enter.new.decoder.slot in
     record {
       event = h.event;
       is = (
         child_yields _ _ c.args.walk.now c.next_child.new.self _ _ c.in-Child.ensures.within.0
             c.in-Child.ensures.within.1 (taken g t.In-Child) _ c.in-Ok.ensures.unchanged
             c.in-Ok.number (rw at at c.in-Ok.ensures.child) answer h.event c.enter.new.walk
-            (rw at at h.is.0),
-        child_kept _ c.args.bounds.now c.args.walk.now c.next_child.new.self _ _
+            (rw (c.read_child.ensures.bounds, at) at h.is.0),
+        child_kept _ c.args.decoder.now.bounds c.args.walk.now c.next_child.new.self _ _
             c.in-Child.ensures.within.0 c.in-Child.ensures.within.1 (taken g t.In-Child) _
             c.in-Ok.ensures.unchanged c.in-Ok.number (rw at at c.in-Ok.ensures.child) answer h.event
             c.enter.new.walk.tags.items h.is.1,

@@ -62,7 +62,7 @@ count g c =
 pub returns-clause-objects : goal.returns-clause-objects
 returns-clause-objects g c =
     known_counted (g.S.Source.known c.args.source.now) c.in_ok-head.head c.enter.result
-    c.enter.new.slot c.enter.new.walk
+    c.enter.new.decoder.slot c.enter.new.walk
     (c.enter.ensures.size ∙ count g (goal.at.returns-clause-objects g c).In_ok-none)
     (rw (← c.in_ok-head.ensures.answer) at c.read.ensures.value)
 
@@ -107,13 +107,14 @@ returns-clause-handed g c =
     record {
       event = h.event;
       is = (
-        known_begun (g.S.Source.known c.args.source.now) (g.S.Source.known c.read.new.source)
+        rw c.enter.ensures.bounds (known_begun
+            (g.S.Source.known c.args.source.now) (g.S.Source.known c.read.new.source)
             c.in_ok-head.head (bounds g there) c.in_ok-none.none.items c.args.walk.now.frames
-            c.enter.new.walk.frames (answer_in c.enter.result c.enter.new.slot) h.event
+            c.enter.new.walk.frames (answer_in c.enter.result c.enter.new.decoder.slot) h.event
             c.read.ensures.unchanged c.requires.empty.1 (count g there) refl refl
-            (rw (← c.in_ok-head.ensures.answer) at c.read.ensures.value) h.is.0,
+            (rw (← c.in_ok-head.ensures.answer) at c.read.ensures.value) h.is.0),
         known_cached (g.S.Source.known c.args.source.now) (g.S.Source.known c.read.new.source)
-            c.in_ok-head.head _ (answer_in c.enter.result c.enter.new.slot) h.event
+            c.in_ok-head.head _ (answer_in c.enter.result c.enter.new.decoder.slot) h.event
             c.enter.new.walk c.read.ensures.unchanged refl
             (rw (← c.in_ok-head.ensures.answer) at c.read.ensures.value) h.is.1,
       );

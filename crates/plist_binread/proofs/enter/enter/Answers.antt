@@ -21,12 +21,12 @@ returns-in-Some-clause-handed g c =
     record {
       event = h.0;
       is = (
-        known_unpacked _ _ c.args.walk.now c.args.number c.requires.known
-            c.in_ok-kind.ensures.below c.args.at h.0 c.in_ok-kind.ensures.new found.0
+        known_unpacked _ _ c.args.walk.now c.args.reference.number c.requires.known
+            c.in_ok-kind.ensures.below c.args.reference.at h.0 c.in_ok-kind.ensures.new found.0
             (ap scalar_event found.1 ∙ h.1),
         IfSome-all (g.S.Source.known c.args.source.now)
             {P = λ _. is_small_event h.0 ≡ true → 0 < unmarked
-            (get_or c.args.walk.now.tags.items c.args.number 0)} (λ _ _. found.0),
+            (get_or c.args.walk.now.tags.items c.args.reference.number 0)} (λ _ _. found.0),
       );
       taken = h.2;
     }
@@ -38,8 +38,8 @@ returns-in-None-clause-handed g c =
       event = EndCollection;
       is = (
         IfSome_then (g.S.Source.known c.args.source.now) c.requires.known (λ bytes k.
-            unfound_memory bytes c.args.bounds.now _ _ _ k c.args.walk.now.path c.args.at
-            c.args.number c.in_ok-kind.ensures.below c.in_ok-kind.ensures.new
+            unfound_memory bytes c.args.decoder.now.bounds _ _ _ k c.args.walk.now.path c.args.reference.at
+            c.args.reference.number c.in_ok-kind.ensures.below c.in_ok-kind.ensures.new
             c.refuse_memory.new.self.fault found.0 c.refuse_memory.ensures.fault
             (rw found.1 c.in-None.ensures.0)),
         IfSome-all _ (λ _. tt),
@@ -51,10 +51,10 @@ pub returns-then-is_unread-clause-handed : goal.returns-then-is_unread-clause-ha
 returns-then-is_unread-clause-handed g c = record {
   event = EndCollection;
   is = (
-    known_refused _ _ c.args.walk.now c.args.number c.requires.known c.in_ok-kind.ensures.below
-        c.args.at c.in-At.place c.decode-decoded.new.slot.fault c.in_ok-kind.ensures.new
+    known_refused _ _ c.args.walk.now c.args.reference.number c.requires.known c.in_ok-kind.ensures.below
+        c.args.reference.at c.in-At.place c.decode-decoded.new.decoder.slot.fault c.in_ok-kind.ensures.new
         (rw c.in-At.is at c.in_ok-kind.ensures.found)
-        (known_unread _ c.args.bounds.now c.in-At.place _ c.decode-decoded.new.slot
+        (known_unread _ c.args.decoder.now.bounds c.in-At.place _ c.decode-decoded.new.decoder.slot
         (search rules) c.decode-decoded.ensures.decoded),
     IfSome-all _ (λ _. tt),
   );
@@ -63,28 +63,28 @@ returns-then-is_unread-clause-handed g c = record {
 
 pub cache_or_open-requires-clause-fits : goal.cache_or_open-requires-clause-fits
 cache_or_open-requires-clause-fits g c =
-    fits_walk c.args.bounds.now c.in-At.place _ (c.decode-decoded.ensures.fits (search rules))
+    fits_walk c.args.decoder.now.bounds c.in-At.place _ (c.decode-decoded.ensures.fits (search rules))
 
 -- the object is what was decoded
 there : (g : _) (c : After-cache_or_open g)
-    → IfSome (g.S.Source.known c.args.source.now) (λ bytes. IsDecodedAt bytes c.args.bounds.now
-    c.args.number c.in-At.place c.decode-decoded.result)
+    → IfSome (g.S.Source.known c.args.source.now) (λ bytes. IsDecodedAt bytes c.args.decoder.now.bounds
+    c.args.reference.number c.in-At.place c.decode-decoded.result)
 there g c =
     known_decoded _ _ c.args.walk.now _ c.requires.known c.in_ok-kind.ensures.below _ _
-    c.decode-decoded.new.slot (rw c.in-At.is at c.in_ok-kind.ensures.found) (search rules)
+    c.decode-decoded.new.decoder.slot (rw c.in-At.is at c.in_ok-kind.ensures.found) (search rules)
     c.decode-decoded.ensures.decoded
 
 pub returns-else-cache_or_open-clause-handed : goal.returns-else-cache_or_open-clause-handed
 returns-else-cache_or_open-clause-handed g c = record {
   event = EndCollection;
   is = (
-    known_refused _ _ c.args.walk.now c.args.number c.requires.known
-        c.in_ok-kind.ensures.below c.args.at c.in-At.place _ c.in_ok-kind.ensures.new
+    known_refused _ _ c.args.walk.now c.args.reference.number c.requires.known
+        c.in_ok-kind.ensures.below c.args.reference.at c.in-At.place _ c.in_ok-kind.ensures.new
         (rw c.in-At.is at c.in_ok-kind.ensures.found)
-        (known_full _ c.args.bounds.now c.in-At.place
+        (known_full _ c.args.decoder.now.bounds c.in-At.place
         c.decode-decoded.result c.refuse_memory-in-At.new.self.fault c.refuse_memory-in-At.ensures.fault
         (c.cache_or_open.ensures.wanted c.if-cache_or_open.false)
-        (known_read _ c.args.bounds.now c.in-At.place _ c.decode-decoded.new.slot (search rules)
+        (known_read _ c.args.decoder.now.bounds c.in-At.place _ c.decode-decoded.new.decoder.slot (search rules)
         c.decode-decoded.ensures.decoded)),
     IfSome-all _ (λ _. tt),
   );
@@ -93,7 +93,7 @@ returns-else-cache_or_open-clause-handed g c = record {
 
 pub returns-then-cache_or_open-clause-known : goal.returns-then-cache_or_open-clause-known
 returns-then-cache_or_open-clause-known g c =
-    known_opens _ _ c.args.walk.now c.args.number c.requires.known c.in_ok-kind.ensures.below
+    known_opens _ _ c.args.walk.now c.args.reference.number c.requires.known c.in_ok-kind.ensures.below
     c.in-At.place _ c.cache_or_open.new.walk
     (there g (goal.at.returns-then-cache_or_open-clause-known g c).After-cache_or_open)
     (c.cache_or_open.ensures.yields c.if-cache_or_open.true)
@@ -104,14 +104,15 @@ returns-then-cache_or_open-clause-handed g c =
     record {
       event = h.event;
       is = (
-        known_set _ _ c.args.walk.now c.args.number c.requires.known c.in_ok-kind.ensures.below
-            c.args.at c.in-At.place _ c.cache_or_open.new.walk _
-            (answer_in c.hand_decoded.result c.hand_decoded.new.slot) h.event
+        known_set _ _ c.args.walk.now c.args.reference.number c.requires.known c.in_ok-kind.ensures.below
+            c.args.reference.at c.in-At.place _ c.cache_or_open.new.walk _
+            (answer_in c.hand_decoded.result c.hand_decoded.new.decoder.slot) h.event
             c.decode-decoded.ensures.unchanged c.in_ok-kind.ensures.new
             (there g (goal.at.returns-then-cache_or_open-clause-handed g c).After-cache_or_open)
-            (c.cache_or_open.ensures.yields c.if-cache_or_open.true) h.is.0
-            (on_answer _ c.hand_decoded.result c.hand_decoded.new.slot c.hand_decoded.ensures.found),
-        cached_if _ c.args.number c.hand_decoded.result c.hand_decoded.new.slot h.event
+            (c.cache_or_open.ensures.yields c.if-cache_or_open.true)
+            (rw c.decode-decoded.ensures.bounds at h.is.0)
+            (on_answer _ c.hand_decoded.result c.hand_decoded.new.decoder.slot c.hand_decoded.ensures.found),
+        cached_if _ c.args.reference.number c.hand_decoded.result c.hand_decoded.new.decoder.slot h.event
             c.decode-decoded.result c.cache_or_open.new.walk.tags.items h.is.1
             c.cache_or_open.ensures.cached,
       );
@@ -119,4 +120,5 @@ returns-then-cache_or_open-clause-handed g c =
     }
 
 pub hand_decoded-requires : goal.hand_decoded-requires
-hand_decoded-requires g c = c.decode-decoded.ensures.fits (search rules)
+hand_decoded-requires g c =
+    rw c.decode-decoded.ensures.bounds (c.decode-decoded.ensures.fits (search rules))

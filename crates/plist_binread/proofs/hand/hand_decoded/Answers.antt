@@ -9,7 +9,7 @@ returns-in-Long-clause-handed g c =
     record {
       event = h.event;
       is = (
-        rw c.in-Long.is (long_sets _ c.args.bounds.now c.args.place (record {
+        rw c.in-Long.is (long_sets _ c.args.decoder.now.bounds c.args.place (record {
           kind = c.in-Long.kind;
           start = c.in-Long.start;
           count = c.in-Long.count;

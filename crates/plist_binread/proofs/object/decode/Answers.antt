@@ -10,26 +10,27 @@ use Rattle.plist_binread.proofs.object.decode.Goals as goal
 
 pub returns-then-place-bounds-clause-decoded : goal.returns-then-place-bounds-clause-decoded
 returns-then-place-bounds-clause-decoded g c =
-    let beyond : (bytes : List ℕ) → c.args.bounds.now.trailer ≤ length bytes
-    → object_at c.args.bounds.now c.args.place bytes ≡ Faulty ObjectOffsetTooLarge
-    = λ bytes fits. object_in-beyond bytes c.args.bounds.now.reference_width
-    c.args.bounds.now.trailer c.args.place fits c.if-place-bounds.true in
+    let beyond : (bytes : List ℕ) → c.args.decoder.now.bounds.trailer ≤ length bytes
+    → object_at c.args.decoder.now.bounds c.args.place bytes ≡ Faulty ObjectOffsetTooLarge
+    = λ bytes fits. object_in-beyond bytes c.args.decoder.now.bounds.reference_width
+    c.args.decoder.now.bounds.trailer c.args.place fits c.if-place-bounds.true in
     IfSome-all (g.S.Source.known c.args.source.now) beyond
 
 pub returns-then-seen-ge-FRONT : goal.returns-then-seen-ge-FRONT
 returns-then-seen-ge-FRONT g c =
     let decoded = c.decode_seen.result in
-    let slot = c.args.slot.now in
-    let read = seen_read c.args.bounds.now c.args.place _ decoded
+    let slot = c.args.decoder.now.slot in
+    let read = seen_read c.args.decoder.now.bounds c.args.place _ decoded
     (search rules) c.decode_seen.ensures.decoded in
     record {
-      decoded = seen_decodes _ c.args.bounds.now c.args.place _ decoded slot (search rules)
+      decoded = seen_decodes _ c.args.decoder.now.bounds c.args.place _ decoded slot (search rules)
           (known_prefix _ _ _ _ (omega arith) c.buffered-buffered.ensures.bytes)
           c.decode_seen.ensures.decoded;
-      fits = λ _. seen_fits c.args.bounds.now c.args.place _ decoded (search rules)
+      fits = λ _. seen_fits c.args.decoder.now.bounds c.args.place _ decoded (search rules)
           c.decode_seen.ensures.decoded;
       fault = fails_none _ _ decoded slot read;
       counted = c.decode_seen.ensures.counted;
+      bounds = refl;
       unchanged = refl;
       failures = counts_none decoded slot _ _ read refl;
     }

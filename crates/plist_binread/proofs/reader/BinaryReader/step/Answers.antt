@@ -48,6 +48,7 @@ returns-in-Walking-clause-walks g c =
       event = h.event;
       is = item_walks _ _ _ _ c.args.self.now _ c.advance-item.ensures.unchanged
           c.advance-item.ensures.counted refl c.advance-item.result h.event c.in-Walking.is
+          c.advance-item.ensures.bounds
           c.state_after-self-in-Walking.ensures h.is.0 c.advance-item.ensures.fault
           c.advance-item.ensures.size c.args.self.now.bounded c.advance-item.ensures.known h.is.1
           c.advance-item.ensures.falls c.advance-item.ensures.failures;
@@ -61,7 +62,7 @@ invariant_of-self g c = record {
   bounded = rw c.begin.ensures.unchanged c.begin.ensures.bounded;
   known = λ walking. rw c.begin.ensures.unchanged
       (walks_on_ok c.begin.result _ _ c.state_after-self.ensures c.begin.ensures.known walking);
-  refers = λ _. known_no_references (g.R.Source.known c.begin.new.source) c.begin.new.bounds
+  refers = λ _. known_no_references (g.R.Source.known c.begin.new.source) c.begin.new.decoder.bounds
       c.none-self.result c.none-self.ensures;
 }
 
@@ -72,6 +73,8 @@ invariant_of-self-in-Walking g c = record {
   counted = c.advance-item.ensures.counted;
   bounded = rw (c.advance-item.ensures.unchanged, c.advance-item.ensures.size)
       c.args.self.now.bounded;
-  known = λ _. rw c.advance-item.ensures.unchanged c.advance-item.ensures.known;
-  refers = λ _. rw c.advance-item.ensures.unchanged c.advance-item.ensures.references;
+  known = λ _. rw (c.advance-item.ensures.unchanged, c.advance-item.ensures.bounds)
+      c.advance-item.ensures.known;
+  refers = λ _. rw (c.advance-item.ensures.unchanged, c.advance-item.ensures.bounds)
+      c.advance-item.ensures.references;
 }

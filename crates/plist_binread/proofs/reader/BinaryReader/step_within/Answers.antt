@@ -2,7 +2,7 @@ use Rattle.std.proofs.Common.{◌^◌, Some, refl, rules, sym, ap, arith}
 use Rattle.std.specs.Option.{is_some}
 use Rattle.plist_base.specs.Faults.{fault_of}
 use Rattle.plist_base.specs.Limits.{RefusesAny}
-use Rattle.plist_binread.specs.Advancing.{Walks, plain_item}
+use Rattle.plist_binread.specs.Advancing.{Walks, item_with}
 use Rattle.plist_binread.specs.BinaryReader.{is_new, binary_source, unlimited_items}
 use Rattle.plist_binread.specs.Slot.{item_in}
 use Rattle.plist_binread.proofs.Limiting.{limit-current, refused-given, refused-other}
@@ -16,13 +16,13 @@ use Rattle.plist_binread.proofs.reader.BinaryReader.step_within.Goals.{After-ref
 limit : (g : _) (c : After-refuse g) → Reached c.new-within.result c.step-item.new.visitor
     (λ item event. Walks g.R.Source.known g.R.Source.failures
     g.C.DecodeCounter.counts g.C.DecodeCounter.count c.args.self.now
-    (plain_item (item_in item c.step-item.new.self.slot) event) c.step-item.new.self)
+    (item_with (item_in item c.step-item.new.self.decoder.slot) event) c.step-item.new.self)
     c.in-Err.error
 limit g c =
     reached_limit g.V.EventVisitor.step _ _ c.step-item.result
     (λ item event. Walks g.R.Source.known g.R.Source.failures
     g.C.DecodeCounter.counts g.C.DecodeCounter.count c.args.self.now
-    (plain_item (item_in item c.step-item.new.self.slot) event) c.step-item.new.self)
+    (item_with (item_in item c.step-item.new.self.decoder.slot) event) c.step-item.new.self)
     c.in-Err.error (search rules) (search rules) c.step-item.ensures.walks
 
 pub returns-in-Err : goal.returns-in-Err
