@@ -1,5 +1,5 @@
 -- Events that are handed over to a visitor one by one.
-use Rattle.std.proofs.Common.{◌≡◌, List, [], ◌∷◌, ◌++◌, refl, sym, subst}
+use Rattle.std.proofs.Common.{List, [], ◌∷◌, ◌++◌, refl, subst}
 use Rattle.std.specs.declared.ops.ControlFlow.TheVariants.{Continue}
 use Rattle.plist_base.specs.Events.{PlainEvent}
 use Rattle.plist_base.specs.Visits.{Flow, HandsOver, HandsOverAll, PlainItem}

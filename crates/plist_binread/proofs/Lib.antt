@@ -22,4 +22,3 @@ pub mod Taken
 pub mod ChildTaken
 pub mod Limiting
 pub mod Entering
-pub mod Ending

@@ -1,0 +1,44 @@
+use Rattle.std.proofs.Common.{◌≡◌, Ok, ◌∷◌, ◌++◌, [], rules}
+use Rattle.std.specs.declared.ops.ControlFlow.TheVariants.{Continue, Break}
+use Rattle.plist_base.proofs.Visiting.{hands_more}
+use Rattle.plist_binread.proofs.reader.BinaryReaderEventSource.visit.Goals as goal
+
+pub loop-turn-preserved : goal.loop-turn-preserved
+loop-turn-preserved g c =
+    let so_far = c.loop-turn.invariant in
+    let is : c.in-Some.turn ≡ Ok (Continue (tt {0})) = search rules in
+    let turn = rw is at c.in-Some.ensures in (
+      so_far.0 ++ turn.0 ∷ [],
+      hands_more _ _ (c.args.self.now, c.args.visitor.now) (c.loop-turn.self, c.loop-turn.visitor)
+          (c.turn.new.self, c.turn.new.visitor) so_far.0 turn.0 so_far.1 turn.1,
+    )
+
+pub returns-in-Ok-Break : goal.returns-in-Ok-Break
+returns-in-Ok-Break g c =
+    let is : c.in-Some.turn ≡ Ok (Break (tt {0})) = search rules in
+    let so_far = c.loop-turn.invariant in record {
+      events = so_far.0;
+      left = (c.loop-turn.self, c.loop-turn.visitor);
+      handed = so_far.1;
+      ended = rw is at c.in-Some.ensures;
+    }
+
+pub returns-in-Err : goal.returns-in-Err
+returns-in-Err g c =
+    let so_far = c.loop-turn.invariant in
+    let turn = rw c.in-Err.is at c.in-Some.ensures in
+    record {
+      events = so_far.0;
+      left = (c.loop-turn.self, c.loop-turn.visitor);
+      handed = so_far.1;
+      ended = rw c.take_fault.ensures (search turn);
+    }
+
+pub returns : goal.returns
+returns g c =
+    let so_far = c.loop-turn.invariant in record {
+      events = so_far.0;
+      left = (c.loop-turn.self, c.loop-turn.visitor);
+      handed = so_far.1;
+      ended = c.in_default.ensures;
+    }

@@ -1,0 +1,18 @@
+use Rattle.std.proofs.Common.{List}
+use Rattle.plist_base.specs.Events.{PlainEvent}
+use Rattle.plist_base.specs.Visits.{HandsOverAll}
+use Rattle.plist_binread.specs.Advancing.{Steps}
+use Rattle.plist_binread.specs.BinaryReader.{binary_steps}
+use Rattle.plist_binread.proofs.reader.BinaryReaderEventSource.visit.Given as goal
+
+-- these events were handed over
+abbrev pub invariant-loop-turn : goal.invariant-loop-turn
+invariant-loop-turn g l =
+    let source = g.R.Source in
+    let counter = g.C.DecodeCounter in
+    (events : List PlainEvent)
+    × HandsOverAll (Steps source.known source.failures counter.counts counter.count)
+    g.V.EventVisitor.step (l.fn.self, l.fn.visitor) events (l.self, l.visitor)
+
+abbrev pub decreases-loop-turn : goal.decreases-loop-turn
+decreases-loop-turn g l = binary_steps l.self
