@@ -1,8 +1,15 @@
--- What holding one more event does.
-use Rattle.std.specs.Prelude.{◌≡◌, Bool, false, List, [], ◌∷◌, ◌++◌}
+-- What a collector does that takes an event.
+use Rattle.std.specs.Prelude.{◌≡◌, Bool, false, List, [], ◌∷◌, ◌++◌, Option, Result, Ok, Err, MatchOption}
+use Rattle.std.specs.declared.ops.ControlFlow.TheVariants.{Continue, Break}
 use Rattle.plist_base.specs.Bracketing.{CanContinue, without_length}
+use Rattle.plist_base.specs.declared.error.Error.{Error}
+use Rattle.plist_base.specs.declared.visitor.Visited.{Visited}
+use Rattle.plist_base.specs.declared.visitor.Visited.TheVariants.{Ended, Stopped}
 use Rattle.plist_base.specs.Events.{PlainEvent}
-use Rattle.plist_binwrite.specs.EventBuffers.{TestsWhole}
+use Rattle.plist_base.specs.Faults.{OutOfMemory, fault_nowhere, fault_of}
+use Rattle.plist_base.specs.Visits.{Flow}
+use Rattle.plist_binwrite.specs.EventBuffers.{TestsWhole, buffered_events, is_whole}
+use Rattle.plist_commands.specs.declared.collector.Collector.{Collector}
 
 -- the event can follow those that were held, it is held after them without its length, and it is
 -- known whether all of them are a whole property list's
@@ -15,3 +22,44 @@ HoldsMore whole before event after =
 -- nothing is held
 abbrev pub IsEmpty : (whole : Bool) → (held : List PlainEvent) → Type 0
 IsEmpty whole held = (held ≡ []) × (whole ≡ false)
+
+-- the events that a collector has taken, and whether they are a whole property list's
+abbrev pub collected : Collector → List PlainEvent
+collected collector = buffered_events collector.pending.now
+
+abbrev pub is_complete : Collector → Bool
+is_complete collector = is_whole collector.pending.now
+
+-- the collector has the same buffer
+abbrev pub IsSameCollector : (old new : Collector) → Type 0
+IsSameCollector old new = new.pending.ghost_name ≡ old.pending.ghost_name
+
+-- the collector wants no more events, for this reason
+pub record EndsAtEvent (old : Collector) (reason : Option Error) (flow : Flow) (new : Collector)
+    : Type 0 where
+  pub same : IsSameCollector old new
+  pub stops : flow ≡ Break tt
+  pub failure : new.failure ≡ reason
+  pub pending : new.pending.now ≡ old.pending.now
+
+-- The event is held. Or it can't follow those that were held, if it was known whether they are a
+-- whole property list's; or memory for it was refused.
+abbrev pub HoldsOrEnds : (old : Collector) → PlainEvent → Flow → (new : Collector) → Type 0
+HoldsOrEnds old event (Continue more) new =
+    HoldsMore (is_complete new) (collected old) event (collected new)
+HoldsOrEnds old event (Break stop) new = MatchOption new.failure
+    (TestsWhole (is_complete old) (collected old) → CanContinue (collected old) event → ⊥)
+    (λ error. fault_of error ≡ fault_nowhere OutOfMemory)
+
+-- what taking an event does
+pub record TakesEvent (old : Collector) (event : PlainEvent) (flow : Flow) (new : Collector)
+    : Type 0 where
+  pub same : IsSameCollector old new
+  pub holds : HoldsOrEnds old event flow new
+
+-- the answer after a visit that returned this
+abbrev pub AnswersVisit : Result Visited Error → Collector → Result Bool Error → Type 0
+AnswersVisit (Ok Ended) collector answer = answer ≡ Ok (is_complete collector)
+AnswersVisit (Ok Stopped) collector answer =
+    MatchOption collector.failure (answer ≡ Ok false) (λ error. answer ≡ Err error)
+AnswersVisit (Err error) collector answer = answer ≡ Err error

@@ -8,21 +8,18 @@ ghost use Rattle.plist_binwrite.specs.Sending.{Sends};
 ghost use Rattle.plist_reader.specs.Formats.{format_of};
 ghost use Rattle.plist_commands.specs.Converting.{AreNoTree, FindsTree, IfOkIs, IsRefusedFor, IsStoppedFor, LeavesToValue, ForBytesOf, SendsAll, items_of_known};
 ghost use Rattle.plist_commands.specs.Holding.{IsEmpty};
-ghost use Rattle.plist_commands.specs.Printing.{CountsReads};
-ghost use Rattle.plist_commands.specs.ReaderRuns.{ConvertsSource, HoldsBinary, HoldsOther, HoldsRun, ReadsSource};
+ghost use Rattle.plist_commands.specs.ReaderRuns.{ConvertsSource, HoldsBinary, HoldsOther, ReadsSource};
 ghost use Rattle.plist_commands.specs.declared.convert.Streamed.TheVariants.{NeedsValue, Sent};
 
-use crate::event_sink::EventSink;
-use crate::items::Items;
+use crate::collector::Collector;
 use crate::open::open_source;
-use crate::reader_events::ReaderEvents;
 use plist::{Output, Value};
-use plist_base::{Error, Source};
+use plist_base::{Error, EventSource, Source};
 use plist_binread::BinaryReader;
 use plist_binwrite::complete;
 use plist_binwrite::event_buffer::EventBuffer;
 use plist_binwrite::repeated_keys::repeats_key;
-use plist_reader::{Format, format_of};
+use plist_reader::{Format, Reader, format_of};
 use std::alloc::Global;
 use std::io::Write;
 use std::rt::Files;
@@ -34,31 +31,6 @@ pub enum Streamed {
     Sent,
     /// Nothing went out: a key stands twice in a dictionary, or its events are no property list's.
     NeedsValue,
-}
-
-// Holds the events that are still to come, and answers whether they are those of a tree.
-fn hold_events<I: Items, H: EventSink>(
-    alloc: Global,
-    items: &mut I,
-    sink: &mut H,
-) -> Result<bool, Error>
-    requires empty { IsEmpty (H.whole sink.old) (H.held sink.old) }
-    // The answer.
-    ensures held { FindsTree (I.coming items.old) result (H.held sink.new) }
-    ensures none { IfOkIs result false (AreNoTree (I.coming items.old)) }
-    ensures answers { HoldsRun I.goes I.last items.old result items.new (H.held sink.new) }
-    // A refusal.
-    ensures refused { IsRefusedFor (I.coming items.old) result }
-    // The state after it.
-    ensures failures { CountsReads result (I.failures items.old) (I.failures items.new) }
-{
-    while let Some(item) = items.next_item() {
-        item?;
-        if !sink.take(alloc, items.event(), items.scalars_expected())? {
-            return Ok(false);
-        }
-    }
-    Ok(sink.is_whole())
 }
 
 // Holds the events of a binary source.
@@ -77,7 +49,9 @@ fn hold_binary<S: Source>(
     ensures answers { HoldsBinary S.known S.failures source result (buffered_events pending.new) }
 {
     let mut reader = BinaryReader::new(alloc, source);
-    hold_events(alloc, &mut reader, pending)
+    let mut collector = Collector::new(alloc, pending);
+    let visited = reader.visit(&mut collector);
+    collector.answer(visited)
 }
 
 // Holds the events of a source of any format. It stands apart, since what it moves takes much of
@@ -91,8 +65,10 @@ fn hold_any<S: Source>(alloc: Global, source: S, pending: &mut EventBuffer) -> R
     ensures refused { IsRefusedFor (items_of_known (S.known source)) result }
     ensures answers { HoldsOther S.known S.failures source result (buffered_events pending.new) }
 {
-    let mut events = ReaderEvents::new(alloc, source);
-    hold_events(alloc, &mut events, pending)
+    let mut reader = Reader::new(alloc, source);
+    let mut collector = Collector::new(alloc, pending);
+    let visited = reader.visit(&mut collector);
+    collector.answer(visited)
 }
 
 // Holds the events of a source, and answers whether they are those of a tree. The source isn't
