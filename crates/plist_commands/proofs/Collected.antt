@@ -17,7 +17,7 @@ use Rattle.plist_binwrite.specs.EventBuffers.{TestsWhole}
 use Rattle.plist.specs.ValueOfItems.{IsReadIfKnown}
 use Rattle.plist_commands.specs.Converting.{AreNoTree, FindsTree, IfOkIs, IsRefusedFor}
 use Rattle.plist_commands.specs.declared.collector.Collector.{Collector}
-use Rattle.plist_commands.specs.Holding.{AnswersVisit, IsEmpty, IsSameCollector, TakesEvent, collected, is_complete}
+use Rattle.plist_commands.specs.Holding.{AnswersVisit, IsEmpty, TakesEvent, collected, is_complete}
 use Rattle.plist_commands.specs.Items.{ComesIfKnown}
 use Rattle.plist_commands.specs.Printing.{CountsReads}
 use Rattle.plist_commands.specs.ReaderRuns.{HoldsRun}
@@ -53,14 +53,13 @@ module _ {I : Type 0} (gives : I → PlainItem → I → Type 0) (coming : I →
     pub ran : HasHeld gives old.0 now.0 (collected now.1)
     pub so_far : HasTaken (coming old.0) (coming now.0) (collected now.1)
     pub tested : TestsWhole (is_complete now.1) (collected now.1)
-    pub same : IsSameCollector old.1 now.1
     pub counted : failures now.0 ≡ failures old.0
     pub open_still : is_open now.0
 
   held_next : (old now new : I × Collector) (event : PlainEvent) → Held old now
       → HandsOver gives TakesEvent now event (Continue tt) new → Held old new
   held_next old now new event held one =
-      let (can, grown, tests) = one.taken.holds in
+      let (can, grown, tests) = one.taken in
       let (same, still) = counts now.0 (Some (Ok event)) new.0 held.open_still one.given in
       record {
         ran = held_more gives old.0 now.0 new.0 event (collected now.1) (collected new.1) held.ran
@@ -71,7 +70,6 @@ module _ {I : Type 0} (gives : I → PlainItem → I → Type 0) (coming : I →
             (λ all (left, next, took, to, is).
             (next, to, took_event all left _ took next event _ is can grown));
         tested = tells_next (is_complete new.1) (collected now.1) (collected new.1) event grown tests;
-        same = one.taken.same ∙ held.same;
         counted = same ∙ held.counted;
         open_still = still;
       }
@@ -82,7 +80,6 @@ module _ {I : Type 0} (gives : I → PlainItem → I → Type 0) (coming : I →
     ran = held_none gives old.0 (collected old.1) empty.0;
     so_far = taken_none (coming old.0) (coming old.0) (collected old.1) refl empty.0;
     tested = tells_none (is_complete old.1) (collected old.1) empty.1 empty.0;
-    same = refl;
     counted = refl;
     open_still = open_first;
   }
@@ -159,23 +156,17 @@ module _ {I : Type 0} (gives : I → PlainItem → I → Type 0) (coming : I →
   pub concludes : (old new : I × Collector) (visited : Result Visited Error)
       (answer : Result Bool Error) → is_open old.0
       → IsEmpty (is_complete old.1) (collected old.1) → Visits gives TakesEvent old visited new
-      → AnswersVisit visited new.1 answer
-      → Concludes gives coming failures old.0 answer new × IsSameCollector old.1 new.1
+      → AnswersVisit visited new.1 answer → Concludes gives coming failures old.0 answer new
   concludes old new (Ok Ended) answer open_first empty visit is =
       let held = kept_all gives TakesEvent (Held old) (held_next old) old visit.left visit.events
       (held_first old open_first empty) visit.handed in
-      rw (is, visit.ended.1) (ends_there old visit.left new.0 held visit.ended.0, held.same)
+      rw (is, visit.ended.1) (ends_there old visit.left new.0 held visit.ended.0)
   concludes old new (Ok Stopped) answer open_first empty visit is =
       let held = kept_all gives TakesEvent (Held old) (held_next old) old visit.left visit.events
       (held_first old open_first empty) visit.handed in
-      let (event, one) = visit.ended in (
-        stops_there old visit.left new event new.1.failure answer held one.given one.taken.holds is,
-        one.taken.same ∙ held.same,
-      )
+      let (event, one) = visit.ended in
+      stops_there old visit.left new event new.1.failure answer held one.given one.taken is
   concludes old new (Err error) answer open_first empty visit is =
       let held = kept_all gives TakesEvent (Held old) (held_next old) old visit.left visit.events
       (held_first old open_first empty) visit.handed in
-      rw is (
-        fails_there old visit.left new error held visit.ended.0,
-        rw visit.ended.1 held.same,
-      )
+      rw is (fails_there old visit.left new error held visit.ended.0)

@@ -25,37 +25,26 @@ IsEmpty whole held = (held ≡ []) × (whole ≡ false)
 
 -- the events that a collector has taken, and whether they are a whole property list's
 abbrev pub collected : Collector → List PlainEvent
-collected collector = buffered_events collector.pending.now
+collected collector = buffered_events collector.pending
 
 abbrev pub is_complete : Collector → Bool
-is_complete collector = is_whole collector.pending.now
-
--- the collector has the same buffer
-abbrev pub IsSameCollector : (old new : Collector) → Type 0
-IsSameCollector old new = new.pending.ghost_name ≡ old.pending.ghost_name
+is_complete collector = is_whole collector.pending
 
 -- the collector wants no more events, for this reason
 pub record EndsAtEvent (old : Collector) (reason : Option Error) (flow : Flow) (new : Collector)
     : Type 0 where
-  pub same : IsSameCollector old new
   pub stops : flow ≡ Break tt
   pub failure : new.failure ≡ reason
-  pub pending : new.pending.now ≡ old.pending.now
+  pub pending : new.pending ≡ old.pending
 
--- The event is held. Or it can't follow those that were held, if it was known whether they are a
--- whole property list's; or memory for it was refused.
-abbrev pub HoldsOrEnds : (old : Collector) → PlainEvent → Flow → (new : Collector) → Type 0
-HoldsOrEnds old event (Continue more) new =
+-- What taking an event does: it is held. Or it can't follow those that were held, if it was known
+-- whether they are a whole property list's; or memory for it was refused.
+abbrev pub TakesEvent : (old : Collector) → PlainEvent → Flow → (new : Collector) → Type 0
+TakesEvent old event (Continue more) new =
     HoldsMore (is_complete new) (collected old) event (collected new)
-HoldsOrEnds old event (Break stop) new = MatchOption new.failure
+TakesEvent old event (Break stop) new = MatchOption new.failure
     (TestsWhole (is_complete old) (collected old) → CanContinue (collected old) event → ⊥)
     (λ error. fault_of error ≡ fault_nowhere OutOfMemory)
-
--- what taking an event does
-pub record TakesEvent (old : Collector) (event : PlainEvent) (flow : Flow) (new : Collector)
-    : Type 0 where
-  pub same : IsSameCollector old new
-  pub holds : HoldsOrEnds old event flow new
 
 -- the answer after a visit that returned this
 abbrev pub AnswersVisit : Result Visited Error → Collector → Result Bool Error → Type 0

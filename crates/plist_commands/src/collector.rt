@@ -30,24 +30,26 @@ fn take(alloc: Global, pending: &mut EventBuffer, event: Event<'_>) -> Result<bo
 
 /// Buffers the events that it takes, as long as they can be those of one property list.
 #[derive(Drop)]
-pub(crate) struct Collector<'c> {
+pub(crate) struct Collector {
     alloc: Global,
-    pending: &'c mut EventBuffer,
+    /// The events.
+    pub(crate) pending: EventBuffer,
     // Why the collector wants no more events: memory was refused, or the event can't come there.
     failure: Option<Error>,
 }
 
-impl<'c> Collector<'c> {
-    ghost use Rattle.plist_commands.specs.Holding.{AnswersVisit, EndsAtEvent, IsSameCollector};
+impl Collector {
+    ghost use Rattle.std.specs.Prelude.{[]};
+    ghost use Rattle.plist_commands.specs.Holding.{AnswersVisit, EndsAtEvent, collected, is_complete};
 
-    /// Creates a collector, which has taken the events in the buffer.
-    pub(crate) fn new(alloc: Global, pending: &'c mut EventBuffer) -> Collector<'c>
-        ensures buffer { result.pending.ghost_name ≡ pending.entry.ghost_name }
-        ensures pending { result.pending.now ≡ pending.old }
+    /// Creates a collector that has taken no event.
+    pub(crate) fn new(alloc: Global) -> Collector
+        ensures events { collected result ≡ [] }
+        ensures whole { is_complete result ≡ false }
     {
         Collector {
             alloc,
-            pending,
+            pending: EventBuffer::new(alloc),
             failure: None,
         }
     }
@@ -68,8 +70,7 @@ impl<'c> Collector<'c> {
     /// The error that came in the place of an event, or `OutOfMemory`.
     pub(crate) fn answer(&mut self, visited: Result<Visited, Error>) -> Result<bool, Error>
         ensures answer { AnswersVisit visited self.old result }
-        ensures same { IsSameCollector self.old self.new }
-        ensures held { self.new.pending.now ≡ self.old.pending.now }
+        ensures held { self.new.pending ≡ self.old.pending }
     {
         match visited {
             Ok(Visited::Ended) => Ok(self.pending.is_whole()),
@@ -82,14 +83,14 @@ impl<'c> Collector<'c> {
     }
 }
 
-impl<'c> EventVisitor for Collector<'c> {
+impl EventVisitor for Collector {
     ghost use Rattle.plist_commands.specs.Holding.{TakesEvent};
 
     ghost step = { TakesEvent };
 
     #[inline(always)]
     fn event(&mut self, event: Event<'_>) -> ControlFlow<()> {
-        match take(self.alloc, self.pending, event) {
+        match take(self.alloc, &mut self.pending, event) {
             Ok(true) => ControlFlow::Continue(()),
             Ok(false) => self.stop(None),
             Err(error) => self.stop(Some(error)),

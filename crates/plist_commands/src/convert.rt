@@ -3,11 +3,11 @@
 ghost use Rattle.std.specs.Prelude.{◌≡◌, false, IfErr, IfSome, None};
 ghost use Rattle.plist_base.specs.Bracketing.{AreTreeEvents};
 ghost use Rattle.plist_base.specs.Faults.{offset_of};
-ghost use Rattle.plist_binwrite.specs.EventBuffers.{buffered_events, is_whole};
+ghost use Rattle.plist_binwrite.specs.EventBuffers.{buffered_events};
 ghost use Rattle.plist_binwrite.specs.Sending.{Sends};
 ghost use Rattle.plist_reader.specs.Formats.{format_of};
 ghost use Rattle.plist_commands.specs.Converting.{AreNoTree, FindsTree, IfOkIs, IsRefusedFor, IsStoppedFor, LeavesToValue, ForBytesOf, SendsAll, items_of_known};
-ghost use Rattle.plist_commands.specs.Holding.{IsEmpty};
+ghost use Rattle.plist_commands.specs.Holding.{IsEmpty, collected, is_complete};
 ghost use Rattle.plist_commands.specs.ReaderRuns.{ConvertsSource, HoldsBinary, HoldsOther, ReadsSource};
 ghost use Rattle.plist_commands.specs.declared.convert.Streamed.TheVariants.{NeedsValue, Sent};
 
@@ -38,36 +38,34 @@ pub enum Streamed {
 fn hold_binary<S: Source>(
     alloc: Global,
     source: S,
-    pending: &mut EventBuffer,
+    collector: &mut Collector,
 ) -> Result<bool, Error>
-    requires empty { IsEmpty (is_whole pending.old) (buffered_events pending.old) }
+    requires empty { IsEmpty (is_complete collector.old) (collected collector.old) }
     requires binary { IfSome (S.known source) (λ bytes. Format.Binary ≡ format_of bytes) }
     ensures held { FindsTree (items_of_known (S.known source)) result
-        (buffered_events pending.new) }
+        (collected collector.new) }
     ensures none { IfOkIs result false (AreNoTree (items_of_known (S.known source))) }
     ensures refused { IsRefusedFor (items_of_known (S.known source)) result }
-    ensures answers { HoldsBinary S.known S.failures source result (buffered_events pending.new) }
+    ensures answers { HoldsBinary S.known S.failures source result (collected collector.new) }
 {
     let mut reader = BinaryReader::new(alloc, source);
-    let mut collector = Collector::new(alloc, pending);
-    let visited = reader.visit(&mut collector);
+    let visited = reader.visit(collector);
     collector.answer(visited)
 }
 
 // Holds the events of a source of any format. It stands apart, since what it moves takes much of
 // the call stack.
 #[inline(never)]
-fn hold_any<S: Source>(alloc: Global, source: S, pending: &mut EventBuffer) -> Result<bool, Error>
-    requires empty { IsEmpty (is_whole pending.old) (buffered_events pending.old) }
+fn hold_any<S: Source>(alloc: Global, source: S, collector: &mut Collector) -> Result<bool, Error>
+    requires empty { IsEmpty (is_complete collector.old) (collected collector.old) }
     ensures held { FindsTree (items_of_known (S.known source)) result
-        (buffered_events pending.new) }
+        (collected collector.new) }
     ensures none { IfOkIs result false (AreNoTree (items_of_known (S.known source))) }
     ensures refused { IsRefusedFor (items_of_known (S.known source)) result }
-    ensures answers { HoldsOther S.known S.failures source result (buffered_events pending.new) }
+    ensures answers { HoldsOther S.known S.failures source result (collected collector.new) }
 {
     let mut reader = Reader::new(alloc, source);
-    let mut collector = Collector::new(alloc, pending);
-    let visited = reader.visit(&mut collector);
+    let visited = reader.visit(collector);
     collector.answer(visited)
 }
 
@@ -76,19 +74,19 @@ fn hold_any<S: Source>(alloc: Global, source: S, pending: &mut EventBuffer) -> R
 fn hold_source<S: Source>(
     alloc: Global,
     source: S,
-    pending: &mut EventBuffer,
+    collector: &mut Collector,
 ) -> Result<bool, Error>
-    requires empty { IsEmpty (is_whole pending.old) (buffered_events pending.old) }
+    requires empty { IsEmpty (is_complete collector.old) (collected collector.old) }
     ensures held { FindsTree (items_of_known (S.known source)) result
-        (buffered_events pending.new) }
+        (collected collector.new) }
     ensures none { IfOkIs result false (AreNoTree (items_of_known (S.known source))) }
     ensures refused { IsRefusedFor (items_of_known (S.known source)) result }
-    ensures answers { ReadsSource S.known S.failures source result (buffered_events pending.new) }
+    ensures answers { ReadsSource S.known S.failures source result (collected collector.new) }
 {
     let mut source = source;
     match format_of(&mut source)? {
-        Format::Binary => hold_binary(alloc, source, pending),
-        Format::Xml(_) | Format::Ascii => hold_any(alloc, source, pending),
+        Format::Binary => hold_binary(alloc, source, collector),
+        Format::Xml(_) | Format::Ascii => hold_any(alloc, source, collector),
     }
 }
 
@@ -135,11 +133,11 @@ pub fn convert_binary<S: Source, W: Write>(
         (λ held. Sends W.contents held (Ok tt) writer.old writer.new) }
     ensures refused { IsStoppedFor W.contents (S.known source) result writer.old writer.new }
 {
-    let mut pending = EventBuffer::new(alloc);
-    if !hold_source(alloc, source, &mut pending)? {
+    let mut collector = Collector::new(alloc);
+    if !hold_source(alloc, source, &mut collector)? {
         return Ok(Streamed::NeedsValue);
     }
-    send_events(alloc, &pending, writer)
+    send_events(alloc, &collector.pending, writer)
 }
 
 // Sends a source to the file of this name as `convert_binary` does, and has the system store what

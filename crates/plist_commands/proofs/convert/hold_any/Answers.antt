@@ -1,0 +1,54 @@
+use Rattle.std.proofs.Common.{ap, false, subst}
+use Rattle.std.specs.Prelude.{◌≡◌, is_some, true}
+use Rattle.plist_reader.specs.Reader.{reader_items, reader_source}
+use Rattle.plist_commands.specs.Converting.{AreNoTree, FindsTree, IfOkIs, IsRefusedFor}
+use Rattle.plist_commands.specs.Items.{failures_in}
+use Rattle.plist_commands.specs.Holding.{collected}
+use Rattle.plist_commands.specs.ReaderRuns.{StepsReader}
+use Rattle.plist_commands.proofs.Collected.{Concludes, concludes}
+use Rattle.plist_commands.proofs.Coming.{reader_comes, reader_counts}
+use Rattle.plist_commands.proofs.convert.hold_any.Goals as goal
+use Rattle.plist_commands.proofs.convert.hold_any.Goals.{After-answer}
+
+-- what is known after the visit
+known : (g : _) (c : After-answer g) → Concludes (StepsReader g.S.Source.known g.S.Source.failures)
+    (reader_items g.S.Source.known) (failures_in g.S.Source.failures)
+    c.new-reader.result c.answer.result (c.visit-visited.new.self, c.visit-visited.new.visitor)
+known g c =
+    concludes (StepsReader g.S.Source.known g.S.Source.failures) (reader_items g.S.Source.known)
+    (reader_comes g.S.Source.known g.S.Source.failures) (failures_in g.S.Source.failures)
+    (λ reader. is_some (reader_source reader) ≡ true)
+    (reader_counts g.S.Source.known g.S.Source.failures) (c.new-reader.result, c.args.collector.now)
+    (c.visit-visited.new.self, c.visit-visited.new.visitor) c.visit-visited.result c.answer.result
+    (ap is_some c.new-reader.ensures.source) c.requires.empty
+    c.visit-visited.ensures c.answer.ensures.answer
+
+pub returns-clause-held : goal.returns-clause-held
+returns-clause-held g c =
+    let t = (goal.at.returns-clause-held g c).After-answer in
+    rw c.answer.ensures.held
+    (subst (λ items. FindsTree items c.answer.result (collected c.visit-visited.new.visitor))
+    c.new-reader.ensures.items (known g t).held)
+
+pub returns-clause-none : goal.returns-clause-none
+returns-clause-none g c =
+    let t = (goal.at.returns-clause-none g c).After-answer in
+    subst (λ items. IfOkIs c.answer.result false (AreNoTree items)) c.new-reader.ensures.items
+    (known g t).none
+
+pub returns-clause-refused : goal.returns-clause-refused
+returns-clause-refused g c =
+    let t = (goal.at.returns-clause-refused g c).After-answer in
+    subst (λ items. IsRefusedFor items c.answer.result) c.new-reader.ensures.items
+    (known g t).refused
+
+pub returns-clause-answers : goal.returns-clause-answers
+returns-clause-answers g c =
+    let k = known g (goal.at.returns-clause-answers g c).After-answer in
+    rw c.answer.ensures.held (
+      c.new-reader.result,
+      c.visit-visited.new.self,
+      c.new-reader.ensures.new,
+      k.ran,
+      k.counted,
+    )
