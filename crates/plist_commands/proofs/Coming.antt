@@ -71,6 +71,9 @@ reader_comes known failed old item new (given, gives, is) =
     rw is (plain_comes (reader_items known old) (reader_items known new) given gives.items)
 
 -- its source is held
+abbrev pub IsOpen : {S : Type 0} {g : Ghosts S} → Reader S g → Type 0
+IsOpen reader = is_some (reader_source reader) ≡ true
+
 source_counts : {S : Type 0} (failures : S → ℕ) (old new : Option S)
     (given : Option (Result Event Error)) → is_some old ≡ true → HoldsSource failures old given new
     → ItemCountsIo (plain_item given) (failures_if_held failures old)
@@ -82,10 +85,9 @@ source_counts failures (Some source) (Some kept) (Some (Ok event)) some h = (h, 
 source_counts failures (Some source) (Some kept) (Some (Err error)) some h = (h, refl)
 
 pub reader_counts : {S : Type 0} {g : Ghosts S} (known : S → Option (List ℕ)) (failed : S → ℕ)
-    (old : Reader S g) (item : PlainItem) (new : Reader S g) → is_some (reader_source old) ≡ true
+    (old : Reader S g) (item : PlainItem) (new : Reader S g) → IsOpen old
     → StepsReader known failed old item new
-    → ItemCountsIo item (failures_in failed old) (failures_in failed new)
-    × (is_some (reader_source new) ≡ true)
+    → ItemCountsIo item (failures_in failed old) (failures_in failed new) × IsOpen new
 reader_counts known failed old item new some (given, gives, is) =
     rw is (source_counts failed (reader_source old) (reader_source new) given some gives.failures)
 
@@ -121,7 +123,7 @@ pub value_error : (old new : Events) (answer : Result (Unit {0}) Error)
 value_error old new (Ok done) before after run = tt
 value_error old new (Err error) before after
     (events, left, through, inl ((given, gives, is), sent)) =
-        memory_own error (events_error given error left new is gives)
+    memory_own error (events_error given error left new is gives)
 value_error old new (Err error) before after (events, left, through, inr (inl (io, asked), front)) =
     device_own error io
 value_error old new (Err error) before after
@@ -247,10 +249,10 @@ module _ {I K : Type 0} (gives : I → PlainItem → I → Type 0) (known : I �
         keeps left (Some (Err error)) new last ∙ all_kept old left events through
     run_unchanged old new (Err error) before after
         (events, left, through, inr (inl (io, asked), front)) =
-            once_kept left new asked ∙ all_kept old left events through
+        once_kept left new asked ∙ all_kept old left events through
     run_unchanged old new (Err error) before after
         (events, left, through, inr (inr (memory, same), front)) =
-            ap known same ∙ all_kept old left events through
+        ap known same ∙ all_kept old left events through
 
 -- ---- how many reads failed
 
@@ -288,8 +290,8 @@ module _ {I : Type 0} (gives : I → PlainItem → I → Type 0) (failures : I �
       (inl (refl, tt))
   run_counted old new (Err error) before after
       (events, left, through, inr (inl (io, asked), front)) =
-          once_counted error (failures old) left new io (all_counted old left events through) asked
+      once_counted error (failures old) left new io (all_counted old left events through) asked
   run_counted old new (Err error) before after
       (events, left, through, inr (inr (memory, same), front)) =
-          own_counts error (failures old) (failures new) (memory_own error memory)
-          (ap failures same ∙ all_counted old left events through)
+      own_counts error (failures old) (failures new) (memory_own error memory)
+      (ap failures same ∙ all_counted old left events through)

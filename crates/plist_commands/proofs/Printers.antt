@@ -68,9 +68,10 @@ module _ {I W : Type 0} (gives : I → PlainItem → I → Type 0) (contents : W
             one.taken.follows,
         same_again old.1 now.1 next.1 same one.taken.same,
       ))
-      old new events
-      (run_none gives old.0 (printed contents old.1) (pending_lines old.1) none,
-      record { writer = refl; lines = refl })
+      old new events (
+        run_none gives old.0 (printed contents old.1) (pending_lines old.1) none,
+        record { writer = refl; lines = refl },
+      )
       handed
 
   -- then nothing came

@@ -204,29 +204,6 @@ module _ {I : Type 0} (gives : I → PlainItem → I → Type 0) where
       run_kept old new before now after other
       (subst (λ e. PrintsRun gives old (Err e) new before now) (sym same) ran) kept
 
-  -- a flush after all went out
-  pub run_flushed : (old new : I) (before now after : Option (List ℕ))
-      (answer : Result (Unit {0}) Error) → PrintsRun gives old (Ok tt) new before now
-      → Keeps now after → IfErr answer (λ error. fault_of error ≡ fault_nowhere Io)
-      → PrintsRun gives old answer new before after
-  run_flushed old new before now after (Ok done) (events, left, through, (step, sent)) kept own =
-      (events, left, through, (step, appends_kept before now after _ sent kept))
-  run_flushed old new before now after (Err error) (events, left, through, (step, sent)) kept own =
-      (
-        events,
-        left,
-        through,
-        inr (
-          inl (own, inr (None, step)),
-          (
-            lines_of_events events,
-            [],
-            appends_kept before now after _ sent kept,
-            sym (append-nil (lines_of_events events)),
-          ),
-        ),
-      )
-
 -- ---- events that are held
 
 -- this many events came, which are held

@@ -1,5 +1,5 @@
 -- What a collector does that takes an event.
-use Rattle.std.specs.Prelude.{◌≡◌, Bool, false, List, [], ◌∷◌, ◌++◌, Option, Result, Ok, Err, MatchOption}
+use Rattle.std.specs.Prelude.{◌≡◌, Bool, true, false, List, [], ◌∷◌, ◌++◌, Result, Ok, Err}
 use Rattle.std.specs.declared.ops.ControlFlow.TheVariants.{Continue, Break}
 use Rattle.plist_base.specs.Bracketing.{CanContinue, without_length}
 use Rattle.plist_base.specs.declared.error.Error.{Error}
@@ -10,6 +10,8 @@ use Rattle.plist_base.specs.Faults.{OutOfMemory, fault_nowhere, fault_of}
 use Rattle.plist_base.specs.Visits.{Flow}
 use Rattle.plist_binwrite.specs.EventBuffers.{TestsWhole, buffered_events, is_whole}
 use Rattle.plist_commands.specs.declared.collector.Collector.{Collector}
+use Rattle.plist_commands.specs.declared.collector.StopReason.{StopReason}
+use Rattle.plist_commands.specs.declared.collector.StopReason.TheVariants.{Failed, Misplaced, Paused}
 
 -- the event can follow those that were held, it is held after them without its length, and it is
 -- known whether all of them are a whole property list's
@@ -31,24 +33,43 @@ abbrev pub is_complete : Collector → Bool
 is_complete collector = is_whole collector.pending
 
 -- the collector wants no more events, for this reason
-pub record EndsAtEvent (old : Collector) (reason : Option Error) (flow : Flow) (new : Collector)
-    : Type 0 where
-  pub stops : flow ≡ Break tt
-  pub failure : new.failure ≡ reason
-  pub pending : new.pending ≡ old.pending
+pub record EndsAtEvent (old : Collector) (stop : StopReason) (flow : Flow) (new : Collector) : Type 0
+  where
+    pub stops : flow ≡ Break tt
+    pub keeps : new.stop ≡ stop
+    pub pending : new.pending ≡ old.pending
 
--- What taking an event does: it is held. Or it can't follow those that were held, if it was known
--- whether they are a whole property list's; or memory for it was refused.
-abbrev pub TakesEvent : (old : Collector) → PlainEvent → Flow → (new : Collector) → Type 0
-TakesEvent old event (Continue more) new =
-    HoldsMore (is_complete new) (collected old) event (collected new)
-TakesEvent old event (Break stop) new = MatchOption new.failure
+-- the collector wants more events, or pauses
+abbrev pub MayPause : (old : Collector) → Flow → (new : Collector) → Type 0
+MayPause old (Continue more) new = new ≡ old
+MayPause old (Break stop) new =
+    (old.pauses ≡ true) × (new.stop ≡ Paused) × (new.pending ≡ old.pending)
+
+-- a fact for each reason for which a collector wants no more events
+abbrev pub MatchStop : StopReason → (paused misplaced : Type 0) → (failed : Error → Type 0) → Type 0
+MatchStop Paused paused misplaced failed = paused
+MatchStop Misplaced paused misplaced failed = misplaced
+MatchStop (Failed error) paused misplaced failed = failed error
+
+-- What taking an event does: it is held, and the collector may pause. Or it can't follow those that
+-- were held, if it was known whether they are a whole property list's; or memory was refused.
+abbrev pub CollectsEvent : (old : Collector) → PlainEvent → Flow → (new : Collector) → Type 0
+CollectsEvent old event (Continue more) new =
+    (new.pauses ≡ old.pauses) × HoldsMore (is_complete new) (collected old) event (collected new)
+CollectsEvent old event (Break stop) new = MatchStop new.stop
+    ((old.pauses ≡ true) × HoldsMore (is_complete new) (collected old) event (collected new))
     (TestsWhole (is_complete old) (collected old) → CanContinue (collected old) event → ⊥)
     (λ error. fault_of error ≡ fault_nowhere OutOfMemory)
+
+-- a test: did the collector pause at a visit that returned this?
+abbrev pub HasPaused : Bool → Collector → Result Visited Error → Type 0
+HasPaused answer collector (Ok Stopped) =
+    MatchStop collector.stop (answer ≡ true) (answer ≡ false) (λ error. answer ≡ false)
+HasPaused answer collector visited = answer ≡ false
 
 -- the answer after a visit that returned this
 abbrev pub AnswersVisit : Result Visited Error → Collector → Result Bool Error → Type 0
 AnswersVisit (Ok Ended) collector answer = answer ≡ Ok (is_complete collector)
 AnswersVisit (Ok Stopped) collector answer =
-    MatchOption collector.failure (answer ≡ Ok false) (λ error. answer ≡ Err error)
+    MatchStop collector.stop (answer ≡ Ok false) (answer ≡ Ok false) (λ error. answer ≡ Err error)
 AnswersVisit (Err error) collector answer = answer ≡ Err error

@@ -33,10 +33,10 @@ module _ {W : Type 0} (contents : W → Option (List ℕ)) where
 
   -- The bytes follow the lines that were pending: a beginning of both is written, and the rest is
   -- pending. Or the printer wants no more events, a beginning of both is written, and it keeps why.
-  abbrev pub Follows : (old : Printer W) → (bytes : List ℕ) → Flow → (new : Printer W) → Type 0
-  Follows old bytes (Continue more) new =
+  abbrev pub FollowsLines : (old : Printer W) → (bytes : List ℕ) → Flow → (new : Printer W) → Type 0
+  FollowsLines old bytes (Continue more) new =
       PassesOn (printed old) (printed new) (pending_lines old ++ bytes) (pending_lines new)
-  Follows old bytes (Break stop) new =
+  FollowsLines old bytes (Break stop) new =
       IsWriterError new.failure
       × AppendsPrefix (printed old) (printed new) (pending_lines old ++ bytes)
 
@@ -44,4 +44,4 @@ module _ {W : Type 0} (contents : W → Option (List ℕ)) where
   pub record PrintsLine (old : Printer W) (event : PlainEvent) (flow : Flow) (new : Printer W)
       : Type 0 where
     pub same : IsSamePrinter old new
-    pub follows : Follows old (line_of event) flow new
+    pub follows : FollowsLines old (line_of event) flow new

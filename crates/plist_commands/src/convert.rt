@@ -33,7 +33,8 @@ pub enum Streamed {
     NeedsValue,
 }
 
-// Holds the events of a binary source.
+// Holds the events of a binary source. Once the first one has come, the reader knows how many
+// objects the file has, and so how many different scalars can come.
 #[inline(never)]
 fn hold_binary<S: Source>(
     alloc: Global,
@@ -49,8 +50,14 @@ fn hold_binary<S: Source>(
     ensures answers { HoldsBinary S.known S.failures source result (collected collector.new) }
 {
     let mut reader = BinaryReader::new(alloc, source);
-    let visited = reader.visit(collector);
-    collector.answer(visited)
+    collector.pauses = true;
+    let first = reader.visit(collector);
+    if !collector.has_paused(&first) {
+        return collector.answer(first);
+    }
+    collector.expect_scalars(reader.objects_in_file());
+    let others = reader.visit(collector);
+    collector.answer(others)
 }
 
 // Holds the events of a source of any format. It stands apart, since what it moves takes much of
@@ -65,6 +72,7 @@ fn hold_any<S: Source>(alloc: Global, source: S, collector: &mut Collector) -> R
     ensures answers { HoldsOther S.known S.failures source result (collected collector.new) }
 {
     let mut reader = Reader::new(alloc, source);
+    collector.pauses = false;
     let visited = reader.visit(collector);
     collector.answer(visited)
 }

@@ -297,10 +297,7 @@ impl<'p, W: Write> Printer<'p, W> {
         ensures same { IsSamePrinter self.old self.new }
         ensures writer { self.new.writer.now ≡ self.old.writer.now }
     {
-        mem::replace(
-            &mut self.failure,
-            ErrorKind::OutOfMemory.without_position(),
-        )
+        mem::replace(&mut self.failure, ErrorKind::OutOfMemory.without_position())
     }
 
     // Prints the events that remain of a source, and sends the lines that are pending.

@@ -1,12 +1,12 @@
-use Rattle.std.proofs.Common.{ap, false, subst}
-use Rattle.std.specs.Prelude.{◌≡◌, is_some, true}
-use Rattle.plist_reader.specs.Reader.{reader_items, reader_source}
+use Rattle.std.proofs.Common.{ap, false, inl, refl, subst}
+use Rattle.std.specs.Prelude.{is_some}
+use Rattle.plist_reader.specs.Reader.{reader_items}
 use Rattle.plist_commands.specs.Converting.{AreNoTree, FindsTree, IfOkIs, IsRefusedFor}
 use Rattle.plist_commands.specs.Items.{failures_in}
 use Rattle.plist_commands.specs.Holding.{collected}
 use Rattle.plist_commands.specs.ReaderRuns.{StepsReader}
-use Rattle.plist_commands.proofs.Collected.{Concludes, concludes}
-use Rattle.plist_commands.proofs.Coming.{reader_comes, reader_counts}
+use Rattle.plist_commands.proofs.Collected.{Concludes, concludes, held_first}
+use Rattle.plist_commands.proofs.Coming.{IsOpen, reader_comes, reader_counts}
 use Rattle.plist_commands.proofs.convert.hold_any.Goals as goal
 use Rattle.plist_commands.proofs.convert.hold_any.Goals.{After-answer}
 
@@ -15,13 +15,18 @@ known : (g : _) (c : After-answer g) → Concludes (StepsReader g.S.Source.known
     (reader_items g.S.Source.known) (failures_in g.S.Source.failures)
     c.new-reader.result c.answer.result (c.visit-visited.new.self, c.visit-visited.new.visitor)
 known g c =
-    concludes (StepsReader g.S.Source.known g.S.Source.failures) (reader_items g.S.Source.known)
-    (reader_comes g.S.Source.known g.S.Source.failures) (failures_in g.S.Source.failures)
-    (λ reader. is_some (reader_source reader) ≡ true)
-    (reader_counts g.S.Source.known g.S.Source.failures) (c.new-reader.result, c.args.collector.now)
-    (c.visit-visited.new.self, c.visit-visited.new.visitor) c.visit-visited.result c.answer.result
-    (ap is_some c.new-reader.ensures.source) c.requires.empty
-    c.visit-visited.ensures c.answer.ensures.answer
+    let gives = StepsReader g.S.Source.known g.S.Source.failures in
+    let coming = reader_items g.S.Source.known in
+    let comes = reader_comes g.S.Source.known g.S.Source.failures in
+    let failures = failures_in g.S.Source.failures in
+    let counts = reader_counts g.S.Source.known g.S.Source.failures in
+    let old = record c.args.collector.now { pauses = false } in
+    concludes gives coming comes failures IsOpen counts c.new-reader.result
+    (c.new-reader.result, old) (c.visit-visited.new.self, c.visit-visited.new.visitor)
+    c.visit-visited.result c.answer.result
+    (held_first gives coming comes failures IsOpen counts (c.new-reader.result, old)
+    (ap is_some c.new-reader.ensures.source) c.requires.empty) c.visit-visited.ensures (inl refl)
+    c.answer.ensures.answer
 
 pub returns-clause-held : goal.returns-clause-held
 returns-clause-held g c =
