@@ -5,7 +5,8 @@ use Rattle.std.specs.declared.ops.ControlFlow.TheVariants.{Continue, Break}
 use Rattle.plist_base.specs.declared.error.Error.{Error}
 use Rattle.plist_base.specs.declared.visitor.Visited.{Visited}
 use Rattle.plist_base.specs.declared.visitor.Visited.TheVariants.{Ended, Stopped}
-use Rattle.plist_base.specs.Events.{PlainEvent}
+use Rattle.plist_base.specs.declared.event.Event.{Event}
+use Rattle.plist_base.specs.Events.{PlainEvent, event_of}
 
 -- whether a visitor wants the next event
 abbrev pub Flow : Type 0
@@ -20,6 +21,25 @@ abbrev pub last_turn : Result Visited Error → Option (Result Flow Error)
 last_turn (Ok Ended) = None
 last_turn (Ok Stopped) = Some (Ok (Break tt))
 last_turn (Err error) = Some (Err error)
+
+-- what contracts see of an iterator's item
+abbrev pub plain_item : Option (Result Event Error) → PlainItem
+plain_item None = None
+plain_item (Some (Ok event)) = Some (Ok (event_of event))
+plain_item (Some (Err error)) = Some (Err error)
+
+-- what a call of an iterator's `next` hands over
+abbrev pub GivesPlain : {I : Type 0} → (next_gives : I → Option (Result Event Error) → I → Type 0)
+    → I → PlainItem → I → Type 0
+GivesPlain next_gives old item new =
+    (given : Option (Result Event Error)) × next_gives old given new × (item ≡ plain_item given)
+
+-- a source gives these events one by one
+abbrev pub GivesAll : {I : Type 0} → (gives : I → PlainItem → I → Type 0) → (old : I)
+    → List PlainEvent → (new : I) → Type 0
+GivesAll gives old [] new = new ≡ old
+GivesAll {I} gives old (event ∷ events) new =
+    (next : I) × gives old (Some (Ok event)) next × GivesAll gives next events new
 
 module _ {I V : Type 0} (gives : I → PlainItem → I → Type 0)
     (step : V → PlainEvent → Flow → V → Type 0) where

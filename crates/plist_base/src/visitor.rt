@@ -1,6 +1,9 @@
 //! Visitors, which take the events of a property list one by one.
 
-use crate::{Date, Error, Event, Integer, RealBits, Uid};
+ghost use Rattle.std.specs.Iterator.{IsFinite};
+ghost use Rattle.plist_base.specs.Visits.{GivesPlain, Visits};
+
+use crate::{Date, Error, Event, Integer, OwnedEvent, RealBits, Uid};
 use std::borrow::{CowSlice, CowStr};
 use std::ops::ControlFlow;
 
@@ -119,11 +122,37 @@ pub trait EventSource {
     /// What it does to hand over one item: an event, an error, or nothing.
     ghost gives: { Self → PlainItem → Self → Type 0 };
 
-    /// Hands the events that are still to come to a visitor, one by one, until none is left, an
-    /// error comes in the place of one, or the visitor wants no more.
+    /// Hands the events that remain to a visitor, one by one, until none is left, an error comes in
+    /// the place of one, or the visitor wants no more.
     ///
     /// # Errors
     /// The error that comes in the place of an event.
     fn visit<V: EventVisitor>(&mut self, visitor: &mut V) -> Result<Visited, Error>
         ensures { Visits gives V.step (self.old, visitor.old) result (self.new, visitor.new) };
+}
+
+/// Hands the owned events of an iterator to a visitor, as [`EventSource::visit`] does those of a
+/// source.
+///
+/// # Errors
+/// The error that comes in the place of an event.
+pub fn visit_items<I: Iterator<Item = Result<OwnedEvent, Error>>, V: EventVisitor>(
+    items: &mut I,
+    visitor: &mut V,
+) -> Result<Visited, Error>
+    requires can { I.can_next items.old }
+    requires ends { IsFinite (I.remaining items.old) }
+    ensures { Visits (GivesPlain I.next_gives) V.step (items.old, visitor.old) result
+        (items.new, visitor.new) }
+{
+    while let Some(item) = items.next() {
+        match item {
+            Ok(event) => match visitor.event(event) {
+                ControlFlow::Continue(()) => {}
+                ControlFlow::Break(()) => return Ok(Visited::Stopped),
+            },
+            Err(error) => return Err(error),
+        }
+    }
+    Ok(Visited::Ended)
 }

@@ -15,7 +15,7 @@ pub fn count_objects(alloc: Global, bytes: &[u8]) -> (usize, usize)
 {
     let mut reader = BinaryReader::new(alloc, bytes);
     let before = reader.objects_in_file();
-    let _ = reader.advance();
+    let _ = reader.next();
     (before, reader.objects_in_file())
 }
 
@@ -24,7 +24,7 @@ pub fn count_without_root(alloc: Global, bytes: &[u8]) -> Option<usize>
     ensures { IfSome result (λ count. count ≡ objects_in_head bytes.now) }
 {
     let mut reader = BinaryReader::new(alloc, bytes);
-    match reader.advance() {
+    match reader.next() {
         Some(Err(error)) => match error.kind() {
             ErrorKind::ObjectReferenceTooLarge => Some(reader.objects_in_file()),
             _ => None,

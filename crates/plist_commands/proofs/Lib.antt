@@ -1,10 +1,12 @@
 pub mod Blocks
 pub mod Coming
+pub mod Collected
 pub mod HeldBack
 pub mod Passing
 pub mod PlainBytes
 pub mod Runs
 pub mod Printed
+pub mod Printers
 pub mod Streaming
 pub mod Trees
 pub mod Said

@@ -11,14 +11,15 @@ use Rattle.plist_commands.specs.declared.convert.Streamed.TheVariants.{NeedsValu
 use Rattle.plist_commands.specs.Converting.{IfOkIs}
 use Rattle.plist_base.specs.declared.error.Error.{Error}
 use Rattle.plist_base.specs.Events.{PlainEvent}
-use Rattle.plist_base.specs.Faults.{FaultKind, Io, IsIo, MatchFault, OutOfMemory, error_kind_of, fault_nowhere, fault_of, kind_of, offset_of}
+use Rattle.plist_base.specs.Faults.{Fault, FaultKind, Io, IsIo, IsIoOrMemory, MatchFault, OutOfMemory, error_kind_of, fault_nowhere, fault_of, kind_of, offset_of}
 use Rattle.plist_base.specs.Prefixes.{AppendsPrefix}
+use Rattle.plist_base.specs.Visits.{GivesAll, PlainItem}
 use Rattle.plist_base.proofs.Fronts.{Appends-at}
+use Rattle.plist_base.proofs.Visiting.{given_more}
 use Rattle.plist_commands.specs.HeldLines.{PassesOn}
 use Rattle.plist_commands.specs.EscapedLines.{line_of, lines_of_events}
 use Rattle.plist_commands.specs.Printing.{IsWriterFault, IsWriterError}
-use Rattle.plist_commands.specs.ReaderRuns.{ComesOfReading, AdvancesOver, StepAnswer, HoldsRun, PrintsRun}
-use Rattle.plist_commands.proofs.HeldBack.{device_own}
+use Rattle.plist_commands.specs.ReaderRuns.{ComesOfReading, HoldsRun, PrintsRun, StopsPrinting}
 
 lines_more : (events : List PlainEvent) (event : PlainEvent)
     → lines_of_events (events ++ event ∷ []) ≡ lines_of_events events ++ line_of event
@@ -26,9 +27,6 @@ lines_more [] event = append-nil (line_of event)
 lines_more (first ∷ events) event =
     ap (λ l. line_of first ++ l) (lines_more events event)
     ∙ sym (append_assoc (line_of first) (lines_of_events events) (line_of event))
-
-memory_own : (error : Error) → fault_of error ≡ fault_nowhere OutOfMemory → IsWriterError error
-memory_own error is = subst IsWriterFault (sym is) (refl, tt)
 
 -- all that was held back went out
 all_sent : (old now after : Option (List ℕ)) (lines held : List ℕ) → PassesOn old now lines held
@@ -59,84 +57,96 @@ front_kept : (old now after : Option (List ℕ)) (bytes : List ℕ) → AppendsP
 front_kept old now after bytes (sent, rest, appended, is) kept =
     (sent, rest, appends_kept old now after sent appended kept, is)
 
-module _ {I : Type 0} (goes : I → StepAnswer → I → Type 0) (last : I → PlainEvent) where
-  -- this many events came, whose lines were sent or are held back
-  abbrev pub HasRun : (old now : I) → (before after : Option (List ℕ)) → (held : List ℕ) → Type 0
-  HasRun old now before after held =
-      (events : List PlainEvent) × AdvancesOver goes last old events now
-      × PassesOn before after (lines_of_events events) held
+-- the writer failed, or memory ran out
+own_fault : (fault : Fault) → IsWriterFault fault
+    → (fault ≡ fault_nowhere Io) ⊎ (fault ≡ fault_nowhere OutOfMemory)
+own_fault fault (none, own) = by fault.kind fault.offset none own
+  where
+    by : (kind : FaultKind) (offset : Option ℕ) → offset ≡ None → IsIoOrMemory kind
+        → (◌≡◌ {A = Fault} (record { kind = kind; offset = offset }) (fault_nowhere Io))
+        ⊎ (◌≡◌ {A = Fault} (record { kind = kind; offset = offset }) (fault_nowhere OutOfMemory))
+    by Io offset none own = inl (rw none refl)
+    by OutOfMemory offset none own = inr (rw none refl)
+    by kind offset none own = absurd own
 
+-- this many events came, whose lines were sent or are held back
+abbrev pub HasRun : {I : Type 0} (gives : I → PlainItem → I → Type 0) (old now : I)
+    → (before after : Option (List ℕ)) → (held : List ℕ) → Type 0
+HasRun gives old now before after held =
+    (events : List PlainEvent) × GivesAll gives old events now
+    × PassesOn before after (lines_of_events events) held
+
+-- with one line more
+line_held : (events : List PlainEvent) (event : PlainEvent) (before now : Option (List ℕ))
+    (held : List ℕ) → PassesOn before now (lines_of_events events) held
+    → PassesOn before now (lines_of_events (events ++ event ∷ [])) (held ++ line_of event)
+line_held events event before now held (sent, appended, is) = (
+  sent,
+  appended,
+  lines_more events event ∙ ap (λ l. l ++ line_of event) is
+      ∙ append_assoc sent held (line_of event),
+)
+
+passed_further : (before now after : Option (List ℕ)) (lines held kept : List ℕ)
+    → PassesOn before now lines held → PassesOn now after held kept
+    → PassesOn before after lines kept
+passed_further before now after lines held kept (sent, appended, is) (part, more, split) = (
+  sent ++ part,
+  Appends-trans before now after sent part appended more,
+  is ∙ ap (λ l. sent ++ l) split ∙ sym (append_assoc sent part kept),
+)
+
+module _ {I : Type 0} (gives : I → PlainItem → I → Type 0) where
   pub run_none : (old : I) (before : Option (List ℕ)) (held : List ℕ) → held ≡ []
-      → HasRun old old before before held
+      → HasRun gives old old before before held
   run_none old before held none = ([], refl, ([], Appends-nil before, sym none))
 
-  one_more : (events : List PlainEvent) (old now new : I) → AdvancesOver goes last old events now
-      → goes now (Some (Ok tt)) new → AdvancesOver goes last old (events ++ last new ∷ []) new
-  one_more [] old now new is step =
-      (new, subst (λ i. goes i (Some (Ok tt)) new) (sym is) step, refl, refl)
-  one_more (event ∷ events) old now new (next, first, given, more) step =
-      (next, first, given, one_more events next now new more step)
-
-  -- with its line
-  line_held : (events : List PlainEvent) (event : PlainEvent) (before now : Option (List ℕ))
-      (held : List ℕ) → PassesOn before now (lines_of_events events) held
-      → PassesOn before now (lines_of_events (events ++ event ∷ [])) (held ++ line_of event)
-  line_held events event before now held (sent, appended, is) = (
-    sent,
-    appended,
-    lines_more events event ∙ ap (λ l. l ++ line_of event) is
-        ∙ append_assoc sent held (line_of event),
-  )
-
-  passed_further : (before now after : Option (List ℕ)) (lines held kept : List ℕ)
-      → PassesOn before now lines held → PassesOn now after held kept
-      → PassesOn before after lines kept
-  passed_further before now after lines held kept (sent, appended, is) (part, more, split) = (
-    sent ++ part,
-    Appends-trans before now after sent part appended more,
-    is ∙ ap (λ l. sent ++ l) split ∙ sym (append_assoc sent part kept),
-  )
-
   -- one event more
-  pub run_more : (old now new : I) (before here after : Option (List ℕ)) (held kept : List ℕ)
-      → HasRun old now before here held → goes now (Some (Ok tt)) new
-      → PassesOn here after (held ++ line_of (last new)) kept → HasRun old new before after kept
-  run_more old now new before here after held kept (events, through, passed) step line = (
-    events ++ last new ∷ [],
-    one_more events old now new through step,
-    passed_further before here after _ _ kept (line_held events (last new) before here held passed)
-        line,
+  pub run_more : (old now new : I) (event : PlainEvent) (before here after : Option (List ℕ))
+      (held kept : List ℕ) → HasRun gives old now before here held
+      → gives now (Some (Ok event)) new → PassesOn here after (held ++ line_of event) kept
+      → HasRun gives old new before after kept
+  run_more old now new event before here after held kept (events, through, passed) step line = (
+    events ++ event ∷ [],
+    given_more gives old now new events event through step,
+    passed_further before here after _ _ kept (line_held events event before here held passed) line,
   )
 
   -- its line didn't go out whole
-  pub run_stopped : (old now new : I) (before here after : Option (List ℕ)) (held : List ℕ)
-      (error : Error) → HasRun old now before here held → goes now (Some (Ok tt)) new
-      → IsWriterError error → AppendsPrefix here after (held ++ line_of (last new))
-      → PrintsRun goes last old (Err error) new before after
-  run_stopped old now new before here after held error (events, through, passed) step own front = (
-    events ++ last new ∷ [],
-    new,
-    one_more events old now new through step,
-    inr (
-      own,
-      inl refl,
-      front_sent before here after _ _
-          (line_held events (last new) before here held passed) front,
-    ),
-  )
+  pub run_stopped : (old now new : I) (event : PlainEvent) (before here after : Option (List ℕ))
+      (held : List ℕ) (error : Error) → HasRun gives old now before here held
+      → gives now (Some (Ok event)) new → IsWriterError error
+      → AppendsPrefix here after (held ++ line_of event)
+      → PrintsRun gives old (Err error) new before after
+  run_stopped old now new event before here after held error (events, through, passed) step own
+      front = (
+        events ++ event ∷ [],
+        new,
+        given_more gives old now new events event through step,
+        inr (
+          stops (own_fault (fault_of error) own),
+          front_sent before here after _ _ (line_held events event before here held passed) front,
+        ),
+      )
+    where
+      stops : (fault_of error ≡ fault_nowhere Io) ⊎ (fault_of error ≡ fault_nowhere OutOfMemory)
+          → StopsPrinting gives error new new
+      stops (inl io) = inl (io, inl refl)
+      stops (inr memory) = inr (memory, refl)
 
   -- a fault came, which is the answer once what was held back was sent
   pub run_faulted : (old now new : I) (before here after : Option (List ℕ)) (held : List ℕ)
-      (error answer : Error) → HasRun old now before here held → goes now (Some (Err error)) new
+      (error answer : Error) → HasRun gives old now before here held
+      → gives now (Some (Err error)) new
       → ((answer ≡ error) × Appends here after held) ⊎ (fault_of answer ≡ fault_nowhere Io)
-      → AppendsPrefix here after held → PrintsRun goes last old (Err answer) new before after
+      → AppendsPrefix here after held → PrintsRun gives old (Err answer) new before after
   run_faulted old now new before here after held error answer (events, through, passed) step
       (inl (same, sent)) front = (
         events,
         now,
         through,
         inl (
-          subst (λ e. goes now (Some (Err e)) new) (sym same) step,
+          subst (λ e. gives now (Some (Err e)) new) (sym same) step,
           all_sent before here after _ _ passed sent,
         ),
       )
@@ -146,118 +156,106 @@ module _ {I : Type 0} (goes : I → StepAnswer → I → Type 0) (last : I → P
         now,
         through,
         inr (
-          device_own answer own,
-          inr (Some (Err error), step),
+          inl (own, inr (Some (Err error), step)),
           front_sent before here after _ _ passed front,
         ),
       )
 
   -- nothing came, and what was held back is sent
   pub run_ended : (old now new : I) (before here after : Option (List ℕ)) (held : List ℕ)
-      (answer : Result (Unit {0}) Error) → HasRun old now before here held → goes now None new
-      → OnOk answer (Appends here after held)
+      (answer : Result (Unit {0}) Error) → HasRun gives old now before here held
+      → gives now None new → OnOk answer (Appends here after held)
       → IfErr answer (λ error. fault_of error ≡ fault_nowhere Io)
-      → AppendsPrefix here after held → PrintsRun goes last old answer new before after
+      → AppendsPrefix here after held → PrintsRun gives old answer new before after
   run_ended old now new before here after held (Ok done) (events, through, passed) step sent own
-      front = (
-        events,
-        now,
-        through,
-        (step, all_sent before here after _ _ passed sent),
-      )
+      front = (events, now, through, (step, all_sent before here after _ _ passed sent))
   run_ended old now new before here after held (Err error) (events, through, passed) step sent own
       front = (
         events,
         now,
         through,
-        inr (
-          device_own error own,
-          inr (None, step),
-          front_sent before here after _ _ passed front,
-        ),
+        inr (inl (own, inr (None, step)), front_sent before here after _ _ passed front),
       )
 
   -- no memory for the lines
   pub run_unbegun : (old : I) (before : Option (List ℕ)) (answer : Result (Unit {0}) Error)
       → IsErrAnd answer (λ error. fault_of error ≡ fault_nowhere OutOfMemory)
-      → PrintsRun goes last old answer old before before
+      → PrintsRun gives old answer old before before
   run_unbegun old before (Ok done) none = absurd none
   run_unbegun old before (Err error) none =
-      ([], old, refl, inr (memory_own error none, inl refl, ([], [], Appends-nil before, refl)))
+      ([], old, refl, inr (inr (none, refl), ([], [], Appends-nil before, refl)))
 
   -- a flush after what failed
   run_kept : (old new : I) (before now after : Option (List ℕ)) (error : Error)
-      → PrintsRun goes last old (Err error) new before now → Keeps now after
-      → PrintsRun goes last old (Err error) new before after
+      → PrintsRun gives old (Err error) new before now → Keeps now after
+      → PrintsRun gives old (Err error) new before after
   run_kept old new before now after error (events, left, through, inl (step, sent)) kept =
       (events, left, through, inl (step, appends_kept before now after _ sent kept))
-  run_kept old new before now after error (events, left, through, inr (own, asked, front)) kept =
-      (events, left, through, inr (own, asked, front_kept before now after _ front kept))
+  run_kept old new before now after error (events, left, through, inr (stops, front)) kept =
+      (events, left, through, inr (stops, front_kept before now after _ front kept))
 
   -- what failed before stays the answer
   pub run_refused : (old new : I) (before now after : Option (List ℕ)) (error : Error)
       (answer : Result (Unit {0}) Error) → IsErrAnd answer (λ e. e ≡ error)
-      → PrintsRun goes last old (Err error) new before now → Keeps now after
-      → PrintsRun goes last old answer new before after
+      → PrintsRun gives old (Err error) new before now → Keeps now after
+      → PrintsRun gives old answer new before after
   run_refused old new before now after error (Ok done) same ran kept = absurd same
   run_refused old new before now after error (Err other) same ran kept =
       run_kept old new before now after other
-      (subst (λ e. PrintsRun goes last old (Err e) new before now) (sym same) ran) kept
+      (subst (λ e. PrintsRun gives old (Err e) new before now) (sym same) ran) kept
 
 -- ---- events that are held
 
-module _ {I : Type 0} (goes : I → StepAnswer → I → Type 0) (last : I → PlainEvent) where
-  -- this many events came, which are held
-  abbrev pub HasHeld : (old now : I) → (held : List PlainEvent) → Type 0
-  HasHeld old now held =
-      (events : List PlainEvent)
-      × AdvancesOver goes last old events now
-      × (held ≡ map without_length events)
+-- this many events came, which are held
+abbrev pub HasHeld : {I : Type 0} (gives : I → PlainItem → I → Type 0) (old now : I)
+    → (held : List PlainEvent) → Type 0
+HasHeld gives old now held =
+    (events : List PlainEvent) × GivesAll gives old events now
+    × (held ≡ map without_length events)
 
-  pub held_none : (old : I) (held : List PlainEvent) → held ≡ [] → HasHeld old old held
+module _ {I : Type 0} (gives : I → PlainItem → I → Type 0) where
+  pub held_none : (old : I) (held : List PlainEvent) → held ≡ [] → HasHeld gives old old held
   held_none old held none = ([], refl, none)
 
   -- one event more
-  pub held_more : (old now new : I) (held longer : List PlainEvent) → HasHeld old now held
-      → goes now (Some (Ok tt)) new
-      → longer ≡ held ++ without_length (last new) ∷ [] → HasHeld old new longer
-  held_more old now new held longer (events, through, is) step more = (
-    events ++ last new ∷ [],
-    one_more goes last events old now new through step,
-    more ∙ ap (λ l. l ++ without_length (last new) ∷ []) is
-        ∙ sym (map-append without_length events (last new ∷ [])),
+  pub held_more : (old now new : I) (event : PlainEvent) (held longer : List PlainEvent)
+      → HasHeld gives old now held → gives now (Some (Ok event)) new
+      → longer ≡ held ++ without_length event ∷ [] → HasHeld gives old new longer
+  held_more old now new event held longer (events, through, is) step more = (
+    events ++ event ∷ [],
+    given_more gives old now new events event through step,
+    more ∙ ap (λ l. l ++ without_length event ∷ []) is
+        ∙ sym (map-append without_length events (event ∷ [])),
   )
 
   -- a fault came
   pub held_faulted : (old now new : I) (held final : List PlainEvent) (error : Error)
-      → HasHeld old now held → goes now (Some (Err error)) new
-      → HoldsRun goes last old (Err error) new final
+      → HasHeld gives old now held → gives now (Some (Err error)) new
+      → HoldsRun gives old (Err error) new final
   held_faulted old now new held final error (events, through, is) step =
       (events, now, through, inl step)
 
   -- an event came that can't be held
-  pub held_refused : (old now new : I) (held final : List PlainEvent)
-      → HasHeld old now held → goes now (Some (Ok tt)) new
-      → HoldsRun goes last old (Ok false) new final
-  held_refused old now new held final (events, through, is) step =
-      (events, now, through, (inr step, λ no. absurd (true≢false (sym no))))
+  pub held_refused : (old now new : I) (event : PlainEvent) (held final : List PlainEvent)
+      → HasHeld gives old now held → gives now (Some (Ok event)) new
+      → HoldsRun gives old (Ok false) new final
+  held_refused old now new event held final (events, through, is) step =
+      (events, now, through, (inr (event, step), λ no. absurd (true≢false (sym no))))
 
   -- memory was wanted for it
-  pub held_stopped : (old now new : I) (held final : List PlainEvent) (error : Error)
-      → HasHeld old now held → goes now (Some (Ok tt)) new
-      → fault_of error ≡ fault_nowhere OutOfMemory
-      → HoldsRun goes last old (Err error) new final
-  held_stopped old now new held final error (events, through, is) step memory = (
-    events ++ last new ∷ [],
+  pub held_stopped : (old now new : I) (event : PlainEvent) (held final : List PlainEvent)
+      (error : Error) → HasHeld gives old now held → gives now (Some (Ok event)) new
+      → fault_of error ≡ fault_nowhere OutOfMemory → HoldsRun gives old (Err error) new final
+  held_stopped old now new event held final error (events, through, is) step memory = (
+    events ++ event ∷ [],
     new,
-    one_more goes last events old now new through step,
+    given_more gives old now new events event through step,
     inr (memory, refl),
   )
 
   -- nothing came
   pub held_whole : (old now new : I) (held : List PlainEvent) (whole : Bool)
-      → HasHeld old now held → goes now None new
-      → HoldsRun goes last old (Ok whole) new held
+      → HasHeld gives old now held → gives now None new → HoldsRun gives old (Ok whole) new held
   held_whole old now new held whole (events, through, is) step =
       (events, now, through, (inl step, λ _. (step, is)))
 

@@ -1,10 +1,10 @@
 -- What is held of the items that a reader has given.
 use Rattle.std.specs.Prelude.{⊤}
-use Rattle.std.proofs.Common.{◌≡◌, ◌↔◌, ℕ, Bool, true, false, List, [], ◌∷◌, ◌++◌, Option, Some, None, Result, Ok, Err, IfSome, map, refl, sym, ap, ◌∙◌, append-nil}
+use Rattle.std.proofs.Common.{◌≡◌, ◌↔◌, ℕ, Bool, true, false, List, [], ◌∷◌, ◌++◌, Option, Some, None, Ok, Err, IfSome, map, refl, sym, ap, ◌∙◌, append-nil}
 use Rattle.std.specs.Option.{option_map}
-use Rattle.plist_base.specs.declared.error.Error.{Error}
 use Rattle.plist_base.specs.Bracketing.{bracketing, without_length, AreAlike, AreTreeEvents, CanContinue}
 use Rattle.plist_base.specs.Events.{PlainEvent, Item}
+use Rattle.plist_base.specs.Visits.{PlainItem}
 use Rattle.plist_base.specs.Faults.{Fault, MatchFault}
 use Rattle.plist_base.specs.Trees.{Tree, Leaf, Array, Dictionary}
 use Rattle.plist_base.proofs.Grammar.{alike_last, alike_with, complete_of_whole, continue_alike, whole_alike}
@@ -45,17 +45,17 @@ taken_none (Some all) coming held e h =
     (all, e, ([], NotBegun, refl, tt, refl, ap (map without_length) (sym h)))
 
 -- a call: what was left of all items, what is left now, and what the call gave
-abbrev pub Came : (items now : Option (List Item)) (held : List PlainEvent)
-    (item : Option (Result (Unit {0}) Error)) (given : PlainEvent) → Type 0
-Came items now held item given = IfSome items (λ all.
+abbrev pub Came : (items now : Option (List Item)) (held : List PlainEvent) (item : PlainItem)
+    → Type 0
+Came items now held item = IfSome items (λ all.
     (left : List Item) × (next : List Item) × TookOf all left held × (now ≡ Some next)
-    × GivesNext left item given next)
+    × GivesNext left item next)
 
 pub came_next : (items before now : Option (List Item)) (held : List PlainEvent)
-    (item : Option (Result (Unit {0}) Error)) (given : PlainEvent)
-    → HasTaken items before held → ComesIfKnown before item given now → Came items now held item given
-came_next None before now held item given taken_before comes = tt
-came_next (Some all) before now held item given (left, is, took) comes =
+    (item : PlainItem) → HasTaken items before held → ComesIfKnown before item now
+    → Came items now held item
+came_next None before now held item taken_before comes = tt
+came_next (Some all) before now held item (left, is, took) comes =
     let (next, to, gives) = rw is at comes in (left, next, took, to, gives)
 
 -- ---- whether the events held are a tree's

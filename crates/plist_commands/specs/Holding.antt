@@ -1,8 +1,17 @@
--- What holding one more event does.
-use Rattle.std.specs.Prelude.{◌≡◌, Bool, false, List, [], ◌∷◌, ◌++◌}
+-- What a collector does that takes an event.
+use Rattle.std.specs.Prelude.{◌≡◌, Bool, true, false, List, [], ◌∷◌, ◌++◌, Result, Ok, Err}
+use Rattle.std.specs.declared.ops.ControlFlow.TheVariants.{Continue, Break}
 use Rattle.plist_base.specs.Bracketing.{CanContinue, without_length}
+use Rattle.plist_base.specs.declared.error.Error.{Error}
+use Rattle.plist_base.specs.declared.visitor.Visited.{Visited}
+use Rattle.plist_base.specs.declared.visitor.Visited.TheVariants.{Ended, Stopped}
 use Rattle.plist_base.specs.Events.{PlainEvent}
-use Rattle.plist_binwrite.specs.EventBuffers.{TestsWhole}
+use Rattle.plist_base.specs.Faults.{OutOfMemory, fault_nowhere, fault_of}
+use Rattle.plist_base.specs.Visits.{Flow}
+use Rattle.plist_binwrite.specs.EventBuffers.{TestsWhole, buffered_events, is_whole}
+use Rattle.plist_commands.specs.declared.collector.Collector.{Collector}
+use Rattle.plist_commands.specs.declared.collector.StopReason.{StopReason}
+use Rattle.plist_commands.specs.declared.collector.StopReason.TheVariants.{Failed, Misplaced, Paused}
 
 -- the event can follow those that were held, it is held after them without its length, and it is
 -- known whether all of them are a whole property list's
@@ -15,3 +24,52 @@ HoldsMore whole before event after =
 -- nothing is held
 abbrev pub IsEmpty : (whole : Bool) → (held : List PlainEvent) → Type 0
 IsEmpty whole held = (held ≡ []) × (whole ≡ false)
+
+-- the events that a collector has taken, and whether they are a whole property list's
+abbrev pub collected : Collector → List PlainEvent
+collected collector = buffered_events collector.pending
+
+abbrev pub is_complete : Collector → Bool
+is_complete collector = is_whole collector.pending
+
+-- the collector wants no more events, for this reason
+pub record EndsAtEvent (old : Collector) (stop : StopReason) (flow : Flow) (new : Collector) : Type 0
+  where
+    pub stops : flow ≡ Break tt
+    pub keeps : new.stop ≡ stop
+    pub pending : new.pending ≡ old.pending
+
+-- the collector wants more events, or pauses
+abbrev pub MayPause : (old : Collector) → Flow → (new : Collector) → Type 0
+MayPause old (Continue more) new = new ≡ old
+MayPause old (Break stop) new =
+    (old.pauses ≡ true) × (new.stop ≡ Paused) × (new.pending ≡ old.pending)
+
+-- a fact for each reason for which a collector wants no more events
+abbrev pub MatchStop : StopReason → (paused misplaced : Type 0) → (failed : Error → Type 0) → Type 0
+MatchStop Paused paused misplaced failed = paused
+MatchStop Misplaced paused misplaced failed = misplaced
+MatchStop (Failed error) paused misplaced failed = failed error
+
+-- What taking an event does: it is held, and the collector may pause. Or it can't follow those that
+-- were held, if it was known whether they are a whole property list's; or memory was refused.
+abbrev pub CollectsEvent : (old : Collector) → PlainEvent → Flow → (new : Collector) → Type 0
+CollectsEvent old event (Continue more) new =
+    (new.pauses ≡ old.pauses) × HoldsMore (is_complete new) (collected old) event (collected new)
+CollectsEvent old event (Break stop) new = MatchStop new.stop
+    ((old.pauses ≡ true) × HoldsMore (is_complete new) (collected old) event (collected new))
+    (TestsWhole (is_complete old) (collected old) → CanContinue (collected old) event → ⊥)
+    (λ error. fault_of error ≡ fault_nowhere OutOfMemory)
+
+-- a test: did the collector pause at a visit that returned this?
+abbrev pub HasPaused : Bool → Collector → Result Visited Error → Type 0
+HasPaused answer collector (Ok Stopped) =
+    MatchStop collector.stop (answer ≡ true) (answer ≡ false) (λ error. answer ≡ false)
+HasPaused answer collector visited = answer ≡ false
+
+-- the answer after a visit that returned this
+abbrev pub AnswersVisit : Result Visited Error → Collector → Result Bool Error → Type 0
+AnswersVisit (Ok Ended) collector answer = answer ≡ Ok (is_complete collector)
+AnswersVisit (Ok Stopped) collector answer =
+    MatchStop collector.stop (answer ≡ Ok false) (answer ≡ Ok false) (λ error. answer ≡ Err error)
+AnswersVisit (Err error) collector answer = answer ≡ Err error

@@ -2,6 +2,7 @@ pub mod EscapedLines
 pub mod Examples
 pub mod HeldLines
 pub mod Printing
+pub mod Printers
 pub mod ReaderRuns
 pub mod Items
 pub mod Messages

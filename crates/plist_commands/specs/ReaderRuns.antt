@@ -1,72 +1,68 @@
 -- What becomes of the events that a reader goes through, whatever its source gives.
-use Rattle.std.specs.Prelude.{◌≡◌, ◌⊎◌, ℕ, Bool, true, false, List, [], ◌∷◌, map, Option, None, Some, Result, Ok, Err, IsErrAnd, MatchOption, MatchResult}
+use Rattle.std.specs.Prelude.{◌≡◌, ◌⊎◌, ℕ, Bool, true, false, List, map, Option, None, Some, Result, Ok, Err, IsErrAnd, MatchResult}
 use Rattle.std.specs.Io.KnownBytes.{Appends}
 use Rattle.plist_base.specs.declared.error.Error.{Error}
 use Rattle.plist_base.specs.declared.source.Source.{Ghosts}
 use Rattle.plist_base.specs.Bracketing.{without_length}
-use Rattle.plist_base.specs.Events.{PlainEvent, event_of}
-use Rattle.plist_base.specs.Faults.{IsIo, OutOfMemory, error_kind_of, fault_nowhere, fault_of, kind_of, offset_of}
+use Rattle.plist_base.specs.Events.{PlainEvent}
+use Rattle.plist_base.specs.Faults.{Io, IsIo, OutOfMemory, error_kind_of, fault_nowhere, fault_of, kind_of, offset_of}
 use Rattle.plist_base.specs.Prefixes.{AppendsPrefix}
 use Rattle.plist_base.specs.Sources.{Rises}
+use Rattle.plist_base.specs.Visits.{GivesAll, GivesPlain, PlainItem}
 use Rattle.plist_binread.specs.BinaryReader.{is_new, binary_source}
 use Rattle.plist_binread.specs.FaultOffsets.{HasOffset}
-use Rattle.plist_binread.specs.Advancing.{Advances, current_event}
+use Rattle.plist_binread.specs.Advancing.{Steps}
 use Rattle.plist_reader.specs.Reader.{Gives, BinaryReaderOf, IsNewReader}
-use Rattle.plist_commands.specs.declared.reader_events.ReaderEvents.{ReaderEvents}
+use Rattle.plist_reader.specs.declared.reader.Reader.{Reader}
 use Rattle.plist_commands.specs.declared.convert.Streamed.{Streamed}
 use Rattle.plist_commands.specs.declared.convert.Streamed.TheVariants.{NeedsValue, Sent}
 use Rattle.plist_commands.specs.EscapedLines.{lines_of_events}
 use Rattle.plist_commands.specs.Items.{failures_in}
-use Rattle.plist_commands.specs.Printing.{CountsReads, CountsReadsOf, IsWriterError}
+use Rattle.plist_commands.specs.Printing.{CountsReads, CountsReadsOf}
 
--- what a call of a reader answers that goes on to the next item
-abbrev pub StepAnswer : Type 0
-StepAnswer = Option (Result (Unit {0}) Error)
-
-module _ {I : Type 0} (goes : I → StepAnswer → I → Type 0) (last : I → PlainEvent) where
-  -- these events came, one after the other
-  abbrev pub AdvancesOver : I → List PlainEvent → I → Type 0
-  AdvancesOver old [] new = old ≡ new
-  AdvancesOver old (event ∷ events) new =
-      (next : I) × goes old (Some (Ok tt)) next × (last next ≡ event) × AdvancesOver next events new
-
+module _ {I : Type 0} (gives : I → PlainItem → I → Type 0) where
   -- it was asked once at most
   abbrev pub IsAskedOnce : (old new : I) → Type 0
-  IsAskedOnce old new = (new ≡ old) ⊎ ((item : StepAnswer) × goes old item new)
+  IsAskedOnce old new = (new ≡ old) ⊎ ((item : PlainItem) × gives old item new)
+
+  -- the writer failed, and the source was asked once at most; or memory ran out for a line
+  abbrev pub StopsPrinting : Error → (old new : I) → Type 0
+  StopsPrinting error old new =
+      ((fault_of error ≡ fault_nowhere Io) × IsAskedOnce old new)
+      ⊎ ((fault_of error ≡ fault_nowhere OutOfMemory) × (new ≡ old))
 
   -- Events came, whose lines went out; and then nothing came, or the fault that is the answer. Or a
   -- beginning of the lines went out, and the answer is that the writer failed or memory ran out.
   abbrev pub PrintsRun : (old : I) → Result (Unit {0}) Error → (new : I)
       → (before after : Option (List ℕ)) → Type 0
   PrintsRun old answer new before after =
-      (events : List PlainEvent) × (left : I) × AdvancesOver old events left × MatchResult answer
-      (λ _. goes left None new × Appends before after (lines_of_events events))
-      (λ error. (goes left (Some (Err error)) new × Appends before after (lines_of_events events))
-      ⊎ (IsWriterError error × IsAskedOnce left new
-      × AppendsPrefix before after (lines_of_events events)))
+      (events : List PlainEvent) × (left : I) × GivesAll gives old events left × MatchResult answer
+      (λ _. gives left None new × Appends before after (lines_of_events events))
+      (λ error. (gives left (Some (Err error)) new × Appends before after (lines_of_events events))
+      ⊎ (StopsPrinting error left new × AppendsPrefix before after (lines_of_events events)))
 
   -- Events came, and nothing after them, or one that isn't held; they were held where they are a
   -- tree's: nothing came after them then. Or a fault came, which is the answer; or memory ran out.
   abbrev pub HoldsRun : (old : I) → Result Bool Error → (new : I) → (held : List PlainEvent)
       → Type 0
   HoldsRun old answer new held =
-      (events : List PlainEvent) × (left : I) × AdvancesOver old events left × MatchResult answer
-      (λ whole. (goes left None new ⊎ goes left (Some (Ok tt)) new)
-      × (whole ≡ true → goes left None new × (held ≡ map without_length events)))
-      (λ error. goes left (Some (Err error)) new
+      (events : List PlainEvent) × (left : I) × GivesAll gives old events left × MatchResult answer
+      (λ whole. (gives left None new ⊎ ((event : PlainEvent) × gives left (Some (Ok event)) new))
+      × (whole ≡ true → gives left None new × (held ≡ map without_length events)))
+      (λ error. gives left (Some (Err error)) new
       ⊎ ((fault_of error ≡ fault_nowhere OutOfMemory) × (new ≡ left)))
 
--- the calls of a reader of a binary source
-abbrev pub AdvancesBinary : {S : Type 0} {g : Ghosts S} (known : S → Option (List ℕ)) (failed : S → ℕ)
-    → BinaryReaderOf S g → StepAnswer → BinaryReaderOf S g → Type 0
-AdvancesBinary known failed old item new = Advances known failed ⊥ (λ _. 0) old item new
+-- what a reader of a binary source gives
+abbrev pub StepsBinary : {S : Type 0} {g : Ghosts S} (known : S → Option (List ℕ)) (failed : S → ℕ)
+    → BinaryReaderOf S g → PlainItem → BinaryReaderOf S g → Type 0
+StepsBinary known failed = Steps known failed ⊥ (λ _. 0)
 
 -- what was printed of the events that a reader had still to give
 abbrev pub PrintsReader : {S : Type 0} {g : Ghosts S} (known : S → Option (List ℕ)) (failed : S → ℕ)
     → BinaryReaderOf S g → Result (Unit {0}) Error → BinaryReaderOf S g → (before after : Option (List ℕ))
     → Type 0
 PrintsReader known failed old answer new before after =
-    PrintsRun (AdvancesBinary known failed) current_event old answer new before after
+    PrintsRun (StepsBinary known failed) old answer new before after
 
 -- the same of a reader that holds this very source and has given nothing, and the source's failures
 abbrev pub PrintsSource : {S : Type 0} (known : S → Option (List ℕ)) (failed : S → ℕ) (source : S)
@@ -80,16 +76,10 @@ PrintsSource {S} known failed source answer before after =
 
 -- ---- events that are held
 
--- an event came, which is the one that is held as the last, or a fault, or nothing
-abbrev pub AdvancesReading : {S : Type 0} {g : Ghosts S} (known : S → Option (List ℕ))
-    (failed : S → ℕ) → ReaderEvents S g → StepAnswer → ReaderEvents S g → Type 0
-AdvancesReading known failed old item new =
-    MatchOption item (Gives known failed old.reader None new.reader) (λ answer. MatchResult answer
-    (λ _. Gives known failed old.reader (Some (Ok new.last)) new.reader)
-    (λ error. Gives known failed old.reader (Some (Err error)) new.reader))
-
-abbrev pub last_read : {S : Type 0} {g : Ghosts S} → ReaderEvents S g → PlainEvent
-last_read events = event_of events.last
+-- what a reader of either format gives
+abbrev pub StepsReader : {S : Type 0} {g : Ghosts S} (known : S → Option (List ℕ)) (failed : S → ℕ)
+    → Reader S g → PlainItem → Reader S g → Type 0
+StepsReader known failed = GivesPlain (Gives known failed)
 
 -- a reader of a binary source holds this very one and has given nothing; its events were held, and
 -- its source's failures are counted
@@ -99,18 +89,18 @@ HoldsBinary {S} known failed source answer held =
     (reader : BinaryReaderOf S (record { known = known; failures = failed }))
     × (left : BinaryReaderOf S (record { known = known; failures = failed }))
     × (binary_source reader ≡ source) × (is_new reader ≡ true)
-    × HoldsRun (AdvancesBinary known failed) current_event reader answer left held
+    × HoldsRun (StepsBinary known failed) reader answer left held
     × CountsReadsOf failed reader answer left
 
 -- the same of a new reader of a source of any format
 abbrev pub HoldsOther : {S : Type 0} (known : S → Option (List ℕ)) (failed : S → ℕ) (source : S)
     → Result Bool Error → (held : List PlainEvent) → Type 0
 HoldsOther {S} known failed source answer held =
-    (events : ReaderEvents S (record { known = known; failures = failed }))
-    × (left : ReaderEvents S (record { known = known; failures = failed }))
-    × IsNewReader events.reader source
-    × HoldsRun (AdvancesReading known failed) last_read events answer left held
-    × CountsReads answer (failures_in failed events) (failures_in failed left)
+    (reader : Reader S (record { known = known; failures = failed }))
+    × (left : Reader S (record { known = known; failures = failed }))
+    × IsNewReader reader source
+    × HoldsRun (StepsReader known failed) reader answer left held
+    × CountsReads answer (failures_in failed reader) (failures_in failed left)
 
 -- The format was asked for, and a read failed; or none had failed, and a reader has the source.
 abbrev pub ReadsSource : {S : Type 0} (known : S → Option (List ℕ)) (failed : S → ℕ) (source : S)

@@ -3,26 +3,23 @@
 ghost use Rattle.std.specs.Prelude.{◌≡◌, false, IfErr, IfSome, None};
 ghost use Rattle.plist_base.specs.Bracketing.{AreTreeEvents};
 ghost use Rattle.plist_base.specs.Faults.{offset_of};
-ghost use Rattle.plist_binwrite.specs.EventBuffers.{buffered_events, is_whole};
+ghost use Rattle.plist_binwrite.specs.EventBuffers.{buffered_events};
 ghost use Rattle.plist_binwrite.specs.Sending.{Sends};
 ghost use Rattle.plist_reader.specs.Formats.{format_of};
 ghost use Rattle.plist_commands.specs.Converting.{AreNoTree, FindsTree, IfOkIs, IsRefusedFor, IsStoppedFor, LeavesToValue, ForBytesOf, SendsAll, items_of_known};
-ghost use Rattle.plist_commands.specs.Holding.{IsEmpty};
-ghost use Rattle.plist_commands.specs.Printing.{CountsReads};
-ghost use Rattle.plist_commands.specs.ReaderRuns.{ConvertsSource, HoldsBinary, HoldsOther, HoldsRun, ReadsSource};
+ghost use Rattle.plist_commands.specs.Holding.{IsEmpty, collected, is_complete};
+ghost use Rattle.plist_commands.specs.ReaderRuns.{ConvertsSource, HoldsBinary, HoldsOther, ReadsSource};
 ghost use Rattle.plist_commands.specs.declared.convert.Streamed.TheVariants.{NeedsValue, Sent};
 
-use crate::event_sink::EventSink;
-use crate::items::Items;
+use crate::collector::Collector;
 use crate::open::open_source;
-use crate::reader_events::ReaderEvents;
 use plist::{Output, Value};
-use plist_base::{Error, Source};
+use plist_base::{Error, EventSource, Source};
 use plist_binread::BinaryReader;
 use plist_binwrite::complete;
 use plist_binwrite::event_buffer::EventBuffer;
 use plist_binwrite::repeated_keys::repeats_key;
-use plist_reader::{Format, format_of};
+use plist_reader::{Format, Reader, format_of};
 use std::alloc::Global;
 use std::io::Write;
 use std::rt::Files;
@@ -36,63 +33,48 @@ pub enum Streamed {
     NeedsValue,
 }
 
-// Holds the events that are still to come, and answers whether they are those of a tree.
-fn hold_events<I: Items, H: EventSink>(
-    alloc: Global,
-    items: &mut I,
-    sink: &mut H,
-) -> Result<bool, Error>
-    requires empty { IsEmpty (H.whole sink.old) (H.held sink.old) }
-    // The answer.
-    ensures held { FindsTree (I.coming items.old) result (H.held sink.new) }
-    ensures none { IfOkIs result false (AreNoTree (I.coming items.old)) }
-    ensures answers { HoldsRun I.goes I.last items.old result items.new (H.held sink.new) }
-    // A refusal.
-    ensures refused { IsRefusedFor (I.coming items.old) result }
-    // The state after it.
-    ensures failures { CountsReads result (I.failures items.old) (I.failures items.new) }
-{
-    while let Some(item) = items.next_item() {
-        item?;
-        if !sink.take(alloc, items.event(), items.scalars_expected())? {
-            return Ok(false);
-        }
-    }
-    Ok(sink.is_whole())
-}
-
-// Holds the events of a binary source.
+// Holds the events of a binary source. Once the first one has come, the reader knows how many
+// objects the file has, and so how many different scalars can come.
 #[inline(never)]
 fn hold_binary<S: Source>(
     alloc: Global,
     source: S,
-    pending: &mut EventBuffer,
+    collector: &mut Collector,
 ) -> Result<bool, Error>
-    requires empty { IsEmpty (is_whole pending.old) (buffered_events pending.old) }
+    requires empty { IsEmpty (is_complete collector.old) (collected collector.old) }
     requires binary { IfSome (S.known source) (λ bytes. Format.Binary ≡ format_of bytes) }
     ensures held { FindsTree (items_of_known (S.known source)) result
-        (buffered_events pending.new) }
+        (collected collector.new) }
     ensures none { IfOkIs result false (AreNoTree (items_of_known (S.known source))) }
     ensures refused { IsRefusedFor (items_of_known (S.known source)) result }
-    ensures answers { HoldsBinary S.known S.failures source result (buffered_events pending.new) }
+    ensures answers { HoldsBinary S.known S.failures source result (collected collector.new) }
 {
     let mut reader = BinaryReader::new(alloc, source);
-    hold_events(alloc, &mut reader, pending)
+    collector.pauses = true;
+    let first = reader.visit(collector);
+    if !collector.has_paused(&first) {
+        return collector.answer(first);
+    }
+    collector.expect_scalars(reader.objects_in_file());
+    let others = reader.visit(collector);
+    collector.answer(others)
 }
 
 // Holds the events of a source of any format. It stands apart, since what it moves takes much of
 // the call stack.
 #[inline(never)]
-fn hold_any<S: Source>(alloc: Global, source: S, pending: &mut EventBuffer) -> Result<bool, Error>
-    requires empty { IsEmpty (is_whole pending.old) (buffered_events pending.old) }
+fn hold_any<S: Source>(alloc: Global, source: S, collector: &mut Collector) -> Result<bool, Error>
+    requires empty { IsEmpty (is_complete collector.old) (collected collector.old) }
     ensures held { FindsTree (items_of_known (S.known source)) result
-        (buffered_events pending.new) }
+        (collected collector.new) }
     ensures none { IfOkIs result false (AreNoTree (items_of_known (S.known source))) }
     ensures refused { IsRefusedFor (items_of_known (S.known source)) result }
-    ensures answers { HoldsOther S.known S.failures source result (buffered_events pending.new) }
+    ensures answers { HoldsOther S.known S.failures source result (collected collector.new) }
 {
-    let mut events = ReaderEvents::new(alloc, source);
-    hold_events(alloc, &mut events, pending)
+    let mut reader = Reader::new(alloc, source);
+    collector.pauses = false;
+    let visited = reader.visit(collector);
+    collector.answer(visited)
 }
 
 // Holds the events of a source, and answers whether they are those of a tree. The source isn't
@@ -100,19 +82,19 @@ fn hold_any<S: Source>(alloc: Global, source: S, pending: &mut EventBuffer) -> R
 fn hold_source<S: Source>(
     alloc: Global,
     source: S,
-    pending: &mut EventBuffer,
+    collector: &mut Collector,
 ) -> Result<bool, Error>
-    requires empty { IsEmpty (is_whole pending.old) (buffered_events pending.old) }
+    requires empty { IsEmpty (is_complete collector.old) (collected collector.old) }
     ensures held { FindsTree (items_of_known (S.known source)) result
-        (buffered_events pending.new) }
+        (collected collector.new) }
     ensures none { IfOkIs result false (AreNoTree (items_of_known (S.known source))) }
     ensures refused { IsRefusedFor (items_of_known (S.known source)) result }
-    ensures answers { ReadsSource S.known S.failures source result (buffered_events pending.new) }
+    ensures answers { ReadsSource S.known S.failures source result (collected collector.new) }
 {
     let mut source = source;
     match format_of(&mut source)? {
-        Format::Binary => hold_binary(alloc, source, pending),
-        Format::Xml(_) | Format::Ascii => hold_any(alloc, source, pending),
+        Format::Binary => hold_binary(alloc, source, collector),
+        Format::Xml(_) | Format::Ascii => hold_any(alloc, source, collector),
     }
 }
 
@@ -159,11 +141,11 @@ pub fn convert_binary<S: Source, W: Write>(
         (λ held. Sends W.contents held (Ok tt) writer.old writer.new) }
     ensures refused { IsStoppedFor W.contents (S.known source) result writer.old writer.new }
 {
-    let mut pending = EventBuffer::new(alloc);
-    if !hold_source(alloc, source, &mut pending)? {
+    let mut collector = Collector::new(alloc);
+    if !hold_source(alloc, source, &mut collector)? {
         return Ok(Streamed::NeedsValue);
     }
-    send_events(alloc, &pending, writer)
+    send_events(alloc, &collector.pending, writer)
 }
 
 // Sends a source to the file of this name as `convert_binary` does, and has the system store what

@@ -4,10 +4,10 @@ ghost use Rattle.std.specs.Prelude.{◌≡◌, ◌++◌, ◌+◌, ◌-◌, ◌<�
 ghost use Rattle.std.specs.Fmt.{decimal, signed_decimal};
 ghost use Rattle.plist_base.specs.Events.{ScalarEvent, event_of};
 ghost use Rattle.plist_base.specs.Trees.{Boolean, Data, String};
-ghost use Rattle.plist_commands.specs.EscapedLines.{hexadecimal, hexadecimal_digit, in_notation, stands_for_itself, escaped_byte, escaped_text, text_of_date, text_of_real, text_of_start, line_of};
+ghost use Rattle.plist_commands.specs.EscapedLines.{event_of_short, hexadecimal, hexadecimal_digit, in_notation, stands_for_itself, escaped_byte, escaped_text, text_of_date, text_of_real, text_of_start, line_of};
 
 use itoa::{Buffer, write_digits};
-use plist_base::{Date, Event, Integer, RealBits};
+use plist_base::{Date, Event, Integer, RealBits, Uid};
 use std::alloc::AllocError;
 
 /// How bytes are printed.
@@ -17,6 +17,39 @@ pub enum Notation {
     Text,
     /// As those of data, after its word.
     Hexadecimal,
+}
+
+/// An event without a text or data, whose line comes often.
+#[derive(Clone, Copy)]
+pub enum ShortLine {
+    /// The start of an array.
+    Array(Option<u64>),
+    /// The start of a dictionary.
+    Dictionary(Option<u64>),
+    /// The end of the innermost array or dictionary.
+    End,
+    /// A Boolean.
+    Boolean(bool),
+    /// An integer.
+    Integer(Integer),
+    /// The number of an object in a keyed archive.
+    Uid(Uid),
+}
+
+impl ShortLine {
+    /// The event.
+    pub fn event(self) -> Event<'static>
+        ensures { event_of result ≡ event_of_short self }
+    {
+        match self {
+            ShortLine::Array(length) => Event::StartArray(length),
+            ShortLine::Dictionary(length) => Event::StartDictionary(length),
+            ShortLine::End => Event::EndCollection,
+            ShortLine::Boolean(value) => Event::Boolean(value),
+            ShortLine::Integer(value) => Event::Integer(value),
+            ShortLine::Uid(uid) => Event::Uid(uid),
+        }
+    }
 }
 
 /// No line has more bytes than this and those of a text or data in it.
@@ -469,6 +502,24 @@ fn push_string(line: &mut Vec<u8>, text: &str) -> Result<(), AllocError>
 #[inline(always)]
 fn may_fit(content: usize, most: usize) -> bool {
     most >= MOST_OF_SHORT && content <= (most - MOST_OF_SHORT) / 4
+}
+
+/// Appends a short line.
+///
+/// # Errors
+/// Where a growth is refused.
+#[inline(always)]
+pub fn push_short(line: &mut Vec<u8>, short: ShortLine) -> Result<(), AllocError>
+    ensures { OnOk result (line.new.items ≡ line.old.items ++ line_of (event_of_short short)) }
+{
+    match short {
+        ShortLine::Array(length) => push_array(line, length),
+        ShortLine::Dictionary(length) => push_dictionary(line, length),
+        ShortLine::End => push_end(line),
+        ShortLine::Boolean(value) => push_boolean(line, value),
+        ShortLine::Integer(value) => push_integer(line, value),
+        ShortLine::Uid(uid) => push_uid(line, uid.get()),
+    }
 }
 
 /// Appends the line of an event, with its LF.

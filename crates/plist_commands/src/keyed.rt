@@ -6,7 +6,7 @@ ghost use Rattle.plist_commands.specs.Archives.{IsRefusedAt, IsTreeAt, IsUnprint
 ghost use Rattle.plist_commands.specs.Failures.{plain_failure_of};
 
 use crate::failure::Failure;
-use crate::value_events::print_value;
+use crate::print::print_value;
 use plist::Value;
 use plist_keyed::Archive;
 use std::alloc::Global;

@@ -6,18 +6,15 @@
 
 mod arguments;
 pub mod callers;
+mod collector;
 mod commands;
 mod convert;
 mod escaped_lines;
-mod event_sink;
 mod failure;
-mod items;
 mod keyed;
 mod messages;
 mod open;
 mod print;
-mod reader_events;
-mod value_events;
 
 pub use arguments::program_arguments;
 pub use commands::{Command, Commands, command_of, run_words};
@@ -25,5 +22,4 @@ pub use convert::{Streamed, convert_binary, convert_file};
 pub use failure::Failure;
 pub use keyed::{keyed_file, print_at};
 pub use messages::{Message, Messages};
-pub use print::{print_events, print_reader};
-pub use value_events::print_value;
+pub use print::{print_events, print_reader, print_value};

@@ -1,23 +1,30 @@
-//! Prints the events of a source, or of whatever else gives items.
+//! Prints the events of a source.
 
-ghost use Rattle.std.specs.Prelude.{◌≡◌, ◌⊎◌, ◌++◌, [], IfErr, OnErr, OnOk};
-ghost use Rattle.plist_base.specs.Events.{ScalarEvent};
-ghost use Rattle.plist_base.specs.Faults.{fault_of};
+ghost use Rattle.std.specs.Prelude.{◌≡◌, ◌++◌, [], IfErr, OnErr, OnOk};
+ghost use Rattle.plist_base.specs.Events.{ScalarEvent, event_of};
 ghost use Rattle.plist_base.specs.Trees.{Data, String};
 ghost use Rattle.plist_binread.specs.BinaryReader.{binary_source};
 ghost use Rattle.plist_commands.specs.Converting.{items_left};
+ghost use Rattle.plist_commands.specs.EscapedLines.{event_of_short, line_of, in_notation};
 ghost use Rattle.plist_commands.specs.HeldLines.{EndsAfterAll, MakesRoom, PassesBytes, PassesLine, SendsBytesInPart, SendsPrefix, SendsLineInPart};
-ghost use Rattle.plist_commands.specs.EscapedLines.{line_of, in_notation};
-ghost use Rattle.plist_commands.specs.Printing.{CountsReads, CountsReadsOf, PrintsFileUntil, PrintsItemsUntil, IsWriterError, PrintsFile, PrintsItems, SendsPrefixOfFile, SendsPrefixOfItems};
+ghost use Rattle.plist_commands.specs.Printing.{CountsReadsOf, PrintsFileUntil, PrintsItemsUntil, IsWriterError, PrintsFile, PrintsItems, PrintsValue, SendsPrefixOfFile, SendsPrefixOfItems, SendsPrefixOfValue};
 ghost use Rattle.plist_commands.specs.ReaderRuns.{PrintsReader, PrintsRun, PrintsSource};
 
-use crate::escaped_lines::{Notation, push_bytes, push_line};
-use crate::items::Items;
+use crate::escaped_lines::{
+    MOST_OF_SHORT, Notation, ShortLine, push_bytes, push_line, push_short, push_short_line,
+    push_short_text,
+};
+use plist::Value;
 use plist_base::send::{flush, send};
-use plist_base::{Error, Event, Source};
+use plist_base::{
+    Error, ErrorKind, Event, EventSource, EventVisitor, Integer, Source, Uid, Visited,
+};
 use plist_binread::BinaryReader;
 use std::alloc::Global;
+use std::borrow::CowStr;
 use std::io::Write;
+use std::mem;
+use std::ops::ControlFlow;
 
 // Lines are held back until the next one may not fit after them in this many bytes.
 const FULL: usize = 65536;
@@ -157,18 +164,14 @@ fn pass_long<W: Write>(out: &mut W, lines: &mut Vec<u8>, event: &Event<'_>) -> R
     Ok(())
 }
 
-// Sends what is held back, and puts the line of the event that came last in its place.
-#[cold]
-#[inline(never)]
-fn pass_anew<I: Items, W: Write>(out: &mut W, lines: &mut Vec<u8>, items: &I) -> Result<(), Error>
-    ensures passed { PassesBytes W.contents result out.old lines.old
-        (line_of (I.last items.now)) out.new lines.new }
+// Sends what is held back, and puts the line of an event in its place.
+fn pass_anew<W: Write>(out: &mut W, lines: &mut Vec<u8>, event: &Event<'_>) -> Result<(), Error>
+    ensures passed { PassesLine W.contents result out.old lines.old event.now out.new lines.new }
     ensures fault { IfErr result IsWriterError }
-    ensures prefix { OnErr result (SendsBytesInPart W.contents out.old lines.old
-        (line_of (I.last items.now)) out.new) }
+    ensures prefix { OnErr result (SendsLineInPart W.contents out.old lines.old event.now out.new) }
 {
     send_waiting(out, lines)?;
-    pass_long(out, lines, &items.event())
+    pass_long(out, lines, event)
 }
 
 // The fault that comes after lines, once they are sent; or the one for which they can't be.
@@ -182,83 +185,206 @@ fn fault_behind<W: Write>(writer: &mut W, lines: &[u8], fault: Error) -> Error
     }
 }
 
-// Sends the lines of the items that are still to come, by way of an empty buffer. What is held back
-// is sent before a line that may not fit after it, so that the buffer never grows. Most lines fit:
-// that answer is small, since what a function may answer is cleared at each call.
-fn pass_lines<I: Items, W: Write>(
-    lines: &mut Vec<u8>,
-    items: &mut I,
-    writer: &mut W,
-) -> Result<(), Error>
-    requires empty { lines.old.items ≡ [] }
-    // The answer.
-    ensures printed { OnOk result
-        (PrintsItems W.contents (I.coming items.old) writer.old writer.new) }
-    ensures answers { PrintsRun I.goes I.last items.old result items.new
-        (W.contents writer.old) (W.contents writer.new) }
-    // A refusal.
-    ensures refused { IfErr result
-        (PrintsItemsUntil W.contents (I.coming items.old) writer.old writer.new) }
-    ensures fault { IfErr result (λ error. IsWriterError error ⊎ I.gives (fault_of error)) }
-    // The state after it.
-    ensures prefix { SendsPrefixOfItems W.contents (I.coming items.old) writer.old writer.new }
-    ensures unchanged { I.known items.new ≡ I.known items.old }
-    ensures failures { CountsReads result (I.failures items.old) (I.failures items.new) }
-{
-    while let Some(item) = items.next_item() {
-        match item {
-            Ok(()) => {}
-            Err(error) => return Err(fault_behind(writer, lines.as_slice(), error)),
-        }
-        let room = lines.capacity() - lines.len();
-        if !items.push_last(lines, room)? {
-            pass_anew(writer, lines, items)?;
+/// Prints the events that it takes, each on a line of its own.
+///
+/// Lines are pending in the buffer until the next one may not fit. Then they are sent first, so
+/// that the buffer never grows.
+#[derive(Drop)]
+pub(crate) struct Printer<'p, W> {
+    writer: &'p mut W,
+    lines: &'p mut Vec<u8>,
+    // Why the printer wants no more events: the writer failed, or memory ran out.
+    failure: Error,
+}
+
+impl<'p, W: Write> Printer<'p, W> {
+    ghost use Rattle.plist_commands.specs.Printers.{EndsUnprinted, IsSamePrinter, PrintsLine, pending_lines, printed};
+
+    // Creates a printer. The lines in the buffer are pending.
+    fn new(lines: &'p mut Vec<u8>, writer: &'p mut W) -> Printer<'p, W>
+        ensures writer { result.writer.ghost_name ≡ writer.entry.ghost_name }
+        ensures lines { result.lines.ghost_name ≡ lines.entry.ghost_name }
+        ensures unwritten { result.writer.now ≡ writer.old }
+        ensures pending { result.lines.now ≡ lines.old }
+    {
+        Printer {
+            writer,
+            lines,
+            failure: ErrorKind::OutOfMemory.without_position(),
         }
     }
-    send(writer, lines.as_slice())
+
+    // How many bytes fit into the buffer.
+    #[inline(always)]
+    fn room(&self) -> usize {
+        self.lines.capacity() - self.lines.len()
+    }
+
+    // Keeps a failure.
+    #[cold]
+    fn stop(&mut self, failure: Error) -> ControlFlow<()>
+        requires { IsWriterError failure }
+        ensures { EndsUnprinted self.old result self.new }
+    {
+        self.failure = failure;
+        ControlFlow::Break(())
+    }
+
+    // Keeps the failure that memory for a line was refused.
+    #[cold]
+    #[inline(never)]
+    fn stop_for_memory(&mut self) -> ControlFlow<()>
+        ensures { EndsUnprinted self.old result self.new }
+    {
+        self.stop(ErrorKind::OutOfMemory.without_position())
+    }
+
+    // Prints an event whose line may not fit into the buffer.
+    #[cold]
+    #[inline(never)]
+    fn print_anew(&mut self, event: &Event<'_>) -> ControlFlow<()>
+        ensures { PrintsLine W.contents self.old (event_of event.now) result self.new }
+    {
+        match pass_anew(self.writer, self.lines, event) {
+            Ok(()) => ControlFlow::Continue(()),
+            Err(error) => self.stop(error),
+        }
+    }
+
+    // Prints an event.
+    #[inline(always)]
+    fn print(&mut self, event: &Event<'_>) -> ControlFlow<()>
+        ensures { PrintsLine W.contents self.old (event_of event.now) result self.new }
+    {
+        let room = self.room();
+        match push_short_line(self.lines, event, room) {
+            Ok(true) => ControlFlow::Continue(()),
+            Ok(false) => self.print_anew(event),
+            Err(_) => self.stop_for_memory(),
+        }
+    }
+
+    // Prints a text.
+    #[inline(always)]
+    fn print_text(&mut self, text: &str) -> ControlFlow<()>
+        ensures { PrintsLine W.contents self.old (ScalarEvent (String text.now)) result self.new }
+    {
+        let room = self.room();
+        match push_short_text(self.lines, text, room) {
+            Ok(true) => ControlFlow::Continue(()),
+            Ok(false) => self.print_anew(&Event::String(CowStr::Borrowed(text))),
+            Err(_) => self.stop_for_memory(),
+        }
+    }
+
+    // Prints an event whose line is short. Most lines fit: no `Event` is made for those.
+    #[inline(always)]
+    fn print_short(&mut self, line: ShortLine) -> ControlFlow<()>
+        ensures { PrintsLine W.contents self.old (event_of_short line) result self.new }
+    {
+        if self.room() < MOST_OF_SHORT {
+            return self.print_anew(&line.event());
+        }
+        match push_short(self.lines, line) {
+            Ok(()) => ControlFlow::Continue(()),
+            Err(_) => self.stop_for_memory(),
+        }
+    }
+
+    // Returns the failure for which the printer stopped.
+    fn take_failure(&mut self) -> Error
+        ensures failure { result ≡ self.old.failure }
+        ensures same { IsSamePrinter self.old self.new }
+        ensures writer { self.new.writer.now ≡ self.old.writer.now }
+    {
+        mem::replace(&mut self.failure, ErrorKind::OutOfMemory.without_position())
+    }
+
+    // Prints the events that remain of a source, and sends the lines that are pending.
+    fn print_all<I: EventSource>(&mut self, source: &mut I) -> Result<(), Error>
+        requires empty { pending_lines self.old ≡ [] }
+        ensures ran { PrintsRun I.gives source.old result source.new
+            (printed W.contents self.old) (printed W.contents self.new) }
+        ensures same { IsSamePrinter self.old self.new }
+    {
+        match source.visit(self) {
+            Ok(Visited::Ended) => send(self.writer, self.lines.as_slice()),
+            Ok(Visited::Stopped) => Err(self.take_failure()),
+            Err(error) => Err(fault_behind(self.writer, self.lines.as_slice(), error)),
+        }
+    }
 }
 
-// Sends the lines of the items that are still to come.
-fn send_lines<I: Items, W: Write>(alloc: Global, items: &mut I, writer: &mut W) -> Result<(), Error>
-    // The answer.
-    ensures printed { OnOk result
-        (PrintsItems W.contents (I.coming items.old) writer.old writer.new) }
-    ensures answers { PrintsRun I.goes I.last items.old result items.new
-        (W.contents writer.old) (W.contents writer.new) }
-    // A refusal.
-    ensures refused { IfErr result
-        (PrintsItemsUntil W.contents (I.coming items.old) writer.old writer.new) }
-    ensures fault { IfErr result (λ error. IsWriterError error ⊎ I.gives (fault_of error)) }
-    // The state after it.
-    ensures prefix { SendsPrefixOfItems W.contents (I.coming items.old) writer.old writer.new }
-    ensures unchanged { I.known items.new ≡ I.known items.old }
-    ensures failures { CountsReads result (I.failures items.old) (I.failures items.new) }
-{
-    let mut lines = Vec::with_capacity(alloc, FULL)?;
-    pass_lines(&mut lines, items, writer)
+impl<'p, W: Write> EventVisitor for Printer<'p, W> {
+    ghost use Rattle.plist_commands.specs.Printers.{PrintsLine};
+
+    ghost step = { PrintsLine W.contents };
+
+    #[inline(always)]
+    fn event(&mut self, event: Event<'_>) -> ControlFlow<()> {
+        self.print(&event)
+    }
+
+    #[inline(always)]
+    fn start_array(&mut self, length: Option<u64>) -> ControlFlow<()> {
+        self.print_short(ShortLine::Array(length))
+    }
+
+    #[inline(always)]
+    fn start_dictionary(&mut self, length: Option<u64>) -> ControlFlow<()> {
+        self.print_short(ShortLine::Dictionary(length))
+    }
+
+    #[inline(always)]
+    fn end_collection(&mut self) -> ControlFlow<()> {
+        self.print_short(ShortLine::End)
+    }
+
+    #[inline(always)]
+    fn boolean(&mut self, value: bool) -> ControlFlow<()> {
+        self.print_short(ShortLine::Boolean(value))
+    }
+
+    #[inline(always)]
+    fn integer(&mut self, value: Integer) -> ControlFlow<()> {
+        self.print_short(ShortLine::Integer(value))
+    }
+
+    #[inline(always)]
+    fn uid(&mut self, uid: Uid) -> ControlFlow<()> {
+        self.print_short(ShortLine::Uid(uid))
+    }
+
+    #[inline(always)]
+    fn string(&mut self, text: CowStr<'_>) -> ControlFlow<()> {
+        self.print_text(text.as_str())
+    }
 }
 
-// The same, and then a flush, whose failure is an error only where nothing failed before it.
-pub(crate) fn print_items<I: Items, W: Write>(
+// Prints the events that remain of a source, without a flush.
+fn print_unflushed<I: EventSource, W: Write>(
     alloc: Global,
-    items: &mut I,
+    source: &mut I,
     writer: &mut W,
 ) -> Result<(), Error>
-    // The answer.
-    ensures printed { OnOk result
-        (PrintsItems W.contents (I.coming items.old) writer.old writer.new) }
-    ensures answers { PrintsRun I.goes I.last items.old result items.new
-        (W.contents writer.old) (W.contents writer.new) }
-    // A refusal.
-    ensures refused { IfErr result
-        (PrintsItemsUntil W.contents (I.coming items.old) writer.old writer.new) }
-    ensures fault { IfErr result (λ error. IsWriterError error ⊎ I.gives (fault_of error)) }
-    // The state after it.
-    ensures prefix { SendsPrefixOfItems W.contents (I.coming items.old) writer.old writer.new }
-    ensures unchanged { I.known items.new ≡ I.known items.old }
-    ensures failures { CountsReads result (I.failures items.old) (I.failures items.new) }
+    ensures { PrintsRun I.gives source.old result source.new (W.contents writer.old)
+        (W.contents writer.new) }
 {
-    let sent = send_lines(alloc, items, writer);
+    let mut lines = Vec::with_capacity(alloc, FULL)?;
+    Printer::new(&mut lines, writer).print_all(source)
+}
+
+// Prints the events that remain of a source, and then flushes the writer. A failed flush is an
+// error only if nothing failed before it.
+pub(crate) fn print_source<I: EventSource, W: Write>(
+    alloc: Global,
+    source: &mut I,
+    writer: &mut W,
+) -> Result<(), Error>
+    ensures { PrintsRun I.gives source.old result source.new (W.contents writer.old)
+        (W.contents writer.new) }
+{
+    let sent = print_unflushed(alloc, source, writer);
     let flushed = flush(writer);
     sent?;
     flushed
@@ -287,7 +413,7 @@ pub fn print_reader<S: Source, W: Write>(
     ensures unchanged { S.known (binary_source reader.new) ≡ S.known (binary_source reader.old) }
     ensures failures { CountsReadsOf S.failures reader.old result reader.new }
 {
-    print_items(alloc, reader, writer)
+    print_source(alloc, reader, writer)
 }
 
 /// Prints the events of a source, each on a line of its own, up to the first fault, and flushes the
@@ -311,4 +437,18 @@ pub fn print_events<S: Source, W: Write>(
 {
     let mut reader = BinaryReader::new(alloc, source);
     print_reader(alloc, &mut reader, writer)
+}
+
+/// Prints the events of a value, each on a line of its own, and flushes the writer at the end.
+///
+/// # Errors
+/// `Io` where the writer fails, and `OutOfMemory`, both without an offset; a beginning of the lines
+/// went out. A failed flush is an error only where nothing failed before it.
+pub fn print_value<W: Write>(alloc: Global, value: &Value, writer: &mut W) -> Result<(), Error>
+    ensures printed { OnOk result (PrintsValue W.contents value.now writer.old writer.new) }
+    ensures fault { IfErr result IsWriterError }
+    ensures prefix { SendsPrefixOfValue W.contents value.now writer.old writer.new }
+{
+    let mut events = value.events(alloc);
+    print_source(alloc, &mut events, writer)
 }

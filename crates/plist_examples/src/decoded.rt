@@ -1,10 +1,12 @@
-//! What `advance` yields for objects, and which are decoded only once, however often they are
-//! yielded.
+//! The events that a visitor takes, and which objects are decoded only once, however often they are
+//! referred to.
 
 use crate::rows::Row;
-use plist_binread::{BinaryReader, CompactEvent, DecodeCounter};
+use plist_base::{Event, EventSource, EventVisitor};
+use plist_binread::{BinaryReader, DecodeCounter};
 use plist_support::{Wrong, expect_same, file, word_of};
 use std::alloc::{AllocError, Global};
+use std::ops::ControlFlow;
 
 // Counts the small scalars that were decoded.
 #[derive(Drop)]
@@ -12,7 +14,7 @@ struct Tally {
     raised: u64,
 }
 
-// A reader borrows the tally, so that it can be inspected afterwards.
+// Borrowed by a reader, so that it can be looked at afterwards.
 impl<'a> DecodeCounter for &'a mut Tally {
     ghost counts = { ⊥ };
 
@@ -23,56 +25,49 @@ impl<'a> DecodeCounter for &'a mut Tally {
     }
 }
 
-// Returns the current event in its compact form, as a word.
-fn compact_word<C: DecodeCounter>(
-    alloc: Global,
-    reader: &BinaryReader<&[u8], C>,
-) -> Result<String, AllocError> {
-    match reader.compact() {
-        CompactEvent::Other => {
-            let word = word_of(alloc, &reader.event())?;
-            format!(in alloc; "held:{word}")
-        }
-        CompactEvent::Text => {
-            let text = reader.text();
-            format!(in alloc; "text:{text}")
-        }
-        CompactEvent::Data => {
-            let digits = hex::encode(alloc, reader.data())?;
-            format!(in alloc; "data:{digits}")
-        }
-        CompactEvent::Array(length) => format!(in alloc; "array:{length}"),
-        CompactEvent::Dictionary(length) => format!(in alloc; "dictionary:{length}"),
-        CompactEvent::End => String::from_str(alloc, "end"),
-        CompactEvent::Boolean(value) => format!(in alloc; "boolean:{value}"),
-        CompactEvent::Unsigned(number) => format!(in alloc; "unsigned:{number}"),
-        CompactEvent::Uid(number) => format!(in alloc; "uid:{number}"),
-    }
-}
-
-// Appends the next event, or the text of the error in its place, after a blank.
-fn add_compact<C: DecodeCounter>(
-    alloc: Global,
-    words: &mut String,
-    reader: &mut BinaryReader<&[u8], C>,
-) -> Result<(), AllocError> {
-    let word = match reader.advance() {
-        None => return Ok(()),
-        Some(Ok(())) => compact_word(alloc, reader)?,
-        Some(Err(error)) => error.to_string(alloc)?,
-    };
+// Adds a word after a blank.
+fn add_word(words: &mut String, word: &str) -> Result<(), AllocError> {
     words.push(' ')?;
-    words.push_str(word.as_str())
+    words.push_str(word)
 }
 
-// Returns what eight calls yield for these bytes, each word after a blank.
-fn compact_words(alloc: Global, bytes: &[u8], tally: &mut Tally) -> Result<String, AllocError> {
-    let mut reader = BinaryReader::with_counter(alloc, bytes, tally);
-    let mut words = String::new(alloc);
-    for _ in 0..8 {
-        add_compact(alloc, &mut words, &mut reader)?;
+// Adds the word of each event that it takes, as long as there is memory.
+#[derive(Drop)]
+struct Words {
+    alloc: Global,
+    words: String,
+}
+
+impl Words {
+    fn add(&mut self, event: &Event<'_>) -> Result<(), AllocError> {
+        let word = word_of(self.alloc, event)?;
+        add_word(&mut self.words, word.as_str())
     }
-    Ok(words)
+}
+
+impl EventVisitor for Words {
+    ghost step = { λ _ _ _ _. Unit {0} };
+
+    fn event(&mut self, event: Event<'_>) -> ControlFlow<()> {
+        match self.add(&event) {
+            Ok(()) => ControlFlow::Continue(()),
+            Err(_) => ControlFlow::Break(()),
+        }
+    }
+}
+
+// Returns the events of these bytes, and the error after them, each word after a blank.
+fn words_visited(alloc: Global, bytes: &[u8], tally: &mut Tally) -> Result<String, AllocError> {
+    let mut reader = BinaryReader::with_counter(alloc, bytes, tally);
+    let mut visitor = Words {
+        alloc,
+        words: String::new(alloc),
+    };
+    if let Err(error) = reader.visit(&mut visitor) {
+        let word = error.to_string(alloc)?;
+        add_word(&mut visitor.words, word.as_str())?;
+    }
+    Ok(visitor.words)
 }
 
 // Makes the file of an array that refers twice to an object.
@@ -85,18 +80,18 @@ fn twice(alloc: Global, object: &str) -> Result<Vec<u8>, Wrong> {
 // Returns what a file is expected to yield, after the number of small scalars that are decoded.
 fn wanted_of(alloc: Global, check: &str, words: &str) -> Result<String, AllocError> {
     match check {
-        "kept" => format!(in alloc; "1 array:2 {words} {words} end"),
-        "anew" => format!(in alloc; "0 array:2 {words} {words} end"),
-        _ => format!(in alloc; "0 array:2 {words}"),
+        "kept" => format!(in alloc; "1 [2 {words} {words} end"),
+        "anew" => format!(in alloc; "0 [2 {words} {words} end"),
+        _ => format!(in alloc; "0 [2 {words}"),
     }
 }
 
-/// Runs an example of an object: `kept` is a small scalar, which is decoded once and then yielded
-/// from the cache; what isn't small is read `anew` each time; after a `fault` nothing is yielded.
+/// An example of an object: `kept` is a small scalar, decoded once and then given from the cache;
+/// what isn't small is read `anew` each time; after a `fault` nothing comes.
 pub(crate) fn run(alloc: Global, row: Row<'_>) -> Result<(), Wrong> {
     let bytes = twice(alloc, row.given)?;
     let mut tally = Tally { raised: 0 };
-    let words = compact_words(alloc, bytes.as_slice(), &mut tally)?;
+    let words = words_visited(alloc, bytes.as_slice(), &mut tally)?;
     let found = format!(in alloc; "{}{}", tally.raised, words.as_str())?;
     let wanted = wanted_of(alloc, row.check, row.wanted)?;
     expect_same(alloc, found.as_str(), wanted.as_str())

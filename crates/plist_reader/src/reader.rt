@@ -9,7 +9,10 @@ ghost use Rattle.plist_reader.specs.Reader.{StateGives, all_steps, file_within, 
 use crate::bytes::SourceBytes;
 use crate::format::{Format, format_of};
 use plist_ascii::{AsciiReader, Dialect};
-use plist_base::{Error, ErrorKind, Limited, Limits, OwnedEvent, Source};
+use plist_base::{
+    Error, ErrorKind, EventSource, EventVisitor, Limited, Limits, OwnedEvent, Source, Visited,
+    visit_items,
+};
 use plist_binread::BinaryReader;
 use std::alloc::Global;
 use std::mem;
@@ -211,5 +214,16 @@ impl<R: Source> Iterator for Reader<R> {
             State::Refused(_) | State::Moved => None,
             State::Unread(_, _, _) => self.first(),
         }
+    }
+}
+
+impl<R: Source> EventSource for Reader<R> {
+    ghost use Rattle.plist_base.specs.Visits.{GivesPlain};
+    ghost use Rattle.plist_reader.specs.Reader.{Gives};
+
+    ghost gives = { GivesPlain (Gives R.known R.failures) };
+
+    fn visit<V: EventVisitor>(&mut self, visitor: &mut V) -> Result<Visited, Error> {
+        visit_items(self, visitor)
     }
 }

@@ -9,9 +9,10 @@ ghost use Rattle.plist.specs.ValueTrees.{tree_of};
 
 use crate::Value;
 use crate::dictionary::Iter;
-use plist_base::{Error, ErrorKind, Event};
+use plist_base::{Error, ErrorKind, Event, EventSource, EventVisitor, Visited};
 use std::alloc::Global;
 use std::borrow::{CowSlice, CowStr};
+use std::ops::ControlFlow;
 
 // An open collection, with what is left of it.
 #[derive(Drop)]
@@ -140,5 +141,25 @@ impl<'a> Iterator for Events<'a> {
             Next::Key(key) => Some(Ok(Event::String(CowStr::Borrowed(key.as_str())))),
             Next::Value(value) => Some(self.begin(value)),
         }
+    }
+}
+
+impl<'a> EventSource for Events<'a> {
+    ghost use Rattle.plist_base.specs.Visits.{GivesPlain};
+    ghost use Rattle.plist.specs.Events.{GivesEvent};
+
+    ghost gives = { GivesPlain GivesEvent };
+
+    fn visit<V: EventVisitor>(&mut self, visitor: &mut V) -> Result<Visited, Error> {
+        while let Some(item) = self.next() {
+            match item {
+                Ok(event) => match visitor.event(event) {
+                    ControlFlow::Continue(()) => {}
+                    ControlFlow::Break(()) => return Ok(Visited::Stopped),
+                },
+                Err(error) => return Err(error),
+            }
+        }
+        Ok(Visited::Ended)
     }
 }

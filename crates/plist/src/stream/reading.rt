@@ -2,6 +2,9 @@
 //! traits and types that the readers' contracts name.
 
 pub use plist_ascii::ByteReader;
-pub use plist_base::{Allowance, ByteBudget, EventShape, Limited, Limiter, read_exact_at};
-pub use plist_binread::{CompactEvent, CountedDecodings, DecodeCounter, Uncounted};
+pub use plist_base::{
+    Allowance, ByteBudget, EventShape, EventSource, EventVisitor, Limited, Limiter, Visited,
+    read_exact_at,
+};
+pub use plist_binread::{CountedDecodings, DecodeCounter, Uncounted};
 pub use plist_reader::{Format, format_of};

@@ -25,7 +25,7 @@ returns-clause-refused g c =
 pub returns-clause-answers : goal.returns-clause-answers
 returns-clause-answers g c = (
   Ok c.in_ok-hold_source.field-0,
-  buffered_events c.hold_source.new.pending,
+  buffered_events c.hold_source.new.collector.pending,
   c.in_ok-hold_source.ensures.answers,
   ends_sent _ c.in_ok-hold_source.field-0 c.send_events.result c.if-not-branch.false
       c.send_events.ensures.wrote c.send_events.ensures.nowhere,
@@ -34,7 +34,7 @@ returns-clause-answers g c = (
 pub returns-then-not-branch-clause-answers : goal.returns-then-not-branch-clause-answers
 returns-then-not-branch-clause-answers g c = (
   Ok c.in_ok-hold_source.field-0,
-  buffered_events c.hold_source.new.pending,
+  buffered_events c.hold_source.new.collector.pending,
   c.in_ok-hold_source.ensures.answers,
   ends_left _ c.in_ok-hold_source.field-0 c.if-not-branch.true,
 )

@@ -1,28 +1,59 @@
-use Rattle.std.proofs.Common.{false, subst}
-use Rattle.plist_binwrite.specs.EventBuffers.{buffered_events}
+use Rattle.std.proofs.Common.{ap, false, inl, refl, subst}
+use Rattle.std.specs.Prelude.{is_some}
+use Rattle.plist_reader.specs.Reader.{reader_items}
 use Rattle.plist_commands.specs.Converting.{AreNoTree, FindsTree, IfOkIs, IsRefusedFor}
+use Rattle.plist_commands.specs.Items.{failures_in}
+use Rattle.plist_commands.specs.Holding.{collected}
+use Rattle.plist_commands.specs.ReaderRuns.{StepsReader}
+use Rattle.plist_commands.proofs.Collected.{Concludes, concludes, held_first}
+use Rattle.plist_commands.proofs.Coming.{IsOpen, reader_comes, reader_counts}
 use Rattle.plist_commands.proofs.convert.hold_any.Goals as goal
+use Rattle.plist_commands.proofs.convert.hold_any.Goals.{After-answer}
+
+-- what is known after the visit
+known : (g : _) (c : After-answer g) → Concludes (StepsReader g.S.Source.known g.S.Source.failures)
+    (reader_items g.S.Source.known) (failures_in g.S.Source.failures)
+    c.new-reader.result c.answer.result (c.visit-visited.new.self, c.visit-visited.new.visitor)
+known g c =
+    let gives = StepsReader g.S.Source.known g.S.Source.failures in
+    let coming = reader_items g.S.Source.known in
+    let comes = reader_comes g.S.Source.known g.S.Source.failures in
+    let failures = failures_in g.S.Source.failures in
+    let counts = reader_counts g.S.Source.known g.S.Source.failures in
+    let old = record c.args.collector.now { pauses = false } in
+    concludes gives coming comes failures IsOpen counts c.new-reader.result
+    (c.new-reader.result, old) (c.visit-visited.new.self, c.visit-visited.new.visitor)
+    c.visit-visited.result c.answer.result
+    (held_first gives coming comes failures IsOpen counts (c.new-reader.result, old)
+    (ap is_some c.new-reader.ensures.source) c.requires.empty) c.visit-visited.ensures (inl refl)
+    c.answer.ensures.answer
 
 pub returns-clause-held : goal.returns-clause-held
 returns-clause-held g c =
-    subst (λ items. FindsTree items c.hold_events.result (buffered_events c.hold_events.new.sink))
-    c.new-events.ensures.items c.hold_events.ensures.held
+    let t = (goal.at.returns-clause-held g c).After-answer in
+    rw c.answer.ensures.held
+    (subst (λ items. FindsTree items c.answer.result (collected c.visit-visited.new.visitor))
+    c.new-reader.ensures.items (known g t).held)
 
 pub returns-clause-none : goal.returns-clause-none
 returns-clause-none g c =
-    subst (λ items. IfOkIs c.hold_events.result false (AreNoTree items)) c.new-events.ensures.items
-    c.hold_events.ensures.none
+    let t = (goal.at.returns-clause-none g c).After-answer in
+    subst (λ items. IfOkIs c.answer.result false (AreNoTree items)) c.new-reader.ensures.items
+    (known g t).none
 
 pub returns-clause-refused : goal.returns-clause-refused
 returns-clause-refused g c =
-    subst (λ items. IsRefusedFor items c.hold_events.result) c.new-events.ensures.items
-    c.hold_events.ensures.refused
+    let t = (goal.at.returns-clause-refused g c).After-answer in
+    subst (λ items. IsRefusedFor items c.answer.result) c.new-reader.ensures.items
+    (known g t).refused
 
 pub returns-clause-answers : goal.returns-clause-answers
-returns-clause-answers g c = (
-  c.new-events.result,
-  c.hold_events.new.items,
-  c.new-events.ensures.new,
-  c.hold_events.ensures.answers,
-  c.hold_events.ensures.failures,
-)
+returns-clause-answers g c =
+    let k = known g (goal.at.returns-clause-answers g c).After-answer in
+    rw c.answer.ensures.held (
+      c.new-reader.result,
+      c.visit-visited.new.self,
+      c.new-reader.ensures.new,
+      k.ran,
+      k.counted,
+    )

@@ -1,43 +1,105 @@
-use Rattle.std.proofs.Common.{◌≡◌, ap, false, subst}
+use Rattle.std.proofs.Common.{◌≡◌, ap, false, subst, true}
 use Rattle.plist_binread.specs.BinaryReader.{binary_source, items_to_come}
-use Rattle.plist_binwrite.specs.EventBuffers.{buffered_events}
 use Rattle.plist_commands.specs.Converting.{AreNoTree, FindsTree, IfOkIs, IsRefusedFor, items_left, items_of_known}
+use Rattle.plist_commands.specs.Holding.{collected}
+use Rattle.plist_commands.specs.ReaderRuns.{StepsBinary}
+use Rattle.plist_commands.proofs.Collected.{Concludes, binary_once, binary_twice}
 use Rattle.plist_commands.proofs.Streaming.{binary_items}
 use Rattle.plist_commands.proofs.convert.hold_binary.Goals as goal
-use Rattle.plist_commands.proofs.convert.hold_binary.Goals.{After-hold_events}
+use Rattle.plist_commands.proofs.convert.hold_binary.Goals.{After-answer, After-answer-2, After-visit-first}
 
 -- the reader's items are those of the input
-same_items : (g : _) (c : After-hold_events g) → items_left g.S.Source.known c.new-reader.result
-    ≡ items_of_known (g.S.Source.known c.args.source)
+same_items : (g : _) (c : After-visit-first g)
+    → items_left g.S.Source.known c.new-reader.result ≡ items_of_known (g.S.Source.known c.args.source)
 same_items g c =
-    binary_items (g.S.Source.known c.args.source) (g.S.Source.known
-    (binary_source c.new-reader.result))
-    (λ bytes. items_to_come bytes c.new-reader.result) (ap g.S.Source.known
-    c.new-reader.ensures.source)
-    c.requires.binary c.new-reader.ensures.items
+    binary_items (g.S.Source.known c.args.source)
+    (g.S.Source.known (binary_source c.new-reader.result))
+    (λ bytes. items_to_come bytes c.new-reader.result)
+    (ap g.S.Source.known c.new-reader.ensures.source) c.requires.binary c.new-reader.ensures.items
+
+-- what is known where the collector didn't pause
+after_first : (g : _) (c : After-answer g)
+    → Concludes (StepsBinary g.S.Source.known g.S.Source.failures) (items_left g.S.Source.known)
+    (λ reader. g.S.Source.failures (binary_source reader)) c.new-reader.result c.answer.result
+    (c.visit-first.new.self, c.visit-first.new.visitor)
+after_first g c =
+    binary_once g.S.Source.known g.S.Source.failures c.new-reader.result
+    (record c.args.collector.now { pauses = true }) c.visit-first.result c.visit-first.new.self
+    c.visit-first.new.visitor c.requires.empty c.visit-first.ensures c.answer.result
+    (rw c.if-not-has_paused.true at c.has_paused.ensures) c.answer.ensures.answer
+
+-- and where it did
+after_others : (g : _) (c : After-answer-2 g)
+    → Concludes (StepsBinary g.S.Source.known g.S.Source.failures) (items_left g.S.Source.known)
+    (λ reader. g.S.Source.failures (binary_source reader)) c.new-reader.result c.answer-2.result
+    (c.visit-others.new.self, c.visit-others.new.visitor)
+after_others g c =
+    binary_twice g.S.Source.known g.S.Source.failures c.new-reader.result
+    (record c.args.collector.now { pauses = true }) c.visit-first.result c.visit-first.new.self
+    c.visit-first.new.visitor c.requires.empty c.visit-first.ensures c.expect_scalars.new.self
+    c.visit-others.result c.visit-others.new.self c.visit-others.new.visitor c.answer-2.result
+    (rw c.if-not-has_paused.false at c.has_paused.ensures) c.expect_scalars.ensures.events
+    c.expect_scalars.ensures.whole c.expect_scalars.ensures.pauses c.visit-others.ensures
+    c.answer-2.ensures.answer
+
+pub returns-then-not-has_paused-clause-held : goal.returns-then-not-has_paused-clause-held
+returns-then-not-has_paused-clause-held g c =
+    let t = goal.at.returns-then-not-has_paused-clause-held g c in
+    rw c.answer.ensures.held
+    (subst (λ items. FindsTree items c.answer.result (collected c.visit-first.new.visitor))
+    (same_items g t.After-visit-first) (after_first g t.After-answer).held)
+
+pub returns-then-not-has_paused-clause-none : goal.returns-then-not-has_paused-clause-none
+returns-then-not-has_paused-clause-none g c =
+    let t = goal.at.returns-then-not-has_paused-clause-none g c in
+    subst (λ items. IfOkIs c.answer.result false (AreNoTree items))
+    (same_items g t.After-visit-first) (after_first g t.After-answer).none
+
+pub returns-then-not-has_paused-clause-refused : goal.returns-then-not-has_paused-clause-refused
+returns-then-not-has_paused-clause-refused g c =
+    let t = goal.at.returns-then-not-has_paused-clause-refused g c in
+    subst (λ items. IsRefusedFor items c.answer.result) (same_items g t.After-visit-first)
+    (after_first g t.After-answer).refused
+
+pub returns-then-not-has_paused-clause-answers : goal.returns-then-not-has_paused-clause-answers
+returns-then-not-has_paused-clause-answers g c =
+    let k = after_first g (goal.at.returns-then-not-has_paused-clause-answers g c).After-answer in
+    rw c.answer.ensures.held (
+      c.new-reader.result,
+      c.visit-first.new.self,
+      c.new-reader.ensures.source,
+      c.new-reader.ensures.new,
+      k.ran,
+      k.counted,
+    )
 
 pub returns-clause-held : goal.returns-clause-held
 returns-clause-held g c =
-    subst (λ items. FindsTree items c.hold_events.result (buffered_events c.hold_events.new.sink))
-    (same_items g (goal.at.returns-clause-held g c).After-hold_events) c.hold_events.ensures.held
+    let t = goal.at.returns-clause-held g c in
+    rw c.answer-2.ensures.held
+    (subst (λ items. FindsTree items c.answer-2.result (collected c.visit-others.new.visitor))
+    (same_items g t.After-visit-first) (after_others g t.After-answer-2).held)
 
 pub returns-clause-none : goal.returns-clause-none
 returns-clause-none g c =
-    subst (λ items. IfOkIs c.hold_events.result false (AreNoTree items))
-    (same_items g (goal.at.returns-clause-none g c).After-hold_events) c.hold_events.ensures.none
+    let t = goal.at.returns-clause-none g c in
+    subst (λ items. IfOkIs c.answer-2.result false (AreNoTree items))
+    (same_items g t.After-visit-first) (after_others g t.After-answer-2).none
 
 pub returns-clause-refused : goal.returns-clause-refused
 returns-clause-refused g c =
-    subst (λ items. IsRefusedFor items c.hold_events.result)
-    (same_items g (goal.at.returns-clause-refused g c).After-hold_events)
-    c.hold_events.ensures.refused
+    let t = goal.at.returns-clause-refused g c in
+    subst (λ items. IsRefusedFor items c.answer-2.result) (same_items g t.After-visit-first)
+    (after_others g t.After-answer-2).refused
 
 pub returns-clause-answers : goal.returns-clause-answers
-returns-clause-answers g c = (
-  c.new-reader.result,
-  c.hold_events.new.items,
-  c.new-reader.ensures.source,
-  c.new-reader.ensures.new,
-  c.hold_events.ensures.answers,
-  c.hold_events.ensures.failures,
-)
+returns-clause-answers g c =
+    let k = after_others g (goal.at.returns-clause-answers g c).After-answer-2 in
+    rw c.answer-2.ensures.held (
+      c.new-reader.result,
+      c.visit-others.new.self,
+      c.new-reader.ensures.source,
+      c.new-reader.ensures.new,
+      k.ran,
+      k.counted,
+    )

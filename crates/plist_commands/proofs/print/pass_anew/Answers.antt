@@ -13,7 +13,7 @@ returns-clause-passed g c =
     (both_passed (g.W.Write.contents c.args.out.now) (g.W.Write.contents c.send_waiting.new.writer)
     (g.W.Write.contents c.pass_long.new.out) c.args.lines.now.items c.send_waiting.new.lines.items _
     c.pass_long.new.lines.items c.in_ok-send_waiting.ensures.passed)
-    (rw c.event.ensures at c.pass_long.ensures.passed)
+    c.pass_long.ensures.passed
 
 pub returns-clause-prefix : goal.returns-clause-prefix
 returns-clause-prefix g c =
@@ -21,4 +21,4 @@ returns-clause-prefix g c =
     (both_in_front (g.W.Write.contents c.args.out.now)
     (g.W.Write.contents c.send_waiting.new.writer)
     (g.W.Write.contents c.pass_long.new.out) c.args.lines.now.items c.send_waiting.new.lines.items _
-    c.in_ok-send_waiting.ensures.passed) (rw c.event.ensures at c.pass_long.ensures.prefix)
+    c.in_ok-send_waiting.ensures.passed) c.pass_long.ensures.prefix

@@ -1,0 +1,306 @@
+-- What a collector has taken after a visit.
+use Rattle.std.proofs.Common.{◌≡◌, ℕ, Bool, true, false, List, Option, None, Some, Result, Ok, Err, ap, inl, inr, refl, sym, ◌∙◌, ◌⊎◌, true≢false}
+use Rattle.std.specs.Prelude.{⊤}
+use Rattle.std.proofs.lemmas.Option.{IfSome_then}
+use Rattle.std.specs.declared.ops.ControlFlow.TheVariants.{Continue, Break}
+use Rattle.plist_base.specs.Bracketing.{CanContinue}
+use Rattle.plist_base.specs.declared.error.Error.{Error}
+use Rattle.plist_base.specs.declared.visitor.Visited.{Visited}
+use Rattle.plist_base.specs.declared.visitor.Visited.TheVariants.{Ended, Stopped}
+use Rattle.plist_base.specs.Events.{PlainEvent, Item}
+use Rattle.plist_base.specs.Faults.{Fault, OutOfMemory, error_kind_of, fault_nowhere, fault_of, kind_of}
+use Rattle.plist_base.specs.Sources.{ItemCountsIo}
+use Rattle.plist_base.specs.Visits.{Flow, PlainItem, Visits}
+use Rattle.plist_base.proofs.Refusals.{MatchFault-at}
+use Rattle.plist_base.proofs.Visiting.{kept_all}
+use Rattle.plist_binwrite.specs.EventBuffers.{TestsWhole}
+use Rattle.plist.specs.ValueOfItems.{IsReadIfKnown}
+use Rattle.plist_base.specs.declared.source.Source.{Ghosts}
+use Rattle.plist_binread.specs.BinaryReader.{binary_source}
+use Rattle.plist_reader.specs.Reader.{BinaryReaderOf}
+use Rattle.plist_commands.specs.Converting.{AreNoTree, FindsTree, IfOkIs, IsRefusedFor, items_left}
+use Rattle.plist_commands.specs.declared.collector.Collector.{Collector}
+use Rattle.plist_commands.specs.declared.collector.StopReason.{StopReason}
+use Rattle.plist_commands.specs.declared.collector.StopReason.TheVariants.{Failed, Misplaced, Paused}
+use Rattle.plist_commands.specs.Holding.{AnswersVisit, HasPaused, HoldsMore, IsEmpty, MatchStop, MayPause, CollectsEvent, collected, is_complete}
+use Rattle.plist_commands.specs.Items.{ComesIfKnown}
+use Rattle.plist_commands.specs.Printing.{CountsReads}
+use Rattle.plist_commands.specs.ReaderRuns.{HoldsRun, StepsBinary}
+use Rattle.plist_commands.proofs.Coming.{binary_comes}
+use Rattle.plist_commands.proofs.HeldBack.{fault_counts, memory_own, own_counts}
+use Rattle.plist_commands.proofs.Runs.{HasHeld, held_faulted, held_more, held_none, held_refused, held_stopped, held_whole}
+use Rattle.plist_commands.proofs.Streaming.{HasTaken, came_next, goes_on, held_at_end, taken_none, tells_next, tells_none, took_event, took_fault, whole_at_end}
+
+-- memory may be refused whatever the items are
+read_without_memory : (items : Option (List Item)) (error : Error)
+    → fault_of error ≡ fault_nowhere OutOfMemory → IsReadIfKnown items (Err (fault_of error))
+read_without_memory None error memory = tt
+read_without_memory (Some all) error memory =
+    MatchFault-at (kind_of (error_kind_of error)) OutOfMemory ⊤ ⊤ _
+    (ap (λ (f : Fault). f.kind) memory) tt
+
+module _ {I : Type 0} (gives : I → PlainItem → I → Type 0) (coming : I → Option (List Item))
+    (failures : I → ℕ) where
+  -- what is known after a visit
+  pub record Concludes (old : I) (answer : Result Bool Error) (new : I × Collector) : Type 0 where
+    pub held : FindsTree (coming old) answer (collected new.1)
+    pub none : IfOkIs answer false (AreNoTree (coming old))
+    pub refused : IsRefusedFor (coming old) answer
+    pub ran : HoldsRun gives old answer new.0 (collected new.1)
+    pub counted : CountsReads answer (failures old) (failures new.0)
+
+module _ {I : Type 0} (gives : I → PlainItem → I → Type 0) (coming : I → Option (List Item))
+    (comes : (old : I) (item : PlainItem) (new : I) → gives old item new
+    → ComesIfKnown (coming old) item (coming new)) (failures : I → ℕ) (is_open : I → Type 0)
+    (counts : (old : I) (item : PlainItem) (new : I) → is_open old → gives old item new
+    → ItemCountsIo item (failures old) (failures new) × is_open new) where
+  -- the events that came so far are held
+  pub record Held (first : I) (now : I × Collector) : Type 0 where
+    pub ran : HasHeld gives first now.0 (collected now.1)
+    pub so_far : HasTaken (coming first) (coming now.0) (collected now.1)
+    pub tested : TestsWhole (is_complete now.1) (collected now.1)
+    pub counted : failures now.0 ≡ failures first
+    pub open_still : is_open now.0
+
+  pub held_first : (old : I × Collector) → is_open old.0
+      → IsEmpty (is_complete old.1) (collected old.1) → Held old.0 old
+  held_first old open_first empty = record {
+    ran = held_none gives old.0 (collected old.1) empty.0;
+    so_far = taken_none (coming old.0) (coming old.0) (collected old.1) refl empty.0;
+    tested = tells_none (is_complete old.1) (collected old.1) empty.1 empty.0;
+    counted = refl;
+    open_still = open_first;
+  }
+
+  -- one event more is held
+  held_next : (first : I) (now new : I × Collector) (event : PlainEvent) → Held first now
+      → gives now.0 (Some (Ok event)) new.0
+      → HoldsMore (is_complete new.1) (collected now.1) event (collected new.1) → Held first new
+  held_next first now new event held given (can, grown, tests) =
+      let (same, still) = counts now.0 (Some (Ok event)) new.0 held.open_still given in
+      record {
+        ran = held_more gives first now.0 new.0 event (collected now.1) (collected new.1) held.ran
+            given grown;
+        so_far = IfSome_then (coming first)
+            (came_next (coming first) (coming now.0) (coming new.0) (collected now.1)
+            (Some (Ok event)) held.so_far (comes now.0 (Some (Ok event)) new.0 given))
+            (λ all (left, next, took, to, is).
+            (next, to, took_event all left _ took next event _ is can grown));
+        tested = tells_next (is_complete new.1) (collected now.1) (collected new.1) event grown tests;
+        counted = same ∙ held.counted;
+        open_still = still;
+      }
+
+  -- and so are all that were handed over
+  held_all : (first : I) (old : I × Collector) (visited : Result Visited Error)
+      (new : I × Collector) (visit : Visits gives CollectsEvent old visited new) → Held first old
+      → Held first visit.left × (visit.left.1.pauses ≡ old.1.pauses)
+  held_all first old visited new visit held =
+      kept_all gives CollectsEvent (λ now. Held first now × (now.1.pauses ≡ old.1.pauses))
+      (λ now next event (here, pauses) one. (
+        held_next first now next event here one.given one.taken.1,
+        one.taken.0 ∙ pauses,
+      ))
+      old visit.left visit.events (held, refl) visit.handed
+
+  -- the collector may be another one that holds the same
+  pub held_same : (first now : I) (old new : Collector) → Held first (now, old)
+      → collected new ≡ collected old → is_complete new ≡ is_complete old → Held first (now, new)
+  held_same first now old new held events whole = record {
+    ran = rw events held.ran;
+    so_far = rw events held.so_far;
+    tested = rw (events, whole) held.tested;
+    counted = held.counted;
+    open_still = held.open_still;
+  }
+
+  -- the collector paused
+  pub held_paused : (first : I) (old new : I × Collector) (visited : Result Visited Error)
+      → Held first old → Visits gives CollectsEvent old visited new → HasPaused true new.1 visited
+      → Held first new
+  held_paused first old new (Ok Ended) held visit paused = absurd (true≢false paused)
+  held_paused first old new (Err error) held visit paused = absurd (true≢false paused)
+  held_paused first old new (Ok Stopped) held visit paused =
+      let (here, pauses) = held_all first old (Ok Stopped) new visit held in
+      let (event, one) = visit.ended in by new.1.stop event one.given one.taken paused
+    where
+      by : (stop : StopReason) (event : PlainEvent) → gives visit.left.0 (Some (Ok event)) new.0
+          → MatchStop stop
+          ((visit.left.1.pauses ≡ true)
+          × HoldsMore (is_complete new.1) (collected visit.left.1) event (collected new.1))
+          (TestsWhole (is_complete visit.left.1) (collected visit.left.1)
+          → CanContinue (collected visit.left.1) event → ⊥)
+          (λ error. fault_of error ≡ fault_nowhere OutOfMemory)
+          → MatchStop stop (◌≡◌ {A = Bool} true true) (◌≡◌ {A = Bool} true false)
+          (λ error. ◌≡◌ {A = Bool} true false) → Held first new
+      by Paused event given taken paused =
+          held_next first visit.left new event
+          (held_all first old (Ok Stopped) new visit held).0 given taken.1
+      by Misplaced event given taken paused = absurd (true≢false paused)
+      by (Failed error) event given taken paused = absurd (true≢false paused)
+
+  -- nothing came after them
+  ends_there : (first : I) (left : I × Collector) (new : I) → Held first left
+      → gives left.0 None new
+      → Concludes gives coming failures first (Ok (is_complete left.1)) (new, left.1)
+  ends_there first left new held last =
+      let came = came_next (coming first) (coming left.0) (coming new) (collected left.1) None
+      held.so_far (comes left.0 None new last) in
+      record {
+        held = λ e. let whole = (rw e at held.tested).0 in (
+          whole,
+          IfSome_then (coming first) came
+              (λ all (before, next, took, to, is). held_at_end all before _ took is whole),
+        );
+        none = λ e. IfSome_then (coming first) came (λ all (before, next, took, to, is) tree of.
+            (rw e at held.tested) (whole_at_end all before _ took is tree of));
+        refused = tt;
+        ran = held_whole gives first left.0 new (collected left.1) (is_complete left.1) held.ran last;
+        counted = (counts left.0 None new held.open_still last).0 ∙ held.counted;
+      }
+
+  -- an event came that can't be held, or for which memory was refused
+  stops_there : (first : I) (left new : I × Collector) (event : PlainEvent) (stop : StopReason)
+      (answer : Result Bool Error) → Held first left → gives left.0 (Some (Ok event)) new.0
+      → (stop ≡ Paused → ⊥)
+      → MatchStop stop
+      ((left.1.pauses ≡ true)
+      × HoldsMore (is_complete new.1) (collected left.1) event (collected new.1))
+      (TestsWhole (is_complete left.1) (collected left.1)
+      → CanContinue (collected left.1) event → ⊥)
+      (λ error. fault_of error ≡ fault_nowhere OutOfMemory)
+      → MatchStop stop (answer ≡ Ok false) (answer ≡ Ok false) (λ error. answer ≡ Err error)
+      → Concludes gives coming failures first answer new
+  stops_there first left new event Paused answer held last not_paused taken is =
+      absurd (not_paused refl)
+  stops_there first left new event Misplaced answer held last not_paused cannot is =
+      let came = came_next (coming first) (coming left.0) (coming new.0) (collected left.1)
+      (Some (Ok event)) held.so_far (comes left.0 (Some (Ok event)) new.0 last) in
+      rw is (record {
+        held = λ e. absurd (cc);
+        none = λ e. IfSome_then (coming first) came (λ all (before, next, took, to, is) tree of.
+            cannot held.tested (goes_on all before _ took next event is tree of));
+        refused = tt;
+        ran = held_refused gives first left.0 new.0 event (collected left.1) (collected new.1)
+            held.ran last;
+        counted = (counts left.0 (Some (Ok event)) new.0 held.open_still last).0 ∙ held.counted;
+      })
+  stops_there first left new event (Failed error) answer held last not_paused memory is =
+      rw is (record {
+        held = tt;
+        none = tt;
+        refused = read_without_memory (coming first) error memory;
+        ran = held_stopped gives first left.0 new.0 event (collected left.1) (collected new.1) error
+            held.ran last memory;
+        counted = own_counts error (failures first) (failures new.0) (memory_own error memory)
+            ((counts left.0 (Some (Ok event)) new.0 held.open_still last).0 ∙ held.counted);
+      })
+
+  -- an error came
+  fails_there : (first : I) (left new : I × Collector) (error : Error) → Held first left
+      → gives left.0 (Some (Err error)) new.0
+      → Concludes gives coming failures first (Err error) new
+  fails_there first left new error held last = record {
+    held = tt;
+    none = tt;
+    refused = IfSome_then (coming first)
+        (came_next (coming first) (coming left.0) (coming new.0) (collected left.1)
+        (Some (Err error)) held.so_far (comes left.0 (Some (Err error)) new.0 last))
+        (λ all (before, next, took, to, is).
+        took_fault all before _ took next (fault_of error) is);
+    ran = held_faulted gives first left.0 new.0 (collected left.1) (collected new.1) error held.ran
+        last;
+    counted = fault_counts {A = Unit {0}} error error (failures first) (failures left.0)
+        (failures new.0) held.counted
+        (counts left.0 (Some (Err error)) new.0 held.open_still last).0 (inl (refl, tt));
+  }
+
+  -- a collector that doesn't pause, or didn't
+  pub concludes : (first : I) (old new : I × Collector) (visited : Result Visited Error)
+      (answer : Result Bool Error) → Held first old → Visits gives CollectsEvent old visited new
+      → (old.1.pauses ≡ false) ⊎ HasPaused false new.1 visited → AnswersVisit visited new.1 answer
+      → Concludes gives coming failures first answer new
+  concludes first old new (Ok Ended) answer held visit no_pause is =
+      rw (is, visit.ended.1) (ends_there first visit.left new.0
+      (held_all first old (Ok Ended) new visit held).0 visit.ended.0)
+  concludes first old new (Err error) answer held visit no_pause is =
+      rw is (fails_there first visit.left new error
+      (held_all first old (Err error) new visit held).0 visit.ended.0)
+  concludes first old new (Ok Stopped) answer held visit no_pause is =
+      let (here, pauses) = held_all first old (Ok Stopped) new visit held in
+      let (event, one) = visit.ended in
+      stops_there first visit.left new event new.1.stop answer here one.given
+      (never no_pause event one.taken) one.taken is
+    where
+      never : (old.1.pauses ≡ false) ⊎ HasPaused false new.1 (Ok Stopped) → (event : PlainEvent)
+          → CollectsEvent visit.left.1 event (Break tt) new.1 → new.1.stop ≡ Paused → ⊥
+      never (inl none) event taken paused =
+          true≢false (sym (rw paused at taken).0
+          ∙ (held_all first old (Ok Stopped) new visit held).1 ∙ none)
+      never (inr none) event taken paused = true≢false (sym (rw paused at none))
+
+-- an event that is held, after which the collector may pause
+pub may_pause : (old mid new : Collector) (event : PlainEvent) (flow : Flow)
+    → mid.pauses ≡ old.pauses
+    → HoldsMore (is_complete mid) (collected old) event (collected mid) → MayPause mid flow new
+    → CollectsEvent old event flow new
+may_pause old mid new event (Continue more) pauses holds same = rw same (pauses, holds)
+may_pause old mid new event (Break stop) pauses holds (may, paused, same) =
+    rw (paused, same) (sym pauses ∙ may, holds)
+
+-- ---- a binary reader, of which the collector takes one event first
+
+module _ {S : Type 0} {g : Ghosts S} (known : S → Option (List ℕ)) (failed : S → ℕ)
+    (old : BinaryReaderOf S g) (before : Collector) (first : Result Visited Error)
+    (mid : BinaryReaderOf S g) (taken : Collector)
+    (empty : IsEmpty (is_complete before) (collected before))
+    (visit : Visits (StepsBinary known failed) CollectsEvent (old, before) first (mid, taken)) where
+  -- what is known of a reader
+  abbrev pub BinaryConcludes : Result Bool Error → BinaryReaderOf S g × Collector → Type 0
+  BinaryConcludes answer new =
+      Concludes (StepsBinary known failed) (items_left known)
+      (λ reader. failed (binary_source reader)) old answer new
+
+  abbrev BinaryHeld : BinaryReaderOf S g × Collector → Type 0
+  BinaryHeld now =
+      Held (StepsBinary known failed) (items_left known) (binary_comes known failed)
+      (λ reader. failed (binary_source reader)) (λ _. Unit {0})
+      (λ old item new _ step. (step.gives.failures, tt)) old now
+
+  begun : BinaryHeld (old, before)
+  begun =
+      held_first (StepsBinary known failed) (items_left known) (binary_comes known failed)
+      (λ reader. failed (binary_source reader)) (λ _. Unit {0})
+      (λ old item new _ step. (step.gives.failures, tt)) (old, before) tt empty
+
+  -- it doesn't pause then
+  pub binary_once : (answer : Result Bool Error) → HasPaused false taken first
+      → AnswersVisit first taken answer → BinaryConcludes answer (mid, taken)
+  binary_once answer paused is =
+      concludes (StepsBinary known failed) (items_left known) (binary_comes known failed)
+      (λ reader. failed (binary_source reader)) (λ _. Unit {0})
+      (λ old item new _ step. (step.gives.failures, tt)) old (old, before) (mid, taken) first answer
+      begun visit (inr paused) is
+
+  -- it does, and goes on
+  pub binary_twice : (expecting : Collector) (others : Result Visited Error)
+      (new : BinaryReaderOf S g) (last : Collector) (answer : Result Bool Error)
+      → HasPaused true taken first → collected expecting ≡ collected taken
+      → is_complete expecting ≡ is_complete taken → expecting.pauses ≡ false
+      → Visits (StepsBinary known failed) CollectsEvent (mid, expecting) others (new, last)
+      → AnswersVisit others last answer → BinaryConcludes answer (new, last)
+  binary_twice expecting others new last answer paused events whole pauses rest is =
+      concludes (StepsBinary known failed) (items_left known) (binary_comes known failed)
+      (λ reader. failed (binary_source reader)) (λ _. Unit {0})
+      (λ old item new _ step. (step.gives.failures, tt)) old (mid, expecting) (new, last) others
+      answer held rest (inl pauses) is
+    where
+      held : BinaryHeld (mid, expecting)
+      held =
+          held_same (StepsBinary known failed) (items_left known) (binary_comes known failed)
+          (λ reader. failed (binary_source reader)) (λ _. Unit {0})
+          (λ old item new _ step. (step.gives.failures, tt)) old mid taken expecting
+          (held_paused (StepsBinary known failed) (items_left known) (binary_comes known failed)
+          (λ reader. failed (binary_source reader)) (λ _. Unit {0})
+          (λ old item new _ step. (step.gives.failures, tt)) old (old, before) (mid, taken) first
+          begun visit paused) events whole

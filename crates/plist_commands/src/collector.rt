@@ -1,0 +1,144 @@
+//! The visitor that buffers the events of a property list until all have come.
+
+ghost use Rattle.std.specs.Prelude.{◌≡◌, Bool, IfErr, List, false, true};
+ghost use Rattle.plist_base.specs.Bracketing.{CanContinue};
+ghost use Rattle.plist_base.specs.Events.{event_of};
+ghost use Rattle.plist_base.specs.Outcomes.{OnlyMemory};
+ghost use Rattle.plist_binwrite.specs.EventBuffers.{TestsWhole, buffered_events, is_whole};
+ghost use Rattle.plist_commands.specs.Converting.{IfOkIs};
+ghost use Rattle.plist_commands.specs.Holding.{HoldsMore};
+
+use plist_base::{Error, Event, EventVisitor, Visited};
+use plist_binwrite::event_buffer::EventBuffer;
+use std::alloc::Global;
+use std::mem;
+use std::ops::ControlFlow;
+
+// Buffers the next event, unless it can't come here: then nothing changes.
+#[inline(always)]
+fn take(alloc: Global, pending: &mut EventBuffer, event: Event<'_>) -> Result<bool, Error>
+    ensures taken { IfOkIs result true (HoldsMore (is_whole pending.new) (buffered_events pending.old)
+        (event_of event.entry) (buffered_events pending.new)) }
+    ensures refused { TestsWhole (is_whole pending.old) (buffered_events pending.old)
+        → IfOkIs result false (CanContinue (buffered_events pending.old) (event_of event.entry) → ⊥) }
+    ensures memory { OnlyMemory result }
+{
+    if pending.is_whole() {
+        return Ok(false);
+    }
+    Ok(pending.try_push(alloc, event)?.is_none())
+}
+
+/// Why a collector wants no more events.
+#[derive(Drop)]
+pub(crate) enum StopReason {
+    /// The last event is buffered, and others may follow.
+    Paused,
+    /// The last event can't follow those before it.
+    Misplaced,
+    /// Memory was refused.
+    Failed(Error),
+}
+
+/// Buffers the events that it takes, as long as they can be those of one property list.
+#[derive(Drop)]
+pub(crate) struct Collector {
+    alloc: Global,
+    /// The events.
+    pub(crate) pending: EventBuffer,
+    /// Whether the collector pauses after each event.
+    pub(crate) pauses: bool,
+    // Why the collector wants no more events, if it does.
+    stop: StopReason,
+}
+
+impl Collector {
+    ghost use Rattle.std.specs.Prelude.{[]};
+    ghost use Rattle.plist_commands.specs.Holding.{AnswersVisit, EndsAtEvent, HasPaused, MayPause, collected, is_complete};
+
+    /// Creates a collector that has taken no event.
+    pub(crate) fn new(alloc: Global) -> Collector
+        ensures events { collected result ≡ [] }
+        ensures whole { is_complete result ≡ false }
+    {
+        Collector {
+            alloc,
+            pending: EventBuffer::new(alloc),
+            pauses: false,
+            stop: StopReason::Misplaced,
+        }
+    }
+
+    // Wants no more events.
+    #[cold]
+    fn end(&mut self, stop: StopReason) -> ControlFlow<()>
+        ensures { EndsAtEvent self.old stop result self.new }
+    {
+        self.stop = stop;
+        ControlFlow::Break(())
+    }
+
+    // Wants more events, unless the collector pauses.
+    #[inline(always)]
+    fn go_on(&mut self) -> ControlFlow<()>
+        ensures { MayPause self.old result self.new }
+    {
+        if self.pauses {
+            return self.end(StopReason::Paused);
+        }
+        ControlFlow::Continue(())
+    }
+
+    /// Returns whether the collector paused at a visit that returned this.
+    pub(crate) fn has_paused(&self, visited: &Result<Visited, Error>) -> bool
+        ensures { HasPaused result self.now visited.now }
+    {
+        matches!(visited, Ok(Visited::Stopped)) && matches!(self.stop, StopReason::Paused)
+    }
+
+    /// Pauses no more. How many different scalars are expected is a hint, by which their table
+    /// grows in larger steps: tables that double as they fill take a fifth of the time of a large
+    /// file.
+    pub(crate) fn expect_scalars(&mut self, count: usize)
+        ensures events { collected self.new ≡ collected self.old }
+        ensures whole { is_complete self.new ≡ is_complete self.old }
+        ensures pauses { self.new.pauses ≡ false }
+    {
+        self.pauses = false;
+        self.pending.expect_scalars(count);
+    }
+
+    /// Returns whether the events that were taken are those of a whole property list, after a visit
+    /// that returned this and at which the collector didn't pause.
+    ///
+    /// # Errors
+    /// The error that came in the place of an event, or `OutOfMemory`.
+    pub(crate) fn answer(&mut self, visited: Result<Visited, Error>) -> Result<bool, Error>
+        ensures answer { AnswersVisit visited self.old result }
+        ensures held { self.new.pending ≡ self.old.pending }
+    {
+        match visited {
+            Ok(Visited::Ended) => Ok(self.pending.is_whole()),
+            Ok(Visited::Stopped) => match mem::replace(&mut self.stop, StopReason::Misplaced) {
+                StopReason::Paused | StopReason::Misplaced => Ok(false),
+                StopReason::Failed(error) => Err(error),
+            },
+            Err(error) => Err(error),
+        }
+    }
+}
+
+impl EventVisitor for Collector {
+    ghost use Rattle.plist_commands.specs.Holding.{CollectsEvent};
+
+    ghost step = { CollectsEvent };
+
+    #[inline(always)]
+    fn event(&mut self, event: Event<'_>) -> ControlFlow<()> {
+        match take(self.alloc, &mut self.pending, event) {
+            Ok(true) => self.go_on(),
+            Ok(false) => self.end(StopReason::Misplaced),
+            Err(error) => self.end(StopReason::Failed(error)),
+        }
+    }
+}
