@@ -1,10 +1,10 @@
 -- What loops over an input keep: over runs and comments, byte by byte.
-use Rattle.std.proofs.Common.{◌≡◌, ℕ, ◌+◌, ◌≤◌, List, drop, Option, Some, Result, refl, ap, ◌∙◌, arith, suc, Bool, false, cond, [], ◌∷◌, ◌++◌, length, take, sym, append_assoc, true, None, Ok, Err, rules}
+use Rattle.std.proofs.Common.{◌≡◌, ℕ, ◌+◌, ◌≤◌, List, drop, Option, Some, Result, refl, ap, ◌∙◌, arith, suc, Bool, false, cond, [], ◌∷◌, ◌++◌, length, take, sym, append_assoc, append-nil, true, None, Ok, Err, rules}
 use Rattle.std.proofs.lemmas.List.{drop-drop}
 use Rattle.plist_base.specs.Faults.{FaultKind, IncompleteComment}
 use Rattle.plist_ascii.specs.declared.input.Input.{Input}
 use Rattle.plist_ascii.specs.Taken.{Taken, taken, run, past, past_one}
-use Rattle.plist_ascii.specs.Unread.{unread, IfKnown, TakesFront, TakesPart}
+use Rattle.plist_ascii.specs.Unread.{unread, IfKnown, TakesFront}
 use Rattle.std.proofs.lemmas.Bool.{eq-eqb}
 use Rattle.std.proofs.lemmas.List.Folds.{prefix_len-append}
 use Rattle.std.proofs.Math.Seq.{take-append-add, drop-append-add}
@@ -83,32 +83,41 @@ run_behind : (stop : ℕ → Bool) (part zs : List ℕ) → run stop part ≡ le
 run_behind stop part zs h =
     cc (prefix_len-append _ part zs, eq-eqb _ _ h)
 
--- a byte that is no stop was taken, and then a part
-pub runs_round : {stop : ℕ → Bool} {old more xs : List ℕ} {p : ℕ} {ys : List ℕ} {q : ℕ}
-    → RunsOn stop old more xs p ys q → {c m r : ℕ} {zs longer all : List ℕ}
-    {new : Option (List ℕ)} → (text : List ℕ) → ys ≡ c ∷ zs → stop c ≡ false
-    → m ≡ q + 1 → (k : TakesPart stop m text new r longer zs) → all ≡ more ++ c ∷ k.0
-    → (left : List ℕ) × (new ≡ Some left) × RunsOn stop old all xs p left r
-runs_round {stop} {more} {ys} on {c} text e h s k is =
-    let part : List ℕ = c ∷ k.0 in
-    let zs : List ℕ = k.1 in
-    let same : ys ≡ part ++ zs = e ∙ ap (λ z. c ∷ z) k.2 in
-    let plain : run stop part ≡ length part = rw (h, k.3) (omega arith) in
-    let n : run stop ys ≡ length part + run stop zs = rw same (run_behind _ part zs plain) in
-    let front : take (run stop ys) ys ≡ part ++ take (run stop zs) zs =
-    rw n (rw same (take-append-add part zs _)) in
-    let back : drop (run stop ys) ys ≡ drop (run stop zs) zs =
-    rw n (rw same (drop-append-add part zs _)) in
-    let l : length part ≡ suc (length k.0) = omega arith in (
-      zs,
-      k.5,
+module _ {stop : ℕ → Bool} {old more xs : List ℕ} {p : ℕ} {ys : List ℕ} {q : ℕ}
+    (on : RunsOn stop old more xs p ys q) where
+  -- a part was taken
+  pub runs_part : {r : ℕ} {all : List ℕ} (part zs : List ℕ) → ys ≡ part ++ zs
+      → run stop part ≡ length part → all ≡ more ++ part → r ≡ q + length part
+      → RunsOn stop old all xs p zs r
+  runs_part part zs same plain is s =
+      let n : run stop ys ≡ length part + run stop zs = rw same (run_behind _ part zs plain) in
+      let front : take (run stop ys) ys ≡ part ++ take (run stop zs) zs =
+      rw n (rw same (take-append-add part zs _)) in
+      let back : drop (run stop ys) ys ≡ drop (run stop zs) zs =
+      rw n (rw same (drop-append-add part zs _)) in
       record {
         text = ap (λ z. z ++ take (run stop zs) zs) is ∙ append_assoc more part (take _ zs)
             ∙ ap (λ z. more ++ z) (sym front) ∙ on.text;
         rest = sym back ∙ on.rest;
-        place = omega (arith, n, s, k.6, on.place);
-      },
-    )
+        place = omega (arith, n, s, on.place);
+      }
+
+  -- a byte that is no stop was taken
+  pub runs_byte : {c r : ℕ} {zs all : List ℕ} → ys ≡ c ∷ zs → stop c ≡ false
+      → all ≡ more ++ c ∷ [] → r ≡ q + 1 → RunsOn stop old all xs p zs r
+  runs_byte {c} {zs} e h is s = runs_part (c ∷ []) zs e (rw h refl) is s
+
+  -- a stop is next, or nothing
+  pub runs_end : run stop ys ≡ 0 → (more ≡ old ++ take (run stop xs) xs)
+      × (ys ≡ drop (run stop xs) xs) × (q ≡ p + run stop xs)
+  runs_end none =
+      let text = on.text in
+      let rest = on.rest in
+      let place = on.place in (
+        sym (append-nil more) ∙ rw none at text,
+        rw none at rest,
+        omega (arith, none, place),
+      )
 
 -- what is left of a comment, where the last byte was a star or not
 abbrev pub close_from : Bool → List ℕ → Token

@@ -1,6 +1,6 @@
 -- What looking at a byte and taking it do to the bytes that are left.
 use Rattle.std.proofs.Common.{◌≡◌, ℕ, suc, ◌+◌, ◌-◌, ◌^◌, ◌<◌, ◌≤◌, Bool, true, false, List, [], ◌∷◌, ◌++◌, length, take, drop, Option, None, Some, refl, sym, ap, ◌∙◌, rules, arith}
-use Rattle.std.specs.Prelude.{is_some, IfSome}
+use Rattle.std.specs.Prelude.{is_some, IfSome, ◌==◌, slice_index_or}
 use Rattle.std.specs.Option.{option_map}
 use Rattle.std.specs.Io.KnownBytes.{Consumes}
 use Rattle.std.proofs.lemmas.List.{length-take-le}
@@ -74,6 +74,13 @@ module _ (k : Option (List ℕ)) (e : Bool) (p : Option ℕ) (t : ℕ) (xs : Lis
       let known : unread_of k false None t ≡ Some xs = rw (← h, ← q) g in
       let none = end_unread k _ t xs r known in
       none_looks _ xs none (nothing_unread _ p t ∙ ap Some (sym none))
+
+-- the first of the buffered bytes was read
+pub one_consumed : (k now : Option (List ℕ)) (hand held : List ℕ) → hand ≡ held
+    → (length hand == 0) ≡ false → Consumes k now (take 1 held)
+    → GivesByte k (Some (slice_index_or hand 0 0)) now
+one_consumed k now [] held e some h = cc
+one_consumed k now (c ∷ cs) held e some h = rw (← e) at h
 
 pub one_looks : (k now : Option (List ℕ)) (e : Bool) (p : Option ℕ) (c t : ℕ) (xs : List ℕ)
     → e ≡ false → p ≡ None → t < 2 ^ 64 - 1 → GivesByte k (Some c) now

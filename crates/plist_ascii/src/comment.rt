@@ -4,10 +4,10 @@ ghost use Rattle.std.specs.Prelude.{◌≡◌, ◌≢◌, ◌≤◌, ◌==◌, �
 ghost use Rattle.plist_base.specs.Faults.{Io, OutOfMemory, fault_at, kind_of, error_kind_of};
 ghost use Rattle.plist_base.specs.Outcomes.{OnlyFault};
 ghost use Rattle.plist_ascii.specs.Comments.{line_comment, block_comment};
-ghost use Rattle.plist_ascii.specs.inner.Inputs.{CountsFailed, SkipsRun, GivesToken};
+ghost use Rattle.plist_ascii.specs.inner.Inputs.{CountsFailed, CountsRun, IfAll, SkipsRun, GivesToken};
 
 use crate::byte_reader::ByteReader;
-use crate::input::{Input, Stop};
+use crate::input::{Input, Next, Stop};
 use plist_base::{Error, ErrorKind, OwnedEvent};
 
 // Does this byte close a comment?
@@ -25,17 +25,22 @@ fn is_star(byte: u8) -> bool
 }
 
 impl<R: ByteReader> Input<R> {
-    // Takes the bytes up to a stop.
-    fn skip_run(&mut self, stop: Stop) -> Result<(), Error>
-        ensures value { OnOk result (SkipsRun R.remaining stop self.old self.new) }
-        ensures fault { OnlyFault result (fault_at Io self.new.taken) }
+    /// Takes the bytes up to a stop. It answers whether all of them were taken: if not, a read
+    /// failed, and its error waits in the input.
+    #[inline(always)]
+    pub fn skip_run(&mut self, stop: Stop) -> bool
+        ensures value { IfAll result (SkipsRun R.remaining stop self.old self.new) }
         ensures place { self.old.taken ≤ self.new.taken }
-        ensures failures { CountsFailed R.failures self.old result self.new }
+        ensures failures { CountsRun R.failures self.old result self.new }
     {
-        while let Some(_byte) = self.take_unless(stop)? {
+        'run: loop {
             self.skip_buffered(stop);
+            match self.take_unless(stop) {
+                Next::Byte(_byte) => {}
+                Next::End => return true,
+                Next::Failed => return false,
+            }
         }
-        Ok(())
     }
 
     /// Takes a comment up to its line's end, whose slashes have been taken.
@@ -45,8 +50,10 @@ impl<R: ByteReader> Input<R> {
         ensures nothing { IfOk result (λ event. event ≡ None) }
         ensures failures { CountsFailed R.failures self.old result self.new }
     {
-        self.skip_run(Stop::LineEnd)?;
-        Ok(None)
+        if self.skip_run(Stop::LineEnd) {
+            return Ok(None);
+        }
+        Err(self.read_error())
     }
 
     /// Takes a comment up to and with its `*/`, whose opening has been taken. No byte after it is
@@ -63,13 +70,16 @@ impl<R: ByteReader> Input<R> {
     {
         let mut star = false;
         'bytes: loop {
-            let Some(byte) = self.take()? else {
-                return Err(self.fault(ErrorKind::IncompleteComment));
-            };
-            if closes(star, byte) {
-                return Ok(None);
+            match self.take() {
+                Next::Byte(byte) => {
+                    if closes(star, byte) {
+                        return Ok(None);
+                    }
+                    star = is_star(byte);
+                }
+                Next::End => return Err(self.fault(ErrorKind::IncompleteComment)),
+                Next::Failed => return Err(self.read_error()),
             }
-            star = is_star(byte);
         }
     }
 }

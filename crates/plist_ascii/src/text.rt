@@ -7,19 +7,19 @@ ghost use Rattle.plist_base.specs.Events.{ScalarEvent, event_of};
 ghost use Rattle.plist_ascii.specs.Texts.{bare, bare_event, quoted_event, number_or_text, scalar_of_text};
 ghost use Rattle.plist_ascii.specs.Kinds.{IsTextEvent};
 ghost use Rattle.plist_ascii.specs.Unread.{Means};
-ghost use Rattle.plist_ascii.specs.inner.Inputs.{CountsFailed, OnlyIoOrMemory, AddsRun, bare_until, GivesOne};
+ghost use Rattle.plist_ascii.specs.inner.Inputs.{CountsFailed, CountsTaken, IfWhole, AddsRun, bare_until, GivesOne};
 ghost use Rattle.plist_ascii.specs.inner.Parts.{IsTextOf, IsNoText};
 
 use crate::byte_reader::ByteReader;
-use crate::input::{Input, Stop};
+use crate::input::{Input, Next, Stop};
 use plist_base::{Error, ErrorKind, Event, Integer, OwnedEvent};
-use std::alloc::Global;
+use std::alloc::{AllocError, Global};
 use std::borrow::CowStr;
 
 /// Appends a byte.
-pub fn push_byte(text: &mut Vec<u8>, byte: u8) -> Result<(), Error>
+#[inline(always)]
+pub fn push_byte(text: &mut Vec<u8>, byte: u8) -> Result<(), AllocError>
     ensures value { OnOk result (text.new.items ≡ text.old.items ++ byte ∷ []) }
-    ensures fault { OnlyMemory result }
 {
     text.push(byte)?;
     Ok(())
@@ -64,19 +64,40 @@ pub fn quoted_event(bytes: Vec<u8>) -> Result<OwnedEvent, ErrorKind>
     Ok(Event::String(CowStr::Owned(text)))
 }
 
+/// How a run was taken. It is small, as an `Error` isn't.
+#[derive(Clone, Copy)]
+pub enum RunTaken {
+    /// Up to a stop, or to the end of the bytes.
+    Whole,
+    /// A read failed. Its error waits in the input.
+    Failed,
+    /// Memory was refused.
+    OutOfMemory,
+}
+
 impl<R: ByteReader> Input<R> {
     /// Takes the bytes up to a stop, and appends them.
-    pub fn take_run(&mut self, stop: Stop, text: &mut Vec<u8>) -> Result<(), Error>
-        ensures value { OnOk result (AddsRun R.remaining stop self.old text.old self.new text.new) }
-        ensures fault { OnlyIoOrMemory result self.new }
+    #[inline(always)]
+    pub fn take_run(&mut self, stop: Stop, text: &mut Vec<u8>) -> RunTaken
+        ensures value { IfWhole result (AddsRun R.remaining stop self.old text.old self.new
+            text.new) }
         ensures place { self.old.taken ≤ self.new.taken }
-        ensures failures { CountsFailed R.failures self.old result self.new }
+        ensures failures { CountsTaken R.failures self.old result self.new }
     {
-        while let Some(byte) = self.take_unless(stop)? {
-            push_byte(text, byte)?;
-            self.take_buffered(stop, text)?;
+        'run: loop {
+            if self.take_buffered(stop, text).is_err() {
+                return RunTaken::OutOfMemory;
+            }
+            match self.take_unless(stop) {
+                Next::Byte(byte) => {
+                    if push_byte(text, byte).is_err() {
+                        return RunTaken::OutOfMemory;
+                    }
+                }
+                Next::End => return RunTaken::Whole,
+                Next::Failed => return RunTaken::Failed,
+            }
         }
-        Ok(())
     }
 
     /// Takes a bare text, whose first byte has been taken.
@@ -87,10 +108,13 @@ impl<R: ByteReader> Input<R> {
     {
         let mut text = Vec::new(alloc);
         push_byte(&mut text, first)?;
-        self.take_run(stop, &mut text)?;
-        match bare_event(text) {
-            Ok(event) => Ok(event),
-            Err(kind) => Err(self.fault(kind)),
+        match self.take_run(stop, &mut text) {
+            RunTaken::Whole => match bare_event(text) {
+                Ok(event) => Ok(event),
+                Err(kind) => Err(self.fault(kind)),
+            },
+            RunTaken::Failed => Err(self.read_error()),
+            RunTaken::OutOfMemory => Err(ErrorKind::OutOfMemory.without_position()),
         }
     }
 }

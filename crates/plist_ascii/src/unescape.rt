@@ -9,7 +9,7 @@ ghost use Rattle.plist_ascii.specs.inner.Inputs.{CountsFailed, GivesEscaped, Giv
 ghost use Rattle.plist_ascii.specs.inner.Parts.{IsDigitOf, IsCharOfUnit, IsCharOr};
 
 use crate::byte_reader::ByteReader;
-use crate::input::Input;
+use crate::input::{Input, Next};
 use plist_base::{Error, ErrorKind};
 
 /// What an escape stands for.
@@ -236,12 +236,16 @@ impl<R: ByteReader> Input<R> {
         ensures answers { GivesEscaped R.remaining (second_letter high) self.old result self.new }
         ensures failures { CountsFailed R.failures self.old result self.new }
     {
-        match self.peek()? {
-            Some(byte) if is_unit_letter(byte) => {
-                self.advance();
-                self.second_digits(high)
+        match self.peek() {
+            Next::Byte(byte) => {
+                if is_unit_letter(byte) {
+                    self.advance();
+                    return self.second_digits(high);
+                }
+                Err(self.fault(ErrorKind::InvalidUtf16String))
             }
-            _ => Err(self.fault(ErrorKind::InvalidUtf16String)),
+            Next::End => Err(self.fault(ErrorKind::InvalidUtf16String)),
+            Next::Failed => Err(self.read_error()),
         }
     }
 
