@@ -43,6 +43,8 @@ abbrev pub stops : Stop → ℕ → Bool
 stops stop.Lead c = not (is_blank c)
 stops (stop.Bare dialect) c = ends_bare dialect c
 stops stop.LineEnd c = c == 10
+stops stop.Star c = c == 42
+stops stop.NoSlash c = not (c == 47)
 stops (stop.Quoted quote) c = ends_run quote c
 
 -- a device's fault, or lack of memory, which says nothing of the bytes

@@ -7,10 +7,11 @@ ghost use Rattle.plist_ascii.specs.Taken.{run};
 ghost use Rattle.plist_ascii.specs.Texts.{ends_bare};
 ghost use Rattle.plist_ascii.specs.Ascii.{is_blank};
 ghost use Rattle.plist_ascii.specs.Unread.{unread, stops};
-ghost use Rattle.plist_ascii.specs.inner.Inputs.{CountsFailed, CountsNext, IfByte, IfLooked, IfEnd, Peeks, CanTakeByte, TakesNoMore, DropsOne, TakesByte, HasNothingLeft, StopsRun, TakesPlain, TakesOneMore, CountsByte, IsUnclosedText, SkipsSome, AddsTo};
+ghost use Rattle.plist_ascii.specs.inner.Inputs.{CountsFailed, CountsNext, IfByte, IfLooked, IfEnd, Peeks, CanTakeByte, TakesNoMore, DropsOne, TakesByte, HasNothingLeft, StopsRun, TakesPlain, TakesOneMore, CountsByte, IsUnclosedText, CanTakeRun, SkipsSome, AddsTo, BeginsRun};
 
 use crate::byte_reader::ByteReader;
 use crate::dialect::Dialect;
+use crate::text::push_byte;
 use crate::token::is_blank;
 use plist_base::{Error, ErrorKind};
 use std::alloc::AllocError;
@@ -25,6 +26,10 @@ pub enum Stop {
     Bare(Dialect),
     /// LF.
     LineEnd,
+    /// A star.
+    Star,
+    /// Any byte but a slash.
+    NoSlash,
     /// This quote, or a backslash.
     Quoted(u8),
 }
@@ -54,6 +59,8 @@ pub fn is_stop(stop: Stop, byte: u8) -> bool
         Stop::Lead => !is_blank(byte),
         Stop::Bare(dialect) => ends_bare(dialect, byte),
         Stop::LineEnd => byte == b'\n',
+        Stop::Star => byte == b'*',
+        Stop::NoSlash => byte != b'/',
         Stop::Quoted(quote) => byte == quote || byte == b'\\',
     }
 }
@@ -249,6 +256,7 @@ impl<R: ByteReader> Input<R> {
         ensures some { IfByte result (λ c. TakesPlain R.remaining stop self.old c self.new) }
         ensures none { IfEnd result (StopsRun R.remaining stop self.old self.new) }
         // The state after it.
+        ensures peeked { IfByte result (λ _. self.new.peeked ≡ None) }
         ensures place { CountsByte self.old result self.new }
         ensures failures { CountsNext R.failures self.old result self.new }
     {
@@ -265,6 +273,25 @@ impl<R: ByteReader> Input<R> {
         }
     }
 
+    // How many of the buffered bytes stand before a stop: none where a byte was looked at, or once
+    // the input has ended.
+    #[inline(always)]
+    fn run_at_hand(&self, stop: Stop) -> usize
+        ensures within { result ≤ length (R.held self.now.inner) }
+        ensures countable { self.now.taken + result ≤ 2 ^ 64 - 1 }
+        ensures run { run (stops stop) (take result (R.held self.now.inner)) ≡ result }
+        ensures going { 0 < result → CanTakeRun self.now }
+    {
+        let most = u64::MAX - self.taken;
+        if self.ended {
+            return 0;
+        }
+        if self.peeked.is_some() {
+            return 0;
+        }
+        run_length(stop, self.inner.buffered(), most)
+    }
+
     /// Takes buffered bytes, up to a stop.
     #[inline(always)]
     pub fn skip_buffered(&mut self, stop: Stop)
@@ -272,13 +299,7 @@ impl<R: ByteReader> Input<R> {
         ensures place { self.old.taken ≤ self.new.taken }
         ensures failures { R.failures self.new.inner ≡ R.failures self.old.inner }
     {
-        if self.ended {
-            return;
-        }
-        if self.peeked.is_some() {
-            return;
-        }
-        let count = run_length(stop, self.inner.buffered(), u64::MAX - self.taken);
+        let count = self.run_at_hand(stop);
         self.inner.consume(count);
         self.taken += count as u64;
     }
@@ -290,15 +311,26 @@ impl<R: ByteReader> Input<R> {
         ensures place { self.old.taken ≤ self.new.taken }
         ensures failures { R.failures self.new.inner ≡ R.failures self.old.inner }
     {
-        if self.ended {
-            return Ok(());
-        }
-        if self.peeked.is_some() {
-            return Ok(());
-        }
-        let bytes = self.inner.buffered();
-        let count = run_length(stop, bytes, u64::MAX - self.taken);
-        text.extend_from_slice(&bytes[..count])?;
+        let count = self.run_at_hand(stop);
+        text.extend_from_slice(&self.inner.buffered()[..count])?;
+        self.inner.consume(count);
+        self.taken += count as u64;
+        Ok(())
+    }
+
+    /// Appends a byte, and takes buffered bytes up to a stop and appends them. Room is made for no
+    /// more, since most texts end there.
+    #[inline(always)]
+    pub fn begin_run(&mut self, stop: Stop, first: u8, text: &mut Vec<u8>) -> Result<(), AllocError>
+        ensures value { OnOk result (BeginsRun R.remaining stop self.old first text.old self.new
+            text.new) }
+        ensures place { self.old.taken ≤ self.new.taken }
+        ensures failures { R.failures self.new.inner ≡ R.failures self.old.inner }
+    {
+        let count = self.run_at_hand(stop);
+        text.reserve_exact(count.saturating_add(1))?;
+        push_byte(text, first)?;
+        text.extend_from_slice(&self.inner.buffered()[..count])?;
         self.inner.consume(count);
         self.taken += count as u64;
         Ok(())

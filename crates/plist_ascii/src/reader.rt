@@ -1,11 +1,11 @@
 //! The reader of ASCII property lists.
 
-ghost use Rattle.std.specs.Prelude.{◌≡◌, ◌-◌, ◌^◌, ◌<◌, ◌≤◌, take, None, Some, true, IfSome};
+ghost use Rattle.std.specs.Prelude.{◌≡◌, ◌-◌, ◌<◌, take, None, Some, true, IfSome};
 ghost use Rattle.plist_base.specs.Faults.{kind_of, error_kind_of};
 ghost use Rattle.plist_ascii.specs.Kinds.{IsAsciiItem, IfBracketItem};
 ghost use Rattle.plist_ascii.specs.Unread.{is_io_or_memory};
 ghost use Rattle.plist_ascii.specs.AsciiReader.{TakesBytes, FaultIsAt, EndsAfterIoOrMemory, readable, HoldsLeft};
-ghost use Rattle.plist_ascii.specs.inner.Inputs.{CountsNext, ItemCountsFailed, IfByte, IfEnd, TakesLead, HasOnlyBlanks, GivesToStop, StopsAtQuote, input_steps};
+ghost use Rattle.plist_ascii.specs.inner.Inputs.{ItemCountsFailed, GivesToStop, StopsAtQuote, input_steps};
 
 use crate::byte_reader::ByteReader;
 use crate::dialect::Dialect;
@@ -21,23 +21,6 @@ fn is_io_or_memory(error: &Error) -> bool
 }
 
 impl<R: ByteReader> Input<R> {
-    // Takes white space and separators, and the byte after them.
-    #[inline(always)]
-    fn take_lead(&mut self) -> Next
-        ensures some { IfByte result (λ c. TakesLead R.remaining self.old c self.new) }
-        ensures none { IfEnd result (HasOnlyBlanks R.remaining self.old) }
-        ensures peeked { IfByte result (λ _. self.new.peeked ≡ None) }
-        ensures rises { IfByte result (λ _. self.old.taken < self.new.taken) }
-        ensures place { self.old.taken ≤ self.new.taken }
-        ensures countable { IfByte result (λ _. self.new.taken < 2 ^ 64) }
-        ensures failures { CountsNext R.failures self.old result self.new }
-    {
-        if self.skip_run(Stop::Lead) {
-            return self.take();
-        }
-        Next::Failed
-    }
-
     // Takes tokens up to the first that gives an item.
     fn item(&mut self, alloc: Global, stop: Stop) -> Option<Result<OwnedEvent, Error>>
         // The answer.
@@ -59,7 +42,7 @@ impl<R: ByteReader> Input<R> {
             return None;
         }
         'tokens: loop {
-            match self.take_lead() {
+            match self.take_past(Stop::Lead) {
                 Next::Byte(byte) => match self.token_by(alloc, stop, byte) {
                     Ok(Some(event)) => return Some(Ok(event)),
                     Ok(None) => {}

@@ -1,14 +1,15 @@
 //! Bare texts, and what texts mean.
 
-ghost use Rattle.std.specs.Prelude.{◌≡◌, ◌+◌, ◌≤◌, [], ◌∷◌, ◌++◌, Some, Ok, Err, IfOk, IfErr, OnOk, string_bytes};
+ghost use Rattle.std.specs.Prelude.{◌≡◌, ◌+◌, ◌≤◌, [], ◌∷◌, ◌++◌, None, Some, Ok, Err, false, IfOk, IfErr, OnOk, string_bytes};
 ghost use Rattle.plist_base.specs.Faults.{InvalidUtf8AsciiStream};
-ghost use Rattle.plist_base.specs.Outcomes.{OnlyMemory};
+ghost use Rattle.plist_base.specs.IntegerText.{integer_of_text};
 ghost use Rattle.plist_base.specs.Events.{ScalarEvent, event_of};
 ghost use Rattle.plist_ascii.specs.Texts.{bare, bare_event, quoted_event, number_or_text, scalar_of_text};
 ghost use Rattle.plist_ascii.specs.Kinds.{IsTextEvent};
 ghost use Rattle.plist_ascii.specs.Unread.{Means};
-ghost use Rattle.plist_ascii.specs.inner.Inputs.{CountsFailed, CountsTaken, IfWhole, AddsRun, bare_until, GivesOne};
-ghost use Rattle.plist_ascii.specs.inner.Parts.{IsTextOf, IsNoText};
+ghost use Rattle.plist_ascii.specs.inner.Inputs.{CountsFailed, CountsTaken, IfWhole, AddsRun, AddsBare, bare_until, GivesOne};
+ghost use Rattle.plist_ascii.specs.inner.Parts.{IsTextOf, IsNoText, begins_number};
+ghost use Rattle.std.specs.Char.{is_digit};
 
 use crate::byte_reader::ByteReader;
 use crate::input::{Input, Next, Stop};
@@ -36,10 +37,38 @@ fn text_of(bytes: Vec<u8>) -> Result<String, ErrorKind>
     }
 }
 
+// Is this byte a decimal digit?
+fn is_decimal(byte: u8) -> bool
+    ensures { result ≡ is_digit byte 10 }
+{
+    matches!(byte, b'0'..=b'9')
+}
+
+// Is this byte a sign or a decimal digit?
+fn begins_number(byte: u8) -> bool
+    ensures { result ≡ begins_number byte }
+{
+    byte == b'+' || byte == b'-' || is_decimal(byte)
+}
+
+// May a text of these bytes spell a number? Most don't, as their first byte tells.
+#[tactic(auto, using(crate::proofs::Numbers::no_number))]
+fn may_spell_number(bytes: &[u8]) -> bool
+    ensures { result ≡ false → integer_of_text bytes.now ≡ None }
+{
+    if bytes.is_empty() {
+        return false;
+    }
+    begins_number(bytes[0])
+}
+
 // The number that a text spells, or the text.
 fn number_or_text(text: String) -> OwnedEvent
     ensures { event_of result ≡ ScalarEvent (scalar_of_text (string_bytes text)) }
 {
+    if !may_spell_number(text.as_bytes()) {
+        return Event::String(CowStr::Owned(text));
+    }
     match Integer::from_str(text.as_str()) {
         Ok(number) => Event::Integer(number),
         Err(_) => Event::String(CowStr::Owned(text)),
@@ -100,6 +129,20 @@ impl<R: ByteReader> Input<R> {
         }
     }
 
+    // Takes the bytes up to a stop, and appends this byte and them.
+    #[inline(always)]
+    fn take_bare(&mut self, stop: Stop, first: u8, text: &mut Vec<u8>) -> RunTaken
+        ensures value { IfWhole result (AddsBare R.remaining stop self.old first text.old self.new
+            text.new) }
+        ensures place { self.old.taken ≤ self.new.taken }
+        ensures failures { CountsTaken R.failures self.old result self.new }
+    {
+        if self.begin_run(stop, first, text).is_err() {
+            return RunTaken::OutOfMemory;
+        }
+        self.take_run(stop, text)
+    }
+
     /// Takes a bare text, whose first byte has been taken.
     pub fn bare(&mut self, alloc: Global, stop: Stop, first: u8) -> Result<OwnedEvent, Error>
         ensures answers { GivesOne R.remaining (bare_until stop first) self.old result self.new }
@@ -107,8 +150,7 @@ impl<R: ByteReader> Input<R> {
         ensures failures { CountsFailed R.failures self.old result self.new }
     {
         let mut text = Vec::new(alloc);
-        push_byte(&mut text, first)?;
-        match self.take_run(stop, &mut text) {
+        match self.take_bare(stop, first, &mut text) {
             RunTaken::Whole => match bare_event(text) {
                 Ok(event) => Ok(event),
                 Err(kind) => Err(self.fault(kind)),

@@ -4,6 +4,7 @@ ghost use Rattle.std.specs.Prelude.{◌≡◌, ◌+◌, ◌*◌, ◌<◌, ◌≤
 ghost use Rattle.std.specs.Char.{is_digit};
 ghost use Rattle.std.specs.Char.Utf16.{is_high_surrogate, is_low_surrogate};
 ghost use Rattle.plist_base.specs.Faults.{InvalidOctalString, InvalidUtf16String};
+ghost use Rattle.plist_ascii.specs.Bytes.{capital_u, small_u};
 ghost use Rattle.plist_ascii.specs.Escapes.{simple_escape, octal, octal_char, octal_text, unit, unit_of, is_surrogate, pair_text, first_unit, second_unit, second_letter, second_digits, unicode, escape, escape_by};
 ghost use Rattle.plist_ascii.specs.inner.Inputs.{CountsFailed, GivesEscaped, GivesUnit};
 ghost use Rattle.plist_ascii.specs.inner.Parts.{IsDigitOf, IsCharOfUnit, IsCharOr};
@@ -45,7 +46,9 @@ fn simple_of(byte: u8) -> Option<u8>
     ensures { result ≡ simple_escape byte }
 {
     match byte {
-        b'\\' | b'"' | b'\'' => Some(byte),
+        b'\\' => Some(b'\\'),
+        b'"' => Some(b'"'),
+        b'\'' => Some(b'\''),
         b'a' => Some(7),
         b'b' => Some(8),
         b'f' => Some(12),
@@ -122,7 +125,7 @@ fn lone_char(unit: u16) -> Option<char>
 
 // Does this byte begin a unit after its backslash?
 fn is_unit_letter(byte: u8) -> bool
-    ensures { result ≡ (byte == 117) || (byte == 85) }
+    ensures { result ≡ (byte == small_u) || (byte == capital_u) }
 {
     byte == b'u' || byte == b'U'
 }

@@ -1,6 +1,6 @@
 -- What calls of an input do to the bytes that are still to be taken, to the place where those taken
 -- end, and to the count of failures.
-use Rattle.std.specs.Prelude.{◌≡◌, ◌⊎◌, ℕ, ◌+◌, ◌-◌, ◌^◌, ◌<◌, ◌≤◌, Bool, true, false, List, [], ◌∷◌, ◌++◌, take, drop, Option, None, Some, Result, IfOk, IfSome, IsSome, vec_items, ⊤}
+use Rattle.std.specs.Prelude.{◌≡◌, ◌⊎◌, ℕ, ◌+◌, ◌-◌, ◌^◌, ◌<◌, ◌≤◌, Bool, true, false, List, [], ◌∷◌, ◌++◌, take, drop, Option, None, Some, Result, IfOk, IfSome, IsSome, is_some, vec_items, ⊤}
 use Rattle.std.specs.Option.{option_map}
 use Rattle.std.specs.declared.alloc.Global.{Global}
 use Rattle.std.specs.declared.vec.Vec.{Vec}
@@ -13,9 +13,8 @@ use Rattle.plist_ascii.specs.declared.input.Input.{Input}
 use Rattle.plist_ascii.specs.declared.input.Next.{Next}
 use Rattle.plist_ascii.specs.declared.input.Next.TheVariants as next
 use Rattle.plist_ascii.specs.declared.input.Stop.{Stop}
-use Rattle.plist_ascii.specs.declared.input.Stop.TheVariants as stop
 use Rattle.plist_ascii.specs.declared.text.RunTaken.{RunTaken}
-use Rattle.plist_ascii.specs.declared.text.RunTaken.TheVariants as taken
+use Rattle.plist_ascii.specs.declared.text.RunTaken.TheVariants as ran
 use Rattle.plist_ascii.specs.Taken.{Taken, run}
 use Rattle.plist_ascii.specs.Texts.{Token, bare}
 use Rattle.plist_ascii.specs.Ascii.{lead_of, token_by, placed_items, IsTextToken}
@@ -80,9 +79,9 @@ IfAll false P = ⊤
 
 -- this is so where a run was taken whole
 abbrev pub IfWhole : RunTaken → Type 0 → Type 0
-IfWhole taken.Whole P = P
-IfWhole taken.Failed P = ⊤
-IfWhole taken.OutOfMemory P = ⊤
+IfWhole ran.Whole P = P
+IfWhole ran.Failed P = ⊤
+IfWhole ran.OutOfMemory P = ⊤
 
 -- this is so of the byte that a look finds, and of none at the end
 abbrev pub IfLooked : Next → (Option ℕ → Type 0) → Type 0
@@ -105,9 +104,9 @@ TakesOneMore old new = (new.taken ≡ old.taken + 1) × (new.taken < 2 ^ 64)
 
 -- the same of a run that was appended; where memory was refused, the count is as it was
 abbrev pub CountsTaken : {R : Type 0} → (R → Option ℕ) → Input R → RunTaken → Input R → Type 0
-CountsTaken failures old taken.Whole new = failures new.inner ≡ failures old.inner
-CountsTaken failures old taken.Failed new = ReadFailed failures old new
-CountsTaken failures old taken.OutOfMemory new = failures new.inner ≡ failures old.inner
+CountsTaken failures old ran.Whole new = failures new.inner ≡ failures old.inner
+CountsTaken failures old ran.Failed new = ReadFailed failures old new
+CountsTaken failures old ran.OutOfMemory new = failures new.inner ≡ failures old.inner
 
 -- one more byte is taken where one came, else none
 abbrev pub CountsByte : {R : Type 0} → Input R → Next → Input R → Type 0
@@ -120,6 +119,10 @@ CountsByte old next.Failed new = new.taken ≡ old.taken
 -- one byte or more was taken
 abbrev pub TakesSomeMore : {R : Type 0} → Input R → Input R → Type 0
 TakesSomeMore old new = (old.taken < new.taken) × (old.taken < 2 ^ 64)
+
+-- buffered bytes can be taken
+abbrev pub CanTakeRun : {R : Type 0} → Input R → Type 0
+CanTakeRun input = (input.ended ≡ false) × (is_some input.peeked ≡ false)
 
 -- ---- what stands at the front
 
@@ -180,15 +183,17 @@ module _ {R : Type 0} (known : R → Option (List ℕ)) where
       (unread known new ≡ Some (drop (run (stops stop) xs) xs))
       × (new.taken ≡ old.taken + run (stops stop) xs))
 
-  -- blanks were taken, and this byte after them
-  abbrev pub TakesLead : Input R → ℕ → Input R → Type 0
-  TakesLead old byte new = IfKnown (unread known old) (λ xs.
-      let n = run (stops stop.Lead) xs in (ys : List ℕ) × (drop n xs ≡ byte ∷ ys)
+  -- the run was taken, and this byte after it
+  abbrev pub TakesPast : Stop → Input R → ℕ → Input R → Type 0
+  TakesPast stop old byte new = IfKnown (unread known old) (λ xs.
+      let n = run (stops stop) xs in (ys : List ℕ) × (drop n xs ≡ byte ∷ ys)
       × (unread known new ≡ Some ys) × (new.taken ≡ old.taken + n + 1))
 
-  -- blanks are left, or nothing is
-  abbrev pub HasOnlyBlanks : Input R → Type 0
-  HasOnlyBlanks old = IfKnown (unread known old) (λ xs. drop (run (stops stop.Lead) xs) xs ≡ [])
+  -- the run was taken, and nothing stands after it
+  abbrev pub HasNoStop : Stop → Input R → Input R → Type 0
+  HasNoStop stop old new = IfKnown (unread known old) (λ xs.
+      let n = run (stops stop) xs in (drop n xs ≡ []) × (unread known new ≡ Some (drop n xs))
+      × (new.taken ≡ old.taken + n))
 
   -- the run was taken, and stands after the text
   abbrev pub AddsRun : Stop → Input R
@@ -208,6 +213,21 @@ module _ {R : Type 0} (known : R → Option (List ℕ)) where
       → (text : Vec ℕ Global) → Input R → (longer : Vec ℕ Global) → Type 0
   AddsTo stop old text new longer = IfKnown (unread known old)
       (TakesPart (stops stop) old.taken text.items (unread known new) new.taken longer.items)
+
+  -- some of the run was taken, and stands after the text and this byte
+  abbrev pub BeginsRun : Stop → Input R → (byte : ℕ) → (text : Vec ℕ Global) → Input R
+      → (longer : Vec ℕ Global) → Type 0
+  BeginsRun stop old byte text new longer = IfKnown (unread known old)
+      (TakesPart (stops stop) old.taken (text.items ++ byte ∷ []) (unread known new) new.taken
+      longer.items)
+
+  -- the run was taken, and stands after the text and this byte
+  abbrev pub AddsBare : Stop → Input R → (byte : ℕ) → (text : Vec ℕ Global) → Input R
+      → (longer : Vec ℕ Global) → Type 0
+  AddsBare stop old byte text new longer = IfKnown (unread known old) (λ xs.
+      (longer.items ≡ text.items ++ (byte ∷ take (run (stops stop) xs) xs))
+      × (unread known new ≡ Some (drop (run (stops stop) xs) xs))
+      × (new.taken ≡ old.taken + run (stops stop) xs))
 
   -- what stands after a run was taken: the closing quote, or an escape that stands for a piece
   abbrev pub TakesEnd : (quote : ℕ) → Input R → Input R

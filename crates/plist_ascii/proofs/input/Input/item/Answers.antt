@@ -43,7 +43,7 @@ pub returns-in-End-clause-items : goal.returns-in-End-clause-items
 returns-in-End-clause-items g c = λ xs e.
     let i = c.tokens.invariant.goes xs e in
     let none = c.in-End.ensures.none i.0 i.1 in
-    ([], c.end-in-End.ensures.unread, (going_none (going_blanks i.2) none, refl))
+    ([], c.end-in-End.ensures.unread, (going_none (going_blanks i.2) none.0, refl))
 
 pub returns-in-Failed-clause-items : goal.returns-in-Failed-clause-items
 returns-in-Failed-clause-items g c = λ xs e. (
