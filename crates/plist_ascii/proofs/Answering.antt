@@ -1,15 +1,33 @@
--- How the results of a token's parts make up the result of the whole.
-use Rattle.std.proofs.Common.{◌≡◌, ℕ, Bool, true, false, None, Some, sym, ap, subst, ◌∙◌, rules, suc, ◌+◌, ◌≤◌, List, [], ◌∷◌, length, drop, Option, Result, Ok, Err, refl, arith}
+-- How the answers of the parts of a token make the answer of the whole.
+use Rattle.std.proofs.Common.{◌≡◌, ℕ, Bool, true, false, None, Some, sym, ap, subst, ◌∙◌, rules, suc, ◌+◌, ◌≤◌, List, [], ◌∷◌, ◌++◌, append_assoc, length, drop, Option, Result, Ok, Err, refl, arith}
 use Rattle.std.specs.Option.{option_map}
-use Rattle.std.specs.Result.{IsErrAnd, IfErr}
+use Rattle.std.specs.Result.{IsErrAnd, IfErr, OnOk, is_err}
 use Rattle.std.proofs.lemmas.List.{drop-drop}
 use Rattle.plist_base.specs.declared.error.Error.{Error}
-use Rattle.plist_base.specs.Faults.{Fault, FaultKind, Io, OutOfMemory, MatchFault, fault_of, fault_at, fault_nowhere, kind_of, error_kind_of, UnclosedString}
+use Rattle.plist_base.specs.Faults.{Fault, FaultKind, Io, OutOfMemory, MatchFault, fault_of, fault_at, kind_of, error_kind_of, UnclosedString}
+use Rattle.plist_ascii.specs.declared.text.RunTaken.{RunTaken}
+use Rattle.plist_ascii.specs.inner.Inputs.{IfWhole}
 use Rattle.plist_ascii.specs.Kinds.{IsFaultOfBytes}
 use Rattle.plist_ascii.specs.Unread.{IsFaultAt, is_io_or_memory, IfKnown, FirstIsTaken, TakesFront, GivesFront}
 use Rattle.plist_ascii.specs.Taken.{Taken, taken, past_one, past_outcome, followed, front, front_gives, needs}
 
--- what is true of an error that is passed on is true of the result's error
+-- where a call succeeded, this is so
+pub on_ok : {X E : Type 0} (r : Result X E) (P : Type 0) → is_err r ≡ false → OnOk r P → P
+on_ok (Ok x) P e h = h
+on_ok (Err f) P e h = cc
+
+pub joined : (a b c d : List ℕ) → a ≡ b ++ d → b ≡ c → a ≡ c ++ d
+joined a b c d e f = rw (← f) e
+
+pub regrouped : (all text run : List ℕ) (c : ℕ) → all ≡ (text ++ c ∷ []) ++ run
+    → all ≡ text ++ (c ∷ run)
+regrouped all text run c e = e ∙ append_assoc text (c ∷ []) run
+
+-- where a run was taken whole, more is so
+pub whole_by : (r : RunTaken) (P Q : Type 0) → IfWhole r P → (P → Q) → IfWhole r Q
+whole_by r P Q p h = search rules
+
+-- what is so of a fault that is passed on is so of the answer
 pub passed_on : {X : Type 0} (P : Error → Type 0) (r : Result X Error) (f : Error)
     → IsErrAnd r (λ e. e ≡ f) → P f → IfErr r P
 passed_on P (Ok x) f h k = tt
@@ -55,7 +73,7 @@ inside_is f place i h =
 no_both : (b : Bool) → b ≡ true → b ≡ false → ⊥
 no_both b t f = cc
 
--- `Io` says nothing of the bytes
+-- a device's fault says nothing of the bytes
 pub io_outside : (f : Error) (place : ℕ) → fault_of f ≡ fault_at Io place
     → IsFaultAt (fault_of f) place × (is_io_or_memory (kind_of (error_kind_of f)) ≡ true)
 io_outside f place e = (
@@ -63,14 +81,7 @@ io_outside f place e = (
   ap (λ (fault : Fault). is_io_or_memory fault.kind) e,
 )
 
-pub memory_outside : (f : Error) (place : ℕ) → fault_of f ≡ fault_nowhere OutOfMemory
-    → IsFaultAt (fault_of f) place × (is_io_or_memory (kind_of (error_kind_of f)) ≡ true)
-memory_outside f place e = (
-  subst (λ (fault : Fault). IsFaultAt fault place) (sym e) refl,
-  ap (λ (fault : Fault). is_io_or_memory fault.kind) e,
-)
-
--- `Io` doesn't say that the input ended where a byte was required
+-- it doesn't say that the input ended where a byte had to be taken
 pub io_unclosed : (f : Error) (place : ℕ) → fault_of f ≡ fault_at Io place → {P : Type 0}
     → IsFaultAt (fault_of f) place × (is_io_or_memory (kind_of (error_kind_of f)) ≡ false → P)
 io_unclosed f place e =
@@ -98,13 +109,6 @@ module _ {X A : Type 0} (view : X → A) where
   answers_passed front old p new q (Ok x) f h a = absurd h
   answers_passed front old p new q (Err e) f h a =
       subst (λ e. GivesFront view front old p new q (Err e)) (sym h) a
-
-  -- `Io` and `OutOfMemory` say nothing of the bytes
-  pub answers_outside : (front : List ℕ → Taken A) (old : Option (List ℕ)) (p : ℕ)
-      (new : Option (List ℕ)) (q : ℕ) (f : Error)
-      → IsFaultAt (fault_of f) q × (is_io_or_memory (kind_of (error_kind_of f)) ≡ true) → p ≤ q
-      → GivesFront view front old p new q (Err f)
-  answers_outside front old p new q f a le = (a.0, le, λ d xs e. absurd (no_both _ a.1 d))
 
   -- the next byte was only looked at
   pub answers_looked : (front back : List ℕ → Taken A) (old mid : Option (List ℕ)) (p m : ℕ)

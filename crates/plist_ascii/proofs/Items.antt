@@ -1,12 +1,14 @@
 -- Items, token by token.
-use Rattle.std.proofs.Common.{◌≡◌, ℕ, zero, suc, ◌+◌, ◌-◌, ◌≤◌, Bool, List, [], ◌∷◌, length, drop, map, Option, None, Some, Result, Ok, Err, refl, sym, ap, subst, ◌∙◌, arith, rules, length-drop}
+use Rattle.std.proofs.Common.{◌≡◌, ℕ, zero, suc, ◌+◌, ◌-◌, ◌≤◌, Bool, true, false, List, [], ◌∷◌, length, drop, map, Option, None, Some, Result, Ok, Err, refl, sym, ap, subst, ◌∙◌, arith, rules, length-drop}
+use Rattle.std.specs.Prelude.{not}
 use Rattle.std.proofs.lemmas.List.{drop-drop}
 use Rattle.plist_base.specs.Faults.{FaultKind, Fault, fault_at}
 use Rattle.plist_base.specs.Events.{PlainEvent, Item}
+use Rattle.plist_ascii.specs.Taken.{taken, run}
 use Rattle.plist_ascii.specs.Texts.{Token}
 use Rattle.plist_ascii.specs.declared.token.Lead.{Lead}
 use Rattle.plist_ascii.specs.declared.token.Lead.TheVariants as lead
-use Rattle.plist_ascii.specs.Ascii.{PlacedItem, placed, item_then, items_in, items_of_ascii, placed_items, token, token_by, lead_of, IsTextToken, BeginsWithText, FirstIsQuoted}
+use Rattle.plist_ascii.specs.Ascii.{PlacedItem, placed, begins_nothing, is_blank, item_then, items_in, items_of_ascii, placed_items, token, token_by, lead_of, IsTextToken, BeginsWithText, FirstIsQuoted}
 use Rattle.plist_ascii.specs.AsciiReader.{BeginsWithItem}
 
 then_same : (l : Lead) (q : ℕ) (g : Result (Option PlainEvent) FaultKind) (xs ys : List PlacedItem)
@@ -65,6 +67,13 @@ begins : (stops : ℕ → Bool) (xs : List ℕ) (p : ℕ) (l : Lead) (x : Item) 
 begins stops xs p l x ys q e d =
     record { items = ap (map (λ i. i.item)) e; lead = l; ends = e; rest = d }
 
+blank_leads : (l : Lead) → begins_nothing l ≡ true → l ≡ lead.Blank
+blank_leads l e = search rules
+
+blank_gives : (stops : ℕ → Bool) (c : ℕ) (cs : List ℕ) → lead_of c ≡ lead.Blank
+    → token_by stops (lead_of c) c cs ≡ taken 0 (Ok None)
+blank_gives stops c cs e = rw e refl
+
 text_first : (l : Lead) (q : ℕ) (g : Result (Option PlainEvent) FaultKind) (more : List PlacedItem)
     → IsTextToken g → BeginsWithText (map (λ i. i.item) (item_then l q g more))
 text_first l q g more h = search rules
@@ -121,6 +130,34 @@ module _ {stops : ℕ → Bool} {xs : List ℕ} {p : ℕ} {ys : List ℕ} {m c :
     pub going_quoted : {x : PlainEvent} → token_here.gives ≡ Ok (Some x)
         → FirstIsQuoted (placed_items stops xs p) → lead_of c ≡ lead.Quote
     going_quoted g first = subst FirstIsQuoted (going_by _ g) first
+
+-- blanks give nothing
+pub going_blanks : {stops : ℕ → Bool} {xs : List ℕ} {p : ℕ} {ys : List ℕ} {m : ℕ}
+    → Going stops xs p ys m → let n = run (λ c. not (is_blank c)) ys in
+    Going stops xs p (drop n ys) (m + n)
+going_blanks {ys = []} {m} h =
+    let none : m + 0 ≡ m = omega arith in rw none h
+going_blanks {stops} {xs} {p} {ys = c ∷ cs} {m} h =
+    by_test (is_blank c) refl (λ left. going_blanks {ys = cs} left)
+  where
+    n : ℕ
+    n = run (λ c. not (is_blank c)) cs
+
+    by_test : (b : Bool) → is_blank c ≡ b
+        → (Going stops xs p cs (m + 1) → Going stops xs p (drop n cs) (m + 1 + n))
+        → let k = run (λ c. not (is_blank c)) (c ∷ cs) in
+        Going stops xs p (drop k (c ∷ cs)) (m + k)
+    by_test false e on = let none : m + 0 ≡ m = omega arith in rw (e, none) h
+    by_test true e on =
+        let one : 1 + n ≡ suc n = omega arith in
+        let sum : m + suc n ≡ m + 1 + n = omega arith in
+        let blank = blank_gives stops c cs (blank_leads (lead_of c) e) in
+        let bytes : m + 1 ≡ m + 1 + (token_by stops (lead_of c) c cs).bytes =
+        rw blank (omega arith) in
+        let next : Going stops xs p (drop (token_by stops (lead_of c) c cs).bytes cs) (m + 1) =
+        going_skip h refl refl bytes (ap (λ t. t.gives) blank) in
+        let left : Going stops xs p cs (m + 1) = rw blank at next in
+        rw (e, one, sum) (on left)
 
 pub going_none : {stops : ℕ → Bool} {xs : List ℕ} {p : ℕ} {ys : List ℕ} {m : ℕ}
     → Going stops xs p ys m → ys ≡ [] → items_of_ascii stops xs p ≡ []

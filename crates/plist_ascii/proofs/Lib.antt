@@ -4,4 +4,5 @@ pub mod Quotes
 pub mod Loops
 pub mod Items
 pub mod Texts
+pub mod Numbers
 pub mod Dialects

@@ -1,14 +1,15 @@
--- What loops over an input maintain: over runs and comments, byte by byte.
-use Rattle.std.proofs.Common.{◌≡◌, ℕ, ◌+◌, ◌≤◌, List, drop, Option, Some, Result, refl, ap, ◌∙◌, arith, suc, Bool, false, cond, [], ◌∷◌, ◌++◌, length, take, sym, append_assoc, true, None, Ok, Err, rules}
+-- What loops over an input keep: over runs and comments, byte by byte.
+use Rattle.std.proofs.Common.{◌≡◌, ℕ, ◌+◌, ◌≤◌, List, drop, Option, Some, Result, refl, ap, ◌∙◌, arith, suc, Bool, false, cond, [], ◌∷◌, ◌++◌, length, take, sym, append_assoc, append-nil, true, None, Ok, Err, rules, subst}
 use Rattle.std.proofs.lemmas.List.{drop-drop}
 use Rattle.plist_base.specs.Faults.{FaultKind, IncompleteComment}
+use Rattle.plist_base.specs.Events.{PlainEvent}
 use Rattle.plist_ascii.specs.declared.input.Input.{Input}
 use Rattle.plist_ascii.specs.Taken.{Taken, taken, run, past, past_one}
-use Rattle.plist_ascii.specs.Unread.{unread, IfKnown, TakesFront, TakesPart}
+use Rattle.plist_ascii.specs.Unread.{unread, IfKnown, TakesFront}
 use Rattle.std.proofs.lemmas.Bool.{eq-eqb}
 use Rattle.std.proofs.lemmas.List.Folds.{prefix_len-append}
 use Rattle.std.proofs.Math.Seq.{take-append-add, drop-append-add}
-use Rattle.std.specs.Prelude.{◌==◌, ◌&&◌}
+use Rattle.std.specs.Prelude.{◌==◌, not}
 use Rattle.std.specs.Option.{option_map}
 use Rattle.plist_ascii.specs.Comments.{close_at, begins_with, block_comment, block_comment_to}
 use Rattle.plist_ascii.specs.Texts.{Token}
@@ -83,96 +84,181 @@ run_behind : (stop : ℕ → Bool) (part zs : List ℕ) → run stop part ≡ le
 run_behind stop part zs h =
     cc (prefix_len-append _ part zs, eq-eqb _ _ h)
 
--- a byte that isn't a stop was taken, and then a part
-pub runs_round : {stop : ℕ → Bool} {old more xs : List ℕ} {p : ℕ} {ys : List ℕ} {q : ℕ}
-    → RunsOn stop old more xs p ys q → {c m r : ℕ} {zs longer all : List ℕ}
-    {new : Option (List ℕ)} → (text : List ℕ) → ys ≡ c ∷ zs → stop c ≡ false
-    → m ≡ q + 1 → (k : TakesPart stop m text new r longer zs) → all ≡ more ++ c ∷ k.0
-    → (left : List ℕ) × (new ≡ Some left) × RunsOn stop old all xs p left r
-runs_round {stop} {more} {ys} on {c} text e h s k is =
-    let part : List ℕ = c ∷ k.0 in
-    let zs : List ℕ = k.1 in
-    let same : ys ≡ part ++ zs = e ∙ ap (λ z. c ∷ z) k.2 in
-    let plain : run stop part ≡ length part = rw (h, k.3) (omega arith) in
-    let n : run stop ys ≡ length part + run stop zs = rw same (run_behind _ part zs plain) in
-    let front : take (run stop ys) ys ≡ part ++ take (run stop zs) zs =
-    rw n (rw same (take-append-add part zs _)) in
-    let back : drop (run stop ys) ys ≡ drop (run stop zs) zs =
-    rw n (rw same (drop-append-add part zs _)) in
-    let l : length part ≡ suc (length k.0) = omega arith in (
-      zs,
-      k.5,
+module _ {stop : ℕ → Bool} {old more xs : List ℕ} {p : ℕ} {ys : List ℕ} {q : ℕ}
+    (on : RunsOn stop old more xs p ys q) where
+  -- a part was taken
+  pub runs_part : {r : ℕ} {all : List ℕ} (part zs : List ℕ) → ys ≡ part ++ zs
+      → run stop part ≡ length part → all ≡ more ++ part → r ≡ q + length part
+      → RunsOn stop old all xs p zs r
+  runs_part part zs same plain is s =
+      let n : run stop ys ≡ length part + run stop zs = rw same (run_behind _ part zs plain) in
+      let front : take (run stop ys) ys ≡ part ++ take (run stop zs) zs =
+      rw n (rw same (take-append-add part zs _)) in
+      let back : drop (run stop ys) ys ≡ drop (run stop zs) zs =
+      rw n (rw same (drop-append-add part zs _)) in
       record {
         text = ap (λ z. z ++ take (run stop zs) zs) is ∙ append_assoc more part (take _ zs)
             ∙ ap (λ z. more ++ z) (sym front) ∙ on.text;
         rest = sym back ∙ on.rest;
-        place = omega (arith, n, s, k.6, on.place);
-      },
-    )
+        place = omega (arith, n, s, on.place);
+      }
 
--- the rest of a comment, given whether the last byte was a star
-abbrev pub close_from : Bool → List ℕ → Token
-close_from star [] = taken 0 (Err IncompleteComment)
-close_from star (c ∷ xs) =
-    past_one (cond (star && (c == 47)) (taken 0 (Ok None)) (close_from (c == 42) xs))
+  -- a byte that is no stop was taken
+  pub runs_byte : {c r : ℕ} {zs all : List ℕ} → ys ≡ c ∷ zs → stop c ≡ false
+      → all ≡ more ++ c ∷ [] → r ≡ q + 1 → RunsOn stop old all xs p zs r
+  runs_byte {c} {zs} e h is s = runs_part (c ∷ []) zs e (rw h refl) is s
+
+  -- a stop is next, or nothing
+  pub runs_end : run stop ys ≡ 0 → (more ≡ old ++ take (run stop xs) xs)
+      × (ys ≡ drop (run stop xs) xs) × (q ≡ p + run stop xs)
+  runs_end none =
+      let text = on.text in
+      let rest = on.rest in
+      let place = on.place in (
+        sym (append-nil more) ∙ rw none at text,
+        rw none at rest,
+        omega (arith, none, place),
+      )
+
+-- a run begins
+pub runs_start : {stop : ℕ → Bool} (old xs : List ℕ) (p : ℕ) → RunsOn stop old old xs p xs p
+runs_start old xs p = record { text = refl; rest = refl; place = refl }
+
+-- ---- comments
 
 after_star : (c : ℕ) (xs : List ℕ) (b : Bool) (o : Option ℕ)
     → block_comment_to (c ∷ xs) (cond b (Some 0) (option_map suc o))
     ≡ past_one (cond b (taken 1 (Ok None)) (block_comment_to xs o))
 after_star c xs b o = search rules
 
-abbrev star_first : List ℕ → Token
-star_first xs = cond (begins_with 47 xs) (taken 1 (Ok None)) (block_comment xs)
+past_none : (t : Token) → t ≡ past 0 t
+past_none t = let n : t.bytes ≡ 0 + t.bytes = omega arith in ap (λ n. taken n t.gives) n
 
--- the byte c, which may be a star
-step : (c : ℕ) (star : Bool) (xs : List ℕ) → block_comment xs ≡ close_from false xs
-    → star_first xs ≡ close_from true xs
-    → block_comment_to (c ∷ xs)
-    (cond (star && begins_with 47 xs) (Some 0) (option_map suc (close_at xs)))
-    ≡ past_one (close_from star xs)
-step c true xs p s = rw (← s) (after_star c xs _ (close_at xs))
-step c false xs p s = rw (← p) (after_star c xs false _)
+past_more : (n : ℕ) (t : Token) → past_one (past n t) ≡ past (suc n) t
+past_more n t =
+    let e : suc (n + t.bytes) ≡ suc n + t.bytes = omega arith in ap (λ n. taken n t.gives) e
 
-past_cond : (b : Bool) (t : Token)
-    → cond b (taken 1 (Ok None)) (past_one t) ≡ past_one (cond b (taken 0 (Ok None)) t)
-past_cond b t = search rules
+abbrev pub is_star : ℕ → Bool
+is_star c = c == 42
 
-both : (xs : List ℕ) → (block_comment xs ≡ close_from false xs)
-    × (star_first xs ≡ close_from true xs)
-both [] = (refl, refl)
-both (c ∷ xs) =
-    let b = both xs in
-    let e = step c _ xs b.0 b.1 in
-    (e, rw e (past_cond _ _))
+not_star_past : (c : ℕ) (cs : List ℕ) → (c == 42) ≡ false
+    → block_comment (c ∷ cs) ≡ past_one (block_comment cs)
+not_star_past c cs e = rw e (after_star c cs false (close_at cs))
 
-abbrev pub Closing : Bool → List ℕ → ℕ → List ℕ → ℕ → Type 0
-Closing star = Behind block_comment (λ k ys. past k (close_from star ys))
+-- k bytes of a comment leave it open
+abbrev OpenPast : List ℕ → ℕ → Type 0
+OpenPast xs k = block_comment xs ≡ past k (block_comment (drop k xs))
 
-pub closing_start : (xs : List ℕ) (p : ℕ) → Closing false xs p xs p
-closing_start xs p =
-    let t = close_from _ xs in
-    let e : t.bytes ≡ 0 + t.bytes = omega arith in
-    behind_start (rw (both xs).0 (ap (λ n. taken n t.gives) e))
+-- up to a star a comment stays open
+plain_run : (xs : List ℕ) → OpenPast xs (run is_star xs)
+plain_run [] = past_none _
+plain_run (c ∷ cs) = by_star (c == 42) refl (plain_run cs)
+  where
+    n : ℕ
+    n = run is_star cs
 
-module _ {star : Bool} {xs : List ℕ} {p : ℕ} {ys : List ℕ} {q : ℕ} (h : Closing star xs p ys q)
-    {new : Option (List ℕ)} where
-  pub closing_open : {r : ℕ} → new ≡ Some ys → ys ≡ [] → r ≡ q
-      → TakesFront (block_comment xs) (Err IncompleteComment) new p r xs
-  closing_open u e s = behind_ends h 0 _ (omega arith) (rw e refl) u
+    by_star : (b : Bool) → (c == 42) ≡ b → OpenPast cs n → OpenPast (c ∷ cs) (run is_star (c ∷ cs))
+    by_star true e h =
+        let none : run is_star (c ∷ cs) ≡ 0 = rw e refl in
+        subst (OpenPast (c ∷ cs)) (sym none) (past_none (block_comment (c ∷ cs)))
+    by_star false e h =
+        let more : run is_star (c ∷ cs) ≡ suc n = rw e (omega arith) in
+        subst (OpenPast (c ∷ cs)) (sym more)
+        (not_star_past c cs e ∙ ap past_one h ∙ past_more n (block_comment (drop n cs)))
 
-  module _ {zs : List ℕ} (u : new ≡ Some zs) {c r : ℕ} (e : ys ≡ c ∷ zs) (s : r ≡ q + 1) where
-    pub closing_closed : star ≡ true → (c == 47) ≡ true
-        → TakesFront (block_comment xs) (Ok None) new p r xs
-    closing_closed a b = behind_ends h 1 r s (rw (e, a, b) refl) (rw (u, e) refl)
+-- where a run stops, a stop stands
+stop_next : (stop : ℕ → Bool) (xs : List ℕ) (c : ℕ) (zs : List ℕ)
+    → drop (run stop xs) xs ≡ c ∷ zs → stop c ≡ true
+stop_next stop [] c zs e = cc
+stop_next stop (b ∷ bs) c zs e = by_stop (stop b) refl (λ h. stop_next stop bs c zs h) e
+  where
+    n : ℕ
+    n = run stop bs
 
-    pub closing_more : {next : Bool} → (star && (c == 47)) ≡ false → next ≡ (c == 42)
-        → Closing next xs p zs r
-    closing_more t n =
-        let left = close_from _ zs in
-        let one : h.k + suc left.bytes ≡ h.k + 1 + left.bytes = omega arith in
-        let m = behind_more h 1 r s {next = λ k ys. past k (close_from (c == 42) ys)}
-        (rw (e, t) (ap (λ n. taken n left.gives) one)) in
-        rw n (rw e at m)
+    by_stop : (t : Bool) → stop b ≡ t → (drop n bs ≡ c ∷ zs → stop c ≡ true)
+        → drop (run stop (b ∷ bs)) (b ∷ bs) ≡ c ∷ zs → stop c ≡ true
+    by_stop true t on e =
+        let same : b ∷ bs ≡ c ∷ zs = rw t at e in
+        let head : b ≡ c = cc in
+        rw head at t
+    by_stop false t on e =
+        let one : 1 + n ≡ suc n = omega arith in
+        on (rw (t, one) at e)
 
-pub nothing_taken : (o : Option ℕ) → ((c : ℕ) → o ≡ Some c → ⊥) → o ≡ None
-nothing_taken o h = search rules
+not_false : (b : Bool) → not b ≡ false → b ≡ true
+not_false true e = refl
+not_false false e = cc
+
+no_slash : (zs : List ℕ) → run (λ d. not (d == 47)) zs ≡ 0 → begins_with 47 zs ≡ false
+no_slash [] e = refl
+no_slash (d ∷ ds) e = by_test (d == 47) refl
+  where
+    by_test : (b : Bool) → (d == 47) ≡ b → (d == 47) ≡ false
+    by_test false t = t
+    by_test true t =
+        let some : 1 + run (λ d. not (d == 47)) ds ≡ 0 = rw t at e in
+        absurd (let none : ⊥ = omega arith in none)
+
+module _ (xs : List ℕ) {c : ℕ} {zs : List ℕ} (e : drop (run is_star xs) xs ≡ c ∷ zs) where
+  star_here : (c == 42) ≡ true
+  star_here = stop_next is_star xs c zs e
+
+  at_star : {t : Token} → block_comment (c ∷ zs) ≡ t → block_comment xs ≡ past (run is_star xs) t
+  at_star h =
+      plain_run xs ∙ ap (λ ys. past (run is_star xs) (block_comment ys)) e
+      ∙ ap (past (run is_star xs)) h
+
+  -- a slash after the star closes it
+  pub star_closes : {d : ℕ} {ws : List ℕ} {new : Option (List ℕ)} → zs ≡ d ∷ ws
+      → not (d == 47) ≡ false → new ≡ Some ws
+      → (block_comment xs ≡ taken (run is_star xs + 2) (Ok None))
+      × (new ≡ Some (drop (run is_star xs + 2) xs))
+  star_closes {d} {ws} s f u =
+      let slash : (d == 47) ≡ true = not_false (d == 47) f in
+      let closes : block_comment (c ∷ zs) ≡ taken 2 (Ok None) = rw (s, star_here, slash) refl in
+      let rest : drop 2 (drop (run is_star xs) xs) ≡ ws = rw (e, s) refl in
+      (at_star closes, u ∙ ap Some (sym rest ∙ drop-drop 2 (run is_star xs) xs))
+
+  -- all else leaves it open
+  pub star_opens : {new : Option (List ℕ)} → run (λ d. not (d == 47)) zs ≡ 0 → new ≡ Some zs
+      → OpenPast xs (run is_star xs + 1) × (new ≡ Some (drop (run is_star xs + 1) xs))
+  star_opens none u =
+      let s : begins_with 47 zs ≡ false = no_slash zs none in
+      let opens : block_comment (c ∷ zs) ≡ past_one (block_comment zs) =
+      rw (star_here, s) (after_star c zs false (close_at zs)) in
+      let front : drop 1 (drop (run is_star xs) xs) ≡ zs = rw e refl in
+      let rest : zs ≡ drop (run is_star xs + 1) xs = sym front ∙ drop-drop 1 (run is_star xs) xs in
+      let t = block_comment zs in
+      let n : run is_star xs + suc t.bytes ≡ run is_star xs + 1 + t.bytes = omega arith in (
+        at_star opens ∙ ap (λ n. taken n t.gives) n
+            ∙ ap (λ ys. past (run is_star xs + 1) (block_comment ys)) rest,
+        u ∙ ap Some rest,
+      )
+
+-- where no star is left, its end isn't there
+pub star_misses : (xs : List ℕ) → drop (run is_star xs) xs ≡ []
+    → block_comment xs ≡ taken (run is_star xs) (Err IncompleteComment)
+star_misses xs e =
+    let none : run is_star xs + 0 ≡ run is_star xs = omega arith in
+    plain_run xs ∙ ap (λ ys. past (run is_star xs) (block_comment ys)) e
+    ∙ ap (λ n. taken n (Err IncompleteComment)) none
+
+-- the comment so far
+abbrev pub Commenting : List ℕ → ℕ → List ℕ → ℕ → Type 0
+Commenting = Behind block_comment (λ k ys. past k (block_comment ys))
+
+pub commenting_start : (xs : List ℕ) (p : ℕ) → Commenting xs p xs p
+commenting_start xs p = behind_start (past_none _)
+
+module _ {xs : List ℕ} {p : ℕ} {ys : List ℕ} {q : ℕ} (h : Commenting xs p ys q) (n : ℕ) {r : ℕ}
+    (s : r ≡ q + n) where
+  pub commenting_more : OpenPast ys n → Commenting xs p (drop n ys) r
+  commenting_more e =
+      let t = block_comment (drop n ys) in
+      let sum : h.k + (n + t.bytes) ≡ h.k + n + t.bytes = omega arith in
+      behind_more h n r s (ap (past h.k) e ∙ ap (λ n. taken n t.gives) sum)
+
+  pub commenting_ends : {g : Result (Option PlainEvent) FaultKind} {new : Option (List ℕ)}
+      → block_comment ys ≡ taken n g → new ≡ Some (drop n ys)
+      → TakesFront (block_comment xs) g new p r xs
+  commenting_ends e u = behind_ends h n r s (ap (past h.k) e) u

@@ -186,18 +186,7 @@ slash_wants stops xs e = rw e (bare_wants _ 47 xs)
 
 -- ---- what the parts of a string make of it
 
--- a bare string is its first byte and the run after it
-pub bare_taken : (stops : ℕ → Bool) (c : ℕ) (none one text : List ℕ)
-    (g : Result (Option PlainEvent) FaultKind) (new : Option (List ℕ)) (p q : ℕ) (xs : List ℕ)
-    → none ≡ [] → one ≡ none ++ c ∷ [] → bare_event text ≡ g
-    → (text ≡ one ++ take (run stops xs) xs) × (new ≡ Some (drop (run stops xs) xs))
-    × (q ≡ p + run stops xs) → TakesFront (bare stops c xs) g new p q xs
-bare_taken stops c none one text g new p q xs z o m h =
-    let all : text ≡ c ∷ take (run stops xs) xs = h.0
-    ∙ ap (λ front. front ++ take (run stops xs) xs) (o ∙ ap (λ z. z ++ c ∷ []) z) in
-    (ap bare_event (sym all) ∙ m, h.1, h.2)
-
--- the meaning of a quoted string is that of its bytes
+-- a quoted text means what its bytes do
 pub quoted_means : (quote : ℕ) (text : List ℕ) (g : Result (Option PlainEvent) FaultKind)
     (new : Option (List ℕ)) (p q : ℕ) (xs : List ℕ) → quoted_event text ≡ g
     → TakesFront (quoted quote xs) (Ok text) new p q xs

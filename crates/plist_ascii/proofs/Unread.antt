@@ -1,6 +1,6 @@
--- How looking at a byte and taking it change the bytes that are left.
-use Rattle.std.proofs.Common.{◌≡◌, ℕ, suc, ◌+◌, ◌-◌, ◌^◌, ◌<◌, ◌≤◌, Bool, true, false, List, [], ◌∷◌, ◌++◌, length, take, drop, Option, None, Some, refl, sym, ap, ◌∙◌, rules, arith}
-use Rattle.std.specs.Prelude.{is_some, IfSome}
+-- What looking at a byte and taking it do to the bytes that are left.
+use Rattle.std.proofs.Common.{◌≡◌, ℕ, zero, suc, ◌+◌, ◌-◌, ◌^◌, ◌<◌, ◌≤◌, Bool, true, false, List, [], ◌∷◌, ◌++◌, length, take, drop, Option, None, Some, refl, sym, ap, ◌∙◌, rules, arith}
+use Rattle.std.specs.Prelude.{is_some, IfSome, ◌==◌, slice_index_or}
 use Rattle.std.specs.Option.{option_map}
 use Rattle.std.specs.Io.KnownBytes.{Consumes}
 use Rattle.std.proofs.lemmas.List.{length-take-le}
@@ -75,6 +75,13 @@ module _ (k : Option (List ℕ)) (e : Bool) (p : Option ℕ) (t : ℕ) (xs : Lis
       let none = end_unread k _ t xs r known in
       none_looks _ xs none (nothing_unread _ p t ∙ ap Some (sym none))
 
+-- the first of the buffered bytes was read
+pub one_consumed : (k now : Option (List ℕ)) (hand held : List ℕ) → hand ≡ held
+    → (length hand == 0) ≡ false → Consumes k now (take 1 held)
+    → GivesByte k (Some (slice_index_or hand 0 0)) now
+one_consumed k now [] held e some h = cc
+one_consumed k now (c ∷ cs) held e some h = rw (← e) at h
+
 pub one_looks : (k now : Option (List ℕ)) (e : Bool) (p : Option ℕ) (c t : ℕ) (xs : List ℕ)
     → e ≡ false → p ≡ None → t < 2 ^ 64 - 1 → GivesByte k (Some c) now
     → unread_of k e p t ≡ Some xs → Looks (unread_of now e (Some c) t) (Some c) xs
@@ -140,13 +147,29 @@ part_unread k now e (Some b) t n part xs h q l room c g = cc
 part_unread k now true None t n part xs h q l room c g = cc
 part_unread k now false None t n part xs h q l room c g = known_behind k _ t n _ xs l room c g
 
--- buffered bytes were taken, and appended to the text
+none_unread : (k now : Option (List ℕ)) (e : Bool) (p : Option ℕ) (t : ℕ) (xs : List ℕ)
+    → Consumes k now [] → unread_of k e p t ≡ Some xs → unread_of now e p t ≡ Some xs
+unfolding unread_of
+none_unread k now true p t xs c g = g
+none_unread None now false p t xs c g = cc
+none_unread (Some a) None false p t xs c g = absurd c
+none_unread (Some a) (Some b) false p t xs c g = rw c at g
+
+-- bytes at hand were taken, and stand after the text
 pub part_taken : (stop : ℕ → Bool) (hand : List ℕ) (k now : Option (List ℕ)) (e : Bool)
-    (p : Option ℕ) (t n : ℕ) (text longer xs : List ℕ) → e ≡ false → is_some p ≡ false
-    → n ≤ length hand → t + n ≤ 2 ^ 64 - 1 → run stop (take n hand) ≡ n
-    → Consumes k now (take n hand) → longer ≡ text ++ take n hand → unread_of k e p t ≡ Some xs
+    (p : Option ℕ) (t n : ℕ) (text longer xs : List ℕ)
+    → (0 < n → (e ≡ false) × (is_some p ≡ false)) → n ≤ length hand → t + n ≤ 2 ^ 64 - 1
+    → run stop (take n hand) ≡ n → Consumes k now (take n hand) → longer ≡ text ++ take n hand
+    → unread_of k e p t ≡ Some xs
     → TakesPart stop t text (unread_of now e p (t + n)) (t + n) longer xs
-part_taken stop hand k now e p t n text longer xs h q most room runs c is g =
+part_taken stop hand k now e p t zero text longer xs going most room runs c is g =
+    let none : t + 0 ≡ t = omega arith in
+    ([], xs, refl, refl, is, rw none (none_unread k now e p t xs c g), omega arith)
+part_taken stop hand k now e p t (suc m) text longer xs going most room runs c is g =
+    let n = suc m in
+    let both = going (omega arith) in
+    let h = both.0 in
+    let q = both.1 in
     let len = length-take-le n _ most in
     let left = part_unread k _ e p t n _ xs h q len room c g in
     (take n _, left.0, left.1, cc, is, left.2, omega arith)

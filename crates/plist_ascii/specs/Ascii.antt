@@ -1,5 +1,5 @@
--- The tokens of an old-style ASCII property list, and their items.
-use Rattle.std.specs.Prelude.{◌≡◌, ◌⊎◌, ℕ, zero, suc, ◌+◌, Bool, cond, ◌||◌, ◌==◌, List, [], ◌∷◌, length, drop, map, Option, None, Some, Result, Ok, Err, ⊤}
+-- The tokens of an old-style ASCII property list, and the items that they give.
+use Rattle.std.specs.Prelude.{◌≡◌, ◌⊎◌, ℕ, zero, suc, ◌+◌, Bool, true, false, cond, ◌||◌, ◌==◌, List, [], ◌∷◌, length, drop, map, Option, None, Some, Result, Ok, Err, ⊤}
 use Rattle.std.specs.List.{list_any}
 use Rattle.plist_base.specs.Faults.{FaultKind, UnclosedString, InvalidUtf8AsciiStream, InvalidOctalString, InvalidUtf16String, fault_at}
 use Rattle.plist_base.specs.Events.{PlainEvent, StartArray, StartDictionary, EndCollection, ScalarEvent, Item}
@@ -19,6 +19,14 @@ lead_of c =
     (cond ((c == 41) || (c == 125)) lead.End
     (cond (list_any (λ d. c == d) (44 ∷ 59 ∷ 61 ∷ 32 ∷ 13 ∷ 9 ∷ 10 ∷ [])) lead.Blank
     (cond ((c == 39) || (c == 34)) lead.Quote (cond (c == 47) lead.Slash lead.Bare)))))
+
+-- begins nothing: a separator or white space
+abbrev pub begins_nothing : Lead → Bool
+begins_nothing lead.Blank = true
+begins_nothing other = false
+
+abbrev pub is_blank : ℕ → Bool
+is_blank c = begins_nothing (lead_of c)
 
 -- a token of one byte
 abbrev pub token_of_one : Option PlainEvent → Token

@@ -1,21 +1,37 @@
--- What an escape in a quoted string stands for, from the byte after its backslash on.
+-- What an escape in a quoted text stands for, from the byte after its backslash on:
+--
+--     letter                        its byte in `letters`
+--     octal octal octal             the character of that number
+--     U unit                        the unit's character, unless it is a surrogate
+--     U unit \ U unit               the character of a surrogate pair, whose second `U` may be small
+--
+-- A unit is four hexadecimal digits. Digits are taken before they are judged.
 use Rattle.std.specs.Prelude.{ℕ, ◌-◌, Bool, cond, ◌&&◌, ◌||◌, ◌==◌, nat_lt, nat_le, List, [], ◌∷◌, slice_index, Option, None, Some, Result, Ok, Err, encode_utf8}
 use Rattle.std.specs.List.{list_all}
 use Rattle.std.specs.Char.{is_digit}
 use Rattle.std.specs.Char.Utf16.{is_high_surrogate, is_low_surrogate, surrogate_pair_char}
 use Rattle.std.specs.Str.Parse.{digits_value}
-use Rattle.plist_base.specs.Faults.{FaultKind, InvalidUtf16String, UnclosedString, InvalidUtf8AsciiStream, InvalidOctalString}
-use Rattle.plist_ascii.specs.Taken.{Taken, taken, past_one, followed, needs}
+use Rattle.plist_base.specs.Faults.{FaultKind, InvalidUtf16String, InvalidUtf8AsciiStream, InvalidOctalString}
+use Rattle.plist_ascii.specs.Bytes.{bell, backspace, tab, line_feed, vertical_tab, form_feed, carriage_return, quotation_mark, apostrophe, backslash, capital_u, small_a, small_b, small_f, small_n, small_r, small_t, small_u, small_v}
+use Rattle.plist_ascii.specs.Taken.{Taken, taken, past_one, after_byte, followed, needs}
 
 -- ---- one letter
 
--- the byte that a letter stands for: \ " ' a b f n r t v
+-- each letter, and the byte that it stands for
+abbrev pub letters : List (ℕ × ℕ)
+letters =
+    (backslash, backslash) ∷ (quotation_mark, quotation_mark) ∷ (apostrophe, apostrophe)
+    ∷ (small_a, bell) ∷ (small_b, backspace) ∷ (small_f, form_feed) ∷ (small_n, line_feed)
+    ∷ (small_r, carriage_return) ∷ (small_t, tab) ∷ (small_v, vertical_tab) ∷ []
+
+-- what stands beside a letter in such a table
+abbrev pub beside : ℕ → List (ℕ × ℕ) → Option ℕ
+beside c [] = None
+beside c (row ∷ rows) = cond (c == row.0) (Some row.1) (beside c rows)
+
+-- the byte that a letter stands for
 abbrev pub simple_escape : ℕ → Option ℕ
-simple_escape c =
-    cond ((c == 92) || ((c == 34) || (c == 39))) (Some c)
-    (cond (c == 97) (Some 7) (cond (c == 98) (Some 8)
-    (cond (c == 102) (Some 12) (cond (c == 110) (Some 10)
-    (cond (c == 114) (Some 13) (cond (c == 116) (Some 9) (cond (c == 118) (Some 11) None)))))))
+simple_escape c = beside c letters
 
 -- a letter stands for its byte, or is invalid
 abbrev pub simple : Option ℕ → Taken (List ℕ)
@@ -90,12 +106,12 @@ second_digits high rest = followed rest (unit rest) (λ low _. taken 0 (pair_tex
 abbrev pub second_letter : ℕ → List ℕ → Taken (List ℕ)
 second_letter high [] = bad_unit 0
 second_letter high (c ∷ rest) =
-    cond ((c == 117) || (c == 85)) (past_one (second_digits high rest)) (bad_unit 0)
+    cond ((c == small_u) || (c == capital_u)) (past_one (second_digits high rest)) (bad_unit 0)
 
 -- the second unit, after the digits of the first: a backslash, a letter and digits
 abbrev pub second_unit : ℕ → List ℕ → Taken (List ℕ)
-second_unit high [] = taken 0 (Err UnclosedString)
-second_unit high (c ∷ rest) = past_one (cond (c == 92) (second_letter high rest) (bad_unit 0))
+second_unit high =
+    after_byte (λ c rest. cond (c == backslash) (second_letter high rest) (bad_unit 0))
 
 -- what follows the digits of the first unit: nothing, or the second unit of a pair
 abbrev pub first_unit : Option ℕ → List ℕ → Taken (List ℕ)
@@ -111,9 +127,8 @@ unicode rest = followed rest (unit rest) first_unit
 -- what an escape with the first byte c stands for
 abbrev pub escape_by : ℕ → List ℕ → Taken (List ℕ)
 escape_by c rest =
-    cond (c == 85) (unicode rest) (cond (is_digit c 8) (octal c rest) (simple (simple_escape c)))
+    cond (c == capital_u) (unicode rest) (cond (is_digit c 8) (octal c rest) (simple (simple_escape c)))
 
 -- the bytes that an escape stands for
 unfoldable pub escape : List ℕ → Taken (List ℕ)
-escape [] = taken 0 (Err UnclosedString)
-escape (c ∷ rest) = past_one (escape_by c rest)
+escape = after_byte escape_by

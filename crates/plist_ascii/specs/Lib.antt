@@ -1,4 +1,5 @@
 pub mod Taken
+pub mod Bytes
 pub mod Texts
 pub mod Escapes
 pub mod Quoted

@@ -48,6 +48,11 @@ front_gives count left None meaning = taken left (Err UnclosedString)
 abbrev pub needs : {A : Type 0} → ℕ → List ℕ → (List ℕ → Result A FaultKind) → Taken A
 needs count bytes meaning = front_gives count (length bytes) (front count bytes) meaning
 
--- how many bytes precede the first stop
+-- a byte that must be there, and then what follows it
+abbrev pub after_byte : {A : Type 0} → (ℕ → List ℕ → Taken A) → List ℕ → Taken A
+after_byte next [] = taken 0 (Err UnclosedString)
+after_byte next (c ∷ rest) = past_one (next c rest)
+
+-- how many bytes stand before the first stop
 abbrev pub run : (stops : ℕ → Bool) → List ℕ → ℕ
 run stops bytes = prefix_len (λ c. not (stops c)) bytes

@@ -1,5 +1,5 @@
--- The bytes that are left to be taken, and what is left after a part of a token.
-use Rattle.std.specs.Prelude.{◌≡◌, ℕ, ◌+◌, ◌-◌, ◌^◌, ◌≤◌, Bool, true, false, ◌==◌, List, [], ◌∷◌, ◌++◌, length, take, drop, Option, None, Some, Result, Ok, Err, MatchResult, slice_get}
+-- The bytes that are still to be taken, and what taking a part of a token makes of them.
+use Rattle.std.specs.Prelude.{◌≡◌, ℕ, ◌+◌, ◌-◌, ◌^◌, ◌≤◌, Bool, true, false, not, ◌==◌, List, [], ◌∷◌, ◌++◌, length, take, drop, Option, None, Some, Result, Ok, Err, MatchResult, slice_get}
 use Rattle.std.specs.List.{cons_option}
 use Rattle.std.specs.Option.{option_map}
 use Rattle.plist_base.specs.declared.error.Error.{Error}
@@ -13,6 +13,7 @@ use Rattle.plist_ascii.specs.declared.input.Stop.{Stop}
 use Rattle.plist_ascii.specs.declared.input.Stop.TheVariants as stop
 use Rattle.plist_ascii.specs.Taken.{Taken, run}
 use Rattle.plist_ascii.specs.Texts.{ends_bare}
+use Rattle.plist_ascii.specs.Ascii.{is_blank}
 use Rattle.plist_ascii.specs.Quoted.{ends_run}
 
 -- a byte that was looked at, and the bytes after it; no input is longer than 2^64 - 1 bytes
@@ -39,8 +40,11 @@ first bytes = slice_get bytes 0
 
 -- the bytes that end a run
 abbrev pub stops : Stop → ℕ → Bool
+stops stop.Lead c = not (is_blank c)
 stops (stop.Bare dialect) c = ends_bare dialect c
 stops stop.LineEnd c = c == 10
+stops stop.Star c = c == 42
+stops stop.NoSlash c = not (c == 47)
 stops (stop.Quoted quote) c = ends_run quote c
 
 -- `Io` or `OutOfMemory`, which say nothing of the bytes

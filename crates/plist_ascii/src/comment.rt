@@ -1,41 +1,50 @@
 //! Comments.
 
-ghost use Rattle.std.specs.Prelude.{◌≡◌, ◌≢◌, ◌≤◌, ◌==◌, ◌&&◌, Some, None, Ok, Err, IfOk, IfErr, OnOk};
-ghost use Rattle.plist_base.specs.Faults.{Io, OutOfMemory, fault_at, kind_of, error_kind_of};
-ghost use Rattle.plist_base.specs.Outcomes.{OnlyFault};
+ghost use Rattle.std.specs.Prelude.{◌≡◌, ◌≢◌, ◌^◌, ◌<◌, ◌≤◌, Some, None, Ok, Err, IfOk, IfErr};
+ghost use Rattle.plist_base.specs.Faults.{OutOfMemory, kind_of, error_kind_of};
 ghost use Rattle.plist_ascii.specs.Comments.{line_comment, block_comment};
-ghost use Rattle.plist_ascii.specs.inner.Inputs.{CountsFailed, SkipsRun, GivesToken};
+ghost use Rattle.plist_ascii.specs.inner.Inputs.{CountsFailed, CountsNext, CountsRun, IfAll, IfByte, IfEnd, SkipsRun, TakesPast, HasNoStop, GivesToken};
 
 use crate::byte_reader::ByteReader;
-use crate::input::{Input, Stop};
+use crate::input::{Input, Next, Stop};
 use plist_base::{Error, ErrorKind, OwnedEvent};
 
-// Returns whether this byte closes a comment.
-fn closes(star: bool, byte: u8) -> bool
-    ensures { result ≡ star && (byte == 47) }
-{
-    star && byte == b'/'
-}
-
-// Returns whether this byte is a star.
-fn is_star(byte: u8) -> bool
-    ensures { result ≡ (byte == 42) }
-{
-    byte == b'*'
-}
-
 impl<R: ByteReader> Input<R> {
-    // Takes the bytes up to a stop.
-    fn skip_run(&mut self, stop: Stop) -> Result<(), Error>
-        ensures value { OnOk result (SkipsRun R.remaining stop self.old self.new) }
-        ensures fault { OnlyFault result (fault_at Io self.new.taken) }
+    /// Takes the bytes up to a stop. It answers whether all of them were taken: if not, a read
+    /// failed, and its error waits in the input.
+    #[inline(always)]
+    pub fn skip_run(&mut self, stop: Stop) -> bool
+        ensures value { IfAll result (SkipsRun R.remaining stop self.old self.new) }
         ensures place { self.old.taken ≤ self.new.taken }
-        ensures failures { CountsFailed R.failures self.old result self.new }
+        ensures failures { CountsRun R.failures self.old result self.new }
     {
-        while let Some(_byte) = self.take_unless(stop)? {
+        'run: loop {
             self.skip_buffered(stop);
+            match self.take_unless(stop) {
+                Next::Byte(_byte) => {}
+                Next::End => return true,
+                Next::Failed => return false,
+            }
         }
-        Ok(())
+    }
+
+    /// Takes the bytes up to a stop, and the stop.
+    #[inline(always)]
+    pub fn take_past(&mut self, stop: Stop) -> Next
+        // The answer.
+        ensures some { IfByte result (λ c. TakesPast R.remaining stop self.old c self.new) }
+        ensures none { IfEnd result (HasNoStop R.remaining stop self.old self.new) }
+        // The state after it.
+        ensures peeked { IfByte result (λ _. self.new.peeked ≡ None) }
+        ensures rises { IfByte result (λ _. self.old.taken < self.new.taken) }
+        ensures place { self.old.taken ≤ self.new.taken }
+        ensures countable { IfByte result (λ _. self.new.taken < 2 ^ 64) }
+        ensures failures { CountsNext R.failures self.old result self.new }
+    {
+        if self.skip_run(stop) {
+            return self.take();
+        }
+        Next::Failed
     }
 
     /// Takes a comment up to the end of its line. Its slashes have been taken.
@@ -45,8 +54,10 @@ impl<R: ByteReader> Input<R> {
         ensures nothing { IfOk result (λ event. event ≡ None) }
         ensures failures { CountsFailed R.failures self.old result self.new }
     {
-        self.skip_run(Stop::LineEnd)?;
-        Ok(None)
+        if self.skip_run(Stop::LineEnd) {
+            return Ok(None);
+        }
+        Err(self.read_error())
     }
 
     /// Takes a comment up to and including its `*/`. Its opening has been taken, and no byte after
@@ -61,15 +72,16 @@ impl<R: ByteReader> Input<R> {
         ensures peeked { IfOk result (λ _. self.new.peeked ≡ None) }
         ensures failures { CountsFailed R.failures self.old result self.new }
     {
-        let mut star = false;
-        'bytes: loop {
-            let Some(byte) = self.take()? else {
-                return Err(self.fault(ErrorKind::IncompleteComment));
-            };
-            if closes(star, byte) {
-                return Ok(None);
+        'stars: loop {
+            match self.take_past(Stop::Star) {
+                Next::Byte(_star) => match self.take_unless(Stop::NoSlash) {
+                    Next::Byte(_slash) => return Ok(None),
+                    Next::End => {}
+                    Next::Failed => return Err(self.read_error()),
+                },
+                Next::End => return Err(self.fault(ErrorKind::IncompleteComment)),
+                Next::Failed => return Err(self.read_error()),
             }
-            star = is_star(byte);
         }
     }
 }

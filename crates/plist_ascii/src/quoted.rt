@@ -1,7 +1,6 @@
 //! Quoted strings.
 
 ghost use Rattle.std.specs.Prelude.{◌≡◌, ◌+◌, ◌<◌, ◌++◌, None, Some, Ok, Err, true, false, IfOk, IfErr, OnOk};
-ghost use Rattle.plist_base.specs.Outcomes.{OnlyMemory};
 ghost use Rattle.plist_base.specs.Events.{event_of};
 ghost use Rattle.plist_ascii.specs.Quoted.{quoted, quoted_token};
 ghost use Rattle.plist_ascii.specs.inner.Parts.{escaped_bytes, PartFails, EndFails};
@@ -10,15 +9,14 @@ ghost use Rattle.plist_ascii.specs.inner.Inputs.{CountsFailed, TakesSomeMore, Ta
 
 use crate::byte_reader::ByteReader;
 use crate::input::{Input, Stop};
-use crate::text::{push_byte, quoted_event};
+use crate::text::{RunTaken, push_byte, quoted_event};
 use crate::unescape::Escaped;
-use plist_base::{Error, OwnedEvent};
-use std::alloc::Global;
+use plist_base::{Error, ErrorKind, OwnedEvent};
+use std::alloc::{AllocError, Global};
 
-// Appends the bytes that an escape stands for.
-fn push_escaped(text: &mut Vec<u8>, piece: Escaped) -> Result<(), Error>
+// Appends what an escape stands for.
+fn push_escaped(text: &mut Vec<u8>, piece: Escaped) -> Result<(), AllocError>
     ensures value { OnOk result (text.new.items ≡ text.old.items ++ escaped_bytes piece) }
-    ensures fault { OnlyMemory result }
 {
     match piece {
         Escaped::Byte(byte) => push_byte(text, byte),
@@ -61,13 +59,16 @@ impl<R: ByteReader> Input<R> {
         ensures peeked { IfOk result (λ closed. closed ≡ true → self.new.peeked ≡ None) }
         ensures failures { CountsFailed R.failures self.old result self.new }
     {
-        self.take_run(Stop::Quoted(quote), text)?;
-        match self.run_end(quote)? {
-            Some(piece) => {
-                push_escaped(text, piece)?;
-                Ok(false)
-            }
-            None => Ok(true),
+        match self.take_run(Stop::Quoted(quote), text) {
+            RunTaken::Whole => match self.run_end(quote)? {
+                Some(piece) => {
+                    push_escaped(text, piece)?;
+                    Ok(false)
+                }
+                None => Ok(true),
+            },
+            RunTaken::Failed => Err(self.read_error()),
+            RunTaken::OutOfMemory => Err(ErrorKind::OutOfMemory.without_position()),
         }
     }
 

@@ -9,7 +9,7 @@ ghost use Rattle.plist_ascii.specs.inner.Inputs.{ItemCountsFailed, GivesToStop, 
 
 use crate::byte_reader::ByteReader;
 use crate::dialect::Dialect;
-use crate::input::{Input, Stop};
+use crate::input::{Input, Next, Stop};
 use plist_base::{Error, ErrorKind, OwnedEvent};
 use std::alloc::Global;
 
@@ -42,8 +42,8 @@ impl<R: ByteReader> Input<R> {
             return None;
         }
         'tokens: loop {
-            match self.take() {
-                Ok(Some(byte)) => match self.token_by(alloc, stop, byte) {
+            match self.take_past(Stop::Lead) {
+                Next::Byte(byte) => match self.token_by(alloc, stop, byte) {
                     Ok(Some(event)) => return Some(Ok(event)),
                     Ok(None) => {}
                     Err(error) => {
@@ -53,11 +53,12 @@ impl<R: ByteReader> Input<R> {
                         return Some(Err(error));
                     }
                 },
-                Ok(None) => {
+                Next::End => {
                     self.end();
                     return None;
                 }
-                Err(error) => {
+                Next::Failed => {
+                    let error = self.read_error();
                     self.end();
                     return Some(Err(error));
                 }

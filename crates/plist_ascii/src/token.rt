@@ -3,13 +3,13 @@
 ghost use Rattle.std.specs.Prelude.{◌≡◌, None, Some, IfErr, IfOk};
 ghost use Rattle.plist_base.specs.Events.{event_of};
 ghost use Rattle.plist_ascii.specs.Comments.{slash};
-ghost use Rattle.plist_ascii.specs.Ascii.{lead_of, token_by};
+ghost use Rattle.plist_ascii.specs.Ascii.{lead_of, token_by, begins_nothing, is_blank};
 ghost use Rattle.plist_ascii.specs.Kinds.{IsTextEvent, IsAsciiEvent};
 ghost use Rattle.plist_ascii.specs.Unread.{stops};
 ghost use Rattle.plist_ascii.specs.inner.Inputs.{CountsFailed, IfCame, token_until, GivesToken, AllocatesForText, StopsAtBracket};
 
 use crate::byte_reader::ByteReader;
-use crate::input::{Input, Stop};
+use crate::input::{Input, Next, Stop};
 use plist_base::{Error, ErrorKind, Event, OwnedEvent};
 use std::alloc::Global;
 
@@ -47,6 +47,21 @@ fn lead_of(byte: u8) -> Lead
     }
 }
 
+// Does this begin nothing?
+fn begins_nothing(lead: Lead) -> bool
+    ensures { result ≡ begins_nothing lead }
+{
+    matches!(lead, Lead::Blank)
+}
+
+/// Is this byte a separator or white space?
+#[inline(always)]
+pub fn is_blank(byte: u8) -> bool
+    ensures { result ≡ is_blank byte }
+{
+    begins_nothing(lead_of(byte))
+}
+
 impl<R: ByteReader> Input<R> {
     // Takes the token that a slash begins.
     fn slash(&mut self, alloc: Global, stop: Stop) -> Result<Option<OwnedEvent>, Error>
@@ -55,20 +70,21 @@ impl<R: ByteReader> Input<R> {
         ensures kinds { IfCame result (λ event. IsTextEvent (event_of event)) }
         ensures failures { CountsFailed R.failures self.old result self.new }
     {
-        match self.peek()? {
-            Some(b'/') => {
+        match self.peek() {
+            Next::Byte(b'/') => {
                 self.advance();
                 self.line_comment()
             }
-            Some(b'*') => {
+            Next::Byte(b'*') => {
                 self.advance();
                 self.block_comment()
             }
-            Some(_byte) => {
+            Next::Byte(_byte) => {
                 let event = self.bare(alloc, stop, b'/')?;
                 Ok(Some(event))
             }
-            None => Err(self.fault(ErrorKind::IncompleteComment)),
+            Next::End => Err(self.fault(ErrorKind::IncompleteComment)),
+            Next::Failed => Err(self.read_error()),
         }
     }
 

@@ -4,12 +4,13 @@ ghost use Rattle.std.specs.Prelude.{◌≡◌, ◌+◌, ◌*◌, ◌<◌, ◌≤
 ghost use Rattle.std.specs.Char.{is_digit};
 ghost use Rattle.std.specs.Char.Utf16.{is_high_surrogate, is_low_surrogate};
 ghost use Rattle.plist_base.specs.Faults.{InvalidOctalString, InvalidUtf16String};
+ghost use Rattle.plist_ascii.specs.Bytes.{capital_u, small_u};
 ghost use Rattle.plist_ascii.specs.Escapes.{simple_escape, octal, octal_char, octal_text, unit, unit_of, is_surrogate, pair_text, first_unit, second_unit, second_letter, second_digits, unicode, escape, escape_by};
 ghost use Rattle.plist_ascii.specs.inner.Inputs.{CountsFailed, GivesEscaped, GivesUnit};
 ghost use Rattle.plist_ascii.specs.inner.Parts.{IsDigitOf, IsCharOfUnit, IsCharOr};
 
 use crate::byte_reader::ByteReader;
-use crate::input::Input;
+use crate::input::{Input, Next};
 use plist_base::{Error, ErrorKind};
 
 /// What an escape stands for.
@@ -45,7 +46,9 @@ fn simple_of(byte: u8) -> Option<u8>
     ensures { result ≡ simple_escape byte }
 {
     match byte {
-        b'\\' | b'"' | b'\'' => Some(byte),
+        b'\\' => Some(b'\\'),
+        b'"' => Some(b'"'),
+        b'\'' => Some(b'\''),
         b'a' => Some(7),
         b'b' => Some(8),
         b'f' => Some(12),
@@ -122,7 +125,7 @@ fn lone_char(unit: u16) -> Option<char>
 
 // Returns whether this byte begins a unit after its backslash.
 fn is_unit_letter(byte: u8) -> bool
-    ensures { result ≡ (byte == 117) || (byte == 85) }
+    ensures { result ≡ (byte == small_u) || (byte == capital_u) }
 {
     byte == b'u' || byte == b'U'
 }
@@ -236,12 +239,16 @@ impl<R: ByteReader> Input<R> {
         ensures answers { GivesEscaped R.remaining (second_letter high) self.old result self.new }
         ensures failures { CountsFailed R.failures self.old result self.new }
     {
-        match self.peek()? {
-            Some(byte) if is_unit_letter(byte) => {
-                self.advance();
-                self.second_digits(high)
+        match self.peek() {
+            Next::Byte(byte) => {
+                if is_unit_letter(byte) {
+                    self.advance();
+                    return self.second_digits(high);
+                }
+                Err(self.fault(ErrorKind::InvalidUtf16String))
             }
-            _ => Err(self.fault(ErrorKind::InvalidUtf16String)),
+            Next::End => Err(self.fault(ErrorKind::InvalidUtf16String)),
+            Next::Failed => Err(self.read_error()),
         }
     }
 

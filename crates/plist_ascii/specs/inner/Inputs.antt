@@ -1,6 +1,6 @@
--- How calls of an input change the bytes that are left to be taken, the number of bytes taken, and
--- the count of failures.
-use Rattle.std.specs.Prelude.{◌≡◌, ◌⊎◌, ℕ, ◌+◌, ◌-◌, ◌^◌, ◌<◌, ◌≤◌, Bool, true, false, List, [], ◌∷◌, ◌++◌, take, drop, Option, None, Some, Result, IfOk, IfSome, IfErr, MatchOption, vec_items}
+-- What calls of an input do to the bytes that are still to be taken, to the place where those taken
+-- end, and to the count of failures.
+use Rattle.std.specs.Prelude.{◌≡◌, ◌⊎◌, ℕ, ◌+◌, ◌-◌, ◌^◌, ◌<◌, ◌≤◌, Bool, true, false, List, [], ◌∷◌, ◌++◌, take, drop, Option, None, Some, Result, IfOk, IfSome, IsSome, is_some, vec_items, ⊤}
 use Rattle.std.specs.Option.{option_map}
 use Rattle.std.specs.declared.alloc.Global.{Global}
 use Rattle.std.specs.declared.vec.Vec.{Vec}
@@ -10,12 +10,16 @@ use Rattle.plist_base.specs.Events.{event_of}
 use Rattle.plist_base.specs.Faults.{FaultKind, OutOfMemory, UnclosedString, fault_of, fault_at, kind_of, error_kind_of}
 use Rattle.plist_ascii.specs.declared.unescape.Escaped.{Escaped}
 use Rattle.plist_ascii.specs.declared.input.Input.{Input}
+use Rattle.plist_ascii.specs.declared.input.Next.{Next}
+use Rattle.plist_ascii.specs.declared.input.Next.TheVariants as next
 use Rattle.plist_ascii.specs.declared.input.Stop.{Stop}
+use Rattle.plist_ascii.specs.declared.text.RunTaken.{RunTaken}
+use Rattle.plist_ascii.specs.declared.text.RunTaken.TheVariants as ran
 use Rattle.plist_ascii.specs.Taken.{Taken, run}
 use Rattle.plist_ascii.specs.Texts.{Token, bare}
 use Rattle.plist_ascii.specs.Ascii.{lead_of, token_by, placed_items, IsTextToken}
 use Rattle.plist_ascii.specs.Kinds.{IfBracket}
-use Rattle.plist_ascii.specs.Incoming.{AnswersIoIfCounted, ItemCountsIoIfCounted}
+use Rattle.plist_ascii.specs.Incoming.{RisesIfCounted, AnswersIoIfCounted, ItemCountsIoIfCounted}
 use Rattle.plist_ascii.specs.Unread.{unread, IfKnown, first, stops, IsFaultAt, is_io_or_memory, FirstIsTaken, TakesPart, GivesFront}
 use Rattle.plist_ascii.specs.AsciiReader.{GivesAsciiItem, IfQuotedItem, bytes_to_come}
 use Rattle.plist_ascii.specs.inner.Parts.{escaped_bytes, Parts, EndsRun}
@@ -34,10 +38,21 @@ abbrev pub ItemCountsFailed : {R A : Type 0} → (R → Option ℕ) → Input R
 ItemCountsFailed failures old item new = ItemCountsIoIfCounted item (failures old.inner)
     (failures new.inner)
 
--- the only errors are `Io` and `OutOfMemory`, and the offset is the number of bytes taken
-abbrev pub OnlyIoOrMemory : {R A : Type 0} → Result A Error → Input R → Type 0
-OnlyIoOrMemory answer input = IfErr answer (λ error. IsFaultAt (fault_of error) input.taken
-    × (is_io_or_memory (kind_of (error_kind_of error)) ≡ true))
+-- the count rose, and the error of the read that failed waits
+abbrev pub ReadFailed : {R : Type 0} → (R → Option ℕ) → Input R → Input R → Type 0
+ReadFailed failures old new =
+    RisesIfCounted (failures old.inner) (failures new.inner) × IsSome new.failure
+
+-- `Failed` only where the count of the device's failures rose
+abbrev pub CountsNext : {R : Type 0} → (R → Option ℕ) → Input R → Next → Input R → Type 0
+CountsNext failures old (next.Byte byte) new = failures new.inner ≡ failures old.inner
+CountsNext failures old next.End new = failures new.inner ≡ failures old.inner
+CountsNext failures old next.Failed new = ReadFailed failures old new
+
+-- the same of a run, which was taken whole or not
+abbrev pub CountsRun : {R : Type 0} → (R → Option ℕ) → Input R → Bool → Input R → Type 0
+CountsRun failures old true new = failures new.inner ≡ failures old.inner
+CountsRun failures old false new = ReadFailed failures old new
 
 -- ---- one byte
 
@@ -45,10 +60,39 @@ OnlyIoOrMemory answer input = IfErr answer (λ error. IsFaultAt (fault_of error)
 abbrev pub IfCame : {A : Type 0} → Result (Option A) Error → (A → Type 0) → Type 0
 IfCame answer P = IfOk answer (λ came. IfSome came P)
 
--- a byte that was returned can be taken
-abbrev pub CanTakeByte : {R : Type 0} → Input R → Option ℕ → Type 0
-CanTakeByte new byte = IfSome byte (λ _.
-    (new.peeked ≡ byte) × (new.ended ≡ false) × (new.taken < 2 ^ 64 - 1))
+-- where a byte stands next, this is so of it
+abbrev pub IfByte : Next → (ℕ → Type 0) → Type 0
+IfByte (next.Byte byte) P = P byte
+IfByte next.End P = ⊤
+IfByte next.Failed P = ⊤
+
+-- this is so at the end of the bytes
+abbrev pub IfEnd : Next → Type 0 → Type 0
+IfEnd (next.Byte byte) P = ⊤
+IfEnd next.End P = P
+IfEnd next.Failed P = ⊤
+
+-- this is so where all of a run was taken
+abbrev pub IfAll : Bool → Type 0 → Type 0
+IfAll true P = P
+IfAll false P = ⊤
+
+-- this is so where a run was taken whole
+abbrev pub IfWhole : RunTaken → Type 0 → Type 0
+IfWhole ran.Whole P = P
+IfWhole ran.Failed P = ⊤
+IfWhole ran.OutOfMemory P = ⊤
+
+-- this is so of the byte that a look finds, and of none at the end
+abbrev pub IfLooked : Next → (Option ℕ → Type 0) → Type 0
+IfLooked (next.Byte byte) P = P (Some byte)
+IfLooked next.End P = P None
+IfLooked next.Failed P = ⊤
+
+-- a byte that came can be taken
+abbrev pub CanTakeByte : {R : Type 0} → Input R → ℕ → Type 0
+CanTakeByte new byte =
+    (new.peeked ≡ Some byte) × (new.ended ≡ false) × (new.taken < 2 ^ 64 - 1)
 
 -- nothing more is taken
 abbrev pub TakesNoMore : {R : Type 0} → Input R → Type 0
@@ -58,9 +102,17 @@ TakesNoMore input = (input.ended ≡ true) ⊎ (input.taken ≡ 2 ^ 64 - 1)
 abbrev pub TakesOneMore : {R : Type 0} → Input R → Input R → Type 0
 TakesOneMore old new = (new.taken ≡ old.taken + 1) × (new.taken < 2 ^ 64)
 
--- one more byte is taken if one was returned, and else none
-abbrev pub CountsByte : {R : Type 0} → Input R → Option ℕ → Input R → Type 0
-CountsByte old byte new = MatchOption byte (new.taken ≡ old.taken) (λ _. TakesOneMore old new)
+-- the same of a run that was appended; where memory was refused, the count is as it was
+abbrev pub CountsTaken : {R : Type 0} → (R → Option ℕ) → Input R → RunTaken → Input R → Type 0
+CountsTaken failures old ran.Whole new = failures new.inner ≡ failures old.inner
+CountsTaken failures old ran.Failed new = ReadFailed failures old new
+CountsTaken failures old ran.OutOfMemory new = failures new.inner ≡ failures old.inner
+
+-- one more byte is taken where one came, else none
+abbrev pub CountsByte : {R : Type 0} → Input R → Next → Input R → Type 0
+CountsByte old (next.Byte byte) new = TakesOneMore old new
+CountsByte old next.End new = new.taken ≡ old.taken
+CountsByte old next.Failed new = new.taken ≡ old.taken
 
 -- ---- several bytes
 
@@ -68,7 +120,11 @@ CountsByte old byte new = MatchOption byte (new.taken ≡ old.taken) (λ _. Take
 abbrev pub TakesSomeMore : {R : Type 0} → Input R → Input R → Type 0
 TakesSomeMore old new = (old.taken < new.taken) × (old.taken < 2 ^ 64)
 
--- ---- what is at the front
+-- buffered bytes can be taken
+abbrev pub CanTakeRun : {R : Type 0} → Input R → Type 0
+CanTakeRun input = (input.ended ≡ false) × (is_some input.peeked ≡ false)
+
+-- ---- what stands at the front
 
 -- a bare string, and the token that a byte begins, if this ends a run
 abbrev pub bare_until : Stop → ℕ → List ℕ → Token
@@ -127,7 +183,19 @@ module _ {R : Type 0} (known : R → Option (List ℕ)) where
       (unread known new ≡ Some (drop (run (stops stop) xs) xs))
       × (new.taken ≡ old.taken + run (stops stop) xs))
 
-  -- the run was taken, and appended to the text
+  -- the run was taken, and this byte after it
+  abbrev pub TakesPast : Stop → Input R → ℕ → Input R → Type 0
+  TakesPast stop old byte new = IfKnown (unread known old) (λ xs.
+      let n = run (stops stop) xs in (ys : List ℕ) × (drop n xs ≡ byte ∷ ys)
+      × (unread known new ≡ Some ys) × (new.taken ≡ old.taken + n + 1))
+
+  -- the run was taken, and nothing stands after it
+  abbrev pub HasNoStop : Stop → Input R → Input R → Type 0
+  HasNoStop stop old new = IfKnown (unread known old) (λ xs.
+      let n = run (stops stop) xs in (drop n xs ≡ []) × (unread known new ≡ Some (drop n xs))
+      × (new.taken ≡ old.taken + n))
+
+  -- the run was taken, and stands after the text
   abbrev pub AddsRun : Stop → Input R
       → (text : Vec ℕ Global) → Input R → (longer : Vec ℕ Global) → Type 0
   AddsRun stop old text new longer = IfKnown (unread known old) (λ xs.
@@ -146,7 +214,22 @@ module _ {R : Type 0} (known : R → Option (List ℕ)) where
   AddsTo stop old text new longer = IfKnown (unread known old)
       (TakesPart (stops stop) old.taken text.items (unread known new) new.taken longer.items)
 
-  -- what follows a run was taken: the closing quote, or an escape that stands for a piece
+  -- some of the run was taken, and stands after the text and this byte
+  abbrev pub BeginsRun : Stop → Input R → (byte : ℕ) → (text : Vec ℕ Global) → Input R
+      → (longer : Vec ℕ Global) → Type 0
+  BeginsRun stop old byte text new longer = IfKnown (unread known old)
+      (TakesPart (stops stop) old.taken (text.items ++ byte ∷ []) (unread known new) new.taken
+      longer.items)
+
+  -- the run was taken, and stands after the text and this byte
+  abbrev pub AddsBare : Stop → Input R → (byte : ℕ) → (text : Vec ℕ Global) → Input R
+      → (longer : Vec ℕ Global) → Type 0
+  AddsBare stop old byte text new longer = IfKnown (unread known old) (λ xs.
+      (longer.items ≡ text.items ++ (byte ∷ take (run (stops stop) xs) xs))
+      × (unread known new ≡ Some (drop (run (stops stop) xs) xs))
+      × (new.taken ≡ old.taken + run (stops stop) xs))
+
+  -- what stands after a run was taken: the closing quote, or an escape that stands for a piece
   abbrev pub TakesEnd : (quote : ℕ) → Input R → Input R
       → Option Escaped → Type 0
   TakesEnd quote old new piece = IfKnown (unread known old) (λ xs. (n : ℕ)

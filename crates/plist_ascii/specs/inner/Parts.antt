@@ -1,5 +1,5 @@
--- What has been taken of a string: its characters, escapes, and parts that end with one.
-use Rattle.std.specs.Prelude.{◌≡◌, ℕ, ◌<◌, Bool, true, false, List, [], ◌∷◌, drop, Option, None, Some, Result, Ok, Err, MatchOption, encode_utf8, string_bytes}
+-- What has been taken of a text: its characters, escapes, and parts that end at one.
+use Rattle.std.specs.Prelude.{◌≡◌, ℕ, ◌<◌, ◌==◌, ◌||◌, Bool, true, false, List, [], ◌∷◌, drop, Option, None, Some, Result, Ok, Err, MatchOption, encode_utf8, string_bytes}
 use Rattle.std.specs.Char.{is_digit, digit_value}
 use Rattle.std.specs.Str.{is_utf8}
 use Rattle.std.specs.declared.alloc.Global.{Global}
@@ -30,7 +30,11 @@ abbrev pub IsDigitOf : (byte radix value : ℕ) → Type 0
 IsDigitOf byte radix value =
     (is_digit byte radix ≡ true) × (value ≡ digit_value byte) × (value < radix)
 
--- the unit isn't a surrogate, and is this character
+-- a sign, or a decimal digit
+abbrev pub begins_number : ℕ → Bool
+begins_number c = (c == 43) || ((c == 45) || is_digit c 10)
+
+-- the unit is no surrogate, and this character
 abbrev pub IsCharOfUnit : (unit c : ℕ) → Type 0
 IsCharOfUnit unit c = (is_surrogate unit ≡ false) × (c ≡ unit)
 

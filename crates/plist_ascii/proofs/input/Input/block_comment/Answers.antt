@@ -1,47 +1,52 @@
-use Rattle.std.proofs.Common.{arith, sym, ◌∙◌}
-use Rattle.std.proofs.lemmas.Bool.{and_parts}
+use Rattle.std.proofs.Common.{arith, ◌+◌, ◌∙◌}
 use Rattle.plist_base.specs.Faults.{IncompleteComment}
+use Rattle.plist_ascii.specs.Taken.{run}
 use Rattle.plist_ascii.specs.Comments.{block_comment}
 use Rattle.std.specs.Option.{option_map}
 use Rattle.plist_base.specs.Events.{event_of}
 use Rattle.plist_ascii.proofs.Answering.{answers_fault}
-use Rattle.plist_ascii.proofs.Loops.{since_start, since_on, closing_start, closing_more, closing_closed, closing_open, nothing_taken}
+use Rattle.plist_ascii.proofs.Loops.{since_start, since_on, is_star, star_closes, star_opens, star_misses, commenting_start, commenting_more, commenting_ends}
 use Rattle.plist_ascii.proofs.input.Input.block_comment.Goals as goal
 
-pub bytes-init : goal.bytes-init
-bytes-init g c = since_start (λ xs. closing_start xs _)
+pub stars-init : goal.stars-init
+stars-init g c = since_start (λ xs. commenting_start xs _)
 
-pub returns-then-closes-clause-answers : goal.returns-then-closes-clause-answers
-returns-then-closes-clause-answers g c =
-    let some = rw c.in-Some.is at c.in_ok-byte.ensures.some in
-    let place = rw c.in-Some.is at c.in_ok-byte.ensures.place in
-    let both = and_parts _ _ (sym c.closes.ensures ∙ c.if-closes.true) in (
-      omega arith,
-      λ xs e.
-          let i = c.bytes.invariant.goes xs e in
-          let t = some i.0 i.1 in
-          closing_closed i.2 t.2 t.1 place.0 both.0 both.1,
+pub stars-smaller : goal.stars-smaller
+stars-smaller g c =
+    omega (
+      arith,
+      c.in-Byte.ensures.rises,
+      c.in-Byte.ensures.countable,
+      c.in-End-take_unless.ensures.place,
     )
 
-pub bytes-preserved : goal.bytes-preserved
-bytes-preserved g c =
-    let some = rw c.in-Some.is at c.in_ok-byte.ensures.some in
-    let place = rw c.in-Some.is at c.in_ok-byte.ensures.place in
-    since_on c.bytes.invariant c.in_ok-byte.ensures.failures (omega arith) (λ xs ys i u.
-    let t = some ys u in (
-      _,
-      t.2,
-      closing_more i t.2 t.1 place.0 (cc)
-          c.is_star-star.ensures,
-    ))
+pub stars-preserved : goal.stars-preserved
+stars-preserved g c =
+    let place = c.in-End-take_unless.ensures.place in
+    since_on c.stars.invariant (c.in-End-take_unless.ensures.failures ∙ c.in-Byte.ensures.failures)
+    (omega (arith, c.in-Byte.ensures.rises, place)) (λ xs ys i u.
+    let t = c.in-Byte.ensures.some ys u in
+    let s = c.in-End-take_unless.ensures.none t.0 t.2 in
+    let opens = star_opens ys t.1 s.1 s.0 in
+    (_, opens.1, commenting_more i (run is_star ys + 1) (omega (arith, t.3, place)) opens.0))
 
-pub returns-in_default-clause-answers : goal.returns-in_default-clause-answers
-returns-in_default-clause-answers g c =
-    let none = nothing_taken _ c.in_default.not-Some in
-    let place = rw none at c.in_ok-byte.ensures.place in
+pub returns-in-Byte-take_unless-clause-answers : goal.returns-in-Byte-take_unless-clause-answers
+returns-in-Byte-take_unless-clause-answers g c =
+    let place = c.in-Byte-take_unless.ensures.place in (
+      omega (arith, c.stars.invariant.rises, c.in-Byte.ensures.rises, place.0),
+      λ xs e.
+          let i = c.stars.invariant.goes xs e in
+          let t = c.in-Byte.ensures.some i.0 i.1 in
+          let s = c.in-Byte-take_unless.ensures.some t.0 t.2 in
+          let closed = star_closes i.0 t.1 s.1 s.3 s.2 in
+          commenting_ends i.2 (run is_star i.0 + 2) (omega (arith, t.3, place.0)) closed.0 closed.1,
+    )
+
+pub returns-in-End-clause-answers : goal.returns-in-End-clause-answers
+returns-in-End-clause-answers g c =
     answers_fault (option_map event_of) block_comment _ _ _ _ _ IncompleteComment c.fault.ensures tt
-    (omega (arith, c.bytes.invariant.rises, place))
+    (omega (arith, c.stars.invariant.rises, c.take_past.ensures.place))
     (λ xs e.
-    let i = c.bytes.invariant.goes xs e in
-    let t = c.in_ok-byte.ensures.none none i.0 i.1 in
-    closing_open i.2 t.0 t.1 place)
+    let i = c.stars.invariant.goes xs e in
+    let t = c.in-End.ensures.none i.0 i.1 in
+    commenting_ends i.2 _ t.2 (star_misses i.0 t.0) t.1)

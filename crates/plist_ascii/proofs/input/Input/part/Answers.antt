@@ -11,8 +11,8 @@ pub returns-in-None-clause-value : goal.returns-in-None-clause-value
 returns-in-None-clause-value g c = λ xs e.
     let quote = c.args.quote in
     let m = run _ xs in
-    let r = c.in_ok-take_run.ensures.value xs e in
-    let ok = rw c.in-None.is at c.in_ok-piece.ensures.value in
+    let r = c.in-Whole.ensures.value xs e in
+    let ok = rw c.in-None.is at c.in_ok-piece-in-Whole.ensures.value in
     let t = ok _ r.1 in (
       m + t.0,
       take m xs ++ [],
@@ -27,8 +27,8 @@ pub returns-in_ok-push_escaped-in-Some-clause-value
 returns-in_ok-push_escaped-in-Some-clause-value g c = λ xs e.
     let quote = c.args.quote in
     let m = run (ends_run quote) xs in
-    let r = c.in_ok-take_run.ensures.value xs e in
-    let ok = rw c.in-Some.is at c.in_ok-piece.ensures.value in
+    let r = c.in-Whole.ensures.value xs e in
+    let ok = rw c.in-Some.is at c.in_ok-piece-in-Whole.ensures.value in
     let t = ok (drop m xs) r.1 in
     let piece = escaped_bytes c.in-Some.piece in (
       m + t.0,
@@ -39,18 +39,17 @@ returns-in_ok-push_escaped-in-Some-clause-value g c = λ xs e.
       omega (arith, t.3, r.2),
     )
 
-pub returns-in_err-piece-clause-fault : goal.returns-in_err-piece-clause-fault
-returns-in_err-piece-clause-fault g c =
-    let f = err_from_is_err_and c.from_residual-in_err-piece.result
-    c.from_residual-in_err-piece.ensures.1 in
-    let b = c.in_err-piece.ensures.fault in
+pub returns-in_err-piece-in-Whole-clause-fault : goal.returns-in_err-piece-in-Whole-clause-fault
+returns-in_err-piece-in-Whole-clause-fault g c =
+    let f = err_from_is_err_and c.from_residual.result c.from_residual.ensures.1 in
+    let b = c.in_err-piece-in-Whole.ensures.fault in
     rw (f.1, f.2) (
       b.0,
       omega (arith, b.1, c.take_run.ensures.place),
       λ d xs e.
           let quote = c.args.quote in
           let m = run (ends_run quote) xs in
-          let r = c.in_ok-take_run.ensures.value xs e in
+          let r = c.in-Whole.ensures.value xs e in
           let t = b.2 d (drop m xs) r.1 in (
             m + t.0,
             part_ends quote t.0 xs _ t.1,
