@@ -63,7 +63,7 @@ impl fmt::Display for Shape {
     }
 }
 
-// The keys of launchd.plist(5).
+// Keys that launchd.plist(5) describes.
 const KEYS: [(&str, Shape); 48] = [
     ("AbandonProcessGroup", Shape::Boolean),
     ("Debug", Shape::Boolean),
@@ -161,7 +161,7 @@ enum Finding<'a> {
 }
 
 impl Finding<'_> {
-    /// Whether launchd doesn't load such a job.
+    /// Whether it is an error, and not a warning.
     fn is_error(&self) -> bool {
         matches!(
             self,

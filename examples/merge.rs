@@ -14,7 +14,7 @@ enum Failure {
     Plist(Error),
     /// A line can't be printed.
     Output(io::Error),
-    /// The file holds no dictionary.
+    /// The file is not a dictionary.
     NoDictionary,
     /// The word is no command.
     Usage,
@@ -37,7 +37,7 @@ impl fmt::Display for Failure {
         match self {
             Failure::Plist(error) => write!(f, "{error}"),
             Failure::Output(error) => write!(f, "{error}"),
-            Failure::NoDictionary => f.write_str("the file holds no dictionary"),
+            Failure::NoDictionary => f.write_str("the file is not a dictionary"),
             Failure::Usage => f.write_str("diff=OLD,NEW merge=BASE,OVER,OUT"),
         }
     }

@@ -37,7 +37,7 @@ pub enum Finding<'a> {
 }
 
 impl Finding<'_> {
-    /// Whether launchd doesn't load such a job.
+    /// Whether it is an error, and not a warning.
     pub fn is_error(&self) -> bool {
         matches!(
             self,

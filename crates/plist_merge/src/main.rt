@@ -27,7 +27,7 @@ const LIMITS: Limits = Limits {
 enum Failure {
     /// A file can't be read or written, or a line can't be printed.
     Plist(Error),
-    /// The file holds no dictionary.
+    /// The file is not a dictionary.
     NoDictionary,
     /// The word is no command.
     Usage,
@@ -56,7 +56,7 @@ impl fmt::Display for Failure {
     fn fmt<W: fmt::Write>(&self, f: &mut fmt::Formatter<W>) -> fmt::Result {
         match self {
             Failure::Plist(error) => write!(f, "{}", error.reason()),
-            Failure::NoDictionary => f.write_str("the file holds no dictionary"),
+            Failure::NoDictionary => f.write_str("the file is not a dictionary"),
             Failure::Usage => f.write_str("diff=OLD,NEW merge=BASE,OVER,OUT"),
         }
     }
