@@ -26,10 +26,10 @@ use Rattle.plist_keyed.specs.declared.check.Check.{Check}
 use Rattle.plist_keyed.specs.declared.error.WalkError.{WalkError}
 use Rattle.plist_keyed.specs.declared.error.WalkError.TheVariants as walk
 use Rattle.plist_keyed.specs.inner.Checking.{Covers, IsCheck, IsCheckAt, IsCheckOf, IsOpened, IsReached, KeepsReached, Leaves, objects_checked, objects_seen, open_uids, settled_uids, unchecked_from, unchecked_steps, unchecked_steps_in, unchecked_with}
-use Rattle.plist_keyed.specs.inner.Settled.{AreSettled, IsEndOf, IsIn, NameOnly, settled_in}
+use Rattle.plist_keyed.specs.inner.Settled.{AreSettled, IsEndOf, IsIn, IsNoUid, LeadsOnlyTo, NameOnly, settled_in}
 use Rattle.plist_keyed.specs.inner.Walks.{Given, Step, IsFirstFaultOf, PassesEvents, follow_in, given_by, steps_from, steps_of_event, steps_of_events, uid_of_event}
 use Rattle.plist_keyed.proofs.Expanding.{given_by-append}
-use Rattle.plist_keyed.proofs.Settling.{more-ends, more-named, named-append, opened_in, out_of_range, own-end, further-end, recursive, settled-faultless, settled-same, some_step}
+use Rattle.plist_keyed.proofs.Settling.{more-ends, more-named, named-append, named-member, opened_in, out_of_range, own-end, further-end, recursive, settled-faultless, settled-same, some_step}
 
 -- ---- lists
 
@@ -224,25 +224,34 @@ module _ (objects : List (List PlainEvent)) where
 
   -- ---- leaving one
 
+  -- an object of which nothing is left leads only to settled Uids
+  pub left-leads : (path uids : List ℕ) (levels : List Events) (find : ℕ → Option ℕ) (uid : ℕ)
+      (level : Events) → remaining_events level ≡ []
+      → IsCheckOf objects (uid ∷ path) uids (level ∷ levels) find [] → LeadsOnlyTo objects uid uids
+  left-leads path uids levels find uid level none o =
+      let ((before, at, named), covered) = o.is_covered in
+      (before, at ∙ ap (λ l. Some (before ++ l)) none ∙ ap Some (append-nil before), named)
+
   pub left-check : (path uids : List ℕ) (levels : List Events) (find found : ℕ → Option ℕ)
       (uid end : ℕ) (level : Events) → remaining_events level ≡ []
       → IsCheckOf objects (uid ∷ path) uids (level ∷ levels) find []
-      → ((end ≡ uid) ⊎ ((next : ℕ) × (slice_get objects uid ≡ Some (ScalarEvent (Uid next) ∷ []))
-      × (find next ≡ Some end)))
+      → (((end ≡ uid) × IsNoUid objects uid) ⊎ ((next : ℕ)
+      × (slice_get objects uid ≡ Some (ScalarEvent (Uid next) ∷ [])) × (find next ≡ Some end)))
       → ((u : ℕ) → found u ≡ cond (nat_eq uid u) (Some end) (find u))
       → IsCheckOf objects path (uid ∷ uids) levels found []
   left-check path uids levels find found uid end level none o is finds =
       let out : IsIn uid uids → ⊥ = (λ q. o.are_apart uid (or_left _ _ (eq-eqb uid uid refl)) q) in
-      let ((before, at, named), covered) = o.is_covered in
-      let whole : slice_get objects uid ≡ Some before =
-      at ∙ ap (λ l. Some (before ++ l)) none ∙ ap Some (append-nil before) in
-      let settled : AreSettled objects (uid ∷ uids) = ((before, whole, named), out, o.are_settled) in
+      let leads = left-leads path uids levels find uid level none o in
+      let settled : AreSettled objects (uid ∷ uids) = (leads, out, o.are_settled) in
       let member : IsIn uid (uid ∷ uids) = or_left _ _ (eq-eqb uid uid refl) in
       let own : IsEndOf objects (uid ∷ uids) uid end = elim is [
-        | inl e ↦ subst (λ n. IsEndOf objects (uid ∷ uids) uid n) (sym e)
-            (own-end objects (uid ∷ uids) uid member)
+        | inl (e, plain) ↦ subst (λ n. IsEndOf objects (uid ∷ uids) uid n) (sym e)
+            (own-end objects (uid ∷ uids) uid member plain)
         | inr (next, at_next, p) ↦
-            further-end objects uids uid next end settled at_next (o.are_ends next end p)
+            let (other, q, of) =
+            o.are_ends next (named-member objects uid uids next leads at_next) in
+            further-end objects uids uid next end settled at_next
+            (subst (λ n. IsEndOf objects uids next n) (same_Some other end (sym q ∙ p)) of)
       ] in
       record {
         is_path = path_pop uid path o.is_path;
@@ -254,13 +263,23 @@ module _ (objects : List (List PlainEvent)) where
         ];
         is_covered = covers-passed (uid ∷ uids) levels path (ScalarEvent (Uid uid))
             ((λ u p. subst (λ n. IsIn n (uid ∷ uids)) (same_Some uid u p) member), tt)
-            (covers-more uids levels path (ScalarEvent (Uid uid) ∷ []) uid covered);
-        are_ends = λ u e p. elim (eqb_tells uid u) [
-          | inl t ↦ subst (λ n. IsEndOf objects (uid ∷ uids) n e) t.1
-              (subst (λ n. IsEndOf objects (uid ∷ uids) uid n)
-              (same_Some end e (sym (finds u ∙ ap (λ b. cond b (Some end) (find u)) t.0) ∙ p)) own)
-          | inr t ↦ more-ends objects uids u e uid
-              (o.are_ends u e (sym (finds u ∙ ap (λ b. cond b (Some end) (find u)) t.0) ∙ p))
+            (covers-more uids levels path (ScalarEvent (Uid uid) ∷ []) uid o.is_covered.1);
+        are_ends = λ u q. elim (eqb_tells uid u) [
+          | inl t ↦ (
+            end,
+            finds u ∙ ap (λ b. cond b (Some end) (find u)) t.0,
+            subst (λ n. IsEndOf objects (uid ∷ uids) n end) t.1 own,
+          )
+          | inr t ↦
+              let old : IsIn u uids = elim (eqb_tells u uid) [
+                | inl e ↦ absurd (t.1 (sym e.1))
+                | inr e ↦ rw e.0 at q
+              ] in
+              let (other, p, of) = o.are_ends u old in (
+                other,
+                finds u ∙ ap (λ b. cond b (Some end) (find u)) t.0 ∙ p,
+                more-ends objects uids u other uid of,
+              )
         ];
       }
 
@@ -279,15 +298,15 @@ module _ (objects : List (List PlainEvent)) where
 
   -- ---- the beginning
 
-  pub first-check : (uid : ℕ) (find : ℕ → Option ℕ) → ((u : ℕ) → find u ≡ None)
+  pub first-check : (uid : ℕ) (find : ℕ → Option ℕ)
       → IsCheckOf objects [] [] [] find (ScalarEvent (Uid uid) ∷ [])
-  first-check uid find none = record {
+  first-check uid find = record {
     is_path = path_none _;
     each_left = refl;
     are_settled = tt;
     are_apart = λ u p q. absurd (cc);
     is_covered = tt;
-    are_ends = λ u end p. absurd (none-some end (sym (none u) ∙ p));
+    are_ends = λ u q. absurd (cc);
   }
 
 -- ---- the state of the code
@@ -367,7 +386,7 @@ module _ (start : Check) (uid : ℕ) (keys : start.path.keys ≡ []) (levels : s
   where
     pub begins-checked : start.ends.entries ≡ [] → IsCheckAt start (ScalarEvent (Uid uid) ∷ [])
     begins-checked entries =
-        rw (keys, levels, entries) (first-check (objects_checked start) uid (λ u. None) (λ u. refl))
+        rw (keys, levels, entries) (first-check (objects_checked start) uid (λ u. None))
 
     pub begins-with : given_by (unchecked_from start uid)
         ≡ given_by (steps_from (objects_checked start) uid)

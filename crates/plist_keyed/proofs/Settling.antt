@@ -12,7 +12,7 @@ use Rattle.plist_base.specs.Trees.{Uid}
 use Rattle.plist_base.specs.inner.Paths.{IsPath}
 use Rattle.plist_base.proofs.Paths.{path_none, path_push, path_rises}
 use Rattle.plist_keyed.specs.Archives.{UidOutOfRange, RecursiveUid}
-use Rattle.plist_keyed.specs.inner.Settled.{IsIn, AreApart, NameOnly, LeadsOnlyTo, AreSettled, IsEndOf}
+use Rattle.plist_keyed.specs.inner.Settled.{IsIn, AreApart, NameOnly, LeadsOnlyTo, AreSettled, IsEndOf, IsNoUid}
 use Rattle.plist_keyed.specs.inner.Walks.{Step, IsFaultless, follow_in, given_by, steps_at, steps_found, steps_from, steps_of_event, steps_of_events, uid_of_event}
 use Rattle.plist_keyed.proofs.Expanding.{given_by-append}
 
@@ -214,23 +214,33 @@ module _ (objects : List (List PlainEvent)) where
   -- ---- ends
 
   -- the Uid itself is its end
-  pub own-end : (uids : List ℕ) (uid : ℕ) → IsIn uid uids → IsEndOf objects uids uid uid
-  own-end uids uid member = (member, refl, omega arith)
+  pub own-end : (uids : List ℕ) (uid : ℕ) → IsIn uid uids → IsNoUid objects uid
+      → IsEndOf objects uids uid uid
+  own-end uids uid member plain = (member, plain, refl, omega arith)
 
   pub more-ends : (uids : List ℕ) (uid end other : ℕ) → IsEndOf objects uids uid end
       → IsEndOf objects (other ∷ uids) uid end
-  more-ends uids uid end other (member, same, fewer) = (or_right (nat_eq end other) _ member, same, fewer)
+  more-ends uids uid end other (member, plain, same, fewer) =
+      (or_right (nat_eq end other) _ member, plain, same, fewer)
+
+  -- a Uid that is the object of another is among those that it leads to
+  pub named-member : (uid : ℕ) (uids : List ℕ) (next : ℕ) → LeadsOnlyTo objects uid uids
+      → slice_get objects uid ≡ Some (ScalarEvent (Uid next) ∷ []) → IsIn next uids
+  named-member uid uids next (es, found, named) at =
+      let e : es ≡ ScalarEvent (Uid next) ∷ [] = cc in
+      let names = (rw e at named) in names.0 next refl
 
   -- the end of the Uid that an object is
   pub further-end : (uids : List ℕ) (uid next end : ℕ) → AreSettled objects (uid ∷ uids)
       → slice_get objects uid ≡ Some (ScalarEvent (Uid next) ∷ []) → IsEndOf objects uids next end
       → IsEndOf objects (uid ∷ uids) uid end
-  further-end uids uid next end (leads, new, s) at (member, same, fewer) =
+  further-end uids uid next end (leads, new, s) at (member, plain, same, fewer) =
       let is = settled-opens uid uids [] leads new (settled-same uids s) (path_none _)
       (λ p. absurd (cc)) (λ u p q. absurd (cc)) in
       let found : leads.0 ≡ ScalarEvent (Uid next) ∷ [] = cc in
       let steps : from uid ≡ None ∷ ((from next ++ []) ++ None ∷ []) = rw found at is in (
         or_right (nat_eq end uid) _ member,
+        plain,
         rw steps (given_by-append (from next ++ []) (None ∷ [])
             ∙ append-nil _ ∙ ap given_by (append-nil (from next)) ∙ same),
         rw (steps, length-append (from next ++ []) (None ∷ []), append-nil (from next))

@@ -19,7 +19,7 @@ use Rattle.plist_keyed.specs.inner.Settled.{AreEnds, AreSettled, IsEndOf, IsIn, 
 use Rattle.plist_keyed.specs.inner.Walks.{Step, events_given, given_by, steps_from, steps_of_event, steps_of_events, uid_of_event}
 use Rattle.plist_keyed.proofs.Expanding.{given_by-append}
 use Rattle.plist_keyed.proofs.Checked.{reverse-snoc, uid_steps}
-use Rattle.plist_keyed.proofs.Settling.{own-end, settled-unfolds, some_step}
+use Rattle.plist_keyed.proofs.Settling.{settled-unfolds, some_step}
 
 -- as many objects are seen as there are
 pub seen-length : (objects : List Value) (n : ℕ) → n < length (objects_seen objects)
@@ -31,20 +31,15 @@ module _ (objects : List (List PlainEvent)) where
   abbrev from : ℕ → List Step
   from = steps_from objects
 
-  -- the end that is found, and where none is found the Uid itself
+  -- the end that is found
   pub end-found : (uids : List ℕ) (find : ℕ → Option ℕ) → AreEnds objects uids find → (uid : ℕ)
       → IsIn uid uids → IsEndOf objects uids uid (unwrap_or (find uid) uid)
-  end-found uids find ends uid member = by (find uid) refl
-    where
-      by : (found : Option ℕ) → find uid ≡ found
-          → IsEndOf objects uids uid (unwrap_or found uid)
-      by None p = own-end objects uids uid member
-      by (Some end) p = ends uid end p
+  end-found uids find ends uid member = let (end, is, of) = ends uid member in rw is of
 
   -- there is an object at the end
   pub end-within : (uids : List ℕ) → AreSettled objects uids → (uid end : ℕ)
       → IsEndOf objects uids uid end → end < length objects
-  end-within uids s uid end (member, same, fewer) =
+  end-within uids s uid end (member, plain, same, fewer) =
       let (es, at, names, is) = settled-unfolds objects uids s end member in
       slice_get_within objects end es at
 
@@ -54,7 +49,7 @@ module _ (objects : List (List PlainEvent)) where
       → slice_get objects end ≡ Some (remaining_events level)
       → Skips (from uid ++ steps_in_levels objects levels) (steps_in_levels objects (level ∷ levels))
       × NameOnly (remaining_events level) uids
-  skips-entered uids s uid end (member, same, fewer) levels level at =
+  skips-entered uids s uid end (member, plain, same, fewer) levels level at =
       let (es, found, names, is) = settled-unfolds objects uids s end member in
       let e : es ≡ remaining_events level = cc in
       let rest = steps_in_levels objects levels in

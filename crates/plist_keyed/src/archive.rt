@@ -97,8 +97,12 @@ impl<'a> Archive<'a> {
     /// names the next one twice, make a tree of 2^30 leaves. To walk over an archive without making
     /// its tree, follow its Uids by [`Archive::get`].
     ///
-    /// The walk has a list of its own for the objects that are open, so it goes over any depth. What it
-    /// makes may be as deep: [`Value::destroy`] drops it without more of the call stack.
+    /// Before anything of the tree is made, each Uid is followed once to find a fault. So a fault is
+    /// found in a time that grows with the objects alone, and the whole call takes a time that grows
+    /// with the objects and the tree. The Uids that were followed are stored until it returns.
+    ///
+    /// The walks have lists of their own for the objects that are open, so they go over any depth.
+    /// What is made may be as deep: [`Value::destroy`] drops it without more of the call stack.
     ///
     /// # Errors
     ///

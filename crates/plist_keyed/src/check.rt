@@ -2,17 +2,16 @@
 //!
 //! It follows each Uid once: where one is met again, all below it is known to be without a fault.
 
-ghost use Rattle.std.specs.Prelude.{◌≡◌, ◌⊎◌, [], ◌∷◌, false, IfErr, IfOk, IfSome, None, OnOk, Some, nat_eq, slice_get};
+ghost use Rattle.std.specs.Prelude.{◌≡◌, ◌⊎◌, [], ◌∷◌, false, IfErr, IfOk, IfSome, IsNone, None, OnOk, Some, nat_eq, slice_get, ℕ};
 ghost use Rattle.std.specs.Option.{option_copied};
 ghost use Rattle.indexmap.specs.IndexMap.{get};
 ghost use Rattle.indexmap.specs.IndexSet.{contains};
-ghost use Rattle.plist_base.specs.Bracketing.{bracketing};
 ghost use Rattle.plist_base.specs.Events.{ScalarEvent, event_of};
 ghost use Rattle.plist_base.specs.Trees.{Uid as PlainUid};
 ghost use Rattle.plist.specs.ValueTrees.{tree_of};
 ghost use Rattle.plist_keyed.specs.declared.error.WalkError.TheVariants.{OutOfMemory as NoMemory};
 ghost use Rattle.plist_keyed.specs.inner.Checking.{objects_seen};
-ghost use Rattle.plist_keyed.specs.inner.Settled.{IsSettledBelow};
+ghost use Rattle.plist_keyed.specs.inner.Settled.{IsSettledBelow, IsUidTree, LeadsOnlyTo};
 ghost use Rattle.plist_keyed.specs.inner.Walks.{IsFirstFaultOf, steps_from, uid_of_event};
 
 use crate::error::WalkError;
@@ -33,8 +32,8 @@ pub(crate) fn uid_of(event: &Event<'_>) -> Option<u64>
 
 // The number of the Uid that an object is.
 fn uid_in(object: &Value) -> Option<u64>
-    ensures { IfSome result (λ uid. bracketing (tree_of object.now) ≡ ScalarEvent (PlainUid uid)
-        ∷ []) }
+    ensures found { IfSome result (λ uid. IsUidTree (tree_of object.now) uid) }
+    ensures missing { IsNone result → (uid : ℕ) → ¬ (IsUidTree (tree_of object.now) uid) }
 {
     let Value::Uid(uid) = object else {
         return None;
@@ -57,7 +56,7 @@ struct Check<'a> {
 }
 
 impl<'a> Check<'a> {
-    ghost use Rattle.plist_keyed.specs.inner.Checking.{HasEnd, IsCheck, IsCheckAt, IsLeaving, IsOpened, IsReached, KeepsReached, IsCheckWith, Leaves, unchecked_steps, objects_checked, unchecked_from, unchecked_from_event, unchecked_with};
+    ghost use Rattle.plist_keyed.specs.inner.Checking.{HasEnd, IsCheck, IsCheckAt, IsLeaving, IsOpened, IsReached, KeepsReached, IsCheckWith, Leaves, unchecked_steps, objects_checked, settled_uids, unchecked_from, unchecked_from_event, unchecked_with};
     ghost use Rattle.plist_keyed.specs.inner.Walks.{PassesEvents};
 
     fn new(alloc: Global, objects: &'a [Value]) -> Check<'a>
@@ -137,6 +136,7 @@ impl<'a> Check<'a> {
 
     // The Uid at which the chain ends that begins with this one, all others of which are settled.
     fn end_of(&self, uid: u64) -> u64
+        requires { LeadsOnlyTo (objects_checked self.now) uid (settled_uids self.now) }
         ensures { HasEnd self.now uid result }
     {
         let Some(object) = self.look_up(uid) else {
@@ -147,6 +147,7 @@ impl<'a> Check<'a> {
         };
         match self.ends.get(&next) {
             Some(end) => *end,
+            // Never so: the next Uid is settled, and each settled one has an end.
             None => uid,
         }
     }

@@ -66,6 +66,7 @@ impl<'a> Walk<'a> {
     {
         match self.ends.get(&uid) {
             Some(end) => *end,
+            // Never so: each Uid that is met is settled, and each settled one has an end.
             None => uid,
         }
     }

@@ -11,7 +11,7 @@ use Rattle.plist.specs.declared.value.Value.{Value}
 use Rattle.plist.specs.Events.{remaining_events}
 use Rattle.plist.specs.ValueTrees.{tree_of}
 use Rattle.plist_keyed.specs.declared.check.Check.{Check}
-use Rattle.plist_keyed.specs.inner.Settled.{AreApart, AreEnds, AreSettled, IsIn, NameOnly, settled_in}
+use Rattle.plist_keyed.specs.inner.Settled.{AreApart, AreEnds, AreSettled, IsIn, IsNoUid, NameOnly, settled_in}
 use Rattle.plist_keyed.specs.inner.Walks.{Step, follow_in, steps_of_event, steps_of_events}
 
 -- the events of each object
@@ -121,9 +121,9 @@ Leaves before after =
     (uid : ℕ) × (open_uids before ≡ uid ∷ open_uids after)
     × (settled_uids after ≡ uid ∷ settled_uids before) × (after.levels ≡ before.levels)
 
--- the end of a Uid's chain: that of the Uid that its object is, or the Uid itself
+-- the end of a Uid's chain: that of the Uid that its object is, and where that is none the Uid
 abbrev pub HasEnd : Check → (uid end : ℕ) → Type 0
 HasEnd check uid end =
-    (end ≡ uid) ⊎ ((next : ℕ)
+    ((end ≡ uid) × IsNoUid (objects_checked check) uid) ⊎ ((next : ℕ)
     × (slice_get (objects_checked check) uid ≡ Some (ScalarEvent (Uid next) ∷ []))
     × (get nat_eq check.ends next ≡ Some end))

@@ -3,12 +3,18 @@
 use Rattle.std.specs.Prelude.{◌≡◌, ℕ, ◌≤◌, true, List, [], ◌∷◌, length, reverse, Option, Some, nat_eq, slice_get, ⊤}
 use Rattle.std.specs.List.{list_any}
 use Rattle.indexmap.specs.IndexMap.{IndexMap, get, keys}
-use Rattle.plist_base.specs.Events.{PlainEvent}
+use Rattle.plist_base.specs.Events.{PlainEvent, ScalarEvent}
+use Rattle.plist_base.specs.Bracketing.{bracketing}
+use Rattle.plist_base.specs.Trees.{Tree, Uid}
 use Rattle.plist_keyed.specs.inner.Walks.{given_by, steps_from, uid_of_event}
 
 -- the Uid is one of these
 abbrev pub IsIn : (uid : ℕ) → (uids : List ℕ) → Type 0
 IsIn uid uids = list_any (nat_eq uid) uids ≡ true
+
+-- the tree is this Uid
+abbrev pub IsUidTree : Tree → (uid : ℕ) → Type 0
+IsUidTree tree uid = bracketing tree ≡ ScalarEvent (Uid uid) ∷ []
 
 -- no Uid is in both
 abbrev pub AreApart : (left right : List ℕ) → Type 0
@@ -31,21 +37,28 @@ module _ (objects : List (List PlainEvent)) where
   AreSettled [] = ⊤
   AreSettled (uid ∷ uids) = LeadsOnlyTo uid uids × (IsIn uid uids → ⊥) × AreSettled uids
 
-  -- following the end gives what following the Uid does, in no more steps
+  -- the object of a Uid, if it has one, is no Uid
+  abbrev pub IsNoUid : (uid : ℕ) → Type 0
+  IsNoUid uid = (next : ℕ) → slice_get objects uid ≡ Some (ScalarEvent (Uid next) ∷ []) → ⊥
+
+  -- the end's object is no Uid, and following the end gives what following the Uid does, in no more
+  -- steps
   abbrev pub IsEndOf : (uids : List ℕ) → (uid end : ℕ) → Type 0
   IsEndOf uids uid end =
-      IsIn end uids × (given_by (steps_from objects uid) ≡ given_by (steps_from objects end))
+      IsIn end uids × IsNoUid end
+      × (given_by (steps_from objects uid) ≡ given_by (steps_from objects end))
       × (length (steps_from objects end) ≤ length (steps_from objects uid))
 
-  -- whatever is found is the end of its Uid
+  -- each of these is found with its end
   abbrev pub AreEnds : (uids : List ℕ) → (find : ℕ → Option ℕ) → Type 0
-  AreEnds uids find = (uid end : ℕ) → find uid ≡ Some end → IsEndOf uids uid end
+  AreEnds uids find =
+      (uid : ℕ) → IsIn uid uids → (end : ℕ) × (find uid ≡ Some end) × IsEndOf uids uid end
 
 -- the keys of a map of ends are the settled Uids
 abbrev pub settled_in : {S : Type 0} → IndexMap ℕ ℕ S → List ℕ
 settled_in ends = reverse (keys ends)
 
--- all in a map are settled, and its values are their ends
+-- all in a map are settled, and it has the end of each
 abbrev pub IsSettledIn : {S : Type 0} → (objects : List (List PlainEvent)) → IndexMap ℕ ℕ S → Type 0
 IsSettledIn objects ends =
     AreSettled objects (settled_in ends) × AreEnds objects (settled_in ends) (get nat_eq ends)

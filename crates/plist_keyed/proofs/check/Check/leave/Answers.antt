@@ -3,7 +3,7 @@ use Rattle.std.proofs.lemmas.Bool.{eq-eqb, or_left}
 use Rattle.indexmap.specs.IndexMap.{get}
 use Rattle.plist_keyed.specs.inner.Checking.{open_uids}
 use Rattle.plist_keyed.specs.inner.Settled.{IsIn, settled_in}
-use Rattle.plist_keyed.proofs.Checked.{left-check, reverse-snoc, settles}
+use Rattle.plist_keyed.proofs.Checked.{left-check, left-leads, reverse-snoc, settles}
 use Rattle.plist_keyed.proofs.check.Check.leave.Goals as goal
 
 opens : (c : goal.In_ok-insert)
@@ -29,3 +29,11 @@ returns-clause-check c =
     (get nat_eq c.args.self.now.ends) (get nat_eq c.insert.new.self) c.in-Some.uid
     c.end_of-end.result level none (rw (opens c) at o) c.end_of-end.ensures
     (λ u. c.in_ok-insert.ensures.updates.0 u))
+
+pub end_of-end-requires : goal.end_of-end-requires
+end_of-end-requires c =
+    let (level, none, o) = c.requires in
+    let opened : open_uids c.args.self.now ≡ c.in-Some.uid ∷ reverse c.pop.new.self.keys =
+    ap reverse c.in-Some.ensures.keys ∙ reverse-snoc c.pop.new.self.keys c.in-Some.uid in
+    left-leads _ (reverse c.pop.new.self.keys) (settled_in c.args.self.now.ends) _
+    (get nat_eq c.args.self.now.ends) c.in-Some.uid level none (rw opened at o)
