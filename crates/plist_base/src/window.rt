@@ -1,7 +1,7 @@
 //! Windows of a file in two slices: what is known of each, and their bytes.
 
 ghost use Rattle.std.specs.Prelude.{◌≡◌, ◌+◌, ◌*◌, ◌<◌, ◌≤◌, ◌^◌, length, drop, take, IfSome, OnErr};
-ghost use Rattle.plist_base.specs.inner.Windows.{BeginsAt, LendsFrom};
+ghost use Rattle.plist_base.specs.inner.Windows.{WindowBeginsAt, LendsFrom};
 
 use std::io;
 use std::io::{Read, Seek, SeekFrom};
@@ -45,7 +45,7 @@ fn first_window(count: usize, number: u64) -> usize
 pub(crate) fn window_at(headers: &[Header], size: usize, place: u64) -> Option<usize>
     requires { 0 < size }
     ensures within { IfSome result (λ i. (i < 1024) × (i < length headers.now)) }
-    ensures start { IfSome result (λ i. BeginsAt size headers.now i place) }
+    ensures start { IfSome result (λ i. WindowBeginsAt size headers.now i place) }
 {
     let start = place - place % size as u64;
     let i = first_window(headers.len(), place / size as u64);

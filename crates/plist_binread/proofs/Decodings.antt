@@ -17,7 +17,7 @@ use Rattle.plist_base.specs.Trees as trees
 use Rattle.plist_base.proofs.Refusals.{MatchFault-at}
 use Rattle.plist_format.specs.Object.{Object, Scalar, Array, Dictionary, Faulty, date, date_if_any, length_in, object_in, text, text_of_units}
 use Rattle.plist_binread.specs.CountedContent.{content_means, counted_with, unit_size}
-use Rattle.plist_binread.specs.Decoded.{DecodesAfter, DecodesAt, DecodesSeen, CountsUnread, FailsUnread, FitsBefore, FitsWalk, IsDecodedAs, IsObjectFault, IsLongCount, IsReadAs, SetsContentAt, SetsDecoded, SetsEvent, bytes_at, content_size, event_of_object, is_unread, kind_of_object_fault, small_count}
+use Rattle.plist_binread.specs.Decoded.{DecodesAfter, DecodesAt, DecodesSeen, CountsUnread, FailsUnread, FitsBefore, FitsWalk, IsDecodedAs, IsObjectFault, IsLongCount, IsDecodedOrUnread, SetsContentAt, SetsDecoded, SetsEvent, bytes_at, content_size, event_of_object, is_unread, kind_of_object_fault, small_count}
 use Rattle.plist_binread.specs.Decoding.{Allocates, IsCollection, IsRefusedAs, scalar_event_in}
 use Rattle.plist_binread.specs.FaultOffsets.{FailsWithin, MatchReader}
 use Rattle.plist_binread.specs.Packed.{MayAllocate, content_bytes, is_small_event, scalar_event, unmarked, unpacked}
@@ -162,7 +162,7 @@ seen_answers known bounds place seen answer buffered is means = IfSome_then know
 
 -- it was read
 read_as : (all : List ℕ) (object : Object) (place : ℕ) (d : Decoded) (slot : FaultSlot)
-    → IsDecodedAs all object d → IsReadAs all object place d slot
+    → IsDecodedAs all object d → IsDecodedOrUnread all object place d slot
 read_as all object place (decoded.Small kind content) slot is = is
 read_as all object place (decoded.Date content) slot is = is
 read_as all object place (decoded.Long kind start count) slot is = is

@@ -16,7 +16,7 @@ use Rattle.plist_binread.specs.declared.head.Bounds.{Bounds}
 use Rattle.plist_binread.specs.declared.walk.Walk.{Walk}
 use Rattle.plist_binread.specs.Beginning.{IsKnownWalk}
 use Rattle.plist_binread.specs.Remaining.{Explains, entries_of}
-use Rattle.plist_binread.specs.Decoded.{DecodesAt, IsDecodedAs, IsReadAs, SetsDecoded, SetsEvent, bytes_at, event_of_object, is_refused, is_unread}
+use Rattle.plist_binread.specs.Decoded.{DecodesAt, IsDecodedAs, IsDecodedOrUnread, SetsDecoded, SetsEvent, bytes_at, event_of_object, is_refused, is_unread}
 use Rattle.plist_binread.specs.Decoding.{IsRefusedAs}
 use Rattle.plist_binread.specs.DecodeOutcome.{YieldsAnswer, YieldsCurrent}
 use Rattle.plist_binread.specs.Step.{OpensObject}
@@ -38,7 +38,7 @@ pub record IsDecodedAt (bytes : List ℕ) (bounds : Bounds) (number place : ℕ)
 
 -- what was read is decoded
 was_read : (all : List ℕ) (object : Object) (place : ℕ) (d : Decoded) (slot : FaultSlot)
-    → is_unread d ≡ false → IsReadAs all object place d slot → IsDecodedAs all object d
+    → is_unread d ≡ false → IsDecodedOrUnread all object place d slot → IsDecodedAs all object d
 was_read all object place (decoded.Small kind content) slot read is = is
 was_read all object place (decoded.Date content) slot read is = is
 was_read all object place (decoded.Long kind start count) slot read is = is
@@ -63,7 +63,7 @@ known_unread known bounds place d slot unread decodes = IfSome_then known decode
     (λ bytes decodes fits. by d _ _ unread (decodes fits))
   where
     by : (d : Decoded) (all : List ℕ) (object : Object) → is_unread d ≡ true
-        → IsReadAs all object place d slot → IsRefusedAs object place slot.fault
+        → IsDecodedOrUnread all object place d slot → IsRefusedAs object place slot.fault
     by decoded.Unread all object unread is = is
     by other all object unread is = absurd (false≢true unread)
 

@@ -129,15 +129,15 @@ abbrev pub bytes_at : Bounds → (place : ℕ) → List ℕ → List ℕ
 bytes_at bounds place bytes = drop place (take bounds.trailer bytes)
 
 -- the object is decoded, or the error is kept of bytes that weren't read
-abbrev pub IsReadAs : (bytes : List ℕ) → Object → (place : ℕ) → Decoded → FaultSlot → Type 0
-IsReadAs bytes object place decoded.Unread slot = IsRefusedAs object place slot.fault
-IsReadAs bytes object place decoded slot = IsDecodedAs bytes object decoded
+abbrev pub IsDecodedOrUnread : (bytes : List ℕ) → Object → (place : ℕ) → Decoded → FaultSlot → Type 0
+IsDecodedOrUnread bytes object place decoded.Unread slot = IsRefusedAs object place slot.fault
+IsDecodedOrUnread bytes object place decoded slot = IsDecodedAs bytes object decoded
 
 -- the object at a place is decoded, or refused
 abbrev pub DecodesAt : (known : Option (List ℕ)) → Bounds → (place : ℕ) → Decoded → FaultSlot
     → Type 0
 DecodesAt known bounds place decoded slot = IfSome known (λ bytes. bounds.trailer ≤ length bytes
-    → IsReadAs (bytes_at bounds place bytes) (object_at bounds place bytes) place decoded slot)
+    → IsDecodedOrUnread (bytes_at bounds place bytes) (object_at bounds place bytes) place decoded slot)
 
 -- the error of bytes that weren't read is within the object
 abbrev pub FailsUnread : (start end : ℕ) → Decoded → FaultSlot → Type 0

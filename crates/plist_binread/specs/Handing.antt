@@ -20,9 +20,9 @@ module _ {V : Type 0} (step : V → PlainEvent → Flow → V → Type 0) (old n
   Takes (Ok flow) event = step old event flow new
   Takes (Err refused) event = new ≡ old
 
-  abbrev pub TakesItem : Option (Result Flow Refused) → PlainEvent → Type 0
-  TakesItem None event = new ≡ old
-  TakesItem (Some answer) event = Takes answer event
+  abbrev pub TakesIfAny : Option (Result Flow Refused) → PlainEvent → Type 0
+  TakesIfAny None event = new ≡ old
+  TakesIfAny (Some answer) event = Takes answer event
 
   -- the visitor took an event of which this is so; where it took none, any event will do
   pub record Hands (answer : Result Flow Refused) (P : PlainEvent → Type 0) : Type 0 where
@@ -33,7 +33,7 @@ module _ {V : Type 0} (step : V → PlainEvent → Flow → V → Type 0) (old n
   pub record HandsItem (item : Option (Result Flow Refused)) (P : PlainEvent → Type 0) : Type 0 where
     pub event : PlainEvent
     pub is : P event
-    pub taken : TakesItem item event
+    pub taken : TakesIfAny item event
 
   -- the visitor took the event of a scalar; or there is none, or it is one that may need memory
   abbrev pub HandsSmall : Option trees.Scalar → Option Flow → Type 0
