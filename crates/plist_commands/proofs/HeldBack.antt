@@ -22,10 +22,6 @@ pub on_err_of : {T E P : Type 0} (answer : Result T E) → P → OnErr answer P
 on_err_of (Ok value) p = tt
 on_err_of (Err error) p = p
 
--- bytes that are held back, none of which were sent
-pub all_held : (a : Option (List ℕ)) (all held : List ℕ) → held ≡ all → PassesOn a a all held
-all_held a all held is = ([], Appends-nil a, sym is)
-
 -- ---- the writer's failure, and lack of memory
 
 pub device_own : (error : Error) → fault_of error ≡ fault_nowhere Io → IsWriterError error

@@ -11,8 +11,6 @@ use Rattle.plist_commands.specs.declared.print.Printer.{Printer}
 use Rattle.plist_commands.specs.EscapedLines.{line_of}
 use Rattle.plist_commands.specs.Printers.{EndsUnprinted, IsSamePrinter, PrintsLine, pending_lines, printed}
 use Rattle.plist_commands.specs.ReaderRuns.{PrintsRun}
-use Rattle.plist_commands.proofs.HeldBack.{all_held}
-use Rattle.plist_commands.proofs.Passing.{front_none}
 use Rattle.plist_commands.proofs.Runs.{HasRun, run_more, run_none, run_stopped}
 
 pub same_again : {W : Type 0} (old now new : Printer W) → IsSamePrinter old now → IsSamePrinter now new
@@ -21,17 +19,7 @@ same_again old now new same more =
     record { writer = more.writer ∙ same.writer; lines = more.lines ∙ same.lines }
 
 module _ {W : Type 0} (contents : W → Option (List ℕ)) where
-  -- a line that was pushed is pending
-  pub line_pushed : (old new : Printer W) (event : PlainEvent) → IsSamePrinter old new
-      → new.writer.now ≡ old.writer.now
-      → pending_lines new ≡ pending_lines old ++ line_of event
-      → PrintsLine contents old event (Continue tt) new
-  line_pushed old new event same writer pushed = record {
-    same = same;
-    follows = rw writer (all_held (contents old.writer.now) _ (pending_lines new) pushed);
-  }
-
-  -- a beginning of it was sent
+  -- a beginning of a line was sent
   pub line_in_part : (old mid new : Printer W) (event : PlainEvent) {flow : Flow}
       → IsSamePrinter old mid
       → AppendsPrefix (printed contents old) (printed contents mid)
@@ -41,14 +29,6 @@ module _ {W : Type 0} (contents : W → Option (List ℕ)) where
     same = same_again old mid new same ends.same;
     follows = (ends.failure, rw ends.writer front);
   })
-
-  -- there is no memory for it
-  pub line_refused : (old mid new : Printer W) (event : PlainEvent) {flow : Flow}
-      → IsSamePrinter old mid → mid.writer.now ≡ old.writer.now → EndsUnprinted mid flow new
-      → PrintsLine contents old event flow new
-  line_refused old mid new event same writer ends =
-      line_in_part old mid new event same
-      (rw writer (front_none (contents old.writer.now) _)) ends
 
 module _ {I W : Type 0} (gives : I → PlainItem → I → Type 0) (contents : W → Option (List ℕ)) where
   -- the events that came so far were taken
