@@ -41,7 +41,7 @@ SECONDS = 60
 PASSES = 10
 # a program that takes so many seconds isn't run again
 LONG = 2
-# of fewer objects the memory isn't told: up to 8.5 MB of windows would count for them
+# of fewer objects the memory isn't told: up to 68 MB of windows would count for them
 MANY = 500_000
 
 # ---- the files

@@ -3,7 +3,7 @@ use Rattle.std.proofs.Common.{◌≡◌, ℕ, ◌+◌, ◌*◌, ◌-◌, ◌%◌
 use Rattle.std.proofs.lemmas.List.{drop-drop, drop-take}
 use Rattle.std.proofs.lemmas.Option.{get_or_from_slice_get}
 use Rattle.plist_base.specs.declared.window.Header.{Header}
-use Rattle.plist_base.specs.inner.Windows.{WindowBeginsAt, LendsFrom}
+use Rattle.plist_base.specs.inner.Windows.{IsWindowOf, LendsFrom}
 
 pub rest_of_part : (start from size : ℕ) (bytes : List ℕ) → from ≤ size
     → take (size - from) (drop (start + from) bytes) ≡ drop from (take size (drop start bytes))
@@ -14,7 +14,7 @@ rest_of_part start from size bytes within =
 
 -- the same of the window that a place lies in
 pub lends_part : (size place i : ℕ) (headers : List Header) (bytes lent : List ℕ) (none : Header)
-    → WindowBeginsAt size headers i place → place % size ≤ (get_or headers i none).filled
+    → IsWindowOf size headers i place → place % size ≤ (get_or headers i none).filled
     → lent ≡ take ((get_or headers i none).filled - place % size)
     (drop (i * (size + 64) + place % size) bytes)
     → LendsFrom size headers bytes place lent

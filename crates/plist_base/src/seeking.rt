@@ -15,7 +15,7 @@ use std::io::{Read, Seek, SeekFrom};
 ///
 /// It keeps windows, which it lends, so that small reads near one another, in several parts of a
 /// file in turn, cost one read of `R`. By itself it has eight of 512 bytes. Given an allocator, it
-/// has eight of 8 KiB in memory, and up to 1,024 where windows have to be filled again. What begins
+/// has eight of 8 KiB in memory, and up to 8,192 where windows have to be filled again. What begins
 /// in a window and has at most 64 bytes lies whole in what it lends, unless its read was short. A
 /// read or seek that answers `Interrupted` is a failure, too.
 ///
@@ -40,8 +40,9 @@ impl<R: Read + Seek> Seeking<R> {
 
     /// The same, but its windows have 8 KiB. It asks the allocator for memory for eight of them once
     /// a window is to be filled, and where windows have to be filled again, for as many more as it
-    /// has, up to 1,024 windows (8.5 MB). Where that is refused, the windows that it has serve on:
-    /// at first those of [`Seeking::new`].
+    /// has, up to 8,192 windows (68 MB). It never has twice as many as the file, but for the eight.
+    /// Where memory is refused, the windows that it has serve on: at first those of
+    /// [`Seeking::new`].
     pub fn with_windows(alloc: Global, inner: R) -> Self
         ensures inner { seekable_of result ≡ inner }
         ensures failures { failures_of result ≡ 0 }

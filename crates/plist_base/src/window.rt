@@ -1,7 +1,7 @@
 //! Windows of a file in two slices: what is known of each, and their bytes.
 
 ghost use Rattle.std.specs.Prelude.{◌≡◌, ◌+◌, ◌*◌, ◌<◌, ◌≤◌, ◌^◌, length, drop, take, IfSome, OnErr};
-ghost use Rattle.plist_base.specs.inner.Windows.{WindowBeginsAt, LendsFrom};
+ghost use Rattle.plist_base.specs.inner.Windows.{IsWindowOf, LendsFrom};
 
 use std::io;
 use std::io::{Read, Seek, SeekFrom};
@@ -11,7 +11,7 @@ use std::io::{Read, Seek, SeekFrom};
 pub(crate) const OVERLAP: usize = 64;
 
 /// How many windows there are at most.
-pub(crate) const MOST: usize = 1024;
+pub(crate) const MOST: usize = 8192;
 
 /// What is known of a window.
 #[derive(Clone, Copy)]
@@ -34,7 +34,7 @@ pub(crate) const UNFILLED: Header = Header {
 // The first of the two windows of a slot, which the window's number names.
 #[inline(always)]
 fn first_window(count: usize, number: u64) -> usize
-    ensures { result + 1 < 1024 }
+    ensures { result + 1 < 8192 }
 {
     let last_slot = (count / 2).saturating_sub(1) as u64;
     2 * ((number & last_slot) as usize % (MOST / 2))
@@ -44,8 +44,8 @@ fn first_window(count: usize, number: u64) -> usize
 #[inline(always)]
 pub(crate) fn window_at(headers: &[Header], size: usize, place: u64) -> Option<usize>
     requires { 0 < size }
-    ensures within { IfSome result (λ i. (i < 1024) × (i < length headers.now)) }
-    ensures start { IfSome result (λ i. WindowBeginsAt size headers.now i place) }
+    ensures within { IfSome result (λ i. (i < 8192) × (i < length headers.now)) }
+    ensures start { IfSome result (λ i. IsWindowOf size headers.now i place) }
 {
     let start = place - place % size as u64;
     let i = first_window(headers.len(), place / size as u64);
@@ -95,7 +95,7 @@ pub(crate) fn buffered_in<'a>(
 // that was filled first.
 fn window_for(headers: &mut [Header], size: usize, place: u64) -> usize
     requires { 0 < size }
-    ensures within { result < 1024 }
+    ensures within { result < 8192 }
     ensures length { length headers.new ≡ length headers.old }
 {
     if let Some(i) = window_at(headers, size, place) {

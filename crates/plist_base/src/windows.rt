@@ -32,9 +32,10 @@ struct FewWindows {
 
 // Long windows in memory, none at first.
 //
-// Their number is doubled, up to 1,024, once more windows were filled again than there are, and
+// Their number is doubled, up to 8,192, once more windows were filled again than there are, and
 // that isn't rare beside those that are filled for the first time: a file that is read in order
-// needs few.
+// needs few. There are fewer than twice as many as the file has, since with as many as that no
+// window takes the place of another.
 #[derive(Drop)]
 struct ManyWindows {
     headers: Vec<Header>,
@@ -57,7 +58,7 @@ impl ManyWindows {
 
     // Makes so many windows, where there is memory for them, and answers whether there was.
     fn extend_to(&mut self, count: usize) -> bool
-        requires { (length self.old.headers.items ≤ count) × (count ≤ 1024) }
+        requires { (length self.old.headers.items ≤ count) × (count ≤ 8192) }
         ensures { KeepsWindows self.old self.new }
     {
         let size = (count * (LONG + OVERLAP)).max(self.bytes.len());

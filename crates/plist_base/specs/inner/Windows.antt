@@ -5,8 +5,8 @@ use Rattle.plist_base.specs.declared.windows.ManyWindows.{ManyWindows}
 use Rattle.plist_base.specs.declared.windows.Windows.{Windows}
 
 -- this window is the one that a place lies in
-abbrev pub WindowBeginsAt : (size : ℕ) → List Header → (window place : ℕ) → Type 0
-WindowBeginsAt size headers i place =
+abbrev pub IsWindowOf : (size : ℕ) → List Header → (window place : ℕ) → Type 0
+IsWindowOf size headers i place =
     (header : Header) × (slice_get headers i ≡ Some header) × (header.start ≡ place - place % size)
 
 -- what one read gave from a window's start on; each has 64 bytes more than its size
