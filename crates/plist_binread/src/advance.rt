@@ -1,4 +1,4 @@
-//! The walk from one item to the next.
+//! The step from one event of the walk to the next.
 
 ghost use Rattle.std.specs.Prelude.{◌≡◌, true, IfSome};
 ghost use Rattle.plist_binread.specs.NextChild.{closes};
@@ -19,7 +19,7 @@ use crate::walk::{NextChild, Walk};
 use plist_base::{EventVisitor, Source};
 use std::ops::ControlFlow;
 
-/// Hands the next event of the walk over.
+/// Hands the next event of the walk to a visitor.
 #[inline(always)]
 pub fn advance<S: Source, C: DecodeCounter, V: EventVisitor>(
     source: &mut S,

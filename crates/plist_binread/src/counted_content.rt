@@ -1,5 +1,5 @@
-//! Objects that have a length, decoded by the bytes after their marker: all up to the trailer, or
-//! at least as many as tell what isn't a long text or data.
+//! Objects that have a length. They are decoded from the bytes after their marker: from all bytes
+//! up to the trailer, or from enough of them for anything but a long string or data.
 
 ghost use Rattle.std.specs.Prelude.{ℕ, ◌≡◌, ◌+◌, ◌-◌, ◌*◌, ◌%◌, ◌^◌, ◌<◌, ◌≤◌, List, length, IfNone, IfSome};
 ghost use Rattle.plist_format.specs.declared.marker.CountedKind.TheVariants.{Array as ArrayKind, Dictionary as DictionaryKind};
@@ -19,7 +19,7 @@ use crate::utf8::text_in;
 use plist_format::LowHalf;
 use std::alloc::Global;
 
-// How many bytes a number has, as the low two bits of the byte before it say.
+// Returns how many bytes a number has, which the low two bits of the byte before it tell.
 #[inline(always)]
 fn number_width(byte: u64) -> u64
     ensures value { result ≡ 2 ^ (byte % 4) }
@@ -33,7 +33,7 @@ fn number_width(byte: u64) -> u64
     }
 }
 
-/// The length of an object, and the bytes after it.
+/// Returns the length of an object, and the bytes after the length.
 #[inline(always)]
 pub fn front_length(low: LowHalf, rest: &[u8]) -> Option<(u64, &[u8])>
     ensures length { IfSome result (IsLength low rest.now) }
@@ -53,8 +53,8 @@ pub fn front_length(low: LowHalf, rest: &[u8]) -> Option<(u64, &[u8])>
     Some((number_from(&behind[..width]), &behind[width..]))
 }
 
-// How many elements of this size an object has that lies before the trailer, which is so far away,
-// and what is seen after its length.
+// Returns how many elements of this size an object has, and the bytes after its length, if the
+// object ends before the trailer. `extent` is the number of bytes up to the trailer.
 #[inline(always)]
 fn front_count(low: LowHalf, rest: &[u8], extent: u64, size: u64) -> Option<(u64, &[u8])>
     requires extent { length rest.now ≤ extent }
@@ -75,7 +75,7 @@ fn front_count(low: LowHalf, rest: &[u8], extent: u64, size: u64) -> Option<(u64
     }
 }
 
-// The content of a text or data, of which only the length was looked at.
+// Returns the content of a string or data, of which only the length was read.
 #[inline(always)]
 fn long_content(kind: ContentKind, rest: &[u8], behind: &[u8], count: u64) -> Decoded
     requires within { length behind.now ≤ length rest.now }
@@ -85,7 +85,7 @@ fn long_content(kind: ContentKind, rest: &[u8], behind: &[u8], count: u64) -> De
     Decoded::Long(kind, 1 + (rest.len() - behind.len()) as u8, count)
 }
 
-/// Data.
+/// Decodes data.
 pub fn front_data(low: LowHalf, rest: &[u8], extent: u64) -> Decoded
     requires extent { length rest.now ≤ extent }
     requires shown { ShowsContent extent rest.now }
@@ -101,7 +101,7 @@ pub fn front_data(low: LowHalf, rest: &[u8], extent: u64) -> Decoded
     Decoded::Small(PackedKind::Data(count as u8), content_from(bytes))
 }
 
-// A text of at most eight bytes.
+// Packs a string of at most eight bytes.
 fn small_text(text: &str) -> Decoded
     requires { length text.now ≤ 8 }
     ensures { (all : List ℕ) → IsDecodedAs all (Scalar (String text.now)) result }
@@ -112,7 +112,7 @@ fn small_text(text: &str) -> Decoded
     )
 }
 
-// The text in at most eight bytes.
+// Decodes a string in at most eight bytes.
 fn short_text(bytes: &[u8]) -> Decoded
     requires { length bytes.now ≤ 8 }
     ensures { (all : List ℕ) → IsDecodedAs all (text bytes.now) result }
@@ -123,7 +123,7 @@ fn short_text(bytes: &[u8]) -> Decoded
     }
 }
 
-/// A text in UTF-8.
+/// Decodes a string in UTF-8.
 #[inline(always)]
 pub fn front_text(low: LowHalf, rest: &[u8], extent: u64) -> Decoded
     requires extent { length rest.now ≤ extent }
@@ -139,7 +139,7 @@ pub fn front_text(low: LowHalf, rest: &[u8], extent: u64) -> Decoded
     short_text(&behind[..count as usize])
 }
 
-// A text of at most eight units, if it has at most eight bytes.
+// Decodes a string of at most eight units, if it has at most eight bytes in UTF-8.
 fn short_wide_text(alloc: Global, bytes: &[u8]) -> Option<Decoded>
     requires few { length bytes.now ≤ 16 }
     requires units { AreUnits 2 bytes.now }
@@ -161,7 +161,7 @@ fn short_wide_text(alloc: Global, bytes: &[u8]) -> Option<Decoded>
     }
 }
 
-/// A text in UTF-16.
+/// Decodes a string in UTF-16.
 pub fn front_wide_text(alloc: Global, low: LowHalf, rest: &[u8], extent: u64) -> Decoded
     requires extent { length rest.now ≤ extent }
     requires shown { ShowsContent extent rest.now }
@@ -180,7 +180,7 @@ pub fn front_wide_text(alloc: Global, low: LowHalf, rest: &[u8], extent: u64) ->
     }
 }
 
-/// The start of an array, whose references lie before the trailer.
+/// Decodes the start of an array whose references end before the trailer.
 #[inline(always)]
 pub fn front_array(low: LowHalf, rest: &[u8], extent: u64, width: usize) -> Decoded
     requires extent { length rest.now ≤ extent }
@@ -194,7 +194,7 @@ pub fn front_array(low: LowHalf, rest: &[u8], extent: u64, width: usize) -> Deco
     }
 }
 
-/// The start of a dictionary, whose references lie before the trailer.
+/// Decodes the start of a dictionary whose references end before the trailer.
 #[inline(always)]
 pub fn front_dictionary(low: LowHalf, rest: &[u8], extent: u64, width: usize) -> Decoded
     requires extent { length rest.now ≤ extent }

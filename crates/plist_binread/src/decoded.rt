@@ -1,4 +1,4 @@
-//! What an object is decoded to by the bytes at its front, and what can be wrong with it.
+//! What an object is decoded to from its first bytes, and what can be wrong with it.
 
 ghost use Rattle.std.specs.Prelude.{ℕ, ◌≡◌, ◌<◌, ◌≤◌};
 ghost use Rattle.plist_base.specs.Faults.{fault_of, kind_of};
@@ -12,19 +12,19 @@ ghost use Rattle.plist_binread.specs.CountedContent.{unit_size};
 use crate::packed::PackedKind;
 use plist_base::{Error, ErrorKind};
 
-/// What the content of a text or data means.
+/// The meaning of the content of a string or data.
 #[derive(Clone, Copy)]
 pub enum ContentKind {
     /// Its bytes are data.
     Data,
-    /// They are a text.
+    /// They are a string in UTF-8.
     Text,
-    /// They are the units of a text, of two bytes each.
+    /// They are the units of a string in UTF-16, of two bytes each.
     WideText,
 }
 
 impl ContentKind {
-    /// How many bytes an element of the content has.
+    /// Returns how many bytes an element of the content has.
     pub fn unit_size(self) -> u64
         ensures value { result ≡ unit_size self }
         ensures small { (0 < result) × (result ≤ 2) }
@@ -36,10 +36,10 @@ impl ContentKind {
     }
 }
 
-/// The content of a text or data.
+/// The content of a string or data.
 #[derive(Clone, Copy)]
 pub struct Content {
-    /// What it means.
+    /// Its meaning.
     pub kind: ContentKind,
     /// How far after the object's offset it begins.
     pub start: u8,
@@ -47,7 +47,7 @@ pub struct Content {
     pub count: u64,
 }
 
-/// An object, decoded by the bytes at its front, or why it isn't.
+/// An object that was decoded from its first bytes, or the reason why it can't be decoded.
 ///
 /// Each variant has a few small fields and then at most one `u64`, so that it is passed in two
 /// registers.
@@ -55,9 +55,9 @@ pub struct Content {
 pub enum Decoded {
     /// A scalar that can be cached.
     Small(PackedKind, u64),
-    /// The eight bytes of a date, if they are one.
+    /// The eight bytes of a date, which may be out of range.
     Date(u64),
-    /// A text or data that can't be cached, of which only the length was looked at. The fields are
+    /// A string or data that can't be cached, of which only the length was read. The fields are
     /// those of [`Content`].
     Long(ContentKind, u8, u64),
     /// An array of this many items.
@@ -66,7 +66,7 @@ pub enum Decoded {
     Dictionary(u64),
     /// An object that can't be decoded.
     Faulty(ObjectFault),
-    /// An object whose bytes weren't read. The error is in the [`FaultSlot`](crate::fault_slot::FaultSlot).
+    /// An object whose bytes couldn't be read. The error is in the slot of the decoder.
     Unread,
 }
 
@@ -93,26 +93,26 @@ impl Decoded {
 pub enum ObjectFault {
     /// It doesn't end before the trailer.
     Overrun,
-    /// It is a null.
+    /// It is a null object.
     Null,
     /// It is a fill byte.
     Fill,
     /// No object has this marker.
     Unknown(u8),
-    /// The number isn't one of 64 bits without sign.
+    /// The integer doesn't fit into 64 bits without a sign.
     OutOfRange,
-    /// It is no date.
+    /// It isn't a date.
     NoDate,
-    /// The bytes of a text aren't UTF-8.
+    /// The bytes of a string aren't UTF-8.
     NotUtf8,
-    /// The units of a text aren't UTF-16.
+    /// The units of a string aren't UTF-16.
     NotUtf16,
-    /// No memory was found for a text.
+    /// An allocation for a string failed.
     NoMemory,
 }
 
 impl ObjectFault {
-    // The kind of the error.
+    // Returns the kind of the error.
     fn kind(self) -> ErrorKind
         ensures value { kind_of result ≡ kind_of_object_fault self }
     {
@@ -129,7 +129,7 @@ impl ObjectFault {
         }
     }
 
-    /// The error of the object at a place.
+    /// Returns the error of the object at an offset.
     #[cold]
     #[inline(never)]
     pub fn at(self, place: u64) -> Error

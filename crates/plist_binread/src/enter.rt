@@ -1,4 +1,4 @@
-//! Entering an object: its first item.
+//! Entering an object, whose first event is handed over.
 
 ghost use Rattle.std.specs.Prelude.{◌≡◌, ◌+◌, ◌<◌, get_or, true, false, IfOk, IfErr, OnOk, IfSome};
 ghost use Rattle.plist_base.specs.Faults.{ObjectReferenceTooLarge, RecursiveObject, fault_at, fault_of};
@@ -22,7 +22,7 @@ use crate::walk::Walk;
 use plist_base::{ErrorKind, EventVisitor, Source};
 use std::ops::ControlFlow;
 
-// Holds the fault that no object has the number of the reference at `at`.
+// Keeps the error that no object has the number of the reference at `at`.
 #[cold]
 #[inline(never)]
 fn refuse_number(slot: &mut FaultSlot, at: u64) -> Refused
@@ -31,7 +31,7 @@ fn refuse_number(slot: &mut FaultSlot, at: u64) -> Refused
     slot.refuse(ErrorKind::ObjectReferenceTooLarge.with_byte_offset(at))
 }
 
-// Holds the fault that the object at a place is open already.
+// Keeps the error that the object at an offset is already open.
 #[cold]
 #[inline(never)]
 fn refuse_open(slot: &mut FaultSlot, place: u64) -> Refused
@@ -49,7 +49,7 @@ enum Known {
     Small(PackedKind, u64),
 }
 
-// What is known of an object that is about to be entered, referred to from `at`.
+// Looks up an object that is about to be entered, to which the reference at `at` refers.
 #[inline(always)]
 fn look_up(walk: &Walk, slot: &mut FaultSlot, at: u64, number: u64) -> Result<Known, Refused>
     // The answer.
@@ -79,7 +79,7 @@ fn look_up(walk: &Walk, slot: &mut FaultSlot, at: u64, number: u64) -> Result<Kn
     }
 }
 
-// Opens a collection of so many children, if there is memory for it.
+// Opens a collection of `count` children. Returns `false` if there is no memory for it.
 #[inline(always)]
 fn open(walk: &mut Walk, number: u64, count: u64) -> bool
     requires below { number < walk_objects walk.old }

@@ -1,4 +1,4 @@
-//! The error of a step that was refused, kept apart so that the results of steps stay small.
+//! The error of a step that failed, which is kept apart so that the results of steps stay small.
 
 ghost use Rattle.std.specs.Prelude.{◌≡◌, ℕ};
 ghost use Rattle.plist_base.specs.Faults.{ObjectOffsetTooLarge, OutOfMemory, fault_at, fault_nowhere, fault_of};
@@ -13,18 +13,18 @@ use crate::decoded::ObjectFault;
 use plist_base::{Error, ErrorKind};
 use std::alloc::Global;
 
-/// Says that a step was refused: its error is in the [`FaultSlot`].
+/// Says that a step failed. Its error is in the [`FaultSlot`].
 ///
-/// It is small, as an error isn't: the memory for a result is cleared at each call.
+/// It is small, which an error isn't: the memory for a result is cleared at each call.
 #[derive(Clone, Copy)]
 pub struct Refused;
 
-/// Keeps the error of a step that was refused.
+/// Keeps the error of a step that failed.
 #[derive(Drop)]
 pub struct FaultSlot {
-    /// The error. It is of use only after a step was refused.
+    /// The error. It has a meaning only after a step failed.
     pub fault: Error,
-    /// Where memory for texts and data comes from.
+    /// Allocates strings and data.
     pub alloc: Global,
 }
 

@@ -10,7 +10,7 @@ use std::ops::ControlFlow;
 #[derive(Drop)]
 pub struct FirstEvent {
     alloc: Global,
-    /// The event, or `OutOfMemory` if no memory was found for its text or data.
+    /// The event, or `OutOfMemory` if an allocation for its string or data failed.
     pub kept: Result<OwnedEvent, Error>,
 }
 

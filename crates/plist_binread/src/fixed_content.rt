@@ -1,5 +1,5 @@
-//! Objects of a fixed size, decoded by the bytes after their marker: all up to the trailer, or at
-//! least 25.
+//! Objects of a fixed size. They are decoded from the bytes after their marker: from all bytes up
+//! to the trailer, or from at least 25.
 
 ghost use Rattle.std.specs.Prelude.{ℕ, List, ◌^◌, ◌<◌, ◌≤◌, length, IfNone, IfSome};
 ghost use Rattle.plist_format.specs.Object.{Scalar, date, signed, signed_integer, unsigned_integer, wide_integer};
@@ -13,7 +13,7 @@ use crate::numbers::number_from;
 use crate::packed::{PackedKind, content_from, content_of};
 use plist_format::UidWidth;
 
-// The number in this many bytes.
+// Returns the number in the first `width` bytes.
 #[inline(always)]
 fn front_number(rest: &[u8], width: usize) -> Option<u64>
     requires { width ≤ 8 }
@@ -27,7 +27,7 @@ fn front_number(rest: &[u8], width: usize) -> Option<u64>
     Some(number_from(&rest[..width]))
 }
 
-// The content of an object of a fixed size.
+// Returns the content of an object of a fixed size.
 fn front_content<const N: usize>(rest: &[u8]) -> Option<[u8; N]>
     ensures content { IfSome result (IsContent N rest.now) }
     ensures short { IfNone result (length rest.now < N) }
@@ -38,7 +38,7 @@ fn front_content<const N: usize>(rest: &[u8]) -> Option<[u8; N]>
     }
 }
 
-/// A number without sign.
+/// Decodes an integer without a sign.
 #[inline(always)]
 pub fn front_unsigned(rest: &[u8], extent: u64, width: usize) -> Decoded
     requires width { width ≤ 8 }
@@ -51,7 +51,7 @@ pub fn front_unsigned(rest: &[u8], extent: u64, width: usize) -> Decoded
     }
 }
 
-// The number that these 64 bits spell with their sign.
+// Packs the integer that these 64 bits are with their sign.
 fn signed_number(bits: u64) -> Decoded
     ensures { (all : List ℕ) → IsDecodedAs all (Scalar (Integer (signed 64 bits))) result }
 {
@@ -62,7 +62,7 @@ fn signed_number(bits: u64) -> Decoded
     }
 }
 
-/// A number of eight bytes with a sign.
+/// Decodes an integer of eight bytes with a sign.
 #[inline(always)]
 pub fn front_signed(rest: &[u8], extent: u64) -> Decoded
     requires { ShowsContent extent rest.now }
@@ -74,7 +74,7 @@ pub fn front_signed(rest: &[u8], extent: u64) -> Decoded
     }
 }
 
-/// A whole number of sixteen bytes, of which the first eight have to be zero.
+/// Decodes an integer of sixteen bytes, of which the first eight have to be zero.
 pub fn front_wide(rest: &[u8], extent: u64) -> Decoded
     requires { ShowsContent extent rest.now }
     ensures { DecodesFixed extent 16 wide_integer rest.now result }
@@ -90,7 +90,7 @@ pub fn front_wide(rest: &[u8], extent: u64) -> Decoded
     Decoded::Small(PackedKind::Unsigned, low)
 }
 
-/// A Uid.
+/// Decodes a Uid.
 pub fn front_uid(rest: &[u8], extent: u64, width: UidWidth) -> Decoded
     requires { ShowsContent extent rest.now }
     ensures { DecodesFixed extent width uid_of_content rest.now result }
@@ -101,7 +101,7 @@ pub fn front_uid(rest: &[u8], extent: u64, width: UidWidth) -> Decoded
     }
 }
 
-/// A real of eight bytes.
+/// Decodes a real of eight bytes.
 pub fn front_real(rest: &[u8], extent: u64) -> Decoded
     requires { ShowsContent extent rest.now }
     ensures { DecodesFixed extent 8 long_real rest.now result }
@@ -112,7 +112,7 @@ pub fn front_real(rest: &[u8], extent: u64) -> Decoded
     }
 }
 
-/// A real of four bytes.
+/// Decodes a real of four bytes.
 pub fn front_short_real(rest: &[u8], extent: u64) -> Decoded
     requires { ShowsContent extent rest.now }
     ensures { DecodesFixed extent 4 short_real rest.now result }
@@ -123,7 +123,7 @@ pub fn front_short_real(rest: &[u8], extent: u64) -> Decoded
     }
 }
 
-/// The bytes of a date, which may be none.
+/// Decodes a date, whose bytes may be out of range.
 pub fn front_date(rest: &[u8], extent: u64) -> Decoded
     requires { ShowsContent extent rest.now }
     ensures { DecodesFixed extent 8 date rest.now result }

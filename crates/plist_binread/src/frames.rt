@@ -39,7 +39,7 @@ pub enum Upcoming {
     Child(u64, u64),
 }
 
-// The collection in few bytes, if its numbers fit there.
+// Returns the collection in few bytes, if its numbers fit there.
 fn narrowed(frame: Frame) -> Option<NarrowFrame>
     ensures { IfSome result (λ narrow. widened narrow ≡ frame) }
 {
@@ -53,7 +53,7 @@ fn narrowed(frame: Frame) -> Option<NarrowFrame>
     })
 }
 
-// The collection as it was.
+// Returns the collection with numbers of eight bytes.
 fn widen(narrow: NarrowFrame) -> Frame
     ensures { result ≡ widened narrow }
 {
@@ -64,8 +64,8 @@ fn widen(narrow: NarrowFrame) -> Frame
     }
 }
 
-/// A stack of collections. From the first one on whose numbers need more than four bytes all of
-/// them have eight; below it all have four.
+/// A stack of collections. The numbers of a collection have four bytes, and from the first one on
+/// whose numbers need more, they have eight.
 #[derive(Drop)]
 pub struct Stack {
     narrow: Vec<NarrowFrame>,
@@ -137,7 +137,7 @@ impl Model for Frames {
 }
 
 impl Frames {
-    /// Nothing is open.
+    /// Creates a stack in which nothing is open.
     pub fn new(alloc: Global) -> Self
         ensures { result ≡ [] }
     {
@@ -164,7 +164,7 @@ impl Frames {
         Ok(())
     }
 
-    /// Takes the next child of the innermost one, or closes that where it has no more.
+    /// Takes the next child of the innermost collection, or closes it if it has no more.
     pub fn next_child(&mut self) -> Upcoming
         ensures { NextOf (reverse self.old) result (reverse self.new) }
     {

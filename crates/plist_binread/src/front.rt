@@ -1,8 +1,8 @@
-//! The decoder: an object by the bytes at its front, all up to the trailer, or at least as many as
-//! any object needs but a long text or data.
+//! Decodes an object from its first bytes: from all bytes up to the trailer, or from as many as any
+//! object needs but a long string or data.
 //!
-//! Of its faults the first comes: the marker's; that it doesn't end before the trailer; and then
-//! that of its content.
+//! If an object has several faults, the first one is found: that of the marker, then that the
+//! object doesn't end before the trailer, and then that of its content.
 
 ghost use Rattle.std.specs.Prelude.{◌≡◌, ◌<◌, ◌≤◌, cond, length};
 ghost use Rattle.plist_format.specs.Object.{object_in};
@@ -22,7 +22,7 @@ use crate::packed::PackedKind;
 use plist_format::{CountedKind, Marker};
 use std::alloc::Global;
 
-// The object after a marker.
+// Decodes the object after a marker.
 #[inline(always)]
 fn decode_after_marker(alloc: Global, marker: u8, rest: &[u8], extent: u64, width: usize) -> Decoded
     requires extent { length rest.now ≤ extent }
@@ -54,7 +54,7 @@ fn decode_after_marker(alloc: Global, marker: u8, rest: &[u8], extent: u64, widt
     }
 }
 
-// Can it be cached?
+// Returns whether the object can be cached.
 #[inline(always)]
 fn is_small(decoded: Decoded) -> bool
     ensures { cond result 1 0 ≡ small_count decoded }
@@ -70,7 +70,7 @@ fn is_small(decoded: Decoded) -> bool
     }
 }
 
-// Counts what was decoded, if it is small.
+// Counts the object, if it is small.
 #[inline(always)]
 fn count_small<C: DecodeCounter>(decoded: Decoded, counter: &mut C)
     ensures { CountsSmall C.counts C.count counter.old counter.new decoded }
@@ -80,8 +80,8 @@ fn count_small<C: DecodeCounter>(decoded: Decoded, counter: &mut C)
     }
 }
 
-/// Decodes the object that begins these bytes, all up to the trailer or at least 26, and counts it
-/// where it is small. No other function makes a small object of its bytes.
+/// Decodes the object at the front of these bytes, which are all bytes up to the trailer or at
+/// least 26, and counts it if it is small. No other function makes a small object from its bytes.
 #[inline(always)]
 pub fn decode_seen<C: DecodeCounter>(
     alloc: Global,

@@ -1,4 +1,4 @@
-//! Handing an object that was decoded over to a visitor.
+//! Hands objects that were decoded to a visitor.
 
 ghost use Rattle.std.specs.Prelude.{◌≡◌, ℕ, false, OnOk};
 ghost use Rattle.plist_base.specs.Sources.{AnswersIo};
@@ -22,7 +22,7 @@ use plist_base::{Date, Error, EventVisitor, Integer, OwnedEvent, RealBits, Sourc
 use std::borrow::{CowSlice, CowStr};
 use std::ops::ControlFlow;
 
-// Hands a text of at most eight bytes over, if they are one.
+// Hands over a string of at most eight bytes, if they are UTF-8.
 #[inline(always)]
 fn hand_short_text<V: EventVisitor>(bytes: &[u8], visitor: &mut V) -> Option<ControlFlow<()>>
     ensures { HandsSmall V.step visitor.old visitor.new (text_if_any bytes.now) result }
@@ -33,7 +33,7 @@ fn hand_short_text<V: EventVisitor>(bytes: &[u8], visitor: &mut V) -> Option<Con
     }
 }
 
-/// Hands the scalar of a kind and a content over, if they are one.
+/// Hands over the scalar of a kind and a content, if there is one.
 #[inline(always)]
 pub fn hand_small<V: EventVisitor>(
     kind: PackedKind,
@@ -69,7 +69,7 @@ pub fn hand_small<V: EventVisitor>(
     }
 }
 
-// Hands the date in these eight bytes over, of the object at an offset.
+// Hands over the date in these eight bytes, which are those of the object at an offset.
 #[inline(never)]
 fn hand_date<V: EventVisitor>(
     content: u64,
@@ -89,7 +89,7 @@ fn hand_date<V: EventVisitor>(
     }
 }
 
-// Hands an event over that was read, or keeps the error.
+// Hands over an event that was read, or keeps the error.
 fn hand_read<V: EventVisitor>(
     read: Result<OwnedEvent, Error>,
     slot: &mut FaultSlot,
@@ -104,7 +104,7 @@ fn hand_read<V: EventVisitor>(
     }
 }
 
-// Hands a text over that isn't small, of the object at an offset.
+// Hands over a string that isn't small, of the object at an offset.
 #[inline(always)]
 fn hand_text<V: EventVisitor>(
     bytes: &[u8],
@@ -125,8 +125,8 @@ fn hand_text<V: EventVisitor>(
     }
 }
 
-// Hands a text over that is given by its units, of the object at an offset. It is a function of its
-// own, since the memory for an event is cleared at each call.
+// Hands over a string in UTF-16, of the object at an offset. It is a function of its own, since the
+// memory for an event is cleared at each call.
 #[inline(never)]
 fn hand_wide_text<V: EventVisitor>(
     bytes: &[u8],
@@ -145,7 +145,7 @@ fn hand_wide_text<V: EventVisitor>(
     hand_read(read, slot, visitor)
 }
 
-// Hands the text or data in these bytes over, of the object at an offset.
+// Hands over the string or data in these bytes, of the object at an offset.
 #[inline(always)]
 fn hand_bytes<V: EventVisitor>(
     kind: ContentKind,
@@ -169,7 +169,7 @@ fn hand_bytes<V: EventVisitor>(
     }
 }
 
-// Reads the text or data of a content, of the object at an offset, and hands it over.
+// Reads the string or data of a content, of the object at an offset, and hands it over.
 #[cold]
 #[inline(never)]
 fn hand_far<S: Source, V: EventVisitor>(
@@ -195,8 +195,8 @@ fn hand_far<S: Source, V: EventVisitor>(
     hand_read(read, slot, visitor)
 }
 
-// Hands the text or data of a content over, of the object at an offset: from the bytes that are
-// buffered if all of it is, and else from memory of its own.
+// Hands over the string or data of a content, of the object at an offset. It is lent if all of it
+// is buffered, and otherwise read into memory of its own.
 #[inline(always)]
 fn hand_content<S: Source, V: EventVisitor>(
     source: &mut S,
@@ -226,7 +226,7 @@ fn hand_content<S: Source, V: EventVisitor>(
     hand_far(source, place, content, slot, visitor)
 }
 
-/// Hands the event of the object at an offset over, or keeps the error of one that is faulty.
+/// Hands over the event of the object at an offset, or keeps its error if it is faulty.
 #[inline(always)]
 pub fn hand_decoded<S: Source, C: DecodeCounter, V: EventVisitor>(
     source: &mut S,

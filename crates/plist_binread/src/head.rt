@@ -1,4 +1,4 @@
-//! The head of a file: where its objects lie, and how to read them.
+//! The head of a file: where its objects are, and how to read them.
 
 ghost use Rattle.std.specs.Prelude.{◌≡◌, ◌^◌, ◌<◌, ◌≤◌, length};
 ghost use Rattle.plist_base.specs.Outcomes.{OnlyFault, DecodesBy};
@@ -14,16 +14,16 @@ const MAGIC_SIZE: u64 = 8;
 
 const TRAILER_SIZE: u64 = 32;
 
-/// The head of a file: the place of each object by its number, and how to read the objects.
+/// The head of a file: the offset of each object by its number, and how to read the objects.
 #[derive(Drop)]
 pub struct Head {
-    /// Where the trailer begins, and what lies before it ends.
+    /// The offset of the trailer, before which all objects end.
     pub trailer: u64,
     /// How many bytes a reference has.
     pub reference_width: usize,
     /// The number of the root.
     pub root: u64,
-    /// The places of the objects.
+    /// The offsets of the objects.
     pub places: Vec<u64>,
     ghost width: { (0 < reference_width) × (reference_width ≤ 8) },
 }
@@ -31,7 +31,7 @@ pub struct Head {
 /// Where the objects end, and how wide a reference is.
 #[derive(Clone, Copy)]
 pub struct Bounds {
-    /// Where the trailer begins, and what lies before it ends.
+    /// The offset of the trailer, before which all objects end.
     pub trailer: u64,
     /// How many bytes a reference has.
     pub reference_width: usize,
@@ -42,7 +42,7 @@ pub struct Bounds {
 impl Bounds {
     ghost use Rattle.std.specs.Prelude.{◌≡◌};
 
-    /// Nothing lies within.
+    /// Creates bounds within which there is nothing.
     pub fn new() -> Self
         ensures { result.trailer ≡ 0 }
     {
@@ -53,7 +53,7 @@ impl Bounds {
     }
 }
 
-// The number of bytes.
+// Returns the number of bytes of the source.
 fn read_size<S: Source>(source: &mut S) -> Result<u64, Error>
     ensures length { DecodesBy result (S.known source.old) (λ bytes. length bytes) }
     ensures refused { OnlyFault result (fault_at Io 0) }
@@ -98,7 +98,7 @@ impl Head {
         Head::read_before(alloc, source, size - TRAILER_SIZE)
     }
 
-    // Reads the head of a file whose trailer begins here.
+    // Reads the head of a file whose trailer is at this offset.
     fn read_before<S: Source>(alloc: Global, source: &mut S, trailer: u64) -> Result<Self, Error>
         requires { trailer + 32 < 2 ^ 64 }
         // The answer.

@@ -1,4 +1,4 @@
-//! Texts and data whose content isn't decoded with an object's front.
+//! Strings and data whose content isn't decoded with the first bytes of an object.
 
 ghost use Rattle.std.specs.Prelude.{◌≡◌, IfErr, IfOk, ⊤};
 ghost use Rattle.plist_base.specs.Outcomes.{OnlyMemory};
@@ -18,7 +18,7 @@ use plist_base::{Error, ErrorKind, Event, OwnedEvent, Source};
 use std::alloc::Global;
 use std::borrow::{CowSlice, CowStr};
 
-// The text in these bytes, or the fault of the object at this place.
+// Returns the string in these bytes, or the error of the object at this offset.
 fn text_event(bytes: Vec<u8>, place: u64) -> Result<OwnedEvent, Error>
     requires { IsLongBytes KindText bytes.items }
     ensures decoded { Decodes (text bytes.items) place result }
@@ -32,8 +32,8 @@ fn text_event(bytes: Vec<u8>, place: u64) -> Result<OwnedEvent, Error>
     }
 }
 
-// The text in these units, or the fault of the object at this place. One of few bytes never comes
-// here, since it is decoded with its object's front.
+// Returns the string in these units, or the error of the object at this offset. A string of few
+// bytes is decoded with the first bytes of its object, and never comes here.
 fn text_of_units_event(alloc: Global, units: &[u16], place: u64) -> Result<OwnedEvent, Error>
     ensures decoded { Decodes (text_of_units units.now) place result }
     ensures large { IsLarge result }
@@ -51,7 +51,7 @@ fn text_of_units_event(alloc: Global, units: &[u16], place: u64) -> Result<Owned
     }
 }
 
-// The units in these bytes, two a unit.
+// Returns the units in these bytes, of which two are a unit.
 fn units_in(alloc: Global, bytes: &[u8]) -> Result<Vec<u16>, Error>
     requires { AreUnits 2 bytes.now }
     ensures units { IfOk result (λ units. units.items ≡ numbers_spelled 2 bytes.now) }
@@ -62,7 +62,8 @@ fn units_in(alloc: Global, bytes: &[u8]) -> Result<Vec<u16>, Error>
     Ok(units)
 }
 
-/// The text in these bytes, two a unit, which aren't few, or the fault of the object at this place.
+/// Returns the string in these bytes, of which two are a unit, or the error of the object at this
+/// offset. The string has more than eight bytes.
 pub fn wide_text_event(alloc: Global, bytes: &[u8], place: u64) -> Result<OwnedEvent, Error>
     requires { AreUnits 2 bytes.now }
     ensures decoded { Decodes (wide_text bytes.now) place result }
@@ -74,8 +75,8 @@ pub fn wide_text_event(alloc: Global, bytes: &[u8], place: u64) -> Result<OwnedE
     text_of_units_event(alloc, &units, place)
 }
 
-// The text or data in these bytes, or the fault of the object at this place. The bytes of a text of
-// units go before it is made of these.
+// Returns the string or data in these bytes, or the error of the object at this offset. The bytes
+// of a string in UTF-16 are dropped before it is made from the units.
 fn content_event(
     alloc: Global,
     kind: ContentKind,
@@ -100,7 +101,7 @@ fn content_event(
     }
 }
 
-/// Reads the text or data of this content, which isn't small, of the object at a place.
+/// Reads the string or data of this content, which isn't small, of the object at an offset.
 pub fn read_long<S: Source>(
     alloc: Global,
     source: &mut S,

@@ -1,4 +1,4 @@
-//! One object, decoded by its bytes.
+//! Decodes an object from its bytes in a source.
 
 ghost use Rattle.std.specs.Prelude.{◌≡◌, ◌<◌, false};
 ghost use Rattle.plist_binread.specs.Decoded.{CountsSmall, CountsUnread, DecodesAt, FailsUnread, FitsBefore, is_unread};
@@ -9,11 +9,11 @@ use crate::decoder::Decoder;
 use crate::front::decode_seen;
 use plist_base::{Source, read_exact_at};
 
-// As many bytes as any object needs but a long text or data: a marker, a length of nine bytes, and
-// sixteen of content.
+// As many bytes as any object needs but a long string or data: a marker, a length of nine bytes,
+// and sixteen bytes of content.
 const FRONT: usize = 26;
 
-// Decodes the object at an offset by bytes that are read of its front.
+// Reads the first bytes of the object at an offset, and decodes it.
 #[cold]
 #[inline(never)]
 fn read_front<S: Source, C: DecodeCounter>(
@@ -56,7 +56,7 @@ fn read_front<S: Source, C: DecodeCounter>(
     }
 }
 
-/// Decodes the object at an offset by the bytes of its front, and counts it if it is small.
+/// Decodes the object at an offset from its first bytes, and counts it if it is small.
 #[inline(always)]
 pub fn decode<S: Source, C: DecodeCounter>(
     source: &mut S,

@@ -1,4 +1,4 @@
-//! Where the references of a collection stand, and the one of a child.
+//! Where the references of a collection are, and the reference to a child.
 
 ghost use Rattle.std.specs.Prelude.{◌≡◌, ◌+◌, ◌-◌, ◌^◌, ◌<◌, ◌≤◌, IfErr, IfNone, IfOk, IfSome, OnOk};
 ghost use Rattle.plist_binread.specs.DecodeOutcome.{reference_place, reference_index};
@@ -26,21 +26,21 @@ pub struct Reference {
     pub number: u64,
 }
 
-/// Where the references of a collection stand.
+/// Where the references of a collection are.
 #[derive(Clone, Copy)]
 pub struct References {
-    /// The place of the collection, if there is one.
+    /// The offset of the collection, if there is one.
     pub place: u64,
-    /// How far after that its references begin.
+    /// How far after this offset its references begin.
     pub start: u64,
-    /// How many pairs it has; none if it is an array.
+    /// How many pairs it has, or 0 if it is an array.
     pub pairs: u64,
 }
 
 impl References {
     ghost use Rattle.std.specs.Prelude.{◌≡◌, ◌-◌, ◌^◌};
 
-    /// Those of no collection, since no object has this place.
+    /// Returns the references of no collection: no object has this offset.
     pub fn none() -> Self
         ensures { result.place ≡ 2 ^ 64 - 1 }
     {
@@ -52,7 +52,8 @@ impl References {
     }
 }
 
-// How many pairs a collection of this kind and length has: none if it is an array.
+// Returns how many pairs a collection of this kind and length has, which is 0 for an array, or
+// `None` if the object isn't a collection.
 #[inline(always)]
 fn pairs_in(kind: CountedKind, count: u64) -> Option<u64>
     ensures references { IfSome result (HasPairs kind count) }
@@ -65,8 +66,8 @@ fn pairs_in(kind: CountedKind, count: u64) -> Option<u64>
     }
 }
 
-// Finds the references of the collection that begins these bytes: all up to the trailer, or at
-// least a marker and a length.
+// Finds the references of the collection at the front of these bytes, which are all bytes up to the
+// trailer, or at least a marker and a length.
 #[inline(always)]
 fn references_in(seen: &[u8], extent: u64, width: usize, place: u64) -> Option<References>
     requires width { 0 < width }
@@ -90,7 +91,7 @@ fn references_in(seen: &[u8], extent: u64, width: usize, place: u64) -> Option<R
 // As many bytes as a marker and a length have at most.
 const LENGTH_END: usize = 10;
 
-// Finds the references of the collection at a place by bytes that are read there.
+// Reads the first bytes of the collection at an offset, and finds its references.
 #[cold]
 #[inline(never)]
 fn read_references<S: Source>(
@@ -123,8 +124,8 @@ fn read_references<S: Source>(
     }
 }
 
-// Finds the references of the collection at a place. They are set in place, so that no answer of
-// their size is made.
+// Finds the references of the collection at an offset. They are written through a reference, so
+// that no result of their size is returned.
 #[inline(never)]
 fn find_references<S: Source>(
     source: &mut S,
@@ -163,7 +164,7 @@ fn find_references<S: Source>(
     Ok(())
 }
 
-// The number of a child's reference among those of its collection.
+// Returns the index of a child's reference among those of its collection.
 fn reference_index(pairs: u64, index: u64) -> Option<u64>
     ensures value { IfSome result (λ slot. slot ≡ reference_index pairs index) }
     ensures overflow { IfNone result (2 ^ 64 ≤ reference_index pairs index) }
@@ -177,7 +178,7 @@ fn reference_index(pairs: u64, index: u64) -> Option<u64>
     }
 }
 
-// Where the reference of a child stands.
+// Returns the offset of the reference to a child.
 #[inline(always)]
 fn reference_place(references: &References, index: u64, width: usize) -> Option<u64>
     requires { 0 < width }
@@ -190,7 +191,7 @@ fn reference_place(references: &References, index: u64, width: usize) -> Option<
         .checked_add(references.start.checked_add(behind)?)
 }
 
-// Finds the references of the collection at a place, unless it is the one of the last call.
+// Finds the references of the collection at an offset, unless they are those of the last call.
 #[inline(always)]
 fn refer_to<S: Source>(
     source: &mut S,
@@ -216,7 +217,7 @@ fn refer_to<S: Source>(
     find_references(source, bounds, references, place, slot)
 }
 
-// Reads a reference that isn't buffered. Where that fails, the error is held.
+// Reads a reference that isn't buffered. If this fails, the slot keeps the error.
 #[cold]
 #[inline(never)]
 fn read_reference<S: Source>(
@@ -246,7 +247,7 @@ fn read_reference<S: Source>(
     }
 }
 
-/// Finds the number of a child of the collection at a place.
+/// Finds the number of a child of the collection at an offset.
 #[inline(always)]
 pub fn read_child<S: Source, C: DecodeCounter>(
     source: &mut S,

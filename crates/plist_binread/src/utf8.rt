@@ -1,4 +1,4 @@
-//! The test whether bytes are a text.
+//! The test whether bytes are UTF-8.
 
 ghost use Rattle.std.specs.Prelude.{◌≡◌, ◌<◌, true, IsAscii, IsUtf8, MatchOption};
 
@@ -8,7 +8,7 @@ fn is_ascii(byte: u8) -> bool
     byte < 128
 }
 
-// Are all these bytes ASCII? It looks at each, which is done for many at once.
+// Returns whether all bytes are ASCII. It looks at every byte, so that many are tested at once.
 #[inline(always)]
 fn are_ascii(bytes: &[u8]) -> bool
     ensures { result ≡ true → IsAscii bytes.now }
@@ -20,7 +20,7 @@ fn are_ascii(bytes: &[u8]) -> bool
     ascii
 }
 
-// The text in bytes that aren't ASCII, if they are one.
+// Returns the string in bytes that aren't ASCII, if they are UTF-8.
 #[inline(never)]
 fn wide_text_in(bytes: &[u8]) -> Option<&str>
     ensures { MatchOption result (IsUtf8 bytes.now → ⊥)
@@ -32,8 +32,8 @@ fn wide_text_in(bytes: &[u8]) -> Option<&str>
     }
 }
 
-/// The text in these bytes, if they are one. Most texts are ASCII, which takes a fifth of the time of
-/// the test for UTF-8.
+/// Returns the string in these bytes, if they are UTF-8. Most strings are ASCII, and the test for
+/// ASCII takes a fifth of the time of the test for UTF-8.
 #[inline(always)]
 pub fn text_in(bytes: &[u8]) -> Option<&str>
     ensures { MatchOption result (IsUtf8 bytes.now → ⊥)

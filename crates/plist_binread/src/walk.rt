@@ -1,4 +1,4 @@
-//! Where a walk stands: the collections that are open, and what is held of each object.
+//! How far a walk is: the collections that are open, and what is stored about each object.
 
 ghost use Rattle.std.specs.Prelude.{◌≡◌, ◌<◌, length, reverse, true};
 ghost use Rattle.std.proofs.Props.{props};
@@ -21,12 +21,12 @@ pub enum NextChild {
     Child(u64, u64),
 }
 
-/// Where a walk over a file's objects stands.
+/// How far a walk over the objects of a file is.
 #[derive(Drop)]
 pub struct Walk {
-    /// The tag of each object by its number: which content is held of it, and whether it is open.
+    /// The tag of each object by its number: what its content is, and whether it is open.
     pub tags: Vec<u8>,
-    /// The content of each object: its place, or all of a small scalar.
+    /// The content of each object: its offset, or all of a small scalar.
     pub contents: Vec<u64>,
     /// The open collections, the innermost one last.
     pub frames: Frames,
@@ -38,7 +38,7 @@ impl Walk {
     ghost use Rattle.plist_binread.specs.Step.{WalkWeightFalls, WalkTakesNextChild};
     ghost use Rattle.plist_binread.specs.Walking.{IsEmptyWalk, cached_in, walk_objects, open_in};
 
-    /// A walk that knows no objects yet.
+    /// Creates a walk that knows no objects yet.
     pub fn new(alloc: Global) -> Self
         ensures { IsEmptyWalk result }
     {
@@ -49,7 +49,7 @@ impl Walk {
         }
     }
 
-    /// Takes the next child of the innermost collection, or closes it where it has no more.
+    /// Takes the next child of the innermost collection, or closes it if it has no more.
     pub fn next_child(&mut self) -> NextChild
         // The answer.
         ensures remaining { WalkTakesNextChild self.old result self.new }
