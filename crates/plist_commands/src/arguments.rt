@@ -1,4 +1,4 @@
-//! The words that the program was given.
+//! The arguments of the program.
 
 ghost use Rattle.plist_base.specs.Outcomes.{OnlyMemory};
 
@@ -7,7 +7,7 @@ use std::alloc::Global;
 use std::env::{Env, FillError};
 use std::{env, io};
 
-// The arguments after the program's name.
+// Returns the arguments after the program's name.
 #[derive(Drop)]
 struct ProgramWords<'a, R: Env> {
     rt: &'a R,
@@ -30,10 +30,11 @@ impl<'a, R: Env> Env for ProgramWords<'a, R> {
     }
 }
 
-/// The words after the program's name, which need be no text; none if one of them isn't UTF-8,
-/// since neither a command nor a path has such a word here.
+/// Returns the arguments after the program's name, or none if one of them isn't UTF-8: neither a
+/// command nor a path may be such an argument.
 ///
 /// # Errors
+///
 /// `OutOfMemory`, without an offset.
 pub fn program_arguments<R: Env>(rt: &R, alloc: Global) -> Result<Vec<String>, Error>
     ensures { OnlyMemory result }

@@ -14,7 +14,7 @@ use std::alloc::Global;
 use std::mem;
 use std::ops::ControlFlow;
 
-// Buffers the next event, unless it can't come here: then nothing changes.
+// Buffers the next event. If it can't come here, nothing changes.
 #[inline(always)]
 fn take(alloc: Global, pending: &mut EventBuffer, event: Event<'_>) -> Result<bool, Error>
     ensures taken { IfOkIs result true (HoldsMore (is_whole pending.new) (buffered_events pending.old)
@@ -36,7 +36,7 @@ pub(crate) enum StopReason {
     Paused,
     /// The last event can't follow those before it.
     Misplaced,
-    /// Memory was refused.
+    /// An allocation failed.
     Failed(Error),
 }
 
@@ -89,16 +89,16 @@ impl Collector {
         ControlFlow::Continue(())
     }
 
-    /// Returns whether the collector paused at a visit that returned this.
+    /// Returns whether the collector paused in a visit with this result.
     pub(crate) fn has_paused(&self, visited: &Result<Visited, Error>) -> bool
         ensures { HasPaused result self.now visited.now }
     {
         matches!(visited, Ok(Visited::Stopped)) && matches!(self.stop, StopReason::Paused)
     }
 
-    /// Pauses no more. How many different scalars are expected is a hint, by which their table
-    /// grows in larger steps: tables that double as they fill take a fifth of the time of a large
-    /// file.
+    /// Pauses no more. The number of different scalars that are expected is a hint, with which
+    /// their table grows in larger steps: a table that doubles as it fills takes a fifth of the
+    /// time that is needed for a large file.
     pub(crate) fn expect_scalars(&mut self, count: usize)
         ensures events { collected self.new ≡ collected self.old }
         ensures whole { is_complete self.new ≡ is_complete self.old }
@@ -109,9 +109,10 @@ impl Collector {
     }
 
     /// Returns whether the events that were taken are those of a whole property list, after a visit
-    /// that returned this and at which the collector didn't pause.
+    /// with this result in which the collector didn't pause.
     ///
     /// # Errors
+    ///
     /// The error that came in the place of an event, or `OutOfMemory`.
     pub(crate) fn answer(&mut self, visited: Result<Visited, Error>) -> Result<bool, Error>
         ensures answer { AnswersVisit visited self.old result }

@@ -1,4 +1,4 @@
-//! What the words after the program's name ask for, and how it is done.
+//! The commands that the arguments ask for, and how they are run.
 
 ghost use Rattle.std.specs.Prelude.{◌≡◌, ℕ, ◌↔◌, List, Option, Bool, map, string_bytes, IfSome, IsNone};
 ghost use Rattle.plist_commands.specs.Failures.{CommandOutcome};
@@ -16,18 +16,18 @@ use std::alloc::Global;
 use std::io::Write;
 use std::rt::Files;
 
-/// What the program can be asked to do.
+/// A command of the program.
 #[derive(Clone, Copy)]
 pub enum Command<'a> {
     /// Print the events of this file.
     Print(&'a str),
-    /// Write the property list of the first file to the second one, as a binary one.
+    /// Write the property list of the first file to the second one, in the binary format.
     Convert(&'a str, &'a str),
     /// Print the tree that the file's archive has under this key.
     Keyed(&'a str, &'a str),
 }
 
-/// The command that the words ask for, or `None` if they are no command.
+/// Returns the command that the arguments ask for, or `None` if they aren't those of a command.
 pub fn command_of(words: &[String]) -> Option<Command<'_>>
     ensures found { IfSome result (λ c. map string_bytes words.now
         ≡ words_for (plain_command_of c)) }
@@ -45,17 +45,18 @@ pub fn command_of(words: &[String]) -> Option<Command<'_>>
     }
 }
 
-/// Does commands. It is a trait so that a clause can name what a command answered.
+/// Runs commands. It is a trait so that a clause can name the result of a command.
 pub trait Commands {
-    /// What a command may have answered, and what an output whose bytes are known then holds.
+    /// The result that a command may have, and the bytes of an output after it, if they are known.
     ghost answers: { Self → PlainCommand → (old : Option (List ℕ)) → CommandOutcome
         → (new : Option (List ℕ)) → Type 0 };
 
-    /// Does a command. What it prints goes to `out`.
+    /// Runs a command, which prints to `out`.
     ///
     /// # Errors
-    /// Where a file can't be opened, read or written, or holds no property list, or no archive with
-    /// a tree under the key that was asked for.
+    ///
+    /// An error is returned if a file can't be opened, read or written, or if it doesn't contain a
+    /// property list, or for `keyed` an archive with a tree under the key.
     fn perform<O: Write>(
         &self,
         alloc: Global,
@@ -65,7 +66,7 @@ pub trait Commands {
         ensures { Performs (answers self.now) O.contents command.entry out.old result out.new };
 }
 
-/// Nothing is known of what files hold, so nothing is of the answers.
+/// Nothing is known about the contents of files, so nothing is known about the results.
 impl<R: Files> Commands for R {
     ghost answers = { λ _ _ _ _ _. Unit {0} };
 
@@ -83,7 +84,7 @@ impl<R: Files> Commands for R {
     }
 }
 
-// Prints the events of a file. `Io` where it can't be opened.
+// Prints the events of a file. The error is `Io` if it can't be opened.
 fn print_file<R: Files, O: Write>(
     rt: &R,
     alloc: Global,
@@ -94,11 +95,11 @@ fn print_file<R: Files, O: Write>(
     print_events(alloc, source, out)
 }
 
-/// Does what the words after the program's name ask for, and answers the status: 0 where it is
-/// done, 1 after a fault, which is then written to `err`, and 2 for wrong words, for which `err`
-/// gets the usage.
+/// Runs the command that the arguments ask for, and returns the status: 0 if the command succeeds,
+/// 1 if it fails, after its error is written to `err`, and 2 if the arguments are wrong, after the
+/// usage is written to `err`.
 ///
-/// A failure of `err` changes no status.
+/// A failure of `err` doesn't change the status.
 pub fn run_words<R: Commands, O: Write, E: Messages>(
     rt: &R,
     alloc: Global,

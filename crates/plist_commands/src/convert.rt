@@ -1,4 +1,4 @@
-//! Writes a property list as a binary one.
+//! Writes a property list in the binary format.
 
 ghost use Rattle.std.specs.Prelude.{◌≡◌, false, IfErr, IfSome, None};
 ghost use Rattle.plist_base.specs.Bracketing.{AreTreeEvents};
@@ -24,17 +24,17 @@ use std::alloc::Global;
 use std::io::Write;
 use std::rt::Files;
 
-/// What became of a property list that was to be sent without a value.
+/// What became of a property list that was to be written without a value.
 #[derive(Clone, Copy)]
 pub enum Streamed {
-    /// Its file went out.
+    /// Its file was written.
     Sent,
-    /// Nothing went out: a key stands twice in a dictionary, or its events are no property list's.
+    /// Nothing was written: a dictionary has a key twice, or the events aren't those of a value.
     NeedsValue,
 }
 
-// Holds the events of a binary source. Once the first one has come, the reader knows how many
-// objects the file has, and so how many different scalars can come.
+// Buffers the events of a binary source. After the first event the reader knows how many objects
+// the file has, and so how many different scalars can come.
 #[inline(never)]
 fn hold_binary<S: Source>(
     alloc: Global,
@@ -60,8 +60,8 @@ fn hold_binary<S: Source>(
     collector.answer(others)
 }
 
-// Holds the events of a source of any format. It stands apart, since what it moves takes much of
-// the call stack.
+// Buffers the events of a source of any format. It is a function of its own, since what it moves
+// takes much of the call stack.
 #[inline(never)]
 fn hold_any<S: Source>(alloc: Global, source: S, collector: &mut Collector) -> Result<bool, Error>
     requires empty { IsEmpty (is_complete collector.old) (collected collector.old) }
@@ -77,8 +77,8 @@ fn hold_any<S: Source>(alloc: Global, source: S, collector: &mut Collector) -> R
     collector.answer(visited)
 }
 
-// Holds the events of a source, and answers whether they are those of a tree. The source isn't
-// needed then.
+// Buffers the events of a source, and returns whether they are those of a tree. The source isn't
+// needed after that.
 fn hold_source<S: Source>(
     alloc: Global,
     source: S,
@@ -98,7 +98,7 @@ fn hold_source<S: Source>(
     }
 }
 
-// Sends the events of a tree as a file, where no key stands twice in a dictionary.
+// Writes the events of a tree as a file, if no dictionary has a key twice.
 fn send_events<W: Write>(
     alloc: Global,
     pending: &EventBuffer,
@@ -123,13 +123,14 @@ fn send_events<W: Write>(
     Ok(Streamed::Sent)
 }
 
-/// Sends the property list of a source as a binary file, without a value, where no key stands twice
-/// in a dictionary. All of the source is read before the first byte goes out, and what goes out is
-/// what [`Value::to_writer_binary`] sends of the value that [`Value::from_reader`] gives.
+/// Writes the property list of a source as a binary file, without making a value, if no dictionary
+/// has a key twice. All of the source is read before the first byte is written, and the bytes are
+/// those that [`Value::to_writer_binary`] writes for the value that [`Value::from_reader`] returns.
 ///
 /// # Errors
-/// Those of [`Value::from_reader`], and nothing went out; those of [`Value::to_writer_binary`],
-/// with what went out then.
+///
+/// The errors of [`Value::from_reader`], before anything is written, and those of
+/// [`Value::to_writer_binary`], after the bytes that this call writes in that case.
 pub fn convert_binary<S: Source, W: Write>(
     alloc: Global,
     source: S,
@@ -148,8 +149,8 @@ pub fn convert_binary<S: Source, W: Write>(
     send_events(alloc, &collector.pending, writer)
 }
 
-// Sends a source to the file of this name as `convert_binary` does, and has the system store what
-// was sent.
+// Writes a source to the file of this name as `convert_binary` does, and has the system store what
+// was written.
 fn stream_to<R: Files, S: Source>(
     rt: &R,
     alloc: Global,
@@ -164,7 +165,7 @@ fn stream_to<R: Files, S: Source>(
     Ok(sent)
 }
 
-// Writes the property list of a file to another one by way of its value.
+// Writes the property list of a file to another one, by making its value.
 fn convert_value<R: Files>(rt: &R, alloc: Global, from: &str, to: &str) -> Result<(), Error> {
     let value = Value::from_file(rt, alloc, from)?;
     let stored = value.to_file_binary(rt, alloc, to);
@@ -172,11 +173,13 @@ fn convert_value<R: Files>(rt: &R, alloc: Global, from: &str, to: &str) -> Resul
     stored
 }
 
-/// Writes the property list of a file to another one, or to itself. The other file is created, or
-/// cut, once nothing but its device can fail.
+/// Writes the property list of a file to another one, or to the same file. The other file is
+/// created or truncated only when nothing but its device can still fail.
 ///
 /// # Errors
-/// Where a file can't be opened, read or written, or the first one holds no property list.
+///
+/// An error is returned if a file can't be opened, read or written, or if the first one doesn't
+/// contain a property list.
 pub fn convert_file<R: Files>(rt: &R, alloc: Global, from: &str, to: &str) -> Result<(), Error> {
     let source = open_source(rt, alloc, from)?;
     match stream_to(rt, alloc, source, to)? {

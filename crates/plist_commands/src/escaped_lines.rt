@@ -13,13 +13,13 @@ use std::alloc::AllocError;
 /// How bytes are printed.
 #[derive(Clone, Copy)]
 pub enum Notation {
-    /// As those of a text, between its quotes.
+    /// As those of a string, between its quotes.
     Text,
     /// As those of data, after its word.
     Hexadecimal,
 }
 
-/// An event without a text or data, whose line comes often.
+/// An event without a string or data, whose line is frequent.
 #[derive(Clone, Copy)]
 pub enum ShortLine {
     /// The start of an array.
@@ -37,7 +37,7 @@ pub enum ShortLine {
 }
 
 impl ShortLine {
-    /// The event.
+    /// Returns the event.
     pub fn event(self) -> Event<'static>
         ensures { event_of result ≡ event_of_short self }
     {
@@ -52,10 +52,10 @@ impl ShortLine {
     }
 }
 
-/// No line has more bytes than this and those of a text or data in it.
+/// No line has more bytes than this and those of a string or data in it.
 pub const MOST_OF_SHORT: usize = 64;
 
-// No number has more digits, and after them comes the end of its line.
+// No number has more digits. The end of the line follows them.
 const MOST_BEHIND: usize = 21;
 
 #[inline(always)]
@@ -70,14 +70,14 @@ fn hexadecimal_digit_of(value: u8) -> u8
     }
 }
 
-// Does a byte of a text stand for itself?
+// Returns whether a byte of a string is printed as it is.
 fn is_plain(byte: u8) -> bool
     ensures { result ≡ stands_for_itself byte }
 {
     byte >= 0x20 && byte <= 0x7e && byte != b'\\' && byte != b'"'
 }
 
-// The bytes of a text that stand for themselves.
+// For each byte, whether it is printed as it is in a string.
 const PLAIN: [bool; 256] = [
     false, false, false, false, false, false, false, false, false, false, false, false, false,
     false, false, false, false, false, false, false, false, false, false, false, false, false,
@@ -100,7 +100,7 @@ const PLAIN: [bool; 256] = [
     false, false, false, false, false, false,
 ];
 
-// The same by a table, which is faster for one byte.
+// Returns whether a byte of a string is printed as it is, by a table, which is faster for one byte.
 #[tactic(auto, using(crate::proofs::PlainBytes::is_marked))]
 fn is_marked_plain(byte: u8) -> bool
     ensures { result ≡ stands_for_itself byte }
@@ -108,7 +108,8 @@ fn is_marked_plain(byte: u8) -> bool
     PLAIN[byte as usize]
 }
 
-// Do all these bytes stand for themselves? It looks at each, which is done for many at once.
+// Returns whether all bytes are printed as they are. It looks at every byte, so that many are
+// tested at once.
 #[inline(always)]
 fn are_many_plain(bytes: &[u8]) -> bool
     ensures { result ≡ true → escaped_text bytes.now ≡ bytes.now }
@@ -120,7 +121,7 @@ fn are_many_plain(bytes: &[u8]) -> bool
     plain
 }
 
-// The same of few bytes, up to the first that doesn't.
+// Returns whether these few bytes are printed as they are. It ends at the first one that isn't.
 #[inline(always)]
 fn are_few_plain(bytes: &[u8]) -> bool
     ensures { result ≡ true → escaped_text bytes.now ≡ bytes.now }
@@ -133,7 +134,8 @@ fn are_few_plain(bytes: &[u8]) -> bool
     true
 }
 
-// The same of a text, the last bytes of which are too few for one step of the first way.
+// Returns whether all bytes of a string are printed as they are. Its last bytes are too few to be
+// tested at once.
 fn are_plain(text: &[u8]) -> bool
     ensures { result ≡ true → escaped_text text.now ≡ text.now }
 {
@@ -141,7 +143,7 @@ fn are_plain(text: &[u8]) -> bool
     are_many_plain(front) && are_few_plain(rest)
 }
 
-// A byte of a text, escaped unless it stands for itself.
+// Appends a byte of a string, with an escape if it needs one.
 fn push_byte(line: &mut Vec<u8>, byte: u8) -> Result<(), AllocError>
     ensures { OnOk result (line.new.items ≡ line.old.items ++ escaped_byte byte) }
 {
@@ -154,7 +156,7 @@ fn push_byte(line: &mut Vec<u8>, byte: u8) -> Result<(), AllocError>
     line.extend_from_slice(&[b'\\', b'x', high, low])
 }
 
-// A text byte by byte. It stands apart, so that the loop keeps its registers.
+// Appends a string byte by byte. It is a function of its own, so that the loop keeps its registers.
 #[inline(never)]
 fn push_escaped(line: &mut Vec<u8>, text: &[u8]) -> Result<(), AllocError>
     ensures { OnOk result (line.new.items ≡ line.old.items ++ escaped_text text.now) }
@@ -165,7 +167,7 @@ fn push_escaped(line: &mut Vec<u8>, text: &[u8]) -> Result<(), AllocError>
     Ok(())
 }
 
-// A text; one without an escape goes in one piece.
+// Appends a string. One that needs no escape is copied as a whole.
 #[inline(always)]
 fn push_text(line: &mut Vec<u8>, text: &[u8]) -> Result<(), AllocError>
     ensures { OnOk result (line.new.items ≡ line.old.items ++ escaped_text text.now) }
@@ -176,7 +178,7 @@ fn push_text(line: &mut Vec<u8>, text: &[u8]) -> Result<(), AllocError>
     push_escaped(line, text)
 }
 
-// Two hexadecimal digits a byte, of few bytes.
+// Appends two hexadecimal digits for each of a few bytes.
 fn push_digits(line: &mut Vec<u8>, bytes: &[u8]) -> Result<(), AllocError>
     ensures { OnOk result (line.new.items ≡ line.old.items ++ hexadecimal bytes.now) }
 {
@@ -188,7 +190,7 @@ fn push_digits(line: &mut Vec<u8>, bytes: &[u8]) -> Result<(), AllocError>
     Ok(())
 }
 
-// The digits of a block, which are made by arithmetic of many bytes at once.
+// Returns the hexadecimal digits of a block, computed for many bytes at once.
 #[inline(always)]
 fn digits_of_block(bytes: &[u8; 64]) -> [u8; 128]
     ensures { result ≡ hexadecimal bytes.now }
@@ -201,7 +203,7 @@ fn digits_of_block(bytes: &[u8; 64]) -> [u8; 128]
     digits
 }
 
-// The same of a block of eight bytes.
+// Appends the hexadecimal digits of a block of eight bytes.
 #[inline(always)]
 fn digits_of_eight(bytes: &[u8; 8]) -> [u8; 16]
     ensures { result ≡ hexadecimal bytes.now }
@@ -214,7 +216,7 @@ fn digits_of_eight(bytes: &[u8; 8]) -> [u8; 16]
     digits
 }
 
-// Two hexadecimal digits a byte, eight bytes at a time.
+// Appends two hexadecimal digits for each byte, for eight bytes at a time.
 fn push_by_eights(line: &mut Vec<u8>, bytes: &[u8]) -> Result<(), AllocError>
     ensures { OnOk result (line.new.items ≡ line.old.items ++ hexadecimal bytes.now) }
 {
@@ -225,7 +227,7 @@ fn push_by_eights(line: &mut Vec<u8>, bytes: &[u8]) -> Result<(), AllocError>
     push_digits(line, rest)
 }
 
-// Two hexadecimal digits a byte.
+// Appends two hexadecimal digits for each byte.
 fn push_hexadecimal(line: &mut Vec<u8>, bytes: &[u8]) -> Result<(), AllocError>
     ensures { OnOk result (line.new.items ≡ line.old.items ++ hexadecimal bytes.now) }
 {
@@ -236,10 +238,12 @@ fn push_hexadecimal(line: &mut Vec<u8>, bytes: &[u8]) -> Result<(), AllocError>
     push_by_eights(line, rest)
 }
 
-/// Appends bytes as they are printed: of a text at most four for each byte, and of data two.
+/// Appends bytes as they are printed: at most four for each byte of a string, and two for each byte
+/// of data.
 ///
 /// # Errors
-/// Where a growth is refused.
+///
+/// An error is returned if an allocation fails.
 pub fn push_bytes(line: &mut Vec<u8>, bytes: &[u8], notation: Notation) -> Result<(), AllocError>
     ensures { OnOk result (line.new.items ≡ line.old.items ++ in_notation notation bytes.now) }
 {
@@ -249,7 +253,7 @@ pub fn push_bytes(line: &mut Vec<u8>, bytes: &[u8], notation: Notation) -> Resul
     }
 }
 
-// The line of data.
+// Appends the line of data.
 fn push_data(line: &mut Vec<u8>, bytes: &[u8]) -> Result<(), AllocError>
     ensures { OnOk result (line.new.items
         ≡ line.old.items ++ line_of (ScalarEvent (Data bytes.now))) }
@@ -273,7 +277,7 @@ fn push_date(line: &mut Vec<u8>, date: Date) -> Result<(), AllocError>
     push_hexadecimal(line, &date.to_plist_real())
 }
 
-// The line of a date.
+// Appends the line of a date.
 fn push_dated(line: &mut Vec<u8>, date: Date) -> Result<(), AllocError>
     ensures { OnOk result (line.new.items
         ≡ line.old.items ++ codes "Date " ++ text_of_date date ++ codes "\n") }
@@ -283,7 +287,7 @@ fn push_dated(line: &mut Vec<u8>, date: Date) -> Result<(), AllocError>
     line.extend_from_slice(b"\n")
 }
 
-// The line of a real.
+// Appends the line of a real.
 fn push_real(line: &mut Vec<u8>, real: RealBits) -> Result<(), AllocError>
     ensures { OnOk result (line.new.items
         ≡ line.old.items ++ codes "Real " ++ text_of_real real ++ codes "\n") }
@@ -296,7 +300,7 @@ fn push_real(line: &mut Vec<u8>, real: RealBits) -> Result<(), AllocError>
     line.extend_from_slice(b"\n")
 }
 
-// How many digits a number of more than six has.
+// Returns how many digits a number with more than six has.
 #[tactic(auto, using(crate::proofs::Printed::digits))]
 fn digits_of_large(number: u64) -> usize
     requires { 1000000 ≤ number }
@@ -320,7 +324,7 @@ fn digits_of_large(number: u64) -> usize
     }
 }
 
-// How many digits a number has. Small numbers come most often.
+// Returns how many digits a number has. Small numbers are the most frequent.
 #[inline(always)]
 #[tactic(auto, using(crate::proofs::Printed::digits))]
 fn digits_of(number: u64) -> usize
@@ -338,10 +342,10 @@ fn digits_of(number: u64) -> usize
     digits_of_large(number)
 }
 
-// The line of a number, of which a pattern is given: its word, and room for its digits and the LF.
+// Appends the line of a number to a pattern: its word, and space for its digits and the LF.
 //
-// The digits are written where they stay: a copy of bytes that were just stored waits for them,
-// which took an eighth of the time of a list of integers.
+// The digits are written where they stay. A copy of bytes that were just stored has to wait for
+// them, which took an eighth of the time for a list of integers.
 #[inline(always)]
 fn push_number(line: &mut Vec<u8>, pattern: &[u8], number: u64) -> Result<(), AllocError>
     requires { 21 ≤ length pattern.now }
@@ -357,7 +361,7 @@ fn push_number(line: &mut Vec<u8>, pattern: &[u8], number: u64) -> Result<(), Al
     Ok(())
 }
 
-// The line of a number below ten, of which a pattern is given: its word, its digit and the LF.
+// Appends the line of a number below ten by a pattern: its word, its digit and the LF.
 #[inline(always)]
 fn push_digit<const N: usize>(
     line: &mut Vec<u8>,
@@ -372,13 +376,14 @@ fn push_digit<const N: usize>(
     line.extend_from_slice(&text)
 }
 
-// Where room is known, a copy of a local array of bytes makes no test. One of a text behind a
-// reference first asks whether it overlaps the buffer.
+// If there is known to be space, a copy of a local array of bytes makes no test. A copy of a string
+// behind a reference first tests whether it overlaps the buffer.
 
-/// Appends the line of a whole number.
+/// Appends the line of an integer that isn't negative.
 ///
 /// # Errors
-/// Where a growth is refused.
+///
+/// An error is returned if an allocation fails.
 #[inline(always)]
 pub fn push_unsigned(line: &mut Vec<u8>, number: u64) -> Result<(), AllocError>
     ensures { OnOk result (line.new.items
@@ -391,7 +396,8 @@ pub fn push_unsigned(line: &mut Vec<u8>, number: u64) -> Result<(), AllocError>
 /// Appends the line of a Uid of this number.
 ///
 /// # Errors
-/// Where a growth is refused.
+///
+/// An error is returned if an allocation fails.
 #[inline(always)]
 pub fn push_uid(line: &mut Vec<u8>, number: u64) -> Result<(), AllocError>
     ensures { OnOk result (line.new.items
@@ -404,7 +410,8 @@ pub fn push_uid(line: &mut Vec<u8>, number: u64) -> Result<(), AllocError>
 /// Appends the line of an end.
 ///
 /// # Errors
-/// Where a growth is refused.
+///
+/// An error is returned if an allocation fails.
 #[inline(always)]
 pub fn push_end(line: &mut Vec<u8>) -> Result<(), AllocError>
     ensures { OnOk result (line.new.items ≡ line.old.items ++ codes "EndCollection\n") }
@@ -413,10 +420,11 @@ pub fn push_end(line: &mut Vec<u8>) -> Result<(), AllocError>
     line.extend_from_slice(&text)
 }
 
-/// Appends the line of a truth value.
+/// Appends the line of a Boolean.
 ///
 /// # Errors
-/// Where a growth is refused.
+///
+/// An error is returned if an allocation fails.
 #[inline(always)]
 pub fn push_boolean(line: &mut Vec<u8>, value: bool) -> Result<(), AllocError>
     ensures { OnOk result (line.new.items
@@ -430,7 +438,7 @@ pub fn push_boolean(line: &mut Vec<u8>, value: bool) -> Result<(), AllocError>
     line.extend_from_slice(&text)
 }
 
-// The line of an integer.
+// Appends the line of an integer.
 #[inline(always)]
 fn push_integer(line: &mut Vec<u8>, integer: Integer) -> Result<(), AllocError>
     ensures { OnOk result (line.new.items
@@ -453,7 +461,8 @@ fn push_integer(line: &mut Vec<u8>, integer: Integer) -> Result<(), AllocError>
 /// Appends the line of an array's start.
 ///
 /// # Errors
-/// Where a growth is refused.
+///
+/// An error is returned if an allocation fails.
 #[inline(always)]
 pub fn push_array(line: &mut Vec<u8>, length: Option<u64>) -> Result<(), AllocError>
     ensures { OnOk result (line.new.items
@@ -472,7 +481,8 @@ pub fn push_array(line: &mut Vec<u8>, length: Option<u64>) -> Result<(), AllocEr
 /// Appends the line of a dictionary's start.
 ///
 /// # Errors
-/// Where a growth is refused.
+///
+/// An error is returned if an allocation fails.
 #[inline(always)]
 pub fn push_dictionary(line: &mut Vec<u8>, length: Option<u64>) -> Result<(), AllocError>
     ensures { OnOk result (line.new.items
@@ -488,7 +498,7 @@ pub fn push_dictionary(line: &mut Vec<u8>, length: Option<u64>) -> Result<(), Al
     }
 }
 
-// The line of a text.
+// Appends the line of a string.
 fn push_string(line: &mut Vec<u8>, text: &str) -> Result<(), AllocError>
     ensures { OnOk result (line.new.items
         ≡ line.old.items ++ line_of (ScalarEvent (String text.now))) }
@@ -498,7 +508,8 @@ fn push_string(line: &mut Vec<u8>, text: &str) -> Result<(), AllocError>
     line.extend_from_slice(b"\"\n")
 }
 
-// May a line with so many bytes of a text or data have no more than `most`?
+// Returns whether a line with so many bytes of a string or data has at most `most` bytes, whatever
+// the bytes are.
 #[inline(always)]
 fn may_fit(content: usize, most: usize) -> bool {
     most >= MOST_OF_SHORT && content <= (most - MOST_OF_SHORT) / 4
@@ -507,7 +518,8 @@ fn may_fit(content: usize, most: usize) -> bool {
 /// Appends a short line.
 ///
 /// # Errors
-/// Where a growth is refused.
+///
+/// An error is returned if an allocation fails.
 #[inline(always)]
 pub fn push_short(line: &mut Vec<u8>, short: ShortLine) -> Result<(), AllocError>
     ensures { OnOk result (line.new.items ≡ line.old.items ++ line_of (event_of_short short)) }
@@ -525,7 +537,8 @@ pub fn push_short(line: &mut Vec<u8>, short: ShortLine) -> Result<(), AllocError
 /// Appends the line of an event, with its LF.
 ///
 /// # Errors
-/// Where memory is refused. The buffer may then hold a part of the line.
+///
+/// An error is returned if an allocation fails. The buffer may then contain a part of the line.
 #[inline(always)]
 pub fn push_line(line: &mut Vec<u8>, event: &Event<'_>) -> Result<(), AllocError>
     ensures { OnOk result (line.new.items ≡ line.old.items ++ line_of (event_of event.now)) }
@@ -544,10 +557,11 @@ pub fn push_line(line: &mut Vec<u8>, event: &Event<'_>) -> Result<(), AllocError
     }
 }
 
-/// Appends the line of an event, with its LF, unless it may have more than `most` bytes. It says
-/// whether it did.
+/// Appends the line of an event, with its LF, unless the line may have more than `most` bytes.
+/// Returns whether it was appended.
 ///
 /// # Errors
+///
 /// Those of [`push_line`].
 #[inline(always)]
 pub fn push_short_line(
@@ -566,9 +580,11 @@ pub fn push_short_line(
     Ok(true)
 }
 
-/// The same of a text.
+/// Appends the line of a string, with its LF, unless the line may have more than `most` bytes.
+/// Returns whether it was appended.
 ///
 /// # Errors
+///
 /// Those of [`push_line`].
 #[inline(always)]
 pub fn push_short_text(line: &mut Vec<u8>, text: &str, most: usize) -> Result<bool, AllocError>

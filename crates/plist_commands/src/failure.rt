@@ -1,4 +1,4 @@
-//! Why a command isn't done.
+//! Why a command fails.
 
 ghost use Rattle.std.specs.Prelude.{◌≡◌, Some};
 ghost use Rattle.plist_base.specs.Faults.{fault_of};
@@ -8,18 +8,18 @@ use plist_base::Error;
 use plist_keyed::KeyedError;
 use std::fmt;
 
-/// Why a command isn't done.
+/// Why a command fails.
 #[derive(Debug, Drop)]
 pub enum Failure {
     /// A property list can't be read, written or printed.
     Plist(Error),
-    /// It is no archive, or the archive has no such tree.
+    /// It isn't an archive, or the archive has no such tree.
     Keyed(KeyedError),
     /// The archive names no object by this key.
     NoSuchTop,
 }
 
-/// The fault's own text.
+/// Prints the text of the error.
 impl fmt::Display for Failure {
     ghost output = { λ failure. Some (failure_text (plain_failure_of failure)) };
 

@@ -13,7 +13,7 @@ use std::alloc::Global;
 use std::io::Write;
 use std::rt::Files;
 
-// The tree of the object that an archive's `$top` names by this key.
+// Returns the tree of the object that the `$top` of an archive names by this key.
 fn tree_at(alloc: Global, root: &Value, key: &str) -> Result<Value, Failure>
     ensures tree { IfOk result (λ value. IsTreeAt root.now key.now (tree_of value)) }
     ensures refused { IfErr result
@@ -32,12 +32,13 @@ fn tree_at(alloc: Global, root: &Value, key: &str) -> Result<Value, Failure>
     }
 }
 
-/// Prints the tree of the object that an archive's `$top` names by this key. The archive is given
-/// as its value.
+/// Prints the tree of the object that the `$top` of an archive names by this key. The archive is
+/// passed as a value.
 ///
 /// # Errors
-/// Where the value is no archive, or that has no such key, or no such tree: then nothing went out;
-/// and where the tree can't be printed, as [`print_value`].
+///
+/// If the value isn't an archive, or has no such key or no such tree, an error is returned before
+/// anything is written. If the tree can't be printed, the error is that of [`print_value`].
 pub fn print_at<O: Write>(
     alloc: Global,
     root: &Value,
@@ -60,8 +61,9 @@ pub fn print_at<O: Write>(
 /// Prints the tree of the object that the `$top` of the archive in a file names by this key.
 ///
 /// # Errors
-/// Where the file can't be read as a property list, or that is no archive, has no such key, or has
-/// no such tree; and where the tree can't be printed.
+///
+/// An error is returned if the file can't be read as a property list, if that isn't an archive or
+/// has no such key or no such tree, or if the tree can't be printed.
 pub fn keyed_file<R: Files, O: Write>(
     rt: &R,
     alloc: Global,

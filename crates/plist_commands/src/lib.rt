@@ -1,7 +1,7 @@
 //! The commands of `plist_tool`, over any source, any writer and any runtime.
 //!
-//! The main contract is that of [`print_events`]: over known bytes what goes out is exactly the
-//! lines of their items, or those before the first fault.
+//! The main contract is that of [`print_events`]: over known bytes, exactly the lines of their
+//! items are written, or those before the first fault.
 #![tactic(auto)]
 
 mod arguments;

@@ -1,4 +1,4 @@
-//! What the program says beside its output.
+//! What the program writes beside its output.
 
 ghost use Rattle.std.specs.Prelude.{◌≡◌, Bool, IfOk, is_ok};
 ghost use Rattle.plist_commands.specs.Failures.{plain_failure_of};
@@ -11,29 +11,30 @@ use plist_base::{Error, ErrorKind};
 use std::fmt::Write as _;
 use std::io::Write;
 
-/// What is said where a command isn't done.
+/// What is written if a command fails.
 #[derive(Clone, Copy)]
 pub enum Message<'a> {
     /// How the program is used.
     Usage,
-    /// Why a command was refused.
+    /// Why a command failed.
     Fault(&'a Failure),
 }
 
 /// Takes messages. It is a trait so that a clause can name what was reported.
 pub trait Messages {
-    /// What a message does: where `whole` is false, a part of it may be missing.
+    /// What a message does: if `whole` is false, a part of it may be missing.
     ghost reports: { (old : Self) → PlainMessage → (whole : Bool) → (new : Self) → Type 0 };
 
-    /// Says a message, on a line of its own.
+    /// Writes a message, on a line of its own.
     ///
     /// # Errors
-    /// Where a write fails.
+    ///
+    /// An error is returned if a write fails.
     fn report(&mut self, message: Message<'_>) -> Result<(), Error>
         ensures { reports self.old (plain_message_of message.entry) (is_ok result) self.new };
 }
 
-// The line of a fault, which has at most 256 bytes.
+// Returns the line of an error, which has at most 256 bytes.
 fn line_of_failure(failure: &Failure) -> Result<ArrayString<256>, Error>
     ensures { IfOk result (λ line. line.bytes ≡ message_text (Fault (plain_failure_of failure.now))) }
 {
@@ -44,7 +45,7 @@ fn line_of_failure(failure: &Failure) -> Result<ArrayString<256>, Error>
     }
 }
 
-/// Each message is a line, which is given to the writer at once.
+/// Each message is a line, which is written by one call.
 impl<W: Write> Messages for W {
     ghost reports = { λ old said whole new. TakesMessage said whole (W.contents old)
         (W.contents new) };

@@ -5,10 +5,11 @@ use std::alloc::Global;
 use std::fs;
 use std::rt::Files;
 
-/// A file as a source.
+/// Opens a file as a source.
 ///
 /// # Errors
-/// `Io`, without an offset, where it can't be opened.
+///
+/// `Io`, without an offset, if the file can't be opened.
 pub fn open_source<R: Files>(rt: &R, alloc: Global, path: &str) -> Result<Seeking<R::File>, Error> {
     match fs::open(rt, path) {
         Ok(file) => Ok(Seeking::with_windows(alloc, file)),

@@ -26,16 +26,16 @@ use std::io::Write;
 use std::mem;
 use std::ops::ControlFlow;
 
-// Lines are held back until the next one may not fit after them in this many bytes.
+// Lines are pending until the next one may not fit after them into this many bytes.
 const FULL: usize = 65536;
 
-// A text or data that may not fit goes by blocks of this many bytes.
+// A string or data that may not fit is printed in blocks of this many bytes.
 const BLOCK: usize = 4096;
 
 // A block is printed as at most this many bytes, with what ends its line.
 const MOST_OF_BLOCK: usize = 4 * BLOCK + 64;
 
-// Sends what is held back. It stands apart, since most lines fit.
+// Writes what is pending. It is a function of its own, since most lines fit.
 #[cold]
 #[inline(never)]
 fn send_waiting<W: Write>(writer: &mut W, lines: &mut Vec<u8>) -> Result<(), Error>
@@ -48,7 +48,7 @@ fn send_waiting<W: Write>(writer: &mut W, lines: &mut Vec<u8>) -> Result<(), Err
     Ok(())
 }
 
-// Sends what is held back where `size` more bytes may not fit after it.
+// Writes what is pending if `size` more bytes may not fit after it.
 #[inline(always)]
 fn make_room<W: Write>(writer: &mut W, lines: &mut Vec<u8>, size: usize) -> Result<(), Error>
     ensures passed { OnOk result (MakesRoom W.contents writer.old lines.old writer.new lines.new) }
@@ -61,7 +61,7 @@ fn make_room<W: Write>(writer: &mut W, lines: &mut Vec<u8>, size: usize) -> Resu
     send_waiting(writer, lines)
 }
 
-// Puts a block after what is held back, which is sent before that where it may not fit.
+// Appends a block to what is pending, which is written first if the block may not fit after it.
 fn pass_block<W: Write>(
     out: &mut W,
     lines: &mut Vec<u8>,
@@ -80,7 +80,7 @@ fn pass_block<W: Write>(
     Ok(())
 }
 
-// The same of however many bytes, block by block.
+// Appends any number of bytes to what is pending, block by block.
 fn pass_bytes<W: Write>(
     out: &mut W,
     lines: &mut Vec<u8>,
@@ -101,7 +101,7 @@ fn pass_bytes<W: Write>(
     pass_block(out, lines, rest, notation)
 }
 
-// The same of a line: its word, those bytes, and its end.
+// Appends a line to what is pending: its word, its bytes in blocks, and its end.
 fn pass_parts<W: Write>(
     out: &mut W,
     lines: &mut Vec<u8>,
@@ -122,7 +122,7 @@ fn pass_parts<W: Write>(
     Ok(())
 }
 
-// The line of a text.
+// Appends the line of a string to what is pending.
 fn pass_text<W: Write>(out: &mut W, lines: &mut Vec<u8>, text: &str) -> Result<(), Error>
     ensures passed { PassesBytes W.contents result out.old lines.old
         (line_of (ScalarEvent (String text.now))) out.new lines.new }
@@ -134,7 +134,7 @@ fn pass_text<W: Write>(out: &mut W, lines: &mut Vec<u8>, text: &str) -> Result<(
     pass_parts(out, lines, b"String \"", bytes, Notation::Text, b"\"\n")
 }
 
-// The line of data, whose word stands alone where there are no bytes.
+// Appends the line of data to what is pending. Without bytes the line is its word alone.
 fn pass_data<W: Write>(out: &mut W, lines: &mut Vec<u8>, bytes: &[u8]) -> Result<(), Error>
     ensures passed { PassesBytes W.contents result out.old lines.old
         (line_of (ScalarEvent (Data bytes.now))) out.new lines.new }
@@ -148,7 +148,7 @@ fn pass_data<W: Write>(out: &mut W, lines: &mut Vec<u8>, bytes: &[u8]) -> Result
     pass_parts(out, lines, b"Data ", bytes, Notation::Hexadecimal, b"\n")
 }
 
-// Puts a line after what is held back, that of a text or data by blocks.
+// Appends a line to what is pending. That of a string or data is appended in blocks.
 fn pass_long<W: Write>(out: &mut W, lines: &mut Vec<u8>, event: &Event<'_>) -> Result<(), Error>
     ensures passed { PassesLine W.contents result out.old lines.old event.now out.new lines.new }
     ensures fault { IfErr result IsWriterError }
@@ -164,7 +164,7 @@ fn pass_long<W: Write>(out: &mut W, lines: &mut Vec<u8>, event: &Event<'_>) -> R
     Ok(())
 }
 
-// Sends what is held back, and puts the line of an event in its place.
+// Writes what is pending, and appends the line of an event.
 fn pass_anew<W: Write>(out: &mut W, lines: &mut Vec<u8>, event: &Event<'_>) -> Result<(), Error>
     ensures passed { PassesLine W.contents result out.old lines.old event.now out.new lines.new }
     ensures fault { IfErr result IsWriterError }
@@ -174,7 +174,7 @@ fn pass_anew<W: Write>(out: &mut W, lines: &mut Vec<u8>, event: &Event<'_>) -> R
     pass_long(out, lines, event)
 }
 
-// The fault that comes after lines, once they are sent; or the one for which they can't be.
+// Writes the pending lines before an error, and returns that error, or the one of the write.
 fn fault_behind<W: Write>(writer: &mut W, lines: &[u8], fault: Error) -> Error
     ensures sent { EndsAfterAll W.contents lines.now fault writer.old writer.new result }
     ensures prefix { SendsPrefix W.contents writer.old lines.now writer.new }
@@ -187,7 +187,7 @@ fn fault_behind<W: Write>(writer: &mut W, lines: &[u8], fault: Error) -> Error
 
 /// Prints the events that it takes, each on a line of its own.
 ///
-/// Lines are pending in the buffer until the next one may not fit. Then they are sent first, so
+/// Lines are pending in the buffer until the next one may not fit. Then they are written first, so
 /// that the buffer never grows.
 #[derive(Drop)]
 pub(crate) struct Printer<'p, W> {
@@ -230,7 +230,7 @@ impl<'p, W: Write> Printer<'p, W> {
         ControlFlow::Break(())
     }
 
-    // Keeps the failure that memory for a line was refused.
+    // Keeps the failure that an allocation for a line failed.
     #[cold]
     #[inline(never)]
     fn stop_for_memory(&mut self) -> ControlFlow<()>
@@ -264,7 +264,7 @@ impl<'p, W: Write> Printer<'p, W> {
         }
     }
 
-    // Prints a text.
+    // Prints a string.
     #[inline(always)]
     fn print_text(&mut self, text: &str) -> ControlFlow<()>
         ensures { PrintsLine W.contents self.old (ScalarEvent (String text.now)) result self.new }
@@ -300,7 +300,7 @@ impl<'p, W: Write> Printer<'p, W> {
         mem::replace(&mut self.failure, ErrorKind::OutOfMemory.without_position())
     }
 
-    // Prints the events that remain of a source, and sends the lines that are pending.
+    // Prints the events that remain of a source, and writes the lines that are pending.
     fn print_all<I: EventSource>(&mut self, source: &mut I) -> Result<(), Error>
         requires empty { pending_lines self.old ≡ [] }
         ensures ran { PrintsRun I.gives source.old result source.new
@@ -390,9 +390,10 @@ pub(crate) fn print_source<I: EventSource, W: Write>(
     flushed
 }
 
-/// Prints the events that a reader has still to give, as [`print_events`] does those of a source.
+/// Prints the events that remain of a reader, as [`print_events`] prints those of a source.
 ///
 /// # Errors
+///
 /// Those of [`print_events`].
 pub fn print_reader<S: Source, W: Write>(
     alloc: Global,
@@ -420,9 +421,11 @@ pub fn print_reader<S: Source, W: Write>(
 /// writer at the end.
 ///
 /// # Errors
-/// The first fault of the source, after the lines of the events before it. `Io` also where the
-/// writer fails, without an offset, and `OutOfMemory` also for a line; a beginning of the
-/// lines went out. A failed flush is an error only where nothing failed before it.
+///
+/// The first error of the source, after the lines of the events before it. If the writer fails, the
+/// error is `Io` without an offset, and if an allocation for a line fails, it is `OutOfMemory`: a
+/// beginning of the lines is written then. A failed flush is an error only if nothing failed before
+/// it.
 pub fn print_events<S: Source, W: Write>(
     alloc: Global,
     source: S,
@@ -442,8 +445,9 @@ pub fn print_events<S: Source, W: Write>(
 /// Prints the events of a value, each on a line of its own, and flushes the writer at the end.
 ///
 /// # Errors
-/// `Io` where the writer fails, and `OutOfMemory`, both without an offset; a beginning of the lines
-/// went out. A failed flush is an error only where nothing failed before it.
+///
+/// `Io` if the writer fails, and `OutOfMemory`, both without an offset: a beginning of the lines is
+/// written then. A failed flush is an error only if nothing failed before it.
 pub fn print_value<W: Write>(alloc: Global, value: &Value, writer: &mut W) -> Result<(), Error>
     ensures printed { OnOk result (PrintsValue W.contents value.now writer.old writer.new) }
     ensures fault { IfErr result IsWriterError }
