@@ -1,4 +1,4 @@
-//! An archive: its objects, and the names of some of them.
+//! An archive, with its objects and the names of its roots.
 
 ghost use Rattle.std.specs.Prelude.{◌≡◌, ℕ, Ok, IfErr, IfOk, IfSome, IsNone, slice_get};
 ghost use Rattle.std.specs.declared.alloc.Global.{Global};
@@ -18,14 +18,14 @@ use std::alloc::Global;
 /// A property list as an archive: the objects of its `$objects`, and the pairs of its `$top`, which
 /// name some of them by their Uids.
 ///
-/// An object's Uid is its place among the objects, from 0 on.
+/// An object's Uid is its index among the objects, from 0 on.
 #[derive(Clone, Copy)]
 pub struct Archive<'a> {
     objects: &'a Vec<Value>,
     names: &'a Dictionary,
 }
 
-// The array at a key.
+// Returns the array at a key.
 fn array_at<'a>(pairs: &'a Dictionary, key: &str) -> Option<&'a Vec<Value>>
     ensures found { IfSome result (λ array. IsArrayAt key.now (pairs_of pairs.now) array.now) }
     ensures missing { IsNone result → HasNoArrayAt key.now (pairs_of pairs.now) }
@@ -36,7 +36,7 @@ fn array_at<'a>(pairs: &'a Dictionary, key: &str) -> Option<&'a Vec<Value>>
     Some(array)
 }
 
-// The dictionary at a key.
+// Returns the dictionary at a key.
 fn dictionary_at<'a>(pairs: &'a Dictionary, key: &str) -> Option<&'a Dictionary>
     ensures found { IfSome result (λ others. IsDictionaryAt key.now (pairs_of pairs.now) others.now) }
     ensures missing { IsNone result → HasNoDictionaryAt key.now (pairs_of pairs.now) }
@@ -48,7 +48,7 @@ fn dictionary_at<'a>(pairs: &'a Dictionary, key: &str) -> Option<&'a Dictionary>
 }
 
 impl<'a> Archive<'a> {
-    /// The archive of a property list. It takes no memory.
+    /// Opens the archive that a property list is. It allocates nothing.
     ///
     /// # Errors
     ///
@@ -70,8 +70,8 @@ impl<'a> Archive<'a> {
         Ok(Archive { objects, names })
     }
 
-    /// The Uid at a key of `$top`; `None` where the key is missing, or holds no Uid. It takes no
-    /// memory.
+    /// Returns the Uid at a key of `$top`, or `None` if the key is missing or its value is no Uid.
+    /// It allocates nothing.
     pub fn top(&self, key: &str) -> Option<Uid>
         ensures found { IfSome result (IsUidAt key.now (names_of self.now)) }
         ensures missing { IsNone result → (uid : ℕ) → ¬ (IsUidAt key.now (names_of self.now) uid) }
@@ -82,35 +82,37 @@ impl<'a> Archive<'a> {
         Some(*uid)
     }
 
-    /// The object of a Uid, in which no Uid is followed; `None` where there is none. It takes no
-    /// memory.
+    /// Returns the object of a Uid, in which no Uid is followed, or `None` if the archive has none.
+    /// It allocates nothing.
     pub fn get(&self, uid: Uid) -> Option<&'a Value>
         ensures { option_copied result ≡ slice_get (objects_of self.now) uid }
     {
         self.objects.get(uid.get() as usize)
     }
 
-    /// The object of a Uid, with each Uid in it replaced by the tree of the object that it names.
-    /// An object that is named more than once stands in the tree as often.
+    /// Returns the object of a Uid, with each Uid in it replaced by the tree of the object that it
+    /// names. An object that is named more than once appears in the tree as often.
     ///
     /// So the tree may be exponentially larger than the archive: thirty objects, each an array that
     /// names the next one twice, make a tree of 2^30 leaves. To walk over an archive without making
     /// its tree, follow its Uids by [`Archive::get`].
     ///
-    /// Before anything of the tree is made, each Uid is followed once to find a fault. So a fault is
-    /// found in a time that grows with the objects alone, and the whole call takes a time that grows
-    /// with the objects and the tree. The Uids that were followed are stored until it returns.
+    /// Before any part of the tree is made, each Uid is followed once to find a fault. So a fault
+    /// is found in a time that grows with the objects alone, and the whole call takes a time that
+    /// grows with the objects and the tree. The Uids that were followed are stored until the call
+    /// returns.
     ///
-    /// The walks have lists of their own for the objects that are open, so they go over any depth.
-    /// What is made may be as deep: [`Value::destroy`] drops it without more of the call stack.
+    /// The walks keep the open objects in lists of their own, so the call stack doesn't grow with
+    /// the depth. The returned value may be as deep; [`Value::destroy`] drops it in a loop.
     ///
     /// # Errors
     ///
-    /// The first fault, depth first, an object's Uid before what the object holds:
+    /// The first fault in depth-first order, where an object's Uid precedes what the object
+    /// contains:
     ///
     /// - `UidOutOfRange` for a Uid that names no object.
-    /// - `RecursiveUid` for a Uid that is met while its own object is open.
-    /// - `OutOfMemory`, wherever a growth was refused.
+    /// - `RecursiveUid` for a Uid that is reached while its own object is open.
+    /// - `OutOfMemory` if an allocation fails.
     pub fn tree(&self, alloc: Global, uid: Uid) -> Result<Value, KeyedError>
         ensures value { IfOk result (λ v. resolved_tree (trees_in self.now) uid ≡ Ok (tree_of v)) }
         ensures fault { IfErr result (IsFaultOf (resolved_tree (trees_in self.now) uid)) }

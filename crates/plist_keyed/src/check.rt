@@ -1,6 +1,6 @@
-//! The walk that finds the first fault of an archive, or that there is none below a Uid.
+//! The walk that finds the first fault below a Uid of an archive, or shows that there is none.
 //!
-//! It follows each Uid once: where one is met again, all below it is known to be without a fault.
+//! It follows each Uid once. When it reaches one again, nothing below that Uid has a fault.
 
 ghost use Rattle.std.specs.Prelude.{◌≡◌, ◌⊎◌, [], ◌∷◌, false, IfErr, IfOk, IfSome, IsNone, None, OnOk, Some, nat_eq, slice_get, ℕ};
 ghost use Rattle.std.specs.Option.{option_copied};
@@ -20,7 +20,7 @@ use plist::Value;
 use plist::stream::{Event, Events};
 use std::alloc::Global;
 
-// The number of a Uid's event.
+// Returns the number of a Uid's event.
 pub(crate) fn uid_of(event: &Event<'_>) -> Option<u64>
     ensures { result ≡ uid_of_event (event_of event.now) }
 {
@@ -30,7 +30,7 @@ pub(crate) fn uid_of(event: &Event<'_>) -> Option<u64>
     Some(uid.get())
 }
 
-// The number of the Uid that an object is.
+// Returns the number of an object that is itself a Uid.
 fn uid_in(object: &Value) -> Option<u64>
     ensures found { IfSome result (λ uid. IsUidTree (tree_of object.now) uid) }
     ensures missing { IsNone result → (uid : ℕ) → ¬ (IsUidTree (tree_of object.now) uid) }
@@ -48,7 +48,7 @@ struct Check<'a> {
     objects: &'a [Value],
     // The Uids that are open, outermost first.
     path: IndexSet<u64>,
-    // What is left of the object of each.
+    // The remaining items of the object of each.
     levels: Vec<Events<'a>>,
     // The settled Uids, whose objects were walked whole, in that order. Each has the Uid at which
     // its chain ends: the next one of a chain is the Uid that is the object of the one before.
@@ -74,7 +74,7 @@ impl<'a> Check<'a> {
         }
     }
 
-    // The object of a Uid, if there is one.
+    // Returns the object of a Uid, if the archive has one.
     fn look_up(&self, uid: u64) -> Option<&'a Value>
         ensures { option_copied result ≡ slice_get self.now.objects.now uid }
     {
@@ -117,7 +117,7 @@ impl<'a> Check<'a> {
         self.open(uid, object)
     }
 
-    // The step of an event.
+    // Takes the step of one event.
     fn pass(&mut self, event: &Event<'a>) -> Result<(), WalkError>
         requires { IsCheckAt self.old (event_of event.now ∷ []) }
         ensures passed { OnOk result (PassesEvents (unchecked_from_event self.old (event_of event.now))
@@ -134,7 +134,8 @@ impl<'a> Check<'a> {
         }
     }
 
-    // The Uid at which the chain ends that begins with this one, all others of which are settled.
+    // Returns the Uid at which the chain that begins with this one ends. All other Uids of the
+    // chain are settled.
     fn end_of(&self, uid: u64) -> u64
         requires { LeadsOnlyTo (objects_checked self.now) uid (settled_uids self.now) }
         ensures { HasEnd self.now uid result }
@@ -147,12 +148,12 @@ impl<'a> Check<'a> {
         };
         match self.ends.get(&next) {
             Some(end) => *end,
-            // Never so: the next Uid is settled, and each settled one has an end.
+            // This never happens, since the next Uid is settled, and each settled Uid has an end.
             None => uid,
         }
     }
 
-    // Settles the innermost Uid, of whose object nothing is left.
+    // Settles the innermost Uid, whose object has no items left.
     fn leave(&mut self) -> Result<(), WalkError>
         requires { IsLeaving self.old }
         ensures left { OnOk result (Leaves self.old self.new) }
@@ -168,7 +169,7 @@ impl<'a> Check<'a> {
         Ok(())
     }
 
-    // One step of the walk, at what is left of the innermost object.
+    // Takes one step of the walk, at the remaining items of the innermost object.
     fn step(&mut self, left: Events<'a>) -> Result<(), WalkError>
         requires { IsCheckWith self.old left }
         ensures passed { OnOk result (PassesEvents (unchecked_with self.old left.entry)
@@ -189,7 +190,7 @@ impl<'a> Check<'a> {
         }
     }
 
-    // Walks over all that a Uid leads to.
+    // Walks over everything below a Uid.
     fn run(&mut self, uid: u64) -> Result<(), WalkError>
         requires path { self.old.path.keys ≡ [] }
         requires levels { self.old.levels.items ≡ [] }
@@ -205,12 +206,12 @@ impl<'a> Check<'a> {
     }
 }
 
-/// The settled Uids of the walk over all that a Uid leads to, each with the end of its chain.
+/// Walks over everything below a Uid, and returns the settled Uids, each with the end of its chain.
 ///
 /// # Errors
 ///
-/// The first fault of the walk, depth first: `MissingObject` for a Uid that has no object, and
-/// `OpenObject` for one on its own path; and `OutOfMemory`.
+/// The first fault of the walk in depth-first order, which is `MissingObject` for a Uid that has no
+/// object and `OpenObject` for one on its own path; `OutOfMemory` if an allocation fails.
 pub(crate) fn settled_below(
     alloc: Global,
     objects: &[Value],

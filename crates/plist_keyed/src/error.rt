@@ -1,4 +1,4 @@
-//! Why an archive, or a tree of it, can't be had.
+//! The errors of an archive.
 
 ghost use Rattle.std.specs.Prelude.{◌≡◌, Some};
 ghost use Rattle.plist_keyed.specs.Errors.{error_of_walk, text_of_error};
@@ -7,7 +7,7 @@ ghost use Rattle.plist_keyed.specs.declared.error.WalkError.TheVariants.{OutOfMe
 use std::alloc::{AllocError, AllocFailed};
 use std::fmt;
 
-/// Why an archive, or a tree of it, can't be had.
+/// The error of opening an archive or of making a tree of it.
 #[derive(Clone, Copy, Debug, PartialEq, Eq)]
 pub enum KeyedError {
     /// The property list isn't a dictionary with an array under `$objects` and a dictionary under
@@ -15,18 +15,18 @@ pub enum KeyedError {
     NotAnArchive,
     /// The archive has no object of this number.
     UidOutOfRange(u64),
-    /// The tree of this Uid would hold itself.
+    /// The tree of this Uid would contain itself.
     RecursiveUid(u64),
-    /// A growth was refused.
+    /// An allocation failed.
     OutOfMemory,
 }
 
-/// Why a walk over the objects of an archive stops.
+/// The error of a walk over the objects of an archive.
 #[derive(Clone, Copy)]
 pub(crate) enum WalkError {
     /// No object has this Uid.
     MissingObject(u64),
-    /// This Uid was met while its own object was open.
+    /// The walk reached this Uid while its own object was open.
     OpenObject(u64),
     /// An allocation failed.
     OutOfMemory,
@@ -49,7 +49,7 @@ impl<T: Drop> From<AllocFailed<T>> for WalkError {
 }
 
 impl KeyedError {
-    // The error of a walk over an archive, in the words of an archive.
+    // Returns the error of an archive for an error of a walk over it.
     pub(crate) fn of_walk(error: WalkError) -> KeyedError
         ensures { result ≡ error_of_walk error }
     {
@@ -61,7 +61,7 @@ impl KeyedError {
     }
 }
 
-/// The variant's name, and in brackets the number that it holds.
+/// Writes the variant's name, and its number in brackets if it has one.
 impl fmt::Display for KeyedError {
     ghost output = { λ error. Some (text_of_error error) };
 

@@ -1,4 +1,4 @@
-//! The walk over an archive that gives the events of a Uid's tree.
+//! The walk over an archive that yields the events of a Uid's tree.
 
 ghost use Rattle.std.specs.Prelude.{◌≡◌, ◌<◌, [], ◌∷◌, IfErr, IfOk, length, None, Ok, OnErr, OnOk, OnSome, Some, nat_eq, slice_get};
 ghost use Rattle.indexmap.specs.IndexMap.{get};
@@ -23,22 +23,22 @@ use std::alloc::Global;
 // What a step of the walk does.
 #[derive(Drop)]
 enum Move<'a> {
-    // There was none: the walk is done.
+    // No item was left, so the walk is done.
     Done,
-    // An event is given.
+    // An event is yielded.
     Gave(Event<'a>),
-    // An object is entered or left, and nothing is given.
+    // An object is entered or left, and no event is yielded.
     Passed,
 }
 
-// The events of a tree in which each Uid is settled, so that no fault is met.
+// The events of a tree in which each Uid is settled, so that the walk finds no fault.
 #[derive(Drop)]
 struct Walk<'a> {
     alloc: Global,
     objects: &'a [Value],
     // The settled Uids, each with the end of its chain.
     ends: IndexMap<u64, u64>,
-    // What is left of the objects that are open, outermost first.
+    // The remaining items of the open objects, outermost first.
     levels: Vec<Events<'a>>,
 }
 
@@ -60,18 +60,19 @@ impl<'a> Walk<'a> {
         }
     }
 
-    // The end of a Uid's chain.
+    // Returns the end of a Uid's chain.
     fn end_of(&self, uid: u64) -> u64
         ensures { result ≡ unwrap_or (get nat_eq self.now.ends uid) uid }
     {
         match self.ends.get(&uid) {
             Some(end) => *end,
-            // Never so: each Uid that is met is settled, and each settled one has an end.
+            // This never happens, since each Uid of the walk is settled, and each settled Uid has
+            // an end.
             None => uid,
         }
     }
 
-    // The object of a Uid that has one.
+    // Returns the object of a Uid that has one.
     fn object_at(&self, uid: u64) -> &'a Value
         requires { uid < length self.now.objects.now }
         ensures { slice_get self.now.objects.now uid ≡ Some result.now }
@@ -96,7 +97,7 @@ impl<'a> Walk<'a> {
         Ok(())
     }
 
-    // The step of an event.
+    // Takes the step of one event.
     fn pass(&mut self, event: Event<'a>) -> Result<Move<'a>, Error>
         requires walk { IsWalk self.old }
         requires settled { NameOnly (event_of event ∷ []) (settled_in self.old.ends) }
@@ -114,7 +115,7 @@ impl<'a> Walk<'a> {
         }
     }
 
-    // One step of the walk.
+    // Takes one step of the walk.
     fn step(&mut self) -> Result<Move<'a>, Error>
         requires { IsWalk self.old }
         ensures path { IsWalk self.new }
@@ -133,7 +134,7 @@ impl<'a> Walk<'a> {
         }
     }
 
-    // The next item, after the steps that give nothing.
+    // Returns the next item, after the steps that yield none.
     fn advance(&mut self) -> Option<Result<Event<'a>, Error>>
         requires { IsWalk self.old }
         ensures path { IsWalk self.new }
@@ -170,7 +171,7 @@ impl<'a> Iterator for Walk<'a> {
     }
 }
 
-// The value of a settled Uid.
+// Returns the value of a settled Uid.
 fn value_below(
     alloc: Global,
     objects: &[Value],
@@ -186,12 +187,12 @@ fn value_below(
     Value::from_events(alloc, walk)
 }
 
-/// The value of what a Uid finds among the objects, with each Uid in it followed.
+/// Returns the value of a Uid's object, with each Uid in it followed.
 ///
 /// # Errors
 ///
-/// The first fault of the walk, depth first: `MissingObject` for a Uid that has no object, and
-/// `OpenObject` for one on its own path; and `OutOfMemory`.
+/// The first fault of the walk in depth-first order, which is `MissingObject` for a Uid that has no
+/// object and `OpenObject` for one on its own path; `OutOfMemory` if an allocation fails.
 pub(crate) fn value_at(alloc: Global, objects: &[Value], uid: Uid) -> Result<Value, WalkError>
     ensures read { IfOk result (λ value. IsFaultless (steps_from (objects_seen objects.now) uid)
         × IsValueOf (items_at objects.now uid) (Ok (tree_of value))) }
