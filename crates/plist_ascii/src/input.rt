@@ -273,7 +273,7 @@ impl<R: ByteReader> Input<R> {
         }
     }
 
-    // How many of the buffered bytes stand before a stop: none where a byte was looked at, or once
+    // Returns how many of the buffered bytes precede a stop, which is 0 if a byte was peeked at or
     // the input has ended.
     #[inline(always)]
     fn run_at_hand(&self, stop: Stop) -> usize

@@ -29,8 +29,10 @@ pub struct Seeking<R> {
 }
 
 impl<R: Read + Seek> Seeking<R> {
-    /// A source over this reader, from its byte 0 on, wherever it stands. It keeps eight windows of
-    /// 512 bytes, and asks for no memory. A large file is read faster by [`Seeking::with_windows`].
+    /// Creates a source over this reader, from its byte 0 on, whatever the reader's position is.
+    ///
+    /// It has eight windows of 512 bytes, and allocates nothing. A large file is read faster by
+    /// [`Seeking::with_windows`].
     pub fn new(inner: R) -> Self
         ensures inner { seekable_of result ≡ inner }
         ensures failures { failures_of result ≡ 0 }
@@ -38,11 +40,12 @@ impl<R: Read + Seek> Seeking<R> {
         Seeking::with_memory(inner, None)
     }
 
-    /// The same, but its windows have 8 KiB. It asks the allocator for memory for eight of them once
-    /// a window is to be filled, and where windows have to be filled again, for as many more as it
-    /// has, up to 8,192 windows (68 MB). It never has twice as many as the file, but for the eight.
-    /// Where memory is refused, the windows that it has serve on: at first those of
-    /// [`Seeking::new`].
+    /// Creates a source over this reader whose windows have 8 KiB.
+    ///
+    /// It allocates eight of them when it fills the first one. If windows have to be filled again,
+    /// it doubles their number, up to 8,192 windows (68 MB). Beyond the first eight it never has
+    /// more than twice as many as the file needs. If an allocation fails, it goes on with the
+    /// windows that it has, which are at first those of [`Seeking::new`].
     pub fn with_windows(alloc: Global, inner: R) -> Self
         ensures inner { seekable_of result ≡ inner }
         ensures failures { failures_of result ≡ 0 }

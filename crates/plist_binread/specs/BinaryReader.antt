@@ -118,7 +118,7 @@ module _ {R C : Type 0} {g : Ghosts R} {h : CounterGhosts C} where
   CachesItem shown number item reader =
       IsCachedIfSmall shown number item reader.walk.tags.items
 
-  -- the same of a reader
+  -- no list of this reader is longer than the count
   abbrev pub ListsAreWithin : (count : ℕ) → BinaryReader R C g h → Type 0
   ListsAreWithin count reader =
       AreListsWithin count reader.walk.tags.items reader.walk.contents.items reader.walk.frames

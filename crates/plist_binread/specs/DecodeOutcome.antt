@@ -29,7 +29,7 @@ AreReferencesAt width object start pairs =
     × (number_at object (start + reference_index pairs index * width) width
     ≡ get_or (children_in (object_in width object)) index 0)
 
--- the same of the collection at the references' place
+-- the references to the children of the collection at this offset lie where these say
 abbrev pub AreReferences : (bytes : List ℕ) → Bounds → References → Type 0
 AreReferences bytes bounds references =
     AreReferencesAt bounds.reference_width (drop references.place (take bounds.trailer bytes))
@@ -39,7 +39,8 @@ AreReferences bytes bounds references =
 abbrev pub YieldsCurrent : List Item → (current : PlainEvent) → List Item → Type 0
 YieldsCurrent before current after = until_fault before ≡ Ok current ∷ until_fault after
 
--- the same of an answer, or an error that comes where some items remained
+-- what remained begins with the event of this result and goes on with what remains afterwards, or
+-- the result is an error and some items remained
 abbrev pub YieldsAnswer : {A : Type 0} → List Item → Result A Error → (current : PlainEvent)
     → List Item
     → Type 0

@@ -43,7 +43,7 @@ pub record IsGivenWithin (start end : ℕ) (limited : Bool) (fault : Fault) : Ty
   pub placed : MatchGiven fault.kind (IsOffsetWithin start end fault.offset) (fault.offset ≡ None)
       (HasOffset fault.offset) ((limited ≡ true) × (fault.offset ≡ None))
 
--- the same of an item
+-- if the item is an error, its offset is as `IsGivenWithin` says
 abbrev pub ItemGivenWithin : {A : Type 0} → (start end : ℕ) → (limited : Bool)
     → Option (Result A Error) → Type 0
 ItemGivenWithin start end limited item =

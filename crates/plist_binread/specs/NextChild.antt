@@ -102,7 +102,7 @@ IsCachedIfSmall shown number item tags = MatchOption item ⊤ (λ answer. IfOk a
     IfSome number (λ number.
     is_small_event (shown value) ≡ true → 0 < unmarked (get_or tags number 0))))
 
--- the same of the current event
+-- the object of this number is cached if the current event is small
 abbrev pub IsCurrentCached : {A : Type 0} → Option ℕ → Option (Result A Error)
     → (current : PlainEvent) → (tags : List ℕ) → Type 0
 IsCurrentCached number item current tags = IsCachedIfSmall (λ _. current) number item tags

@@ -81,7 +81,7 @@ data_of_content content = Scalar (Data content)
 abbrev pub object_with : (width marker : ℕ) → List ℕ → Object
 object_with width marker rest = object_after_marker marker (layout_of width marker) rest
 
--- the same of an object that has a length, by the low half of its marker
+-- what the bytes after the marker mean, if the object has a length, by the low half of its marker
 abbrev pub object_counted : (width : ℕ) → CountedKind → (low : ℕ) → List ℕ → Object
 object_counted width kind low rest = object_after_marker low (counted_layout width kind) rest
 
@@ -103,13 +103,13 @@ abbrev pub AreReferencesOf : (known : Option (List ℕ)) → Bounds → Referenc
 AreReferencesOf known bounds references =
     IfSome known (λ bytes. bounds.trailer ≤ length bytes → AreReferences bytes bounds references)
 
--- the same of the object at a place that is read, or no child of it can be
+-- these are the references of the object at an offset, or no child of that object can be read
 abbrev pub FindsReferences : Result References Error → (known : Option (List ℕ)) → Bounds → (place : ℕ)
     → Type 0
 FindsReferences answer known bounds place = MatchResult answer (AreReferencesOf known bounds)
     (λ error. (index : ℕ) → ReadsChildAt (Err error) known bounds place index)
 
--- the same whatever lies after the bytes that were seen
+-- the references of the object that begins with these bytes lie there, whatever follows the bytes
 abbrev pub AreReferencesOfSeen : (width : ℕ) → (seen : List ℕ) → References → Type 0
 AreReferencesOfSeen width seen references =
     (more : List ℕ) → AreReferencesAt width (seen ++ more) references.start references.pairs

@@ -14,7 +14,7 @@ use Rattle.plist_commands.specs.EscapedLines.{line_of}
 abbrev pub PassesOn : Option (List ℕ) → Option (List ℕ) → (all held : List ℕ) → Type 0
 PassesOn old new all held = (sent : List ℕ) × Appends old new sent × (all ≡ sent ++ held)
 
--- the same of a writer and the bytes that are held back, some of which were sent to make room
+-- a beginning of the pending bytes was written to make room, and the others are still pending
 abbrev pub MakesRoom : {W : Type 0} → (contents : W → Option (List ℕ)) → W → (held : Vec ℕ Global)
     → W → (left : Vec ℕ Global) → Type 0
 MakesRoom contents old held new left =

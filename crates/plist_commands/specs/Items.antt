@@ -27,7 +27,7 @@ abbrev pub failures_if_held : {S : Type 0} → (failures : S → ℕ) → Option
 failures_if_held failures None = 0
 failures_if_held failures (Some source) = failures source
 
--- the same of a reader's source
+-- how many reads of a reader's source failed, if it has one
 abbrev pub failures_in : {S : Type 0} {g : Ghosts S} → (failures : S → ℕ) → Reader S g → ℕ
 failures_in failures reader = failures_if_held failures (reader_source reader)
 

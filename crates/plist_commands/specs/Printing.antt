@@ -27,7 +27,7 @@ PrintsUntil error items old new =
     MatchFault (kind_of (error_kind_of error)) ⊤ ⊤
     ((first_fault items ≡ Some (fault_of error)) × Appends old new (lines_of items))
 
--- the same of items that may not be known, with the writer before and after
+-- how printing changes a writer, if the items are known
 module _ {W : Type 0} (contents : W → Option (List ℕ)) (items : Option (List Item)) (old new : W)
   where
     abbrev pub PrintsItems : Type 0
@@ -41,7 +41,7 @@ module _ {W : Type 0} (contents : W → Option (List ℕ)) (items : Option (List
     SendsPrefixOfItems =
         IfSome items (λ all. AppendsPrefix (contents old) (contents new) (lines_of all))
 
--- the same of all the items of a source's file
+-- how printing all items of a source's file changes a writer, if its bytes are known
 module _ {S W : Type 0} (known : S → Option (List ℕ)) (contents : W → Option (List ℕ)) (source : S)
     (old new : W) where
   abbrev pub PrintsFile : Type 0
@@ -79,7 +79,7 @@ CountsReads answer old new = MatchResult answer (λ _. new ≡ old)
     (λ error. MatchFault (kind_of (error_kind_of error))
     (((offset_of error ≡ None) × (new ≡ old)) ⊎ Rises old new) (new ≡ old) (new ≡ old))
 
--- the same of the source inside a reader
+-- the count of failed reads of the source inside a reader changes with the result in this way
 abbrev pub CountsReadsOf : {S C A : Type 0} {g : Ghosts S} {h : CounterGhosts C}
     → (failures : S → ℕ) → BinaryReader S C g h → Result A Error → BinaryReader S C g h → Type 0
 CountsReadsOf failures old answer new =

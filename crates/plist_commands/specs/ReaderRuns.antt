@@ -64,7 +64,7 @@ abbrev pub PrintsReader : {S : Type 0} {g : Ghosts S} (known : S → Option (Lis
 PrintsReader known failed old answer new before after =
     PrintsRun (StepsBinary known failed) old answer new before after
 
--- the same of a reader that holds this very source and has given nothing, and the source's failures
+-- the events of a new reader of this source were printed, and its failed reads were counted
 abbrev pub PrintsSource : {S : Type 0} (known : S → Option (List ℕ)) (failed : S → ℕ) (source : S)
     → Result (Unit {0}) Error → (before after : Option (List ℕ)) → Type 0
 PrintsSource {S} known failed source answer before after =
@@ -92,7 +92,7 @@ HoldsBinary {S} known failed source answer held =
     × HoldsRun (StepsBinary known failed) reader answer left held
     × CountsReadsOf failed reader answer left
 
--- the same of a new reader of a source of any format
+-- these are the events that a new reader of a source of any format yielded
 abbrev pub HoldsOther : {S : Type 0} (known : S → Option (List ℕ)) (failed : S → ℕ) (source : S)
     → Result Bool Error → (held : List PlainEvent) → Type 0
 HoldsOther {S} known failed source answer held =

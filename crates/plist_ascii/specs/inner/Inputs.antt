@@ -49,7 +49,7 @@ CountsNext failures old (next.Byte byte) new = failures new.inner ≡ failures o
 CountsNext failures old next.End new = failures new.inner ≡ failures old.inner
 CountsNext failures old next.Failed new = ReadFailed failures old new
 
--- the same of a run, which was taken whole or not
+-- a run that is taken whole leaves the count of failures as it is; otherwise a read failed
 abbrev pub CountsRun : {R : Type 0} → (R → Option ℕ) → Input R → Bool → Input R → Type 0
 CountsRun failures old true new = failures new.inner ≡ failures old.inner
 CountsRun failures old false new = ReadFailed failures old new
@@ -102,7 +102,8 @@ TakesNoMore input = (input.ended ≡ true) ⊎ (input.taken ≡ 2 ^ 64 - 1)
 abbrev pub TakesOneMore : {R : Type 0} → Input R → Input R → Type 0
 TakesOneMore old new = (new.taken ≡ old.taken + 1) × (new.taken < 2 ^ 64)
 
--- the same of a run that was appended; where memory was refused, the count is as it was
+-- a run that is appended whole leaves the count of failures as it is, and so does a failed
+-- allocation; otherwise a read failed
 abbrev pub CountsTaken : {R : Type 0} → (R → Option ℕ) → Input R → RunTaken → Input R → Type 0
 CountsTaken failures old ran.Whole new = failures new.inner ≡ failures old.inner
 CountsTaken failures old ran.Failed new = ReadFailed failures old new

@@ -20,7 +20,8 @@ LendsFrom size headers bytes place lent =
     × (header.start ≡ place - place % size)
     × (lent ≡ drop (place % size) (bytes_of_window size header bytes i)))
 
--- the same of all windows: the long ones, or else the short ones
+-- what is lent from an offset on is what a window has, which is a long one if there are any, or
+-- else a short one
 abbrev pub Lends : Windows → (place : ℕ) → (lent : List ℕ) → Type 0
 Lends windows place lent =
     ((many : ManyWindows) × (windows.many ≡ Some many)

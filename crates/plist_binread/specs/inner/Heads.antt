@@ -67,7 +67,7 @@ IsFaultOfHead bytes fault = MatchFault fault.kind ⊤ ⊤ (head_of bytes ≡ Err
 abbrev pub LiesWithin : List ℕ → held.Head → Type 0
 LiesWithin bytes head = head.trailer ≤ length bytes
 
--- the same of bytes that end after the trailer that begins here
+-- this is the head of bytes that end after the trailer that begins here
 abbrev pub IsHeadBefore : (trailer : ℕ) → List ℕ → held.Head → Type 0
 IsHeadBefore trailer bytes head =
     length bytes ≡ trailer + 32
