@@ -1,6 +1,6 @@
 -- What the bytes at an object's front tell, whatever follows them.
 use Rattle.std.proofs.Common.{◌≡◌, ℕ, suc, ◌+◌, ◌-◌, ◌<◌, ◌≤◌, List, ◌∷◌, ◌++◌, length, take, drop, Option, Some, IfSome, refl, ap, sym, ◌∙◌, arith}
-use Rattle.std.proofs.lemmas.List.{take-take, length-append, drop-append-le, length-drop, length-take-le, take-append-drop}
+use Rattle.std.proofs.lemmas.List.{take-take, drop-take, drop-drop, length-append, drop-append-le, length-drop, length-take-le, take-append-drop}
 use Rattle.std.proofs.Math.Seq.{take-length}
 use Rattle.plist_base.specs.Sources.{LiesAt}
 use Rattle.plist_binread.specs.Reading.{HasPairs, object_counted, object_with}
@@ -54,6 +54,25 @@ pub known_prefix : (known : Option (List ℕ)) (p k : ℕ) (buffered : List ℕ)
 known_prefix known p k buffered h is = IfSome_then known is (λ bytes is.
     let n = length-take-le k buffered h in
     rw n (ap (take k) is ∙ take-take k (length buffered) (drop p bytes) h))
+
+-- what follows a few of the bytes that lie there lies after those
+pub known_suffix : (known : Option (List ℕ)) (p k n place : ℕ) (found : List ℕ) → p ≤ place
+    → k ≡ place - p → k ≤ n → n ≤ length found
+    → IfSome known (λ bytes. LiesAt bytes p (take n found))
+    → IfSome known (λ bytes. LiesAt bytes place (take (n - k) (drop k found)))
+known_suffix known p k n place found above is within short lies = IfSome_then known lies (λ bytes lies.
+    let whole : n ≡ k + (n - k) = omega arith in
+    let at : place ≡ p + k = omega arith in
+    let cut : take (n - k) (drop k found) ≡ drop k (take n found)
+    = sym (ap (λ m. drop k (take m found)) whole ∙ drop-take k (n - k) found) in
+    let all = length-take-le n found short in
+    let rest : length (take (n - k) (drop k found)) ≡ n - k
+    = ap length cut ∙ length-drop k (take n found) ∙ ap (λ m. m - k) all in
+    let there : take n found ≡ take n (drop p bytes)
+    = lies ∙ ap (λ m. take m (drop p bytes)) all in
+    rw (rest, at) (cut ∙ ap (drop k) there
+    ∙ ap (λ m. drop k (take m (drop p bytes))) whole ∙ drop-take k (n - k) (drop p bytes)
+    ∙ ap (take (n - k)) (drop-drop k p bytes)))
 
 -- where the references of a collection stand whose length is seen
 pub front_slots : (w m low : ℕ) (k : CountedKind) (count pairs start : ℕ)

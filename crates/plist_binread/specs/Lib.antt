@@ -1,5 +1,6 @@
 pub mod Beginning
 pub mod Reading
+pub mod Runs
 pub mod BinaryReader
 pub mod Remaining
 pub mod Decoding

@@ -7,14 +7,14 @@ ghost use Rattle.plist_binread.specs.Handing.{HandsItem};
 ghost use Rattle.plist_binread.specs.Slot.{ItemAnswersInSlot, item_in};
 ghost use Rattle.plist_binread.specs.Walking.{IsWalkOf, cached_in, walk_objects, open_in};
 ghost use Rattle.plist_binread.specs.FaultOffsets.{ItemWithin};
-ghost use Rattle.plist_binread.specs.Reading.{AreReferencesOf};
+ghost use Rattle.plist_binread.specs.Runs.{KnowsReferences};
 ghost use Rattle.plist_binread.specs.Step.{CachesNext, LightensNext, YieldsItem};
 
 use crate::counter::DecodeCounter;
 use crate::decoder::Decoder;
 use crate::enter::enter;
 use crate::fault_slot::Refused;
-use crate::references::{Reference, References, read_child};
+use crate::references::{Reference, ReferenceReader};
 use crate::walk::{NextChild, Walk};
 use plist_base::{EventVisitor, Source};
 use std::ops::ControlFlow;
@@ -25,12 +25,12 @@ pub fn advance<S: Source, C: DecodeCounter, V: EventVisitor>(
     source: &mut S,
     decoder: &mut Decoder<C>,
     walk: &mut Walk,
-    references: &mut References,
+    references: &mut ReferenceReader,
     visitor: &mut V,
 ) -> Option<Result<ControlFlow<()>, Refused>>
     requires known { IfSome (S.known source.old) (λ bytes. IsWalkOf bytes decoder.old.bounds walk.old) }
     requires counted { C.counts → C.count decoder.old.counter ≡ cached_in walk.old }
-    requires references { AreReferencesOf (S.known source.old) decoder.old.bounds references.old }
+    requires references { KnowsReferences (S.known source.old) decoder.old.bounds references.old }
     // The answer.
     ensures handed { HandsItem V.step visitor.old visitor.new result (λ event.
         YieldsItem (S.known source.old) decoder.old.bounds walk.old (item_in result decoder.new.slot) event walk.new
@@ -44,7 +44,7 @@ pub fn advance<S: Source, C: DecodeCounter, V: EventVisitor>(
     ensures known { IfSome (S.known source.old) (λ bytes. IsWalkOf bytes decoder.old.bounds walk.new) }
     ensures bounds { decoder.new.bounds ≡ decoder.old.bounds }
     ensures counted { C.counts → C.count decoder.new.counter ≡ cached_in walk.new }
-    ensures references { AreReferencesOf (S.known source.old) decoder.old.bounds references.new }
+    ensures references { KnowsReferences (S.known source.old) decoder.old.bounds references.new }
     ensures falls { LightensNext walk.old result walk.new }
     ensures unchanged { S.known source.new ≡ S.known source.old }
     ensures failures { ItemAnswersInSlot S.failures result decoder.new.slot source.old source.new }
@@ -54,7 +54,7 @@ pub fn advance<S: Source, C: DecodeCounter, V: EventVisitor>(
         NextChild::Closed => Some(Ok(visitor.end_collection())),
         NextChild::Child(object, index) => {
             let at = walk.contents[object as usize];
-            match read_child(source, decoder, references, at, index) {
+            match references.read_child(source, decoder, at, index) {
                 Ok(number) => {
                     let reference = Reference { at, number };
                     Some(enter(source, decoder, walk, reference, visitor))

@@ -13,7 +13,8 @@ use crate::counter::DecodeCounter;
 use crate::decoder::Decoder;
 use crate::fault_slot::{FaultSlot, Refused};
 use crate::head::Bounds;
-use crate::numbers::{buffered_number, read_far_number};
+use crate::numbers::read_far_number;
+use crate::run::Run;
 use plist_base::{Source, read_exact_at};
 use plist_format::{CountedKind, Marker};
 
@@ -49,6 +50,12 @@ impl References {
             start: 0,
             pairs: 0,
         }
+    }
+
+    // Returns whether the child with an index is a value of a dictionary.
+    #[inline(always)]
+    fn is_value(&self, index: u64) -> bool {
+        self.pairs > 0 && index % 2 == 1
     }
 }
 
@@ -124,46 +131,6 @@ fn read_references<S: Source>(
     }
 }
 
-// Finds the references of the collection at an offset. They are written through a reference, so
-// that no result of their size is returned.
-#[inline(never)]
-fn find_references<S: Source>(
-    source: &mut S,
-    bounds: &Bounds,
-    references: &mut References,
-    place: u64,
-    slot: &mut FaultSlot,
-) -> Result<(), Refused>
-    requires references { AreReferencesOf (S.known source.old) bounds.now references.old }
-    // The answer.
-    ensures place { OnOk result (references.new.place ≡ place) }
-    // A refusal.
-    ensures refused { IfErr result (RefusesEach (S.known source.old) bounds.now place slot.new) }
-    ensures fault { ErrWithin place bounds.now.trailer (answer_in result slot.new) }
-    // The state after it.
-    ensures references { AreReferencesOf (S.known source.old) bounds.now references.new }
-    ensures unchanged { S.known source.new ≡ S.known source.old }
-    ensures failures { AnswersInSlot S.failures result slot.new source.old source.new }
-{
-    if place >= bounds.trailer {
-        return Err(slot.refuse_overrun(place));
-    }
-    let extent = bounds.trailer - place;
-    let buffered = source.buffered(place);
-    let seen = &buffered[..extent.min(buffered.len() as u64) as usize];
-    if seen.len() >= LENGTH_END || seen.len() as u64 == extent {
-        return match references_in(seen, extent, bounds.reference_width, place) {
-            Some(found) => {
-                *references = found;
-                Ok(())
-            }
-            None => Err(slot.refuse_overrun(place)),
-        };
-    }
-    *references = read_references(source, bounds, place, extent, slot)?;
-    Ok(())
-}
-
 // Returns the index of a child's reference among those of its collection.
 fn reference_index(pairs: u64, index: u64) -> Option<u64>
     ensures value { IfSome result (λ slot. slot ≡ reference_index pairs index) }
@@ -189,32 +156,6 @@ fn reference_place(references: &References, index: u64, width: usize) -> Option<
     references
         .place
         .checked_add(references.start.checked_add(behind)?)
-}
-
-// Finds the references of the collection at an offset, unless they are those of the last call.
-#[inline(always)]
-fn refer_to<S: Source>(
-    source: &mut S,
-    bounds: &Bounds,
-    references: &mut References,
-    place: u64,
-    slot: &mut FaultSlot,
-) -> Result<(), Refused>
-    requires references { AreReferencesOf (S.known source.old) bounds.now references.old }
-    // The answer.
-    ensures place { OnOk result (references.new.place ≡ place) }
-    // A refusal.
-    ensures refused { IfErr result (RefusesEach (S.known source.old) bounds.now place slot.new) }
-    ensures fault { ErrWithin place bounds.now.trailer (answer_in result slot.new) }
-    // The state after it.
-    ensures references { AreReferencesOf (S.known source.old) bounds.now references.new }
-    ensures unchanged { S.known source.new ≡ S.known source.old }
-    ensures failures { AnswersInSlot S.failures result slot.new source.old source.new }
-{
-    if references.place == place {
-        return Ok(());
-    }
-    find_references(source, bounds, references, place, slot)
 }
 
 // Reads a reference that isn't buffered. If this fails, the slot keeps the error.
@@ -247,41 +188,168 @@ fn read_reference<S: Source>(
     }
 }
 
-/// Finds the number of a child of the collection at an offset.
-#[inline(always)]
-pub fn read_child<S: Source, C: DecodeCounter>(
-    source: &mut S,
-    decoder: &mut Decoder<C>,
-    references: &mut References,
-    place: u64,
-    index: u64,
-) -> Result<u64, Refused>
-    requires references { AreReferencesOf (S.known source.old) decoder.old.bounds references.old }
-    // The answer.
-    ensures child { ReadsChildAt (answer_in result decoder.new.slot) (S.known source.old)
-        decoder.old.bounds place index }
-    // A refusal.
-    ensures fault { ErrWithin place decoder.old.bounds.trailer (answer_in result decoder.new.slot) }
-    // The state after it.
-    ensures references { AreReferencesOf (S.known source.old) decoder.old.bounds references.new }
-    ensures bounds { decoder.new.bounds ≡ decoder.old.bounds }
-    ensures counter { decoder.new.counter ≡ decoder.old.counter }
-    ensures unchanged { S.known source.new ≡ S.known source.old }
-    ensures failures { AnswersInSlot S.failures result decoder.new.slot source.old source.new }
-{
-    let bounds = decoder.bounds;
-    refer_to(source, &bounds, references, place, &mut decoder.slot)?;
-    let width = bounds.reference_width;
-    match reference_place(references, index, width) {
-        Some(at) if at < bounds.trailer && width as u64 <= bounds.trailer - at => {
-            match buffered_number(source, at, width) {
-                Some(number) => Ok(number),
-                None => match read_reference(source, at, width, &mut decoder.slot) {
-                    Some(number) => Ok(number),
-                    None => Err(Refused),
-                },
-            }
+/// Reads the references of collections.
+///
+/// It keeps where the references of the last collection are, and copies of the bytes around the
+/// references that it read last. Children that follow one another need no further look at the
+/// source.
+#[derive(Clone, Copy)]
+pub struct ReferenceReader {
+    /// Where the references of the last collection are.
+    pub site: References,
+    /// Bytes from which references are read.
+    pub near: Run,
+    /// Bytes from which references to values are read that are far from those to their keys.
+    pub values: Run,
+}
+
+impl ReferenceReader {
+    ghost use Rattle.std.specs.Prelude.{◌≡◌, ◌^◌, ◌≤◌, IfErr, IfOk, OnOk, Option, List, ℕ};
+    ghost use Rattle.plist_binread.specs.FaultOffsets.{ErrWithin};
+    ghost use Rattle.plist_binread.specs.Reading.{AreReferencesOf, IfFound, IsNumberAt, ReadsChildAt};
+    ghost use Rattle.plist_binread.specs.Runs.{AreRunsOf, KnowsReferences};
+    ghost use Rattle.plist_binread.specs.Slot.{AnswersInSlot, answer_in};
+    ghost use Rattle.plist_binread.specs.Step.{RefusesEach};
+
+    /// Creates a reader that knows the references of no collection.
+    pub fn new() -> Self
+        ensures place { result.site.place ≡ 2 ^ 64 - 1 }
+        ensures runs { (known : Option (List ℕ)) → AreRunsOf known result }
+    {
+        ReferenceReader {
+            site: References::none(),
+            near: Run::new(),
+            values: Run::new(),
         }
-        _ => Err(decoder.slot.refuse_overrun(place)),
+    }
+
+    // Finds the references of the collection at an offset.
+    #[inline(never)]
+    fn locate<S: Source>(
+        &mut self,
+        source: &mut S,
+        bounds: &Bounds,
+        place: u64,
+        slot: &mut FaultSlot,
+    ) -> Result<(), Refused>
+        requires known { KnowsReferences (S.known source.old) bounds.now self.old }
+        // Result.
+        ensures place { OnOk result (self.new.site.place ≡ place) }
+        // Errors.
+        ensures refused { IfErr result (RefusesEach (S.known source.old) bounds.now place
+            slot.new) }
+        ensures fault { ErrWithin place bounds.now.trailer (answer_in result slot.new) }
+        // State afterwards.
+        ensures known { KnowsReferences (S.known source.old) bounds.now self.new }
+        ensures unchanged { S.known source.new ≡ S.known source.old }
+        ensures failures { AnswersInSlot S.failures result slot.new source.old source.new }
+    {
+        if place >= bounds.trailer {
+            return Err(slot.refuse_overrun(place));
+        }
+        let extent = bounds.trailer - place;
+        self.near.fill(source, place);
+        let buffered = self.near.bytes_from(place);
+        let seen = &buffered[..extent.min(buffered.len() as u64) as usize];
+        if seen.len() >= LENGTH_END || seen.len() as u64 == extent {
+            return match references_in(seen, extent, bounds.reference_width, place) {
+                Some(found) => {
+                    self.site = found;
+                    Ok(())
+                }
+                None => Err(slot.refuse_overrun(place)),
+            };
+        }
+        self.site = read_references(source, bounds, place, extent, slot)?;
+        Ok(())
+    }
+
+    // Finds the references of the collection at an offset, unless they are those of the last call.
+    #[inline(always)]
+    fn turn_to<S: Source>(
+        &mut self,
+        source: &mut S,
+        bounds: &Bounds,
+        place: u64,
+        slot: &mut FaultSlot,
+    ) -> Result<(), Refused>
+        requires known { KnowsReferences (S.known source.old) bounds.now self.old }
+        // Result.
+        ensures place { OnOk result (self.new.site.place ≡ place) }
+        // Errors.
+        ensures refused { IfErr result (RefusesEach (S.known source.old) bounds.now place
+            slot.new) }
+        ensures fault { ErrWithin place bounds.now.trailer (answer_in result slot.new) }
+        // State afterwards.
+        ensures known { KnowsReferences (S.known source.old) bounds.now self.new }
+        ensures unchanged { S.known source.new ≡ S.known source.old }
+        ensures failures { AnswersInSlot S.failures result slot.new source.old source.new }
+    {
+        if self.site.place == place {
+            return Ok(());
+        }
+        self.locate(source, bounds, place, slot)
+    }
+
+    // Returns the reference to a child, which is at an offset, if it is buffered.
+    #[inline(always)]
+    fn buffered_reference<S: Source>(
+        &mut self,
+        source: &S,
+        index: u64,
+        at: u64,
+        width: usize,
+    ) -> Option<u64>
+        requires width { width ≤ 8 }
+        requires runs { AreRunsOf (S.known source.now) self.old }
+        ensures value { IfFound result (S.known source.now) (IsNumberAt at width) }
+        ensures runs { AreRunsOf (S.known source.now) self.new }
+        ensures site { self.new.site ≡ self.old.site }
+    {
+        match self.near.number_at(at, width) {
+            Some(number) => Some(number),
+            None if self.site.is_value(index) => self.values.read(source, at, width),
+            None => self.near.read(source, at, width),
+        }
+    }
+
+    /// Reads the number of a child of the collection at an offset.
+    #[inline(always)]
+    pub fn read_child<S: Source, C: DecodeCounter>(
+        &mut self,
+        source: &mut S,
+        decoder: &mut Decoder<C>,
+        place: u64,
+        index: u64,
+    ) -> Result<u64, Refused>
+        requires known { KnowsReferences (S.known source.old) decoder.old.bounds self.old }
+        // Result.
+        ensures child { ReadsChildAt (answer_in result decoder.new.slot) (S.known source.old)
+            decoder.old.bounds place index }
+        // Errors.
+        ensures fault { ErrWithin place decoder.old.bounds.trailer
+            (answer_in result decoder.new.slot) }
+        // State afterwards.
+        ensures known { KnowsReferences (S.known source.old) decoder.old.bounds self.new }
+        ensures bounds { decoder.new.bounds ≡ decoder.old.bounds }
+        ensures counter { decoder.new.counter ≡ decoder.old.counter }
+        ensures unchanged { S.known source.new ≡ S.known source.old }
+        ensures failures { AnswersInSlot S.failures result decoder.new.slot source.old source.new }
+    {
+        let bounds = decoder.bounds;
+        self.turn_to(source, &bounds, place, &mut decoder.slot)?;
+        let width = bounds.reference_width;
+        match reference_place(&self.site, index, width) {
+            Some(at) if at < bounds.trailer && width as u64 <= bounds.trailer - at => {
+                match self.buffered_reference(source, index, at, width) {
+                    Some(number) => Ok(number),
+                    None => match read_reference(source, at, width, &mut decoder.slot) {
+                        Some(number) => Ok(number),
+                        None => Err(Refused),
+                    },
+                }
+            }
+            _ => Err(decoder.slot.refuse_overrun(place)),
+        }
     }
 }

@@ -62,8 +62,11 @@ invariant_of-self g c = record {
   bounded = rw c.begin.ensures.unchanged c.begin.ensures.bounded;
   known = λ walking. rw c.begin.ensures.unchanged
       (walks_on_ok c.begin.result _ _ c.state_after-self.ensures c.begin.ensures.known walking);
-  refers = λ _. known_no_references (g.R.Source.known c.begin.new.source) c.begin.new.decoder.bounds
-      c.none-self.result c.none-self.ensures;
+  refers = λ _. (
+    known_no_references (g.R.Source.known c.begin.new.source) c.begin.new.decoder.bounds
+        c.new-self.result.site c.new-self.ensures.place,
+    c.new-self.ensures.runs _,
+  );
 }
 
 pub invariant_of-self-in-Walking : goal.invariant_of-self-in-Walking
