@@ -39,17 +39,14 @@ module _ {W : Type 0} {contents : W → Option (List ℕ)} where
   puts_none {a} = record {
     same = same_itself;
     follows = ([], Appends-nil (written contents a), append-nil (pending a));
-    few = λ w. w;
   }
 
   -- putting bytes that stay pending
   pub puts_pending : {a b : Sink W} {xs : List ℕ} → IsSameSink a b
-      → b.writer.now ≡ a.writer.now → pending b ≡ pending a ++ xs
-      → length (pending b) ≤ sink_capacity → PutsBytes contents a xs (Ok tt) b
-  puts_pending {a} same kept grown few = record {
+      → b.writer.now ≡ a.writer.now → pending b ≡ pending a ++ xs → PutsBytes contents a xs (Ok tt) b
+  puts_pending {a} same kept grown = record {
     same = same;
     follows = ([], rw kept (Appends-nil (written contents a)), sym grown);
-    few = λ w. few;
   }
 
   -- putting nothing, and then bytes
@@ -58,12 +55,10 @@ module _ {W : Type 0} {contents : W → Option (List ℕ)} where
   puts_after {answer = Ok done} n p = record {
     same = same_then n.same p.same;
     follows = rw (n.writer, n.pending) at p.follows;
-    few = λ w. p.few (rw n.pending w);
   }
   puts_after {answer = Err fault} n p = record {
     same = same_then n.same p.same;
     follows = rw (n.writer, n.pending) at p.follows;
-    few = λ w. p.few (rw n.pending w);
   }
 
   -- putting bytes, and then more
@@ -79,7 +74,6 @@ module _ {W : Type 0} {contents : W → Option (List ℕ)} where
       joined (pending a) xs ys p.follows.0 (pending b) q.follows.0 (pending c) p.follows.2
           q.follows.2,
     );
-    few = λ w. q.few (p.few w);
   }
   puts_then {a} {b} {c} {xs} {ys} {answer = Err fault} p q = record {
     same = same_then p.same q.same;
@@ -94,7 +88,6 @@ module _ {W : Type 0} {contents : W → Option (List ℕ)} where
             q.follows.1.3,
       ),
     );
-    few = λ w. q.few (p.few w);
   }
 
   -- if putting the first bytes fails, so does putting all
@@ -107,7 +100,6 @@ module _ {W : Type 0} {contents : W → Option (List ℕ)} where
       rw append_assoc at (prefix_more (written contents a) (written contents b) (pending a ++ xs) ys
           p.follows.1),
     );
-    few = p.few;
   }
 
   -- the call fails with the error that `?` passes on
@@ -132,37 +124,30 @@ module _ {W : Type 0} {contents : W → Option (List ℕ)} where
   puts_broken {a} {b} {xs} (Err e) error is same kept io front = rw is (record {
     same = same;
     follows = (io, prefix_more (written contents a) (written contents b) (pending a) xs front);
-    few = λ w. rw kept w;
   })
 
-  -- writing what was pending, and then the bytes or a prefix of them
-  pub puts_through : {a b : Sink W} {xs : List ℕ} (middle : Option (List ℕ))
-      (answer : Result (Unit {0}) Error) → IsSameSink a b → pending b ≡ []
-      → Appends (written contents a) middle (pending a)
-      → OnOk answer (Appends middle (written contents b) xs) → OnlyDevice answer
-      → AppendsPrefix middle (written contents b) xs → PutsBytes contents a xs (answer_of answer) b
-  puts_through {a} {b} {xs} middle (Ok done) same none whole sent io front = record {
+  -- writing bytes, or a prefix of them, when nothing is pending
+  puts_written : {a b : Sink W} {xs : List ℕ} (answer : Result (Unit {0}) Error) → IsSameSink a b
+      → pending a ≡ [] → pending b ≡ [] → OnOk answer (Appends (written contents a) (written contents b) xs)
+      → OnlyDevice answer → AppendsPrefix (written contents a) (written contents b) xs
+      → PutsBytes contents a xs (answer_of answer) b
+  puts_written {xs = xs} (Ok done) same none still sent io front = record {
     same = same;
-    follows = (
-      pending a ++ xs,
-      Appends-trans (written contents a) middle (written contents b) _ _ whole sent,
-      rw none (sym (append-nil (pending a ++ xs))),
-    );
-    few = λ w. rw none (omega arith);
+    follows = (xs, sent, rw (none, still) (sym (append-nil xs)));
   }
-  puts_through {a} {b} {xs} middle (Err error) same none whole sent io front = record {
+  puts_written (Err error) same none still sent io front = record {
     same = same;
-    follows = (
-      io,
-      (
-        pending a ++ front.0,
-        front.1,
-        Appends-trans (written contents a) middle (written contents b) _ _ whole front.2,
-        ap (λ l. pending a ++ l) front.3 ∙ sym (append_assoc (pending a) front.0 front.1),
-      ),
-    );
-    few = λ w. rw none (omega arith);
+    follows = (io, rw none front);
   }
+
+  -- and when what was pending was written before
+  pub puts_emptied : {a b c : Sink W} {xs : List ℕ} (answer : Result (Unit {0}) Error)
+      → PutsBytes contents a [] (Ok tt) b → pending b ≡ [] → IsSameSink b c → pending c ≡ []
+      → OnOk answer (Appends (written contents b) (written contents c) xs) → OnlyDevice answer
+      → AppendsPrefix (written contents b) (written contents c) xs
+      → PutsBytes contents a xs (answer_of answer) c
+  puts_emptied answer emptied none same still sent io front =
+      puts_then emptied (puts_written answer same none still sent io front)
 
   -- ---- all that was put since nothing was pending
 

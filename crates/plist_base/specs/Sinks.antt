@@ -1,19 +1,28 @@
 -- Bytes on their way to a writer through a sink: some are written, and the rest is pending.
-use Rattle.std.specs.Prelude.{◌≡◌, ℕ, ◌^◌, ◌≤◌, List, ◌++◌, length, Option, Result, Ok, Err}
+use Rattle.std.specs.Prelude.{◌≡◌, ℕ, ◌^◌, ◌-◌, List, ◌++◌, take, Option, Result, Ok, Err}
 use Rattle.std.specs.Io.KnownBytes.{Appends}
 use Rattle.plist_base.specs.declared.error.Error.{Error}
+use Rattle.plist_base.specs.declared.fixed_buffer.FixedBuffer.{FixedBuffer}
 use Rattle.plist_base.specs.declared.sink.Sink.{Sink}
 use Rattle.plist_base.specs.Faults.{Io, fault_nowhere}
 use Rattle.plist_base.specs.Prefixes.{AppendsPrefix}
 use Rattle.plist_base.specs.Writing.{Answer, answer_of}
 
--- the bytes that are pending
-abbrev pub pending : {W : Type 0} → Sink W → List ℕ
-pending sink = sink.buffer.now.items
-
--- the greatest number of pending bytes
+-- the number of bytes of a buffer
 abbrev pub sink_capacity : ℕ
 sink_capacity = 2 ^ 16
+
+-- the bytes that were pushed to a buffer
+abbrev pub buffered : FixedBuffer → List ℕ
+buffered buffer = take buffer.used buffer.bytes.items
+
+-- how many more bytes can be pushed to a buffer
+abbrev pub room : FixedBuffer → ℕ
+room buffer = sink_capacity - buffer.used
+
+-- the bytes that are pending
+abbrev pub pending : {W : Type 0} → Sink W → List ℕ
+pending sink = buffered sink.buffer.now
 
 -- the sink has the same writer and the same buffer
 pub record IsSameSink {W : Type 0} (old new : Sink W) : Type 0 where
@@ -24,7 +33,7 @@ pub record IsSameSink {W : Type 0} (old new : Sink W) : Type 0 where
 pub record PutsNothing {W : Type 0} (old new : Sink W) : Type 0 where
   pub same : IsSameSink old new
   pub writer : new.writer.now ≡ old.writer.now
-  pub pending : new.buffer.now.items ≡ old.buffer.now.items
+  pub pending : pending new ≡ pending old
 
 -- a prefix of the bytes `all` was appended to the known bytes, and the rest is pending
 abbrev pub WritesBut : (old new : Option (List ℕ)) → (all rest : List ℕ) → Type 0
@@ -49,8 +58,7 @@ module _ {W : Type 0} (contents : W → Option (List ℕ)) where
     where
       pub same : IsSameSink old new
       pub follows : Follows old bytes answer new
-      pub few : length (pending old) ≤ sink_capacity → length (pending new) ≤ sink_capacity
-
+  
   abbrev pub Puts : (old : Sink W) → (bytes : List ℕ) → Result (Unit {0}) Error → (new : Sink W)
       → Type 0
   Puts old bytes result new = PutsBytes old bytes (answer_of result) new

@@ -1,27 +1,22 @@
 //! A sink: bytes on their way to a writer through a buffer of fixed size.
 
-ghost use Rattle.std.specs.Prelude.{◌≡◌, ◌++◌, [], Ok, true, false, IfOk, OnOk, vec_capacity};
+ghost use Rattle.std.specs.Prelude.{◌≡◌, ◌++◌, [], Ok, true, false, OnOk};
 ghost use Rattle.std.specs.Io.KnownBytes.{Appends};
-ghost use Rattle.plist_base.specs.Outcomes.{OnlyDevice, OnlyMemory};
+ghost use Rattle.plist_base.specs.Outcomes.{OnlyDevice};
 ghost use Rattle.plist_base.specs.Prefixes.{AppendsPrefix};
-ghost use Rattle.plist_base.specs.Sinks.{IsSameSink, Puts, PutsBytes, PutsNothing, pending, sink_capacity, written};
+ghost use Rattle.plist_base.specs.Sinks.{IsSameSink, Puts, PutsBytes, PutsNothing, pending, room, sink_capacity, written};
 
-use crate::Error;
 use crate::send::{send, send_and_flush};
-use std::alloc::Global;
+use crate::{Error, FixedBuffer};
 use std::io::Write;
-
-/// How many bytes a [`Sink`] buffers at most.
-pub const SINK_CAPACITY: usize = 1 << 16;
 
 /// Writes bytes to a writer through a buffer of [`SINK_CAPACITY`] bytes.
 ///
 /// Bytes that fit into the buffer are pending there. When they don't fit, the sink first writes
-/// what is pending and then the bytes themselves, so a buffer made by [`new_buffer`] never
-/// grows, and no call but that one allocates memory. [`Sink::finish`] writes the rest.
+/// what is pending and then the bytes themselves, so no call allocates memory. [`Sink::finish`] writes the rest.
 ///
 /// ```text
-/// let mut buffer = new_buffer(alloc)?;
+/// let mut buffer = FixedBuffer::new(alloc)?;
 /// let mut sink = Sink::new(&mut buffer, writer);
 /// sink.put(b"bplist00")?;
 /// sink.finish()?;
@@ -34,42 +29,15 @@ pub const SINK_CAPACITY: usize = 1 << 16;
 /// written then, and the sink is of no further use.
 #[derive(Drop)]
 pub struct Sink<'s, W> {
-    writer: &'s mut W,
-    buffer: &'s mut Vec<u8>,
-}
-
-/// Allocates the buffer of a [`Sink`].
-///
-/// # Errors
-///
-/// `OutOfMemory`, without an offset.
-pub fn new_buffer(alloc: Global) -> Result<Vec<u8>, Error>
-    ensures empty { IfOk result (λ buffer. buffer.items ≡ []) }
-    ensures size { IfOk result (λ buffer. vec_capacity buffer ≡ sink_capacity) }
-    ensures memory { OnlyMemory result }
-{
-    let buffer = Vec::with_capacity(alloc, SINK_CAPACITY)?;
-    Ok(buffer)
-}
-
-// Appends bytes to the buffer. Copying from a local array of a few bytes avoids a call that copies
-// memory.
-#[inline(always)]
-fn append(buffer: &mut Vec<u8>, bytes: &[u8]) -> bool
-    ensures yes { result ≡ true → buffer.new.items ≡ buffer.old.items ++ bytes.now }
-    ensures no { result ≡ false → buffer.new.items ≡ buffer.old.items }
-{
-    match bytes {
-        [a] => buffer.push(*a).is_ok(),
-        [a, b] => buffer.extend_from_slice(&[*a, *b]).is_ok(),
-        [a, b, c, d] => buffer.extend_from_slice(&[*a, *b, *c, *d]).is_ok(),
-        _ => buffer.extend_from_slice(bytes).is_ok(),
-    }
+    /// The writer.
+    pub writer: &'s mut W,
+    /// The bytes that are pending.
+    pub buffer: &'s mut FixedBuffer,
 }
 
 impl<'s, W: Write> Sink<'s, W> {
     /// Creates a sink over a writer and a buffer. What the buffer contains is pending.
-    pub fn new(buffer: &'s mut Vec<u8>, writer: &'s mut W) -> Sink<'s, W>
+    pub fn new(buffer: &'s mut FixedBuffer, writer: &'s mut W) -> Sink<'s, W>
         ensures writer { result.writer.ghost_name ≡ writer.entry.ghost_name }
         ensures buffer { result.buffer.ghost_name ≡ buffer.entry.ghost_name }
         ensures unwritten { result.writer.now ≡ writer.old }
@@ -86,11 +54,24 @@ impl<'s, W: Write> Sink<'s, W> {
         ensures put { result ≡ true → PutsBytes W.contents self.old bytes.now (Ok tt) self.new }
         ensures unchanged { result ≡ false → PutsNothing self.old self.new }
     {
-        let waiting = self.buffer.len();
-        if waiting > SINK_CAPACITY || bytes.len() > SINK_CAPACITY - waiting {
+        if bytes.len() > self.buffer.room() {
             return false;
         }
-        append(self.buffer, bytes)
+        self.buffer.push(bytes);
+        true
+    }
+
+    /// Writes what is pending.
+    #[cold]
+    #[inline(never)]
+    pub fn write_pending(&mut self) -> Result<(), Error>
+        ensures put { Puts W.contents self.old [] result self.new }
+        ensures empty { OnOk result (pending self.new ≡ []) }
+        ensures room { OnOk result (room self.new.buffer.now ≡ sink_capacity) }
+    {
+        send(self.writer, self.buffer.as_slice())?;
+        self.buffer.clear();
+        Ok(())
     }
 
     // Writes what is pending, and then these bytes.
@@ -99,8 +80,7 @@ impl<'s, W: Write> Sink<'s, W> {
     fn write_through(&mut self, bytes: &[u8]) -> Result<(), Error>
         ensures { Puts W.contents self.old bytes.now result self.new }
     {
-        send(self.writer, self.buffer.as_slice())?;
-        self.buffer.clear();
+        self.write_pending()?;
         send(self.writer, bytes)
     }
 
@@ -120,21 +100,13 @@ impl<'s, W: Write> Sink<'s, W> {
             (Ok tt) self.new }
         ensures unchanged { result ≡ false → PutsNothing self.old self.new }
     {
-        let before = self.buffer.len();
-        if before > SINK_CAPACITY || first.len() > SINK_CAPACITY - before {
+        let room = self.buffer.room();
+        if first.len() > room || second.len() > room - first.len() {
             return false;
         }
-        if second.len() > SINK_CAPACITY - before - first.len() {
-            return false;
-        }
-        if !append(self.buffer, first) {
-            return false;
-        }
-        if append(self.buffer, second) {
-            return true;
-        }
-        self.buffer.truncate(before);
-        false
+        self.buffer.push(first);
+        self.buffer.push(second);
+        true
     }
 
     #[cold]

@@ -1,0 +1,131 @@
+//! A buffer of fixed size.
+
+ghost use Rattle.std.specs.Prelude.{◌≡◌, ◌≤◌, ◌^◌, length, IfOk};
+ghost use Rattle.std.specs.Fmt.{decimal};
+
+use crate::Error;
+use itoa::write_digits;
+use std::alloc::Global;
+
+/// How many bytes a [`FixedBuffer`] has, and how many a [`Sink`](crate::Sink) buffers at most.
+pub const SINK_CAPACITY: usize = 1 << 16;
+
+/// A buffer of [`SINK_CAPACITY`] bytes. It never grows.
+///
+/// Bytes are written where they stay, and room is tested once for all the bytes of a line.
+#[derive(Drop)]
+pub struct FixedBuffer {
+    // The bytes that were pushed, and others after them.
+    bytes: Vec<u8>,
+    used: usize,
+    ghost size: { length bytes.items ≡ 2 ^ 16 },
+    ghost within: { used ≤ 2 ^ 16 },
+}
+
+// Returns how many digits a number with more than six has.
+#[tactic(auto, using(crate::proofs::Digits::digits))]
+fn digits_of_large(number: u64) -> usize
+    requires { 1000000 ≤ number }
+    ensures { result ≡ length (decimal number) }
+{
+    match number {
+        0..=9_999_999 => 7,
+        10_000_000..=99_999_999 => 8,
+        100_000_000..=999_999_999 => 9,
+        1_000_000_000..=9_999_999_999 => 10,
+        10_000_000_000..=99_999_999_999 => 11,
+        100_000_000_000..=999_999_999_999 => 12,
+        1_000_000_000_000..=9_999_999_999_999 => 13,
+        10_000_000_000_000..=99_999_999_999_999 => 14,
+        100_000_000_000_000..=999_999_999_999_999 => 15,
+        1_000_000_000_000_000..=9_999_999_999_999_999 => 16,
+        10_000_000_000_000_000..=99_999_999_999_999_999 => 17,
+        100_000_000_000_000_000..=999_999_999_999_999_999 => 18,
+        1_000_000_000_000_000_000..=9_999_999_999_999_999_999 => 19,
+        _ => 20,
+    }
+}
+
+// Returns how many digits a number has. Small numbers are the most frequent.
+#[inline(always)]
+#[tactic(auto, using(crate::proofs::Digits::digits))]
+fn digits_of(number: u64) -> usize
+    ensures { result ≡ length (decimal number) }
+{
+    if number < 100 {
+        return if number < 10 { 1 } else { 2 };
+    }
+    if number < 10_000 {
+        return if number < 1_000 { 3 } else { 4 };
+    }
+    if number < 1_000_000 {
+        return if number < 100_000 { 5 } else { 6 };
+    }
+    digits_of_large(number)
+}
+
+impl FixedBuffer {
+    ghost use Rattle.std.specs.Prelude.{◌≡◌, ◌≤◌, ◌+◌, ◌++◌, [], ◌^◌, length, IfOk};
+    ghost use Rattle.plist_base.specs.Outcomes.{OnlyMemory};
+    ghost use Rattle.plist_base.specs.Sinks.{buffered, room};
+
+    /// Allocates a buffer without pushed bytes.
+    ///
+    /// # Errors
+    ///
+    /// `OutOfMemory`, without an offset.
+    pub fn new(alloc: Global) -> Result<FixedBuffer, Error>
+        ensures empty { IfOk result (λ buffer. buffered buffer ≡ []) }
+        ensures memory { OnlyMemory result }
+    {
+        let bytes = vec![in alloc; 0u8; SINK_CAPACITY]?;
+        Ok(FixedBuffer { bytes, used: 0 })
+    }
+
+    /// Returns how many more bytes can be pushed.
+    #[inline(always)]
+    pub fn room(&self) -> usize
+        ensures { result ≡ room self.now }
+    {
+        SINK_CAPACITY - self.used
+    }
+
+    /// Returns the bytes that were pushed.
+    pub fn as_slice(&self) -> &[u8]
+        ensures { result.now ≡ buffered self.now }
+    {
+        &self.bytes[..self.used]
+    }
+
+    /// Removes the bytes that were pushed.
+    pub fn clear(&mut self)
+        ensures empty { buffered self.new ≡ [] }
+        ensures room { room self.new ≡ 2 ^ 16 }
+    {
+        self.used = 0;
+    }
+
+    /// Pushes bytes.
+    #[inline(always)]
+    pub fn push(&mut self, bytes: &[u8])
+        requires room { length bytes.now ≤ room self.old }
+        ensures pushed { buffered self.new ≡ buffered self.old ++ bytes.now }
+        ensures room { room self.new + length bytes.now ≡ room self.old }
+    {
+        let end = self.used + bytes.len();
+        self.bytes[self.used..end].copy_from_slice(bytes);
+        self.used = end;
+    }
+
+    /// Pushes the decimal digits of a number, which are at most twenty.
+    #[inline(always)]
+    pub fn push_decimal(&mut self, number: u64)
+        requires room { 20 ≤ room self.old }
+        ensures pushed { buffered self.new ≡ buffered self.old ++ decimal number }
+        ensures room { room self.old ≤ room self.new + 20 }
+    {
+        let end = self.used + digits_of(number);
+        write_digits(number, self.bytes.as_mut_slice(), end);
+        self.used = end;
+    }
+}
