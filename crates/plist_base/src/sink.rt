@@ -46,6 +46,14 @@ impl<'s, W: Write> Sink<'s, W> {
         Sink { writer, buffer }
     }
 
+    /// Returns how many more bytes fit into the buffer.
+    #[inline(always)]
+    pub fn room(&self) -> usize
+        ensures { result ≡ room self.now.buffer.now }
+    {
+        self.buffer.room()
+    }
+
     /// Puts bytes if they fit into the buffer, and returns whether they do. A loop that puts small
     /// numbers calls this first, because its result is smaller than that of [`Sink::put`], which
     /// is zeroed on every call.

@@ -21,8 +21,7 @@ use crate::objects::put_objects;
 use crate::plan::{Plan, Planned, plan_by_class};
 use crate::size::{check_size, place_objects};
 use crate::widths::reference_width;
-use plist_base::sink::new_buffer;
-use plist_base::{Error, ErrorKind, Sink};
+use plist_base::{Error, ErrorKind, FixedBuffer, Sink};
 use std::alloc::Global;
 use std::io::Write;
 
@@ -174,7 +173,7 @@ pub fn complete_by_class<W: Write>(
     requires classes { AreClasses (plain_events events.now) (nth_number classes.of) }
     ensures { SendsByClass classes W.contents events.now result writer.old writer.new }
 {
-    let mut buffer = new_buffer(alloc)?;
+    let mut buffer = FixedBuffer::new(alloc)?;
     let draft = draft_file(alloc, events, classes)?;
     let mut sink = Sink::new(&mut buffer, writer);
     send_draft(&mut sink, events, draft)

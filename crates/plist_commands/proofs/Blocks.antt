@@ -3,8 +3,8 @@ use Rattle.std.proofs.Common.{◌≡◌, ℕ, zero, suc, ◌+◌, ◌*◌, ◌/�
 use Rattle.std.specs.Simd.{first_chunks}
 use Rattle.std.proofs.lemmas.Grind.{flat_map-append}
 use Rattle.std.proofs.lemmas.List.{take-append-drop}
-use Rattle.plist_commands.specs.declared.escaped_lines.Notation.{Notation}
-use Rattle.plist_commands.specs.declared.escaped_lines.Notation.TheVariants as notation
+use Rattle.plist_commands.specs.declared.lines.Notation.{Notation}
+use Rattle.plist_commands.specs.declared.lines.Notation.TheVariants as notation
 use Rattle.plist_commands.specs.EscapedLines.{hexadecimal_digit, in_notation, escaped_byte}
 
 -- what is printed of two parts is printed of both

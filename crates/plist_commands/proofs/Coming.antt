@@ -22,7 +22,8 @@ use Rattle.plist_commands.specs.EscapedLines.{first_fault, lines_of, lines_of_ev
 use Rattle.plist_commands.specs.Items.{ComesIfKnown, GivesNext, failures_if_held, failures_in, items_of_events}
 use Rattle.plist_commands.specs.Printing.{CountsReads, IsWriterError, PrintsAll, PrintsUntil}
 use Rattle.plist_commands.specs.ReaderRuns.{IsAskedOnce, PrintsRun, StepsBinary, StepsReader, StopsPrinting}
-use Rattle.plist_commands.proofs.HeldBack.{device_own, fault_counts, front_longer, memory_own, own_counts, own_ends}
+use Rattle.plist_base.proofs.SinkSteps.{prefix_more}
+use Rattle.plist_commands.proofs.HeldBack.{device_own, fault_counts, memory_own, own_counts, own_ends}
 
 -- ---- a binary reader
 
@@ -153,7 +154,7 @@ front_of : (before after : Option (List ℕ)) (events : List PlainEvent) (all re
 front_of before after events all rest is front =
     subst (λ l. AppendsPrefix before after l)
     (sym (ap lines_of is ∙ lines_front events rest))
-    (front_longer before after (lines_of_events events) (lines_of rest) front)
+    (prefix_more before after (lines_of_events events) (lines_of rest) front)
 
 stops_own : {I : Type 0} (gives : I → PlainItem → I → Type 0) (error : Error) (left new : I)
     → StopsPrinting gives error left new → IsWriterError error

@@ -1,21 +1,12 @@
 -- What a writer holds after some sends.
-use Rattle.std.proofs.Common.{◌≡◌, ℕ, List, [], ◌++◌, ◌⊎◌, inl, inr, Option, None, Some, IfSome, Result, Ok, Err, OnErr, option_map, ap, subst, sym, ◌∙◌, append_assoc}
+use Rattle.std.proofs.Common.{◌≡◌, ℕ, List, ◌⊎◌, inl, inr, Option, None, Some, IfSome, Result, Ok, Err, OnErr, option_map, ap, subst, sym}
 use Rattle.std.specs.Prelude.{⊤}
-use Rattle.std.proofs.KnownBytes.{Appends-nil}
 use Rattle.plist_base.specs.declared.error.Error.{Error}
 use Rattle.plist_base.specs.Events.{Item}
 use Rattle.plist_base.specs.Faults.{Fault, FaultKind, Io, MatchFault, OutOfMemory, error_kind_of, fault_nowhere, fault_of, kind_of, offset_of}
-use Rattle.plist_base.specs.Prefixes.{AppendsPrefix}
 use Rattle.plist_base.specs.Sources.{CountsIo, Rises}
 use Rattle.plist_base.proofs.Refusals.{MatchFault-all, MatchFault-at, MatchFault-weaker}
-use Rattle.plist_commands.specs.HeldLines.{PassesOn}
 use Rattle.plist_commands.specs.Printing.{CountsReads, IsWriterError, PrintsUntil}
-
--- a beginning of a beginning
-pub front_longer : (a b : Option (List ℕ)) (bytes more : List ℕ) → AppendsPrefix a b bytes
-    → AppendsPrefix a b (bytes ++ more)
-front_longer a b bytes more (sent, left, appended, is) =
-    (sent, left ++ more, appended, ap (λ xs. xs ++ more) is ∙ append_assoc sent left more)
 
 -- a fact that holds of an error's call holds where that error is passed on
 pub on_err_of : {T E P : Type 0} (answer : Result T E) → P → OnErr answer P

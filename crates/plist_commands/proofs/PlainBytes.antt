@@ -2,7 +2,7 @@
 use Rattle.std.proofs.Common.{◌≡◌, ℕ, zero, suc, ◌-◌, ◌<◌, Bool, true, false, not, ◌&&◌, T, get_or, refl, inl, inr, arith, eq-zero-or-pos}
 use lib.Ieee.Fits.{and_l, and_r}
 use Rattle.plist_commands.specs.EscapedLines.{stands_for_itself}
-use Rattle.plist_commands.specs.declared.escaped_lines.TheConstants.{PLAIN}
+use Rattle.plist_commands.specs.declared.plain_bytes.TheConstants.{PLAIN}
 
 abbrev same : Bool → Bool → Bool
 same true other = other

@@ -1,34 +1,60 @@
 -- What becomes of the events that a printer takes.
-use Rattle.std.proofs.Common.{◌≡◌, ℕ, List, [], ◌++◌, Option, None, Some, Ok, Err, refl, ◌∙◌}
-use Rattle.std.specs.declared.ops.ControlFlow.TheVariants.{Continue}
+use Rattle.std.proofs.Common.{◌≡◌, inl, inr, ℕ, List, [], Option, None, Some, Result, Ok, Err, refl, sym, ◌∙◌, append-nil}
+use Rattle.std.specs.Io.KnownBytes.{Appends}
+use Rattle.std.specs.Prelude.{IfErr, OnOk}
 use Rattle.plist_base.specs.declared.error.Error.{Error}
+use Rattle.plist_base.specs.declared.sink.Sink.{Sink}
 use Rattle.plist_base.specs.declared.visitor.Visited.TheVariants.{Ended, Stopped}
 use Rattle.plist_base.specs.Events.{PlainEvent}
+use Rattle.plist_base.specs.Faults.{Io, fault_nowhere, fault_of}
 use Rattle.plist_base.specs.Prefixes.{AppendsPrefix}
-use Rattle.plist_base.specs.Visits.{Flow, HandsOverAll, PlainItem, Visits}
+use Rattle.plist_base.specs.Sinks.{Puts, pending, written}
+use Rattle.plist_base.specs.Visits.{HandsOverAll, PlainItem, Visits}
+use Rattle.plist_base.proofs.Fronts.{Appends-at}
+use Rattle.plist_base.proofs.SinkSteps.{same_itself, same_then}
 use Rattle.plist_base.proofs.Visiting.{kept_all}
 use Rattle.plist_commands.specs.declared.print.Printer.{Printer}
-use Rattle.plist_commands.specs.EscapedLines.{line_of}
-use Rattle.plist_commands.specs.Printers.{EndsUnprinted, IsSamePrinter, PrintsLine, pending_lines, printed}
+use Rattle.plist_commands.specs.Printers.{FailsAfterLines, IsSamePrinter, PrintsLine, pending_lines, printed}
 use Rattle.plist_commands.specs.ReaderRuns.{PrintsRun}
 use Rattle.plist_commands.proofs.Runs.{HasRun, run_more, run_none, run_stopped}
 
-pub same_again : {W : Type 0} (old now new : Printer W) → IsSamePrinter old now → IsSamePrinter now new
-    → IsSamePrinter old new
-same_again old now new same more =
-    record { writer = more.writer ∙ same.writer; lines = more.lines ∙ same.lines }
-
 module _ {W : Type 0} (contents : W → Option (List ℕ)) where
-  -- a beginning of a line was sent
-  pub line_in_part : (old mid new : Printer W) (event : PlainEvent) {flow : Flow}
-      → IsSamePrinter old mid
-      → AppendsPrefix (printed contents old) (printed contents mid)
-      (pending_lines old ++ line_of event)
-      → EndsUnprinted mid flow new → PrintsLine contents old event flow new
-  line_in_part old mid new event same front ends = rw ends.stops (record {
-    same = same_again old mid new same ends.same;
-    follows = (ends.failure, rw ends.writer front);
-  })
+  -- what was pending is written
+  pub record Empties (old : Sink W) (answer : Result (Unit {0}) Error) (new : Sink W) : Type 0 where
+    pub sent : OnOk answer (Appends (written contents old) (written contents new) (pending old))
+    pub fault : IfErr answer (λ error. fault_of error ≡ fault_nowhere Io)
+    pub prefix : AppendsPrefix (written contents old) (written contents new) (pending old)
+
+  pub empties : (old new : Sink W) (answer : Result (Unit {0}) Error) → Puts contents old [] answer new
+      → OnOk answer (pending new ≡ []) → Empties old answer new
+  empties old new (Ok done) put none =
+      let (sent, appended, is) = put.follows in
+      let all : pending old ≡ sent = sym (append-nil (pending old)) ∙ rw none at is ∙ append-nil sent in
+      record {
+        sent = Appends-at (written contents old) (written contents new) _ _ (sym all) appended;
+        fault = tt;
+        prefix = (sent, [], appended, all ∙ sym (append-nil sent));
+      }
+  empties old new (Err error) put none = record {
+    sent = tt;
+    fault = put.follows.0;
+    prefix = rw (append-nil (pending old)) at put.follows.1;
+  }
+
+  -- an error after the lines before it
+  pub fails_after : (old new : Sink W) (answer : Result (Unit {0}) Error) (error : Error)
+      → Puts contents old [] answer new → OnOk answer (pending new ≡ []) → answer ≡ Ok tt
+      → FailsAfterLines contents old error error new
+  fails_after old new answer error put none is =
+      let done = empties old new answer put none in
+      record { same = put.same; lines = inl (refl, rw is at done.sent); prefix = done.prefix }
+
+  pub fails_writing : (old new : Sink W) (answer : Result (Unit {0}) Error) (error failure : Error)
+      → Puts contents old [] answer new → OnOk answer (pending new ≡ []) → answer ≡ Err failure
+      → FailsAfterLines contents old error failure new
+  fails_writing old new answer error failure put none is =
+      let done = empties old new answer put none in
+      record { same = put.same; lines = inr (rw is at done.fault); prefix = done.prefix }
 
 module _ {I W : Type 0} (gives : I → PlainItem → I → Type 0) (contents : W → Option (List ℕ)) where
   -- the events that came so far were taken
@@ -46,11 +72,11 @@ module _ {I W : Type 0} (gives : I → PlainItem → I → Type 0) (contents : W
         run_more gives old.0 now.0 next.0 event (printed contents old.1) (printed contents now.1)
             (printed contents next.1) (pending_lines now.1) (pending_lines next.1) run one.given
             one.taken.follows,
-        same_again old.1 now.1 next.1 same one.taken.same,
+        same_then same one.taken.same,
       ))
       old new events (
         run_none gives old.0 (printed contents old.1) (pending_lines old.1) none,
-        record { writer = refl; lines = refl },
+        same_itself,
       )
       handed
 
@@ -96,5 +122,5 @@ module _ {I W : Type 0} (gives : I → PlainItem → I → Type 0) (contents : W
         run_stopped gives old.0 visit.left.0 new.0 event (printed contents old.1)
             (printed contents visit.left.1) (printed contents new.1) (pending_lines visit.left.1)
             new.1.failure ran.0 one.given one.taken.follows.0 one.taken.follows.1,
-        same_again old.1 visit.left.1 new.1 ran.1 one.taken.same,
+        same_then ran.1 one.taken.same,
       )

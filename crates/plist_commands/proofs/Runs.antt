@@ -13,13 +13,13 @@ use Rattle.plist_base.specs.declared.error.Error.{Error}
 use Rattle.plist_base.specs.Events.{PlainEvent}
 use Rattle.plist_base.specs.Faults.{Fault, FaultKind, Io, IsIo, IsIoOrMemory, MatchFault, OutOfMemory, error_kind_of, fault_nowhere, fault_of, kind_of, offset_of}
 use Rattle.plist_base.specs.Prefixes.{AppendsPrefix}
+use Rattle.plist_base.specs.Sinks.{WritesBut}
 use Rattle.plist_base.specs.Visits.{GivesAll, PlainItem}
 use Rattle.plist_base.proofs.Fronts.{Appends-at}
 use Rattle.plist_base.proofs.Visiting.{given_more}
-use Rattle.plist_commands.specs.HeldLines.{PassesOn}
 use Rattle.plist_commands.specs.EscapedLines.{line_of, lines_of_events}
-use Rattle.plist_commands.specs.Printing.{IsWriterFault, IsWriterError}
-use Rattle.plist_commands.specs.ReaderRuns.{ComesOfReading, HoldsRun, PrintsRun, StopsPrinting}
+use Rattle.plist_commands.specs.Printing.{IsWriterFault}
+use Rattle.plist_commands.specs.ReaderRuns.{ComesOfReading, HoldsRun, PrintsRun}
 
 lines_more : (events : List PlainEvent) (event : PlainEvent)
     → lines_of_events (events ++ event ∷ []) ≡ lines_of_events events ++ line_of event
@@ -29,13 +29,13 @@ lines_more (first ∷ events) event =
     ∙ sym (append_assoc (line_of first) (lines_of_events events) (line_of event))
 
 -- all that was held back went out
-all_sent : (old now after : Option (List ℕ)) (lines held : List ℕ) → PassesOn old now lines held
+all_sent : (old now after : Option (List ℕ)) (lines held : List ℕ) → WritesBut old now lines held
     → Appends now after held → Appends old after lines
 all_sent old now after lines held (sent, appended, is) more =
     Appends-at old after _ _ (sym is) (Appends-trans old now after sent held appended more)
 
 -- a beginning of it did
-front_sent : (old now after : Option (List ℕ)) (lines held : List ℕ) → PassesOn old now lines held
+front_sent : (old now after : Option (List ℕ)) (lines held : List ℕ) → WritesBut old now lines held
     → AppendsPrefix now after held → AppendsPrefix old after lines
 front_sent old now after lines held (sent, appended, is) (part, rest, more, split) = (
   sent ++ part,
@@ -74,12 +74,12 @@ abbrev pub HasRun : {I : Type 0} (gives : I → PlainItem → I → Type 0) (old
     → (before after : Option (List ℕ)) → (held : List ℕ) → Type 0
 HasRun gives old now before after held =
     (events : List PlainEvent) × GivesAll gives old events now
-    × PassesOn before after (lines_of_events events) held
+    × WritesBut before after (lines_of_events events) held
 
 -- with one line more
 line_held : (events : List PlainEvent) (event : PlainEvent) (before now : Option (List ℕ))
-    (held : List ℕ) → PassesOn before now (lines_of_events events) held
-    → PassesOn before now (lines_of_events (events ++ event ∷ [])) (held ++ line_of event)
+    (held : List ℕ) → WritesBut before now (lines_of_events events) held
+    → WritesBut before now (lines_of_events (events ++ event ∷ [])) (held ++ line_of event)
 line_held events event before now held (sent, appended, is) = (
   sent,
   appended,
@@ -88,8 +88,8 @@ line_held events event before now held (sent, appended, is) = (
 )
 
 passed_further : (before now after : Option (List ℕ)) (lines held kept : List ℕ)
-    → PassesOn before now lines held → PassesOn now after held kept
-    → PassesOn before after lines kept
+    → WritesBut before now lines held → WritesBut now after held kept
+    → WritesBut before after lines kept
 passed_further before now after lines held kept (sent, appended, is) (part, more, split) = (
   sent ++ part,
   Appends-trans before now after sent part appended more,
@@ -104,7 +104,7 @@ module _ {I : Type 0} (gives : I → PlainItem → I → Type 0) where
   -- one event more
   pub run_more : (old now new : I) (event : PlainEvent) (before here after : Option (List ℕ))
       (held kept : List ℕ) → HasRun gives old now before here held
-      → gives now (Some (Ok event)) new → PassesOn here after (held ++ line_of event) kept
+      → gives now (Some (Ok event)) new → WritesBut here after (held ++ line_of event) kept
       → HasRun gives old new before after kept
   run_more old now new event before here after held kept (events, through, passed) step line = (
     events ++ event ∷ [],
@@ -115,7 +115,7 @@ module _ {I : Type 0} (gives : I → PlainItem → I → Type 0) where
   -- its line didn't go out whole
   pub run_stopped : (old now new : I) (event : PlainEvent) (before here after : Option (List ℕ))
       (held : List ℕ) (error : Error) → HasRun gives old now before here held
-      → gives now (Some (Ok event)) new → IsWriterError error
+      → gives now (Some (Ok event)) new → fault_of error ≡ fault_nowhere Io
       → AppendsPrefix here after (held ++ line_of event)
       → PrintsRun gives old (Err error) new before after
   run_stopped old now new event before here after held error (events, through, passed) step own
@@ -124,15 +124,10 @@ module _ {I : Type 0} (gives : I → PlainItem → I → Type 0) where
         new,
         given_more gives old now new events event through step,
         inr (
-          stops (own_fault (fault_of error) own),
+          inl (own, inl refl),
           front_sent before here after _ _ (line_held events event before here held passed) front,
         ),
       )
-    where
-      stops : (fault_of error ≡ fault_nowhere Io) ⊎ (fault_of error ≡ fault_nowhere OutOfMemory)
-          → StopsPrinting gives error new new
-      stops (inl io) = inl (io, inl refl)
-      stops (inr memory) = inr (memory, refl)
 
   -- a fault came, which is the answer once what was held back was sent
   pub run_faulted : (old now new : I) (before here after : Option (List ℕ)) (held : List ℕ)
@@ -179,11 +174,11 @@ module _ {I : Type 0} (gives : I → PlainItem → I → Type 0) where
 
   -- no memory for the lines
   pub run_unbegun : (old : I) (before : Option (List ℕ)) (answer : Result (Unit {0}) Error)
-      → IsErrAnd answer (λ error. fault_of error ≡ fault_nowhere OutOfMemory)
-      → PrintsRun gives old answer old before before
-  run_unbegun old before (Ok done) none = absurd none
-  run_unbegun old before (Err error) none =
-      ([], old, refl, inr (inr (none, refl), ([], [], Appends-nil before, refl)))
+      (error : Error) → IsErrAnd answer (λ e. e ≡ error)
+      → fault_of error ≡ fault_nowhere OutOfMemory → PrintsRun gives old answer old before before
+  run_unbegun old before (Ok done) error is none = absurd is
+  run_unbegun old before (Err e) error is none =
+      ([], old, refl, inr (inr (rw is none, refl), ([], [], Appends-nil before, refl)))
 
   -- a flush after what failed
   run_kept : (old new : I) (before now after : Option (List ℕ)) (error : Error)

@@ -8,10 +8,10 @@ use Rattle.plist_base.specs.Faults.{Fault}
 use Rattle.plist_base.specs.Date.{real_bits, second_of_bytes, has_fraction}
 use Rattle.plist_base.specs.Events.{PlainEvent, StartArray, StartDictionary, EndCollection, ScalarEvent, Item}
 use Rattle.plist_base.specs.Trees.{Scalar, Boolean, Data, Date, Integer, Real, String, Uid}
-use Rattle.plist_commands.specs.declared.escaped_lines.Notation.{Notation}
-use Rattle.plist_commands.specs.declared.escaped_lines.Notation.TheVariants as notation
-use Rattle.plist_commands.specs.declared.escaped_lines.ShortLine.{ShortLine}
-use Rattle.plist_commands.specs.declared.escaped_lines.ShortLine.TheVariants as short
+use Rattle.plist_commands.specs.declared.lines.Notation.{Notation}
+use Rattle.plist_commands.specs.declared.lines.Notation.TheVariants as notation
+use Rattle.plist_commands.specs.declared.lines.ShortLine.{ShortLine}
+use Rattle.plist_commands.specs.declared.lines.ShortLine.TheVariants as short
 
 -- the digit of a value below 16: 0 to 9, or a to f
 abbrev pub hexadecimal_digit : ℕ → ℕ
@@ -91,7 +91,9 @@ event_of_short (short.Array length) = StartArray length
 event_of_short (short.Dictionary length) = StartDictionary length
 event_of_short short.End = EndCollection
 event_of_short (short.Boolean value) = ScalarEvent (Boolean value)
+event_of_short (short.Date date) = ScalarEvent (Date date)
 event_of_short (short.Integer value) = ScalarEvent (Integer value)
+event_of_short (short.Real bits) = ScalarEvent (Real bits)
 event_of_short (short.Uid uid) = ScalarEvent (Uid uid)
 
 -- the line of an event, with its LF

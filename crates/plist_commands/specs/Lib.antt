@@ -1,6 +1,5 @@
 pub mod EscapedLines
 pub mod Examples
-pub mod HeldLines
 pub mod Printing
 pub mod Printers
 pub mod ReaderRuns

@@ -1,47 +1,52 @@
 -- What a printer does that takes an event.
-use Rattle.std.specs.Prelude.{◌≡◌, ℕ, List, ◌++◌, Option}
+use Rattle.std.specs.Prelude.{◌≡◌, ◌⊎◌, ℕ, List, Option, Ok, Err}
+use Rattle.std.specs.Io.KnownBytes.{Appends}
 use Rattle.std.specs.declared.ops.ControlFlow.TheVariants.{Continue, Break}
+use Rattle.plist_base.specs.declared.error.Error.{Error}
+use Rattle.plist_base.specs.declared.sink.Sink.{Sink}
 use Rattle.plist_base.specs.Events.{PlainEvent}
+use Rattle.plist_base.specs.Faults.{Io, fault_nowhere, fault_of}
 use Rattle.plist_base.specs.Prefixes.{AppendsPrefix}
+use Rattle.plist_base.specs.Sinks.{IsSameSink, PutsBytes, buffered, pending, written}
 use Rattle.plist_base.specs.Visits.{Flow}
+use Rattle.plist_base.specs.Writing.{Answer}
 use Rattle.plist_commands.specs.declared.print.Printer.{Printer}
 use Rattle.plist_commands.specs.EscapedLines.{line_of}
-use Rattle.plist_commands.specs.HeldLines.{PassesOn}
-use Rattle.plist_commands.specs.Printing.{IsWriterError}
+
+-- the sink into which a printer puts its lines
+abbrev pub sink_of : {W : Type 0} → Printer W → Sink W
+sink_of printer = record { writer = printer.writer; buffer = printer.buffer }
 
 -- the lines that are pending
 abbrev pub pending_lines : {W : Type 0} → Printer W → List ℕ
-pending_lines printer = printer.lines.now.items
+pending_lines printer = buffered printer.buffer.now
 
 -- the printer has the same writer and the same buffer
-pub record IsSamePrinter {W : Type 0} (old new : Printer W) : Type 0 where
-  pub writer : new.writer.ghost_name ≡ old.writer.ghost_name
-  pub lines : new.lines.ghost_name ≡ old.lines.ghost_name
+abbrev pub IsSamePrinter : {W : Type 0} → (old new : Printer W) → Type 0
+IsSamePrinter old new = IsSameSink (sink_of old) (sink_of new)
 
--- the printer wants no more events, and keeps why
-pub record EndsUnprinted {W : Type 0} (old : Printer W) (flow : Flow) (new : Printer W) : Type 0
-  where
-    pub same : IsSamePrinter old new
-    pub stops : flow ≡ Break tt
-    pub failure : IsWriterError new.failure
-    pub writer : new.writer.now ≡ old.writer.now
+-- a printer that goes on has put its bytes, and one that stops keeps why it couldn't
+abbrev pub answer_of_flow : Flow → (failure : Error) → Answer
+answer_of_flow (Continue more) failure = Ok tt
+answer_of_flow (Break stop) failure = Err (fault_of failure)
 
 module _ {W : Type 0} (contents : W → Option (List ℕ)) where
   -- the bytes of the writer, where they are known
   abbrev pub printed : Printer W → Option (List ℕ)
   printed printer = contents printer.writer.now
 
-  -- The bytes follow the lines that were pending: a beginning of both is written, and the rest is
-  -- pending. Or the printer wants no more events, a beginning of both is written, and it keeps why.
-  abbrev pub FollowsLines : (old : Printer W) → (bytes : List ℕ) → Flow → (new : Printer W) → Type 0
-  FollowsLines old bytes (Continue more) new =
-      PassesOn (printed old) (printed new) (pending_lines old ++ bytes) (pending_lines new)
-  FollowsLines old bytes (Break stop) new =
-      IsWriterError new.failure
-      × AppendsPrefix (printed old) (printed new) (pending_lines old ++ bytes)
+  -- the bytes follow the lines that were pending, as those that are put into the sink
+  abbrev pub PrintsBytes : (old : Printer W) → (bytes : List ℕ) → Flow → (new : Printer W) → Type 0
+  PrintsBytes old bytes flow new =
+      PutsBytes contents (sink_of old) bytes (answer_of_flow flow new.failure) (sink_of new)
 
   -- what taking an event does
-  pub record PrintsLine (old : Printer W) (event : PlainEvent) (flow : Flow) (new : Printer W)
-      : Type 0 where
-    pub same : IsSamePrinter old new
-    pub follows : FollowsLines old (line_of event) flow new
+  abbrev pub PrintsLine : (old : Printer W) → PlainEvent → Flow → (new : Printer W) → Type 0
+  PrintsLine old event flow new = PrintsBytes old (line_of event) flow new
+
+  -- all that was pending is written and this error is the result, or a write fails
+  pub record FailsAfterLines (old : Sink W) (error answer : Error) (new : Sink W) : Type 0 where
+    pub same : IsSameSink old new
+    pub lines : ((answer ≡ error) × Appends (written contents old) (written contents new)
+        (pending old)) ⊎ (fault_of answer ≡ fault_nowhere Io)
+    pub prefix : AppendsPrefix (written contents old) (written contents new) (pending old)

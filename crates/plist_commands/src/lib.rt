@@ -9,11 +9,13 @@ pub mod callers;
 mod collector;
 mod commands;
 mod convert;
-mod escaped_lines;
 mod failure;
+mod hexadecimal;
 mod keyed;
+mod lines;
 mod messages;
 mod open;
+mod plain_bytes;
 mod print;
 
 pub use arguments::program_arguments;

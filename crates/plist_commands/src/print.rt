@@ -1,266 +1,188 @@
 //! Prints the events of a source.
 
-ghost use Rattle.std.specs.Prelude.{◌≡◌, ◌++◌, [], IfErr, OnErr, OnOk};
+ghost use Rattle.std.specs.Prelude.{◌≡◌, ◌++◌, ◌+◌, ◌*◌, ◌≤◌, [], Ok, IfErr, OnErr, OnOk, length};
 ghost use Rattle.plist_base.specs.Events.{ScalarEvent, event_of};
+ghost use Rattle.plist_base.specs.Sinks.{Puts, room, sink_capacity};
 ghost use Rattle.plist_base.specs.Trees.{Data, String};
 ghost use Rattle.plist_binread.specs.BinaryReader.{binary_source};
 ghost use Rattle.plist_commands.specs.Converting.{items_left};
-ghost use Rattle.plist_commands.specs.EscapedLines.{event_of_short, line_of, in_notation};
-ghost use Rattle.plist_commands.specs.HeldLines.{EndsAfterAll, MakesRoom, PassesBytes, PassesLine, SendsBytesInPart, SendsPrefix, SendsLineInPart};
+ghost use Rattle.plist_commands.specs.EscapedLines.{event_of_short, in_notation, line_of};
 ghost use Rattle.plist_commands.specs.Printing.{CountsReadsOf, PrintsFileUntil, PrintsItemsUntil, IsWriterError, PrintsFile, PrintsItems, PrintsValue, SendsPrefixOfFile, SendsPrefixOfItems, SendsPrefixOfValue};
 ghost use Rattle.plist_commands.specs.ReaderRuns.{PrintsReader, PrintsRun, PrintsSource};
 
-use crate::escaped_lines::{
-    MOST_OF_SHORT, Notation, ShortLine, push_bytes, push_line, push_short, push_short_line,
-    push_short_text,
+use crate::lines::{
+    MOST_OF_SHORT, Notation, ShortLine, push_bytes, push_data, push_short, push_string,
 };
 use plist::Value;
 use plist_base::send::{flush, send};
 use plist_base::{
-    Error, ErrorKind, Event, EventSource, EventVisitor, Integer, Source, Uid, Visited,
+    Date, Error, ErrorKind, Event, EventSource, EventVisitor, FixedBuffer, Integer, RealBits, Sink,
+    Source, Uid, Visited,
 };
 use plist_binread::BinaryReader;
 use std::alloc::Global;
-use std::borrow::CowStr;
+use std::borrow::{CowSlice, CowStr};
 use std::io::Write;
 use std::mem;
 use std::ops::ControlFlow;
 
-// Lines are pending until the next one may not fit after them into this many bytes.
-const FULL: usize = 65536;
+// The line of a string or data of at most this many bytes fits into an empty buffer.
+const MOST_AT_ONCE: usize = 16_368;
 
-// A string or data that may not fit is printed in blocks of this many bytes.
+// A longer string or data is printed in blocks of this many bytes.
 const BLOCK: usize = 4096;
 
-// A block is printed as at most this many bytes, with what ends its line.
-const MOST_OF_BLOCK: usize = 4 * BLOCK + 64;
-
-// Writes what is pending. It is a function of its own, since most lines fit.
-#[cold]
-#[inline(never)]
-fn send_waiting<W: Write>(writer: &mut W, lines: &mut Vec<u8>) -> Result<(), Error>
-    ensures passed { OnOk result (MakesRoom W.contents writer.old lines.old writer.new lines.new) }
-    ensures fault { IfErr result IsWriterError }
-    ensures prefix { OnErr result (SendsPrefix W.contents writer.old lines.old.items writer.new) }
-{
-    send(writer, lines.as_slice())?;
-    lines.clear();
-    Ok(())
+// The line of a string or data, in parts.
+#[derive(Clone, Copy)]
+struct Parts<'b> {
+    word: &'b [u8],
+    bytes: &'b [u8],
+    notation: Notation,
+    end: &'b [u8],
 }
 
-// Writes what is pending if `size` more bytes may not fit after it.
-#[inline(always)]
-fn make_room<W: Write>(writer: &mut W, lines: &mut Vec<u8>, size: usize) -> Result<(), Error>
-    ensures passed { OnOk result (MakesRoom W.contents writer.old lines.old writer.new lines.new) }
-    ensures fault { IfErr result IsWriterError }
-    ensures prefix { OnErr result (SendsPrefix W.contents writer.old lines.old.items writer.new) }
+// Makes room for `size` more bytes: if they may not fit after what is pending, that is written.
+fn make_room<W: Write>(sink: &mut Sink<'_, W>, size: usize) -> Result<(), Error>
+    requires { size ≤ sink_capacity }
+    ensures put { Puts W.contents sink.old [] result sink.new }
+    ensures room { OnOk result (size ≤ room sink.new.buffer.now) }
 {
-    if size <= FULL.saturating_sub(lines.len()) {
+    if size <= sink.room() {
         return Ok(());
     }
-    send_waiting(writer, lines)
+    sink.write_pending()
 }
 
-// Appends a block to what is pending, which is written first if the block may not fit after it.
-fn pass_block<W: Write>(
-    out: &mut W,
-    lines: &mut Vec<u8>,
+// Puts a block of a string or data.
+fn put_block<W: Write>(
+    sink: &mut Sink<'_, W>,
     block: &[u8],
     notation: Notation,
 ) -> Result<(), Error>
-    ensures passed { PassesBytes W.contents result out.old lines.old
-        (in_notation notation block.now)
-        out.new lines.new }
-    ensures fault { IfErr result IsWriterError }
-    ensures prefix { OnErr result (SendsBytesInPart W.contents out.old lines.old
-        (in_notation notation block.now) out.new) }
+    requires { length block.now ≤ 4096 }
+    ensures { Puts W.contents sink.old (in_notation notation block.now) result sink.new }
 {
-    make_room(out, lines, MOST_OF_BLOCK)?;
-    push_bytes(lines, block, notation)?;
+    make_room(sink, 4 * BLOCK)?;
+    push_bytes(sink.buffer, block, notation);
     Ok(())
 }
 
-// Appends any number of bytes to what is pending, block by block.
-fn pass_bytes<W: Write>(
-    out: &mut W,
-    lines: &mut Vec<u8>,
+// Puts the bytes of a string or data, block by block.
+fn put_blocks<W: Write>(
+    sink: &mut Sink<'_, W>,
     bytes: &[u8],
     notation: Notation,
 ) -> Result<(), Error>
-    ensures passed { PassesBytes W.contents result out.old lines.old
-        (in_notation notation bytes.now)
-        out.new lines.new }
-    ensures fault { IfErr result IsWriterError }
-    ensures prefix { OnErr result (SendsBytesInPart W.contents out.old lines.old
-        (in_notation notation bytes.now) out.new) }
+    ensures { Puts W.contents sink.old (in_notation notation bytes.now) result sink.new }
 {
     let (blocks, rest) = bytes.as_chunks::<BLOCK>();
     for block in blocks {
-        pass_block(out, lines, block, notation)?;
+        put_block(sink, block, notation)?;
     }
-    pass_block(out, lines, rest, notation)
+    put_block(sink, rest, notation)
 }
 
-// Appends a line to what is pending: its word, its bytes in blocks, and its end.
-fn pass_parts<W: Write>(
-    out: &mut W,
-    lines: &mut Vec<u8>,
-    word: &[u8],
-    bytes: &[u8],
-    notation: Notation,
-    end: &[u8],
-) -> Result<(), Error>
-    ensures passed { PassesBytes W.contents result out.old lines.old
-        (word.now ++ in_notation notation bytes.now ++ end.now) out.new lines.new }
-    ensures fault { IfErr result IsWriterError }
-    ensures prefix { OnErr result (SendsBytesInPart W.contents out.old lines.old
-        (word.now ++ in_notation notation bytes.now ++ end.now) out.new) }
+// Puts a line: its word, its bytes in blocks, and its end.
+fn put_parts<W: Write>(sink: &mut Sink<'_, W>, line: &Parts<'_>) -> Result<(), Error>
+    ensures { Puts W.contents sink.old (line.now.word.now
+        ++ in_notation line.now.notation line.now.bytes.now ++ line.now.end.now) result sink.new }
 {
-    lines.extend_from_slice(word)?;
-    pass_bytes(out, lines, bytes, notation)?;
-    lines.extend_from_slice(end)?;
-    Ok(())
-}
-
-// Appends the line of a string to what is pending.
-fn pass_text<W: Write>(out: &mut W, lines: &mut Vec<u8>, text: &str) -> Result<(), Error>
-    ensures passed { PassesBytes W.contents result out.old lines.old
-        (line_of (ScalarEvent (String text.now))) out.new lines.new }
-    ensures fault { IfErr result IsWriterError }
-    ensures prefix { OnErr result (SendsBytesInPart W.contents out.old lines.old
-        (line_of (ScalarEvent (String text.now))) out.new) }
-{
-    let bytes = text.as_bytes();
-    pass_parts(out, lines, b"String \"", bytes, Notation::Text, b"\"\n")
-}
-
-// Appends the line of data to what is pending. Without bytes the line is its word alone.
-fn pass_data<W: Write>(out: &mut W, lines: &mut Vec<u8>, bytes: &[u8]) -> Result<(), Error>
-    ensures passed { PassesBytes W.contents result out.old lines.old
-        (line_of (ScalarEvent (Data bytes.now))) out.new lines.new }
-    ensures fault { IfErr result IsWriterError }
-    ensures prefix { OnErr result (SendsBytesInPart W.contents out.old lines.old
-        (line_of (ScalarEvent (Data bytes.now))) out.new) }
-{
-    if bytes.is_empty() {
-        return pass_parts(out, lines, b"Data", bytes, Notation::Hexadecimal, b"\n");
-    }
-    pass_parts(out, lines, b"Data ", bytes, Notation::Hexadecimal, b"\n")
-}
-
-// Appends a line to what is pending. That of a string or data is appended in blocks.
-fn pass_long<W: Write>(out: &mut W, lines: &mut Vec<u8>, event: &Event<'_>) -> Result<(), Error>
-    ensures passed { PassesLine W.contents result out.old lines.old event.now out.new lines.new }
-    ensures fault { IfErr result IsWriterError }
-    ensures prefix { OnErr result (SendsLineInPart W.contents out.old lines.old event.now out.new) }
-{
-    if let Event::String(text) = event {
-        return pass_text(out, lines, text.as_str());
-    }
-    if let Event::Data(bytes) = event {
-        return pass_data(out, lines, bytes.as_slice());
-    }
-    push_line(lines, event)?;
-    Ok(())
-}
-
-// Writes what is pending, and appends the line of an event.
-fn pass_anew<W: Write>(out: &mut W, lines: &mut Vec<u8>, event: &Event<'_>) -> Result<(), Error>
-    ensures passed { PassesLine W.contents result out.old lines.old event.now out.new lines.new }
-    ensures fault { IfErr result IsWriterError }
-    ensures prefix { OnErr result (SendsLineInPart W.contents out.old lines.old event.now out.new) }
-{
-    send_waiting(out, lines)?;
-    pass_long(out, lines, event)
-}
-
-// Writes the pending lines before an error, and returns that error, or the one of the write.
-fn fault_behind<W: Write>(writer: &mut W, lines: &[u8], fault: Error) -> Error
-    ensures sent { EndsAfterAll W.contents lines.now fault writer.old writer.new result }
-    ensures prefix { SendsPrefix W.contents writer.old lines.now writer.new }
-{
-    match send(writer, lines) {
-        Ok(()) => fault,
-        Err(failure) => failure,
-    }
+    sink.put(line.word)?;
+    put_blocks(sink, line.bytes, line.notation)?;
+    sink.put(line.end)
 }
 
 /// Prints the events that it takes, each on a line of its own.
 ///
 /// Lines are pending in the buffer until the next one may not fit. Then they are written first, so
-/// that the buffer never grows.
+/// that no memory is allocated.
 #[derive(Drop)]
 pub(crate) struct Printer<'p, W> {
     writer: &'p mut W,
-    lines: &'p mut Vec<u8>,
-    // Why the printer wants no more events: the writer failed, or memory ran out.
+    buffer: &'p mut FixedBuffer,
+    // Why the printer wants no more events: a write failed.
     failure: Error,
 }
 
 impl<'p, W: Write> Printer<'p, W> {
-    ghost use Rattle.plist_commands.specs.Printers.{EndsUnprinted, IsSamePrinter, PrintsLine, pending_lines, printed};
+    ghost use Rattle.std.specs.declared.ops.ControlFlow.TheVariants.{Continue};
+    ghost use Rattle.plist_commands.specs.Printers.{FailsAfterLines, IsSamePrinter, PrintsBytes, PrintsLine, pending_lines, printed, sink_of};
 
     // Creates a printer. The lines in the buffer are pending.
-    fn new(lines: &'p mut Vec<u8>, writer: &'p mut W) -> Printer<'p, W>
+    fn new(buffer: &'p mut FixedBuffer, writer: &'p mut W) -> Printer<'p, W>
         ensures writer { result.writer.ghost_name ≡ writer.entry.ghost_name }
-        ensures lines { result.lines.ghost_name ≡ lines.entry.ghost_name }
+        ensures buffer { result.buffer.ghost_name ≡ buffer.entry.ghost_name }
         ensures unwritten { result.writer.now ≡ writer.old }
-        ensures pending { result.lines.now ≡ lines.old }
+        ensures pending { result.buffer.now ≡ buffer.old }
     {
         Printer {
             writer,
-            lines,
+            buffer,
             failure: ErrorKind::OutOfMemory.without_position(),
         }
     }
 
-    // How many bytes fit into the buffer.
-    #[inline(always)]
-    fn room(&self) -> usize {
-        self.lines.capacity() - self.lines.len()
-    }
-
-    // Keeps a failure.
-    #[cold]
-    fn stop(&mut self, failure: Error) -> ControlFlow<()>
-        requires { IsWriterError failure }
-        ensures { EndsUnprinted self.old result self.new }
-    {
-        self.failure = failure;
-        ControlFlow::Break(())
-    }
-
-    // Keeps the failure that an allocation for a line failed.
+    // Writes the lines that are pending.
     #[cold]
     #[inline(never)]
-    fn stop_for_memory(&mut self) -> ControlFlow<()>
-        ensures { EndsUnprinted self.old result self.new }
+    fn write_pending(&mut self) -> ControlFlow<()>
+        ensures put { PrintsBytes W.contents self.old [] result self.new }
+        ensures empty { result ≡ Continue tt → pending_lines self.new ≡ [] }
+        ensures room { result ≡ Continue tt → room self.new.buffer.now ≡ sink_capacity }
     {
-        self.stop(ErrorKind::OutOfMemory.without_position())
-    }
-
-    // Prints an event whose line may not fit into the buffer.
-    #[cold]
-    #[inline(never)]
-    fn print_anew(&mut self, event: &Event<'_>) -> ControlFlow<()>
-        ensures { PrintsLine W.contents self.old (event_of event.now) result self.new }
-    {
-        match pass_anew(self.writer, self.lines, event) {
+        let mut sink = Sink::new(self.buffer, self.writer);
+        match sink.write_pending() {
             Ok(()) => ControlFlow::Continue(()),
-            Err(error) => self.stop(error),
+            Err(error) => {
+                self.failure = error;
+                ControlFlow::Break(())
+            }
         }
     }
 
-    // Prints an event.
+    // Makes room for `size` more bytes: if they may not fit after the lines that are pending, those
+    // are written.
     #[inline(always)]
-    fn print(&mut self, event: &Event<'_>) -> ControlFlow<()>
-        ensures { PrintsLine W.contents self.old (event_of event.now) result self.new }
+    fn make_room(&mut self, size: usize) -> ControlFlow<()>
+        requires { size ≤ sink_capacity }
+        ensures put { PrintsBytes W.contents self.old [] result self.new }
+        ensures room { result ≡ Continue tt → size ≤ room self.new.buffer.now }
     {
-        let room = self.room();
-        match push_short_line(self.lines, event, room) {
-            Ok(true) => ControlFlow::Continue(()),
-            Ok(false) => self.print_anew(event),
-            Err(_) => self.stop_for_memory(),
+        if size <= self.buffer.room() {
+            return ControlFlow::Continue(());
+        }
+        self.write_pending()
+    }
+
+    // Prints an event whose line is short.
+    #[inline(always)]
+    fn print_short(&mut self, line: ShortLine) -> ControlFlow<()>
+        ensures { PrintsLine W.contents self.old (event_of_short line) result self.new }
+    {
+        match self.make_room(MOST_OF_SHORT) {
+            ControlFlow::Continue(()) => {
+                push_short(self.buffer, line);
+                ControlFlow::Continue(())
+            }
+            ControlFlow::Break(()) => ControlFlow::Break(()),
+        }
+    }
+
+    // Prints a line in parts.
+    #[cold]
+    #[inline(never)]
+    fn print_parts(&mut self, line: &Parts<'_>) -> ControlFlow<()>
+        ensures { PrintsBytes W.contents self.old (line.now.word.now
+            ++ in_notation line.now.notation line.now.bytes.now ++ line.now.end.now)
+            result self.new }
+    {
+        let mut sink = Sink::new(self.buffer, self.writer);
+        match put_parts(&mut sink, line) {
+            Ok(()) => ControlFlow::Continue(()),
+            Err(error) => {
+                self.failure = error;
+                ControlFlow::Break(())
+            }
         }
     }
 
@@ -269,25 +191,41 @@ impl<'p, W: Write> Printer<'p, W> {
     fn print_text(&mut self, text: &str) -> ControlFlow<()>
         ensures { PrintsLine W.contents self.old (ScalarEvent (String text.now)) result self.new }
     {
-        let room = self.room();
-        match push_short_text(self.lines, text, room) {
-            Ok(true) => ControlFlow::Continue(()),
-            Ok(false) => self.print_anew(&Event::String(CowStr::Borrowed(text))),
-            Err(_) => self.stop_for_memory(),
+        if text.len() > MOST_AT_ONCE {
+            return self.print_parts(&Parts {
+                word: b"String \"",
+                bytes: text.as_bytes(),
+                notation: Notation::Text,
+                end: b"\"\n",
+            });
+        }
+        match self.make_room(4 * text.len() + MOST_OF_SHORT) {
+            ControlFlow::Continue(()) => {
+                push_string(self.buffer, text);
+                ControlFlow::Continue(())
+            }
+            ControlFlow::Break(()) => ControlFlow::Break(()),
         }
     }
 
-    // Prints an event whose line is short. Most lines fit: no `Event` is made for those.
-    #[inline(always)]
-    fn print_short(&mut self, line: ShortLine) -> ControlFlow<()>
-        ensures { PrintsLine W.contents self.old (event_of_short line) result self.new }
+    // Prints data.
+    fn print_data(&mut self, bytes: &[u8]) -> ControlFlow<()>
+        ensures { PrintsLine W.contents self.old (ScalarEvent (Data bytes.now)) result self.new }
     {
-        if self.room() < MOST_OF_SHORT {
-            return self.print_anew(&line.event());
+        if bytes.len() > MOST_AT_ONCE {
+            return self.print_parts(&Parts {
+                word: b"Data ",
+                bytes,
+                notation: Notation::Hexadecimal,
+                end: b"\n",
+            });
         }
-        match push_short(self.lines, line) {
-            Ok(()) => ControlFlow::Continue(()),
-            Err(_) => self.stop_for_memory(),
+        match self.make_room(2 * bytes.len() + MOST_OF_SHORT) {
+            ControlFlow::Continue(()) => {
+                push_data(self.buffer, bytes);
+                ControlFlow::Continue(())
+            }
+            ControlFlow::Break(()) => ControlFlow::Break(()),
         }
     }
 
@@ -296,8 +234,31 @@ impl<'p, W: Write> Printer<'p, W> {
         ensures failure { result ≡ self.old.failure }
         ensures same { IsSamePrinter self.old self.new }
         ensures writer { self.new.writer.now ≡ self.old.writer.now }
+        ensures pending { self.new.buffer.now ≡ self.old.buffer.now }
     {
         mem::replace(&mut self.failure, ErrorKind::OutOfMemory.without_position())
+    }
+
+    // Writes the lines that are pending, at the end.
+    fn finish(&mut self) -> Result<(), Error>
+        ensures put { Puts W.contents (sink_of self.old) [] result (sink_of self.new) }
+        ensures empty { OnOk result (pending_lines self.new ≡ []) }
+    {
+        match self.write_pending() {
+            ControlFlow::Continue(()) => Ok(()),
+            ControlFlow::Break(()) => Err(self.take_failure()),
+        }
+    }
+
+    // Writes the lines that are pending before an error, and returns that error, or the one of the
+    // write.
+    fn finish_before(&mut self, error: Error) -> Error
+        ensures { FailsAfterLines W.contents (sink_of self.old) error result (sink_of self.new) }
+    {
+        match self.finish() {
+            Ok(()) => error,
+            Err(failure) => failure,
+        }
     }
 
     // Prints the events that remain of a source, and writes the lines that are pending.
@@ -308,9 +269,9 @@ impl<'p, W: Write> Printer<'p, W> {
         ensures same { IsSamePrinter self.old self.new }
     {
         match source.visit(self) {
-            Ok(Visited::Ended) => send(self.writer, self.lines.as_slice()),
+            Ok(Visited::Ended) => self.finish(),
             Ok(Visited::Stopped) => Err(self.take_failure()),
-            Err(error) => Err(fault_behind(self.writer, self.lines.as_slice(), error)),
+            Err(error) => Err(self.finish_before(error)),
         }
     }
 }
@@ -320,9 +281,19 @@ impl<'p, W: Write> EventVisitor for Printer<'p, W> {
 
     ghost step = { PrintsLine W.contents };
 
-    #[inline(always)]
     fn event(&mut self, event: Event<'_>) -> ControlFlow<()> {
-        self.print(&event)
+        match event {
+            Event::StartArray(length) => self.print_short(ShortLine::Array(length)),
+            Event::StartDictionary(length) => self.print_short(ShortLine::Dictionary(length)),
+            Event::EndCollection => self.print_short(ShortLine::End),
+            Event::Boolean(value) => self.print_short(ShortLine::Boolean(value)),
+            Event::Data(bytes) => self.print_data(bytes.as_slice()),
+            Event::Date(date) => self.print_short(ShortLine::Date(date)),
+            Event::Integer(value) => self.print_short(ShortLine::Integer(value)),
+            Event::Real(bits) => self.print_short(ShortLine::Real(bits)),
+            Event::String(text) => self.print_text(text.as_str()),
+            Event::Uid(uid) => self.print_short(ShortLine::Uid(uid)),
+        }
     }
 
     #[inline(always)]
@@ -345,9 +316,23 @@ impl<'p, W: Write> EventVisitor for Printer<'p, W> {
         self.print_short(ShortLine::Boolean(value))
     }
 
+    fn data(&mut self, bytes: CowSlice<'_, u8>) -> ControlFlow<()> {
+        self.print_data(bytes.as_slice())
+    }
+
+    #[inline(always)]
+    fn date(&mut self, date: Date) -> ControlFlow<()> {
+        self.print_short(ShortLine::Date(date))
+    }
+
     #[inline(always)]
     fn integer(&mut self, value: Integer) -> ControlFlow<()> {
         self.print_short(ShortLine::Integer(value))
+    }
+
+    #[inline(always)]
+    fn real(&mut self, bits: RealBits) -> ControlFlow<()> {
+        self.print_short(ShortLine::Real(bits))
     }
 
     #[inline(always)]
@@ -370,8 +355,8 @@ fn print_unflushed<I: EventSource, W: Write>(
     ensures { PrintsRun I.gives source.old result source.new (W.contents writer.old)
         (W.contents writer.new) }
 {
-    let mut lines = Vec::with_capacity(alloc, FULL)?;
-    Printer::new(&mut lines, writer).print_all(source)
+    let mut buffer = FixedBuffer::new(alloc)?;
+    Printer::new(&mut buffer, writer).print_all(source)
 }
 
 // Prints the events that remain of a source, and then flushes the writer. A failed flush is an

@@ -1,8 +1,7 @@
 //! What a program needs to write a writer of its own: the forms of objects, a table of events, and
 //! the calls that write a whole file.
 
-pub use plist_base::Sink;
-pub use plist_base::sink::new_buffer;
+pub use plist_base::{FixedBuffer, Sink};
 pub use plist_binwrite::{
     EqualScalars, EventTable, FileWriter, Sharing, classes, compact_numbers, complete,
     complete_by_class, forms, widths,

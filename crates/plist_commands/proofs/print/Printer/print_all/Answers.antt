@@ -1,6 +1,8 @@
 use Rattle.std.proofs.Common.{◌≡◌, Ok, Err, rules}
 use Rattle.plist_base.specs.declared.visitor.Visited.TheVariants.{Ended, Stopped}
-use Rattle.plist_commands.proofs.Printers.{same_again, visited_ended, visited_error, visited_stopped}
+use Rattle.plist_base.proofs.SinkSteps.{same_then}
+use Rattle.plist_commands.specs.Printers.{sink_of}
+use Rattle.plist_commands.proofs.Printers.{empties, visited_ended, visited_error, visited_stopped}
 use Rattle.plist_commands.proofs.Runs.{run_ended, run_faulted}
 use Rattle.plist_commands.proofs.print.Printer.print_all.Goals as goal
 
@@ -10,12 +12,13 @@ returns-in-Ok-Ended-clause-ran g c =
     let (left, last, run, same) = visited_ended g.I.EventSource.gives g.W.Write.contents
     (c.args.source.now, c.args.self.now) (c.visit.new.self, c.visit.new.visitor) c.requires.empty
     (rw is at c.visit.ensures) in
+    let done = empties g.W.Write.contents (sink_of c.visit.new.visitor) (sink_of c.finish.new.self)
+    c.finish.result c.finish.ensures.put c.finish.ensures.empty in
     run_ended g.I.EventSource.gives c.args.source.now left c.visit.new.self
     (g.W.Write.contents c.args.self.now.writer.now)
-    (g.W.Write.contents c.visit.new.visitor.writer.now) (g.W.Write.contents c.send.new.writer)
-    c.visit.new.visitor.lines.now.items c.send.result run last
-    (rw c.as_slice.ensures.value at c.send.ensures.sent) c.send.ensures.fault
-    (rw c.as_slice.ensures.value at c.send.ensures.prefix)
+    (g.W.Write.contents c.visit.new.visitor.writer.now)
+    (g.W.Write.contents c.finish.new.self.writer.now) _ c.finish.result run last
+    done.sent done.fault done.prefix
 
 pub returns-in-Ok-Ended-clause-same : goal.returns-in-Ok-Ended-clause-same
 returns-in-Ok-Ended-clause-same g c =
@@ -23,7 +26,7 @@ returns-in-Ok-Ended-clause-same g c =
     let (left, last, run, same) = visited_ended g.I.EventSource.gives g.W.Write.contents
     (c.args.source.now, c.args.self.now) (c.visit.new.self, c.visit.new.visitor) c.requires.empty
     (rw is at c.visit.ensures) in
-    record { writer = same.writer; lines = same.lines }
+    same_then same c.finish.ensures.put.same
 
 pub returns-in-Ok-Stopped-clause-ran : goal.returns-in-Ok-Stopped-clause-ran
 returns-in-Ok-Stopped-clause-ran g c =
@@ -35,10 +38,10 @@ returns-in-Ok-Stopped-clause-ran g c =
 pub returns-in-Ok-Stopped-clause-same : goal.returns-in-Ok-Stopped-clause-same
 returns-in-Ok-Stopped-clause-same g c =
     let is : c.visit.result ≡ Ok Stopped = search rules in
-    same_again c.args.self.now c.visit.new.visitor c.take_failure.new.self
-    (visited_stopped g.I.EventSource.gives g.W.Write.contents (c.args.source.now, c.args.self.now)
-    (c.visit.new.self, c.visit.new.visitor) c.requires.empty (rw is at c.visit.ensures)).1
-    c.take_failure.ensures.same
+    let same = (visited_stopped g.I.EventSource.gives g.W.Write.contents
+    (c.args.source.now, c.args.self.now) (c.visit.new.self, c.visit.new.visitor) c.requires.empty
+    (rw is at c.visit.ensures)).1 in
+    same_then same c.take_failure.ensures.same
 
 pub returns-in-Err-clause-ran : goal.returns-in-Err-clause-ran
 returns-in-Err-clause-ran g c =
@@ -49,10 +52,9 @@ returns-in-Err-clause-ran g c =
     run_faulted g.I.EventSource.gives c.args.source.now left c.visit.new.self
     (g.W.Write.contents c.args.self.now.writer.now)
     (g.W.Write.contents c.visit.new.visitor.writer.now)
-    (g.W.Write.contents c.fault_behind.new.writer) c.visit.new.visitor.lines.now.items
-    c.in-Err.error c.fault_behind.result run last
-    (rw c.as_slice-in-Err.ensures.value at c.fault_behind.ensures.sent)
-    (rw c.as_slice-in-Err.ensures.value at c.fault_behind.ensures.prefix)
+    (g.W.Write.contents c.finish_before.new.self.writer.now) _ c.in-Err.error
+    c.finish_before.result run last c.finish_before.ensures.lines
+    c.finish_before.ensures.prefix
 
 pub returns-in-Err-clause-same : goal.returns-in-Err-clause-same
 returns-in-Err-clause-same g c =
@@ -60,4 +62,4 @@ returns-in-Err-clause-same g c =
     let (left, last, run, same) = visited_error g.I.EventSource.gives g.W.Write.contents
     (c.args.source.now, c.args.self.now) (c.visit.new.self, c.visit.new.visitor) c.in-Err.error
     c.requires.empty (rw is at c.visit.ensures) in
-    record { writer = same.writer; lines = same.lines }
+    same_then same c.finish_before.ensures.same
