@@ -4,7 +4,7 @@ use Rattle.plist_base.specs.declared.error.Error.{Error}
 use Rattle.plist_base.specs.Faults.{MatchFault, kind_of, error_kind_of, fault_of}
 use Rattle.plist_format.specs.Container.{head_of}
 use Rattle.plist_binread.specs.Remaining.{CountsObjects, SomeRemain, places_of}
-use Rattle.plist_binread.specs.declared.fault_slot.Refused.{Refused}
+use Rattle.plist_binread.specs.declared.fault_slot.StepError.{StepError}
 use Rattle.plist_base.specs.Events.{PlainEvent}
 use Rattle.plist_binread.specs.Slot.{answer_in}
 use Rattle.plist_binread.specs.NextChild.{IsCurrentCached, root_with}
@@ -28,7 +28,7 @@ CachesRoot answer event walk bytes =
     IsCurrentCached (root_with (head_of bytes)) (Some answer) event walk.tags.items
 
 -- the walk has as many objects as the head counts
-abbrev pub CountsRoot : {A : Type 0} → Result A Refused → FaultSlot → Walk → List ℕ → Type 0
+abbrev pub CountsRoot : {A : Type 0} → Result A StepError → FaultSlot → Walk → List ℕ → Type 0
 CountsRoot answer slot walk bytes =
     CountsObjects bytes (answer_in answer slot) (walk_objects walk)
 

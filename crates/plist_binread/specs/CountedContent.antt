@@ -39,13 +39,13 @@ abbrev pub AreUnits : (size : ℕ) (bytes : List ℕ) → Type 0
 AreUnits size bytes = (count : ℕ) × (length bytes ≡ count * size)
 
 -- a length, where this many elements lie before the trailer, and what is seen after it
-abbrev pub IsCount : (low size extent : ℕ) (rest : List ℕ) → ℕ × Bor (List ℕ) → Type 0
-IsCount low size extent rest found = (more : List ℕ) → length (rest ++ more) ≡ extent →
+abbrev pub IsCount : (low size to_trailer : ℕ) (rest : List ℕ) → ℕ × Bor (List ℕ) → Type 0
+IsCount low size to_trailer rest found = (more : List ℕ) → length (rest ++ more) ≡ to_trailer →
     (length_in low (rest ++ more) ≡ Some (found.0, found.1.now ++ more))
     × (found.0 * size ≤ length (found.1.now ++ more))
 
-abbrev pub EndsBefore : (size extent : ℕ) (rest : List ℕ) → ℕ × Bor (List ℕ) → Type 0
-EndsBefore size extent rest found = length rest - length found.1.now + found.0 * size ≤ extent
+abbrev pub EndsBefore : (size to_trailer : ℕ) (rest : List ℕ) → ℕ × Bor (List ℕ) → Type 0
+EndsBefore size to_trailer rest found = length rest - length found.1.now + found.0 * size ≤ to_trailer
 
 -- ---- what is decoded
 
@@ -55,7 +55,7 @@ counted_with kind low rest =
     meaning_counted (unit_size kind) (λ _. content_means kind) (length_in low rest)
 
 -- a collection whose length isn't all there, or which doesn't end before the trailer
-abbrev pub RefusesCounted : (low size extent : ℕ) (rest : List ℕ) → Type 0
-RefusesCounted low size extent rest = (meaning : ℕ → List ℕ → Object) (more : List ℕ)
-    → length (rest ++ more) ≡ extent
+abbrev pub RefusesCounted : (low size to_trailer : ℕ) (rest : List ℕ) → Type 0
+RefusesCounted low size to_trailer rest = (meaning : ℕ → List ℕ → Object) (more : List ℕ)
+    → length (rest ++ more) ≡ to_trailer
     → meaning_counted size meaning (length_in low (rest ++ more)) ≡ Faulty ObjectOffsetTooLarge

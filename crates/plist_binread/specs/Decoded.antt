@@ -89,23 +89,23 @@ is_refused decoded.Unread = true
 is_refused other = false
 
 -- an object is decoded by the bytes that are seen of it, whatever lies after them before the trailer
-abbrev pub DecodesSeen : (extent : ℕ) → (List ℕ → Object) → (seen : List ℕ)
+abbrev pub DecodesSeen : (to_trailer : ℕ) → (List ℕ → Object) → (seen : List ℕ)
     → Decoded → Type 0
-DecodesSeen extent object seen decoded = (more : List ℕ) → length (seen ++ more) ≡ extent
+DecodesSeen to_trailer object seen decoded = (more : List ℕ) → length (seen ++ more) ≡ to_trailer
     → IsDecodedAs (seen ++ more) (object (seen ++ more)) decoded
 
 -- an object is decoded by the bytes that are seen after its first byte, whatever that byte is
-abbrev pub DecodesAfter : (extent : ℕ) → (List ℕ → Object) → (rest : List ℕ)
+abbrev pub DecodesAfter : (to_trailer : ℕ) → (List ℕ → Object) → (rest : List ℕ)
     → Decoded → Type 0
-DecodesAfter extent object rest decoded = (first : ℕ) (more : List ℕ)
-    → length (rest ++ more) ≡ extent
+DecodesAfter to_trailer object rest decoded = (first : ℕ) (more : List ℕ)
+    → length (rest ++ more) ≡ to_trailer
     → IsDecodedAs (first ∷ (rest ++ more)) (object (rest ++ more)) decoded
 
 -- an object of this fixed size, whose content means this, is decoded by the bytes after its first
-abbrev pub DecodesFixed : (extent size : ℕ) → (List ℕ → Object) → (rest : List ℕ)
+abbrev pub DecodesFixed : (to_trailer size : ℕ) → (List ℕ → Object) → (rest : List ℕ)
     → Decoded → Type 0
-DecodesFixed extent size meaning rest decoded =
-    DecodesAfter extent (meaning_of_front size meaning) rest decoded
+DecodesFixed to_trailer size meaning rest decoded =
+    DecodesAfter to_trailer (meaning_of_front size meaning) rest decoded
 
 -- 1 where a small scalar was decoded, else 0
 abbrev pub small_count : Decoded → ℕ

@@ -2,8 +2,8 @@
 use Rattle.std.specs.Prelude.{◌≡◌, ℕ, ◌+◌, ◌<◌, ◌≤◌, List, [], ◌∷◌, ◌++◌, Option, None, Some}
 use Rattle.plist_binread.specs.declared.frames.Frame.{Frame}
 use Rattle.plist_binread.specs.declared.frames.NarrowFrame.{NarrowFrame}
-use Rattle.plist_binread.specs.declared.frames.Upcoming.{Upcoming}
-use Rattle.plist_binread.specs.declared.frames.Upcoming.TheVariants as wanted
+use Rattle.plist_binread.specs.declared.frames.NextChild.{NextChild}
+use Rattle.plist_binread.specs.declared.frames.NextChild.TheVariants as child
 
 abbrev pub frame_of : (object next count : ℕ) → Frame
 frame_of object next count = record { object = object; next = next; count = count }
@@ -21,11 +21,11 @@ with_innermost outer (Some frame) = outer ++ frame ∷ []
 abbrev pub PopsLast : (old : List Frame) → Option Frame → (new : List Frame) → Type 0
 PopsLast old last new = (old ≡ with_innermost new last) × (last ≡ None → new ≡ [])
 
--- what comes next of the innermost one of these, and those that are open then; it stands first
-abbrev pub NextOf : (old : List Frame) → Upcoming → (new : List Frame) → Type 0
-NextOf old wanted.Nothing new = (old ≡ []) × (new ≡ [])
-NextOf old (wanted.End object) new =
+-- what is next in the innermost one of these, which is first, and those that are open afterwards
+abbrev pub NextOf : (old : List Frame) → NextChild → (new : List Frame) → Type 0
+NextOf old child.Nothing new = (old ≡ []) × (new ≡ [])
+NextOf old (child.End object) new =
     (next : ℕ) × (count : ℕ) × (old ≡ frame_of object next count ∷ new) × (count ≤ next)
-NextOf old (wanted.Child object index) new =
+NextOf old (child.Child object index) new =
     (count : ℕ) × (below : List Frame) × (old ≡ frame_of object index count ∷ below)
     × (new ≡ frame_of object (index + 1) count ∷ below) × (index < count)

@@ -14,11 +14,11 @@ abbrev pub IsContent : (size : ℕ) (rest content : List ℕ) → Type 0
 IsContent size rest content = (more : List ℕ) (meaning : List ℕ → Object) →
     meaning_of_front size meaning (rest ++ more) ≡ meaning content
 
--- bytes that reach the extent, or are as many as any object needs after its marker but a long text
+-- bytes that reach the to_trailer, or are as many as any object needs after its marker but a long text
 -- or data
-abbrev pub ShowsContent : (extent : ℕ) (rest : List ℕ) → Type 0
-ShowsContent extent rest = length rest < 25 → extent ≤ length rest
+abbrev pub ShowsContent : (to_trailer : ℕ) (rest : List ℕ) → Type 0
+ShowsContent to_trailer rest = length rest < 25 → to_trailer ≤ length rest
 
--- bytes that reach the extent, or are as many as the front of any object has
-abbrev pub ShowsFront : (extent : ℕ) (seen : List ℕ) → Type 0
-ShowsFront extent seen = length seen < 26 → extent ≤ length seen
+-- bytes that reach the to_trailer, or are as many as the front of any object has
+abbrev pub ShowsFront : (to_trailer : ℕ) (seen : List ℕ) → Type 0
+ShowsFront to_trailer seen = length seen < 26 → to_trailer ≤ length seen

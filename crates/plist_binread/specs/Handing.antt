@@ -6,7 +6,7 @@ use Rattle.plist_base.specs.Events.{PlainEvent, event_of}
 use Rattle.plist_base.specs.Trees as trees
 use Rattle.plist_base.specs.Visits.{Flow}
 use Rattle.plist_binread.specs.Packed.{MayAllocate, scalar_event}
-use Rattle.plist_binread.specs.declared.fault_slot.Refused.{Refused}
+use Rattle.plist_binread.specs.declared.fault_slot.StepError.{StepError}
 
 -- the event and the answer that were read, or the error
 abbrev pub HandsRead : {A : Type 0} → Result Event Error → (answer : Result A Error) → PlainEvent
@@ -16,21 +16,21 @@ HandsRead (Err error) answer event = answer ≡ Err error
 
 module _ {V : Type 0} (step : V → PlainEvent → Flow → V → Type 0) (old new : V) where
   -- the visitor took this event, or it is as it was
-  abbrev pub Takes : Result Flow Refused → PlainEvent → Type 0
+  abbrev pub Takes : Result Flow StepError → PlainEvent → Type 0
   Takes (Ok flow) event = step old event flow new
   Takes (Err refused) event = new ≡ old
 
-  abbrev pub TakesIfAny : Option (Result Flow Refused) → PlainEvent → Type 0
+  abbrev pub TakesIfAny : Option (Result Flow StepError) → PlainEvent → Type 0
   TakesIfAny None event = new ≡ old
   TakesIfAny (Some answer) event = Takes answer event
 
   -- the visitor took an event of which this is so; where it took none, any event will do
-  pub record Hands (answer : Result Flow Refused) (P : PlainEvent → Type 0) : Type 0 where
+  pub record Hands (answer : Result Flow StepError) (P : PlainEvent → Type 0) : Type 0 where
     pub event : PlainEvent
     pub is : P event
     pub taken : Takes answer event
 
-  pub record HandsItem (item : Option (Result Flow Refused)) (P : PlainEvent → Type 0) : Type 0 where
+  pub record HandsItem (item : Option (Result Flow StepError)) (P : PlainEvent → Type 0) : Type 0 where
     pub event : PlainEvent
     pub is : P event
     pub taken : TakesIfAny item event

@@ -5,8 +5,8 @@ use Rattle.plist_base.specs.declared.error.Error.{Error}
 use Rattle.plist_base.specs.Faults.{Fault, IsIo, kind_of, error_kind_of}
 use Rattle.plist_base.specs.Events.{PlainEvent, EndCollection}
 use Rattle.plist_binread.specs.declared.frames.Frame.{Frame}
-use Rattle.plist_binread.specs.declared.walk.NextChild.{NextChild}
-use Rattle.plist_binread.specs.declared.walk.NextChild.TheVariants as child
+use Rattle.plist_binread.specs.declared.frames.NextChild.{NextChild}
+use Rattle.plist_binread.specs.declared.frames.NextChild.TheVariants as child
 use Rattle.plist_binread.specs.declared.head.Bounds.{Bounds}
 use Rattle.plist_format.specs.Container.{Head, head_of}
 use Rattle.plist_binread.specs.Packed.{is_small_event, unmarked, cached, unpacked}
@@ -22,8 +22,8 @@ use Rattle.plist_binread.specs.Remaining.{SomeRemain, children_at, entries_of, n
 -- ---- the next child of the innermost frame
 
 abbrev pub TakesNextChild : List TableEntry → List Frame → NextChild → List Frame → Type 0
-TakesNextChild table old child.Done new = (old ≡ []) × (new ≡ [])
-TakesNextChild table old child.Closed new = remaining_items table old ≡ Ok EndCollection
+TakesNextChild table old child.Nothing new = (old ≡ []) × (new ≡ [])
+TakesNextChild table old (child.End object) new = remaining_items table old ≡ Ok EndCollection
     ∷ remaining_items table new
 TakesNextChild table old (child.Child object index) new =
     (remaining_items table old ≡ unfolding_of table (length table - length new) (path_of new)
@@ -34,8 +34,8 @@ TakesNextChild table old (child.Child object index) new =
     × (next_number table old ≡ Some (get_or (children_at (slice_get table object)) index 0))
 
 abbrev pub WeightFalls : (count : ℕ) → List Frame → NextChild → List Frame → Type 0
-WeightFalls count old child.Done new = Unit {0}
-WeightFalls count old child.Closed new = walk_weight count old ≡ walk_weight count new + 1
+WeightFalls count old child.Nothing new = Unit {0}
+WeightFalls count old (child.End object) new = walk_weight count old ≡ walk_weight count new + 1
 WeightFalls count old (child.Child object index) new =
     walk_weight count old ≡ walk_weight count new + walk_steps (count - length new)
 
@@ -59,6 +59,11 @@ state_after (Some (Err error)) = Ended
 abbrev pub closes : List Frame → Bool
 closes [] = false
 closes (frame ∷ below) = not (nat_lt frame.next frame.count)
+
+-- the collection was closed
+abbrev pub IsEnd : NextChild → Type 0
+IsEnd (child.End object) = ⊤
+IsEnd _ = ⊥
 
 -- ---- what is looked up and read
 

@@ -127,10 +127,10 @@ HasNoChildren kind =
     (width low : ℕ) (rest : List ℕ) → children_in (object_counted width kind low rest) ≡ []
 
 -- no object that begins with these bytes has children
-abbrev pub HasNoChild : (width extent : ℕ) → (seen : List ℕ) → Type 0
-HasNoChild width extent seen = (more : List ℕ) → length (seen ++ more) ≡ extent
+abbrev pub HasNoChild : (width to_trailer : ℕ) → (seen : List ℕ) → Type 0
+HasNoChild width to_trailer seen = (more : List ℕ) → length (seen ++ more) ≡ to_trailer
     → children_in (object_in width (seen ++ more)) ≡ []
 
--- bytes that reach the extent, or have all of a marker and a length
-abbrev pub ShowsLength : (extent : ℕ) (seen : List ℕ) → Type 0
-ShowsLength extent seen = length seen < 10 → extent ≤ length seen
+-- bytes that reach the to_trailer, or have all of a marker and a length
+abbrev pub ShowsLength : (to_trailer : ℕ) (seen : List ℕ) → Type 0
+ShowsLength to_trailer seen = length seen < 10 → to_trailer ≤ length seen

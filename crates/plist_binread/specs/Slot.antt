@@ -3,10 +3,10 @@ use Rattle.std.specs.Prelude.{ℕ, Option, None, Some, Result, Ok, Err}
 use Rattle.plist_base.specs.Sources.{AnswersIo, ItemCountsIo}
 use Rattle.plist_base.specs.declared.error.Error.{Error}
 use Rattle.plist_binread.specs.declared.fault_slot.FaultSlot.{FaultSlot}
-use Rattle.plist_binread.specs.declared.fault_slot.Refused.{Refused}
+use Rattle.plist_binread.specs.declared.fault_slot.StepError.{StepError}
 
 -- the answer with the error that is kept
-abbrev pub answer_in : {A : Type 0} → Result A Refused → FaultSlot → Result A Error
+abbrev pub answer_in : {A : Type 0} → Result A StepError → FaultSlot → Result A Error
 answer_in (Ok value) slot = Ok value
 answer_in (Err refused) slot = Err slot.fault
 
@@ -16,19 +16,19 @@ found_in (Some value) slot = Ok value
 found_in None slot = Err slot.fault
 
 -- the item with the error that is kept
-abbrev pub item_in : {A : Type 0} → Option (Result A Refused) → FaultSlot
+abbrev pub item_in : {A : Type 0} → Option (Result A StepError) → FaultSlot
     → Option (Result A Error)
 item_in None slot = None
 item_in (Some answer) slot = Some (answer_in answer slot)
 
 -- only a read that fails raises the count of failures
-abbrev pub AnswersInSlot : {A S : Type 0} → (failures : S → ℕ) → Result A Refused → FaultSlot
+abbrev pub AnswersInSlot : {A S : Type 0} → (failures : S → ℕ) → Result A StepError → FaultSlot
     → (old new : S)
     → Type 0
 AnswersInSlot failures answer slot old new =
     AnswersIo (answer_in answer slot) (failures old) (failures new)
 
-abbrev pub ItemAnswersInSlot : {A S : Type 0} → (failures : S → ℕ) → Option (Result A Refused)
+abbrev pub ItemAnswersInSlot : {A S : Type 0} → (failures : S → ℕ) → Option (Result A StepError)
     → FaultSlot
     → (old new : S) → Type 0
 ItemAnswersInSlot failures item slot old new =

@@ -8,7 +8,7 @@ use Rattle.plist_binread.specs.Decoding.{IsCollection}
 use Rattle.plist_binread.specs.Decoded.{IsDecodedAs, event_of_object, is_refused, small_count}
 use Rattle.plist_binread.specs.DecodeOutcome.{YieldsAnswer, YieldsNext, YieldsCurrent}
 use Rattle.plist_binread.specs.Packed.{unmarked}
-use Rattle.plist_binread.specs.declared.fault_slot.Refused.{Refused}
+use Rattle.plist_binread.specs.declared.fault_slot.StepError.{StepError}
 use Rattle.plist_base.specs.Faults.{MatchFault, kind_of, error_kind_of}
 use Rattle.plist_base.specs.declared.error.Error.{Error}
 use Rattle.plist_binread.specs.declared.enter.Known.{Known}
@@ -20,7 +20,7 @@ use Rattle.plist_binread.specs.declared.decoded.Decoded.{Decoded}
 use Rattle.plist_binread.specs.declared.decoded.Decoded.TheVariants as decoded
 use Rattle.plist_binread.specs.declared.head.Bounds.{Bounds}
 use Rattle.plist_binread.specs.declared.fault_slot.FaultSlot.{FaultSlot}
-use Rattle.plist_binread.specs.declared.walk.NextChild.{NextChild}
+use Rattle.plist_binread.specs.declared.frames.NextChild.{NextChild}
 use Rattle.plist_binread.specs.declared.walk.Walk.{Walk}
 
 -- ---- the walk
@@ -33,7 +33,7 @@ abbrev pub IsLighter : (old new : Walk) → Type 0
 IsLighter old new = walk_weight (walk_objects old) (open_in new) < weight_in old
 
 -- an item came of those that remained, and less is left to do
-abbrev pub LightensNext : {A : Type 0} → (old : Walk) → Option (Result A Refused) → (new : Walk)
+abbrev pub LightensNext : {A : Type 0} → (old : Walk) → Option (Result A StepError) → (new : Walk)
     → Type 0
 LightensNext old item new =
     IfSome item (λ answer. (0 < weight_in old) × OnOk answer (IsLighter old new))
@@ -60,18 +60,18 @@ IsFoundAt number walk found = IsFound (get_or walk.tags.items number 0)
     (get_or walk.contents.items number 0) found
 
 -- the error of each child of a collection that isn't found is held
-abbrev pub RefusesEach : (known : Option (List ℕ)) → Bounds → (place : ℕ) → FaultSlot → Refused
+abbrev pub RefusesEach : (known : Option (List ℕ)) → Bounds → (place : ℕ) → FaultSlot → StepError
     → Type 0
 RefusesEach known bounds place slot refused =
     (index : ℕ) → ReadsChildAt (Err slot.fault) known bounds place index
 
 -- the error of a number that isn't entered is held, and no device failed
-abbrev pub RefusesEntering : Walk → (at number : ℕ) → FaultSlot → Refused → Type 0
+abbrev pub RefusesEntering : Walk → (at number : ℕ) → FaultSlot → StepError → Type 0
 RefusesEntering walk at number slot refused =
     (bytes : List ℕ) (bounds : Bounds) → IsWalkOf bytes bounds walk →
     Explains (until_fault (remaining_entering bytes bounds walk at number)) slot.fault
 
-abbrev pub RefusesWithoutIo : FaultSlot → Refused → Type 0
+abbrev pub RefusesWithoutIo : FaultSlot → StepError → Type 0
 RefusesWithoutIo slot refused = MatchFault (kind_of (error_kind_of slot.fault)) ⊥ ⊤ ⊤
 
 -- ---- an object that is opened

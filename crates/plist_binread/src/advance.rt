@@ -13,9 +13,10 @@ ghost use Rattle.plist_binread.specs.Step.{CachesNext, LightensNext, YieldsItem}
 use crate::counter::DecodeCounter;
 use crate::decoder::Decoder;
 use crate::enter::enter;
-use crate::fault_slot::Refused;
+use crate::fault_slot::StepError;
+use crate::frames::NextChild;
 use crate::references::{Reference, ReferenceReader};
-use crate::walk::{NextChild, Walk};
+use crate::walk::Walk;
 use plist_base::{EventVisitor, Source};
 use std::ops::ControlFlow;
 
@@ -27,19 +28,19 @@ pub fn advance<S: Source, C: DecodeCounter, V: EventVisitor>(
     walk: &mut Walk,
     references: &mut ReferenceReader,
     visitor: &mut V,
-) -> Option<Result<ControlFlow<()>, Refused>>
+) -> Option<Result<ControlFlow<()>, StepError>>
     requires known { IfSome (S.known source.old) (λ bytes. IsWalkOf bytes decoder.old.bounds walk.old) }
     requires counted { C.counts → C.count decoder.old.counter ≡ cached_in walk.old }
     requires references { KnowsReferences (S.known source.old) decoder.old.bounds references.old }
-    // The answer.
+    // Result.
     ensures handed { HandsItem V.step visitor.old visitor.new result (λ event.
         YieldsItem (S.known source.old) decoder.old.bounds walk.old (item_in result decoder.new.slot) event walk.new
         × CachesNext (S.known source.old) decoder.old.bounds walk.old (item_in result decoder.new.slot) event
         walk.new
         × (closes (open_in walk.old) ≡ true → IsCurrentEnd result event)) }
-    // A refusal.
+    // Errors.
     ensures fault { ItemWithin 0 decoder.old.bounds.trailer (item_in result decoder.new.slot) }
-    // The state after it.
+    // State afterwards.
     ensures size { walk_objects walk.new ≡ walk_objects walk.old }
     ensures known { IfSome (S.known source.old) (λ bytes. IsWalkOf bytes decoder.old.bounds walk.new) }
     ensures bounds { decoder.new.bounds ≡ decoder.old.bounds }
@@ -50,8 +51,8 @@ pub fn advance<S: Source, C: DecodeCounter, V: EventVisitor>(
     ensures failures { ItemAnswersInSlot S.failures result decoder.new.slot source.old source.new }
 {
     match walk.next_child() {
-        NextChild::Done => None,
-        NextChild::Closed => Some(Ok(visitor.end_collection())),
+        NextChild::Nothing => None,
+        NextChild::End(_) => Some(Ok(visitor.end_collection())),
         NextChild::Child(object, index) => {
             let at = walk.contents[object as usize];
             match references.read_child(source, decoder, at, index) {

@@ -12,7 +12,7 @@ ghost use Rattle.plist_binread.specs.Beginning.{CountsRoot, GivesRoot, IsBounded
 use crate::counter::DecodeCounter;
 use crate::decoder::Decoder;
 use crate::enter::enter;
-use crate::fault_slot::Refused;
+use crate::fault_slot::StepError;
 use crate::head::{Bounds, Head};
 use crate::references::Reference;
 use crate::walk::Walk;
@@ -37,17 +37,17 @@ pub fn begin<S: Source, C: DecodeCounter, V: EventVisitor>(
     decoder: &mut Decoder<C>,
     walk: &mut Walk,
     visitor: &mut V,
-) -> Result<ControlFlow<()>, Refused>
+) -> Result<ControlFlow<()>, StepError>
     requires empty { IsEmptyWalk walk.old }
     requires counted { C.counts → C.count decoder.old.counter ≡ cached_in walk.old }
-    // The answer.
+    // Result.
     ensures handed { Hands V.step visitor.old visitor.new result (λ event.
         IfSome (S.known source.old) (GivesRoot (answer_in result decoder.new.slot) event decoder.new.bounds
         walk.new)
         × IfSome (S.known source.old) (CachesRoot (answer_in result decoder.new.slot) event walk.new)) }
-    // A refusal.
+    // Errors.
     ensures fault { ErrWithin 0 (2 ^ 64) (answer_in result decoder.new.slot) }
-    // The state after it.
+    // State afterwards.
     ensures counted { C.counts → C.count decoder.new.counter ≡ cached_in walk.new }
     ensures bounded { IfSome (S.known source.old) (IsBounded walk.new) }
     ensures objects { IfSome (S.known source.old) (CountsRoot result decoder.new.slot walk.new) }

@@ -35,7 +35,7 @@ fn number_width(byte: u64) -> u64
 
 /// Returns the length of an object, and the bytes after the length.
 #[inline(always)]
-pub fn front_length(low: LowHalf, rest: &[u8]) -> Option<(u64, &[u8])>
+pub fn split_length(low: LowHalf, rest: &[u8]) -> Option<(u64, &[u8])>
     ensures length { IfSome result (IsLength low rest.now) }
     ensures short { IfSome result (λ found. length found.1.now ≤ length rest.now) }
     ensures near { IfSome result (λ found. length rest.now ≤ length found.1.now + 9) }
@@ -54,21 +54,21 @@ pub fn front_length(low: LowHalf, rest: &[u8]) -> Option<(u64, &[u8])>
 }
 
 // Returns how many elements of this size an object has, and the bytes after its length, if the
-// object ends before the trailer. `extent` is the number of bytes up to the trailer.
+// object ends before the trailer. `to_trailer` is the number of bytes up to the trailer.
 #[inline(always)]
-fn front_count(low: LowHalf, rest: &[u8], extent: u64, size: u64) -> Option<(u64, &[u8])>
-    requires extent { length rest.now ≤ extent }
-    requires shown { ShowsContent extent rest.now }
-    ensures count { IfSome result (IsCount low size extent rest.now) }
-    ensures small { IfSome result (λ found. found.0 * size ≤ extent) }
-    ensures within { IfSome result (EndsBefore size extent rest.now) }
+fn split_count(low: LowHalf, rest: &[u8], to_trailer: u64, size: u64) -> Option<(u64, &[u8])>
+    requires to_trailer { length rest.now ≤ to_trailer }
+    requires shown { ShowsContent to_trailer rest.now }
+    ensures count { IfSome result (IsCount low size to_trailer rest.now) }
+    ensures small { IfSome result (λ found. found.0 * size ≤ to_trailer) }
+    ensures within { IfSome result (EndsBefore size to_trailer rest.now) }
     ensures short { IfSome result (λ found. length found.1.now ≤ length rest.now) }
     ensures near { IfSome result (λ found. length rest.now ≤ length found.1.now + 9) }
     ensures after { IfSome result (LiesAfter rest.now) }
-    ensures refused { IfNone result (RefusesCounted low size extent rest.now) }
+    ensures refused { IfNone result (RefusesCounted low size to_trailer rest.now) }
 {
-    let (count, behind) = front_length(low, rest)?;
-    let left = extent - (rest.len() - behind.len()) as u64;
+    let (count, behind) = split_length(low, rest)?;
+    let left = to_trailer - (rest.len() - behind.len()) as u64;
     match count.checked_mul(size) {
         Some(all) if all <= left => Some((count, behind)),
         _ => None,
@@ -86,12 +86,12 @@ fn long_content(kind: ContentKind, rest: &[u8], behind: &[u8], count: u64) -> De
 }
 
 /// Decodes data.
-pub fn front_data(low: LowHalf, rest: &[u8], extent: u64) -> Decoded
-    requires extent { length rest.now ≤ extent }
-    requires shown { ShowsContent extent rest.now }
-    ensures { DecodesAfter extent (counted_with KindData low) rest.now result }
+pub fn decode_data(low: LowHalf, rest: &[u8], to_trailer: u64) -> Decoded
+    requires to_trailer { length rest.now ≤ to_trailer }
+    requires shown { ShowsContent to_trailer rest.now }
+    ensures { DecodesAfter to_trailer (counted_with KindData low) rest.now result }
 {
-    let Some((count, behind)) = front_count(low, rest, extent, 1) else {
+    let Some((count, behind)) = split_count(low, rest, to_trailer, 1) else {
         return Decoded::Faulty(ObjectFault::Overrun);
     };
     if count > 8 {
@@ -125,12 +125,12 @@ fn short_text(bytes: &[u8]) -> Decoded
 
 /// Decodes a string in UTF-8.
 #[inline(always)]
-pub fn front_text(low: LowHalf, rest: &[u8], extent: u64) -> Decoded
-    requires extent { length rest.now ≤ extent }
-    requires shown { ShowsContent extent rest.now }
-    ensures { DecodesAfter extent (counted_with KindText low) rest.now result }
+pub fn decode_text(low: LowHalf, rest: &[u8], to_trailer: u64) -> Decoded
+    requires to_trailer { length rest.now ≤ to_trailer }
+    requires shown { ShowsContent to_trailer rest.now }
+    ensures { DecodesAfter to_trailer (counted_with KindText low) rest.now result }
 {
-    let Some((count, behind)) = front_count(low, rest, extent, 1) else {
+    let Some((count, behind)) = split_count(low, rest, to_trailer, 1) else {
         return Decoded::Faulty(ObjectFault::Overrun);
     };
     if count > 8 {
@@ -162,12 +162,12 @@ fn short_wide_text(alloc: Global, bytes: &[u8]) -> Option<Decoded>
 }
 
 /// Decodes a string in UTF-16.
-pub fn front_wide_text(alloc: Global, low: LowHalf, rest: &[u8], extent: u64) -> Decoded
-    requires extent { length rest.now ≤ extent }
-    requires shown { ShowsContent extent rest.now }
-    ensures { DecodesAfter extent (counted_with KindWideText low) rest.now result }
+pub fn decode_wide_text(alloc: Global, low: LowHalf, rest: &[u8], to_trailer: u64) -> Decoded
+    requires to_trailer { length rest.now ≤ to_trailer }
+    requires shown { ShowsContent to_trailer rest.now }
+    ensures { DecodesAfter to_trailer (counted_with KindWideText low) rest.now result }
 {
-    let Some((count, behind)) = front_count(low, rest, extent, 2) else {
+    let Some((count, behind)) = split_count(low, rest, to_trailer, 2) else {
         return Decoded::Faulty(ObjectFault::Overrun);
     };
     let long = long_content(ContentKind::WideText, rest, behind, count);
@@ -182,13 +182,13 @@ pub fn front_wide_text(alloc: Global, low: LowHalf, rest: &[u8], extent: u64) ->
 
 /// Decodes the start of an array whose references end before the trailer.
 #[inline(always)]
-pub fn front_array(low: LowHalf, rest: &[u8], extent: u64, width: usize) -> Decoded
-    requires extent { length rest.now ≤ extent }
-    requires shown { ShowsContent extent rest.now }
+pub fn decode_array(low: LowHalf, rest: &[u8], to_trailer: u64, width: usize) -> Decoded
+    requires to_trailer { length rest.now ≤ to_trailer }
+    requires shown { ShowsContent to_trailer rest.now }
     requires width { 0 < width }
-    ensures { DecodesAfter extent (object_counted width ArrayKind low) rest.now result }
+    ensures { DecodesAfter to_trailer (object_counted width ArrayKind low) rest.now result }
 {
-    match front_count(low, rest, extent, width as u64) {
+    match split_count(low, rest, to_trailer, width as u64) {
         Some((count, _)) => Decoded::Array(count),
         None => Decoded::Faulty(ObjectFault::Overrun),
     }
@@ -196,13 +196,13 @@ pub fn front_array(low: LowHalf, rest: &[u8], extent: u64, width: usize) -> Deco
 
 /// Decodes the start of a dictionary whose references end before the trailer.
 #[inline(always)]
-pub fn front_dictionary(low: LowHalf, rest: &[u8], extent: u64, width: usize) -> Decoded
-    requires extent { length rest.now ≤ extent }
-    requires shown { ShowsContent extent rest.now }
+pub fn decode_dictionary(low: LowHalf, rest: &[u8], to_trailer: u64, width: usize) -> Decoded
+    requires to_trailer { length rest.now ≤ to_trailer }
+    requires shown { ShowsContent to_trailer rest.now }
     requires width { (0 < width) × (width ≤ 8) }
-    ensures { DecodesAfter extent (object_counted width DictionaryKind low) rest.now result }
+    ensures { DecodesAfter to_trailer (object_counted width DictionaryKind low) rest.now result }
 {
-    match front_count(low, rest, extent, 2 * width as u64) {
+    match split_count(low, rest, to_trailer, 2 * width as u64) {
         Some((count, _)) => Decoded::Dictionary(count),
         None => Decoded::Faulty(ObjectFault::Overrun),
     }

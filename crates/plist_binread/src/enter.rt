@@ -13,7 +13,7 @@ ghost use Rattle.plist_binread.specs.Slot.{AnswersInSlot, answer_in};
 use crate::counter::DecodeCounter;
 use crate::decoded::Decoded;
 use crate::decoder::Decoder;
-use crate::fault_slot::{FaultSlot, Refused};
+use crate::fault_slot::{FaultSlot, StepError};
 use crate::hand::{hand_decoded, hand_small};
 use crate::object::decode;
 use crate::packed::{PackedKind, cache, is_open, mark_open};
@@ -25,7 +25,7 @@ use std::ops::ControlFlow;
 // Keeps the error that no object has the number of the reference at `at`.
 #[cold]
 #[inline(never)]
-fn refuse_number(slot: &mut FaultSlot, at: u64) -> Refused
+fn refuse_number(slot: &mut FaultSlot, at: u64) -> StepError
     ensures { fault_of slot.new.fault ≡ fault_at ObjectReferenceTooLarge at }
 {
     slot.refuse(ErrorKind::ObjectReferenceTooLarge.with_byte_offset(at))
@@ -34,7 +34,7 @@ fn refuse_number(slot: &mut FaultSlot, at: u64) -> Refused
 // Keeps the error that the object at an offset is already open.
 #[cold]
 #[inline(never)]
-fn refuse_open(slot: &mut FaultSlot, place: u64) -> Refused
+fn refuse_open(slot: &mut FaultSlot, place: u64) -> StepError
     ensures { fault_of slot.new.fault ≡ fault_at RecursiveObject place }
 {
     slot.refuse(ErrorKind::RecursiveObject.with_byte_offset(place))
@@ -51,14 +51,14 @@ enum Known {
 
 // Looks up an object that is about to be entered, to which the reference at `at` refers.
 #[inline(always)]
-fn look_up(walk: &Walk, slot: &mut FaultSlot, at: u64, number: u64) -> Result<Known, Refused>
-    // The answer.
+fn look_up(walk: &Walk, slot: &mut FaultSlot, at: u64, number: u64) -> Result<Known, StepError>
+    // Result.
     ensures found { IfOk result (IsFoundAt number walk.now) }
-    // A refusal.
+    // Errors.
     ensures refused { IfErr result (RefusesEntering walk.now at number slot.new) }
     ensures kinds { IfErr result (RefusesWithoutIo slot.new) }
     ensures fault { ErrWithin 0 0 (answer_in result slot.new) }
-    // The state after it.
+    // State afterwards.
     ensures below { IfOk result (λ _. number < walk_objects walk.now) }
     ensures new { IfOk result (λ _. is_marked (get_or walk.now.tags.items number 0) ≡ false) }
 {
@@ -84,9 +84,9 @@ fn look_up(walk: &Walk, slot: &mut FaultSlot, at: u64, number: u64) -> Result<Kn
 fn open(walk: &mut Walk, number: u64, count: u64) -> bool
     requires below { number < walk_objects walk.old }
     requires new { get_or walk.old.tags.items number 0 ≡ 0 }
-    // The answer.
+    // Result.
     ensures yields { result ≡ true → OpensCollection number count walk.old walk.new }
-    // The state after it.
+    // State afterwards.
     ensures size { walk_objects walk.new ≡ walk_objects walk.old }
     ensures counted { cached_in walk.new ≡ cached_in walk.old }
     ensures falls { result ≡ true → IsLighterEntered walk.old walk.new }
@@ -108,10 +108,10 @@ fn cache_or_open(walk: &mut Walk, number: u64, decoded: Decoded) -> bool
     requires below { number < walk_objects walk.old }
     requires new { get_or walk.old.tags.items number 0 ≡ 0 }
     requires fits { FitsWalk decoded }
-    // The answer.
+    // Result.
     ensures yields { result ≡ true → OpensObject number decoded walk.old walk.new }
     ensures wanted { result ≡ false → IsCollectionStart decoded }
-    // The state after it.
+    // State afterwards.
     ensures size { walk_objects walk.new ≡ walk_objects walk.old }
     ensures counted { cached_in walk.new ≡ cached_in walk.old + small_count decoded }
     ensures cached { CachesDecoded decoded number walk.new }
@@ -146,19 +146,19 @@ pub fn enter<S: Source, C: DecodeCounter, V: EventVisitor>(
     walk: &mut Walk,
     reference: Reference,
     visitor: &mut V,
-) -> Result<ControlFlow<()>, Refused>
+) -> Result<ControlFlow<()>, StepError>
     requires known { IfSome (S.known source.old) (λ bytes.
         IsWalkOf bytes decoder.old.bounds walk.old) }
     requires counted { C.counts → C.count decoder.old.counter ≡ cached_in walk.old }
-    // The answer.
+    // Result.
     ensures handed { Hands V.step visitor.old visitor.new result (λ event.
         EntersObject (S.known source.old) decoder.old.bounds walk.old reference
         (answer_in result decoder.new.slot) event walk.new
         × CachesEntered (S.known source.old) reference.number (answer_in result decoder.new.slot)
         event walk.new) }
-    // A refusal.
+    // Errors.
     ensures fault { ErrWithin 0 decoder.old.bounds.trailer (answer_in result decoder.new.slot) }
-    // The state after it.
+    // State afterwards.
     ensures size { walk_objects walk.new ≡ walk_objects walk.old }
     ensures known { IfSome (S.known source.old) (λ bytes.
         IsWalkOf bytes decoder.old.bounds walk.new) }
@@ -176,7 +176,7 @@ pub fn enter<S: Source, C: DecodeCounter, V: EventVisitor>(
         Known::At(place) => {
             let decoded = decode(source, decoder, place);
             if decoded.is_unread() {
-                return Err(Refused);
+                return Err(StepError);
             }
             if cache_or_open(walk, reference.number, decoded) {
                 return hand_decoded(source, decoder, place, decoded, visitor);

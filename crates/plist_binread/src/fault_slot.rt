@@ -17,7 +17,7 @@ use std::alloc::Global;
 ///
 /// It is small, which an error isn't: the memory for a result is cleared at each call.
 #[derive(Clone, Copy)]
-pub struct Refused;
+pub struct StepError;
 
 /// Keeps the error of a step that failed.
 #[derive(Drop)]
@@ -39,17 +39,17 @@ impl FaultSlot {
 
     /// Keeps this error.
     #[cold]
-    pub fn refuse(&mut self, error: Error) -> Refused
+    pub fn refuse(&mut self, error: Error) -> StepError
         ensures fault { self.new.fault ≡ error }
     {
         self.fault = error;
-        Refused
+        StepError
     }
 
     /// Keeps `OutOfMemory`.
     #[cold]
     #[inline(never)]
-    pub fn refuse_memory(&mut self) -> Refused
+    pub fn refuse_memory(&mut self) -> StepError
         ensures fault { fault_of self.new.fault ≡ fault_nowhere OutOfMemory }
     {
         self.refuse(ErrorKind::OutOfMemory.without_position())
@@ -58,14 +58,14 @@ impl FaultSlot {
     /// Keeps the error that the object at an offset doesn't end before the trailer.
     #[cold]
     #[inline(never)]
-    pub fn refuse_overrun(&mut self, place: u64) -> Refused
+    pub fn refuse_overrun(&mut self, place: u64) -> StepError
         ensures fault { fault_of self.new.fault ≡ fault_at ObjectOffsetTooLarge place }
     {
         self.refuse(ErrorKind::ObjectOffsetTooLarge.with_byte_offset(place))
     }
 
     /// Returns the same result, and keeps its error if it is one.
-    pub fn keep_error<T>(&mut self, answer: Result<T, Error>) -> Result<T, Refused>
+    pub fn keep_error<T>(&mut self, answer: Result<T, Error>) -> Result<T, StepError>
         ensures answer { answer_in result self.new ≡ answer }
     {
         match answer {
@@ -77,7 +77,7 @@ impl FaultSlot {
     /// Keeps the error of the object at an offset.
     #[cold]
     #[inline(never)]
-    pub fn refuse_object(&mut self, fault: ObjectFault, place: u64) -> Refused
+    pub fn refuse_object(&mut self, fault: ObjectFault, place: u64) -> StepError
         ensures refused { (object : Object) → IsObjectFault object fault
             → IsRefusedAs object place self.new.fault }
         ensures fault { (end : ℕ) → FailsWithin place end (fault_of self.new.fault) }

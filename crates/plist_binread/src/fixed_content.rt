@@ -40,10 +40,10 @@ fn front_content<const N: usize>(rest: &[u8]) -> Option<[u8; N]>
 
 /// Decodes an integer without a sign.
 #[inline(always)]
-pub fn front_unsigned(rest: &[u8], extent: u64, width: usize) -> Decoded
+pub fn decode_unsigned(rest: &[u8], to_trailer: u64, width: usize) -> Decoded
     requires width { width ≤ 8 }
-    requires shown { ShowsContent extent rest.now }
-    ensures { DecodesFixed extent width unsigned_integer rest.now result }
+    requires shown { ShowsContent to_trailer rest.now }
+    ensures { DecodesFixed to_trailer width unsigned_integer rest.now result }
 {
     match front_number(rest, width) {
         Some(number) => Decoded::Small(PackedKind::Unsigned, number),
@@ -64,9 +64,9 @@ fn signed_number(bits: u64) -> Decoded
 
 /// Decodes an integer of eight bytes with a sign.
 #[inline(always)]
-pub fn front_signed(rest: &[u8], extent: u64) -> Decoded
-    requires { ShowsContent extent rest.now }
-    ensures { DecodesFixed extent 8 signed_integer rest.now result }
+pub fn decode_signed(rest: &[u8], to_trailer: u64) -> Decoded
+    requires { ShowsContent to_trailer rest.now }
+    ensures { DecodesFixed to_trailer 8 signed_integer rest.now result }
 {
     match front_number(rest, 8) {
         Some(number) => signed_number(number),
@@ -75,9 +75,9 @@ pub fn front_signed(rest: &[u8], extent: u64) -> Decoded
 }
 
 /// Decodes an integer of sixteen bytes, of which the first eight have to be zero.
-pub fn front_wide(rest: &[u8], extent: u64) -> Decoded
-    requires { ShowsContent extent rest.now }
-    ensures { DecodesFixed extent 16 wide_integer rest.now result }
+pub fn decode_wide_integer(rest: &[u8], to_trailer: u64) -> Decoded
+    requires { ShowsContent to_trailer rest.now }
+    ensures { DecodesFixed to_trailer 16 wide_integer rest.now result }
 {
     if rest.len() < 16 {
         return Decoded::Faulty(ObjectFault::Overrun);
@@ -91,9 +91,9 @@ pub fn front_wide(rest: &[u8], extent: u64) -> Decoded
 }
 
 /// Decodes a Uid.
-pub fn front_uid(rest: &[u8], extent: u64, width: UidWidth) -> Decoded
-    requires { ShowsContent extent rest.now }
-    ensures { DecodesFixed extent width uid_of_content rest.now result }
+pub fn decode_uid(rest: &[u8], to_trailer: u64, width: UidWidth) -> Decoded
+    requires { ShowsContent to_trailer rest.now }
+    ensures { DecodesFixed to_trailer width uid_of_content rest.now result }
 {
     match front_number(rest, width.get()) {
         Some(number) => Decoded::Small(PackedKind::Uid, number),
@@ -102,9 +102,9 @@ pub fn front_uid(rest: &[u8], extent: u64, width: UidWidth) -> Decoded
 }
 
 /// Decodes a real of eight bytes.
-pub fn front_real(rest: &[u8], extent: u64) -> Decoded
-    requires { ShowsContent extent rest.now }
-    ensures { DecodesFixed extent 8 long_real rest.now result }
+pub fn decode_real(rest: &[u8], to_trailer: u64) -> Decoded
+    requires { ShowsContent to_trailer rest.now }
+    ensures { DecodesFixed to_trailer 8 long_real rest.now result }
 {
     match front_content(rest) {
         Some(bytes) => Decoded::Small(PackedKind::Real, content_of(bytes)),
@@ -113,9 +113,9 @@ pub fn front_real(rest: &[u8], extent: u64) -> Decoded
 }
 
 /// Decodes a real of four bytes.
-pub fn front_short_real(rest: &[u8], extent: u64) -> Decoded
-    requires { ShowsContent extent rest.now }
-    ensures { DecodesFixed extent 4 short_real rest.now result }
+pub fn decode_short_real(rest: &[u8], to_trailer: u64) -> Decoded
+    requires { ShowsContent to_trailer rest.now }
+    ensures { DecodesFixed to_trailer 4 short_real rest.now result }
 {
     match front_content::<4>(rest) {
         Some(bytes) => Decoded::Small(PackedKind::ShortReal, content_from(&bytes)),
@@ -124,9 +124,9 @@ pub fn front_short_real(rest: &[u8], extent: u64) -> Decoded
 }
 
 /// Decodes a date, whose bytes may be out of range.
-pub fn front_date(rest: &[u8], extent: u64) -> Decoded
-    requires { ShowsContent extent rest.now }
-    ensures { DecodesFixed extent 8 date rest.now result }
+pub fn decode_date(rest: &[u8], to_trailer: u64) -> Decoded
+    requires { ShowsContent to_trailer rest.now }
+    ensures { DecodesFixed to_trailer 8 date rest.now result }
 {
     match front_content(rest) {
         Some(bytes) => Decoded::Date(content_of(bytes)),

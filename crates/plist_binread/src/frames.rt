@@ -28,12 +28,12 @@ pub struct NarrowFrame {
     pub count: u32,
 }
 
-/// What comes next of the innermost collection.
+/// What is next in the innermost collection.
 #[derive(Clone, Copy)]
-pub enum Upcoming {
+pub enum NextChild {
     /// Nothing is open.
     Nothing,
-    /// Its end: it is closed, and this was its object.
+    /// It had no more children and was closed. This was its object.
     End(u64),
     /// A child: the number of its collection, and its index among that one's children.
     Child(u64, u64),
@@ -165,22 +165,22 @@ impl Frames {
     }
 
     /// Takes the next child of the innermost collection, or closes it if it has no more.
-    pub fn next_child(&mut self) -> Upcoming
+    pub fn next_child(&mut self) -> NextChild
         ensures { NextOf (reverse self.old) result (reverse self.new) }
     {
         match self.innermost {
-            None => Upcoming::Nothing,
+            None => NextChild::Nothing,
             Some(frame) => {
                 if frame.next >= frame.count {
                     self.innermost = self.outer.pop();
-                    return Upcoming::End(frame.object);
+                    return NextChild::End(frame.object);
                 }
                 self.innermost = Some(Frame {
                     object: frame.object,
                     next: frame.next + 1,
                     count: frame.count,
                 });
-                Upcoming::Child(frame.object, frame.next)
+                NextChild::Child(frame.object, frame.next)
             }
         }
     }

@@ -11,12 +11,13 @@ ghost use Rattle.plist_binread.specs.Front.{ShowsContent, ShowsFront};
 ghost use Rattle.plist_binread.specs.Reading.{object_with};
 
 use crate::counted_content::{
-    front_array, front_data, front_dictionary, front_text, front_wide_text,
+    decode_array, decode_data, decode_dictionary, decode_text, decode_wide_text,
 };
 use crate::counter::DecodeCounter;
 use crate::decoded::{Decoded, ObjectFault};
 use crate::fixed_content::{
-    front_date, front_real, front_short_real, front_signed, front_uid, front_unsigned, front_wide,
+    decode_date, decode_real, decode_short_real, decode_signed, decode_uid, decode_unsigned,
+    decode_wide_integer,
 };
 use crate::packed::PackedKind;
 use plist_format::{CountedKind, Marker};
@@ -24,32 +25,38 @@ use std::alloc::Global;
 
 // Decodes the object after a marker.
 #[inline(always)]
-fn decode_after_marker(alloc: Global, marker: u8, rest: &[u8], extent: u64, width: usize) -> Decoded
-    requires extent { length rest.now ≤ extent }
-    requires shown { ShowsContent extent rest.now }
+fn decode_after_marker(
+    alloc: Global,
+    marker: u8,
+    rest: &[u8],
+    to_trailer: u64,
+    width: usize,
+) -> Decoded
+    requires to_trailer { length rest.now ≤ to_trailer }
+    requires shown { ShowsContent to_trailer rest.now }
     requires width { (0 < width) × (width ≤ 8) }
-    ensures { DecodesAfter extent (object_with width marker) rest.now result }
+    ensures { DecodesAfter to_trailer (object_with width marker) rest.now result }
 {
     match Marker::decode(marker) {
         Marker::Null => Decoded::Faulty(ObjectFault::Null),
         Marker::Boolean(value) => Decoded::Small(PackedKind::Boolean(value), 0),
         Marker::Fill => Decoded::Faulty(ObjectFault::Fill),
-        Marker::Integer1 => front_unsigned(rest, extent, 1),
-        Marker::Integer2 => front_unsigned(rest, extent, 2),
-        Marker::Integer4 => front_unsigned(rest, extent, 4),
-        Marker::Integer8 => front_signed(rest, extent),
-        Marker::Integer16 => front_wide(rest, extent),
-        Marker::Real4 => front_short_real(rest, extent),
-        Marker::Real8 => front_real(rest, extent),
-        Marker::Date => front_date(rest, extent),
+        Marker::Integer1 => decode_unsigned(rest, to_trailer, 1),
+        Marker::Integer2 => decode_unsigned(rest, to_trailer, 2),
+        Marker::Integer4 => decode_unsigned(rest, to_trailer, 4),
+        Marker::Integer8 => decode_signed(rest, to_trailer),
+        Marker::Integer16 => decode_wide_integer(rest, to_trailer),
+        Marker::Real4 => decode_short_real(rest, to_trailer),
+        Marker::Real8 => decode_real(rest, to_trailer),
+        Marker::Date => decode_date(rest, to_trailer),
         Marker::Counted(kind, low) => match kind {
-            CountedKind::Data => front_data(low, rest, extent),
-            CountedKind::Text => front_text(low, rest, extent),
-            CountedKind::WideText => front_wide_text(alloc, low, rest, extent),
-            CountedKind::Array => front_array(low, rest, extent, width),
-            CountedKind::Dictionary => front_dictionary(low, rest, extent, width),
+            CountedKind::Data => decode_data(low, rest, to_trailer),
+            CountedKind::Text => decode_text(low, rest, to_trailer),
+            CountedKind::WideText => decode_wide_text(alloc, low, rest, to_trailer),
+            CountedKind::Array => decode_array(low, rest, to_trailer, width),
+            CountedKind::Dictionary => decode_dictionary(low, rest, to_trailer, width),
         },
-        Marker::Uid(size) => front_uid(rest, extent, size),
+        Marker::Uid(size) => decode_uid(rest, to_trailer, size),
         Marker::Unknown(byte) => Decoded::Faulty(ObjectFault::Unknown(byte)),
     }
 }
@@ -83,23 +90,23 @@ fn count_small<C: DecodeCounter>(decoded: Decoded, counter: &mut C)
 /// Decodes the object at the front of these bytes, which are all bytes up to the trailer or at
 /// least 26, and counts it if it is small. No other function makes a small object from its bytes.
 #[inline(always)]
-pub fn decode_seen<C: DecodeCounter>(
+pub fn decode_front<C: DecodeCounter>(
     alloc: Global,
     seen: &[u8],
-    extent: u64,
+    to_trailer: u64,
     width: usize,
     counter: &mut C,
 ) -> Decoded
-    requires extent { length seen.now ≤ extent }
-    requires some { 0 < extent }
-    requires shown { ShowsFront extent seen.now }
+    requires to_trailer { length seen.now ≤ to_trailer }
+    requires some { 0 < to_trailer }
+    requires shown { ShowsFront to_trailer seen.now }
     requires width { (0 < width) × (width ≤ 8) }
-    ensures decoded { DecodesSeen extent (object_in width) seen.now result }
+    ensures decoded { DecodesSeen to_trailer (object_in width) seen.now result }
     ensures counted { CountsSmall C.counts C.count counter.old counter.new result }
 {
     match seen.split_first() {
         Some((marker, rest)) => {
-            let decoded = decode_after_marker(alloc, *marker, rest, extent - 1, width);
+            let decoded = decode_after_marker(alloc, *marker, rest, to_trailer - 1, width);
             count_small(decoded, counter);
             decoded
         }

@@ -14,7 +14,7 @@ ghost use Rattle.plist_binread.specs.declared.decoded.ContentKind.TheVariants.{T
 use crate::counter::DecodeCounter;
 use crate::decoded::{Content, ContentKind, Decoded, ObjectFault};
 use crate::decoder::Decoder;
-use crate::fault_slot::{FaultSlot, Refused};
+use crate::fault_slot::{FaultSlot, StepError};
 use crate::long_content::{read_long, wide_text_event};
 use crate::packed::PackedKind;
 use crate::utf8::text_in;
@@ -76,7 +76,7 @@ fn hand_date<V: EventVisitor>(
     place: u64,
     slot: &mut FaultSlot,
     visitor: &mut V,
-) -> Result<ControlFlow<()>, Refused>
+) -> Result<ControlFlow<()>, StepError>
     ensures handed { Hands V.step visitor.old visitor.new result (λ event.
         SetsEvent (date (content_bytes content)) place (answer_in result slot.new) event
         × OnOk result (is_small_event event ≡ false)) }
@@ -94,7 +94,7 @@ fn hand_read<V: EventVisitor>(
     read: Result<OwnedEvent, Error>,
     slot: &mut FaultSlot,
     visitor: &mut V,
-) -> Result<ControlFlow<()>, Refused>
+) -> Result<ControlFlow<()>, StepError>
     ensures { Hands V.step visitor.old visitor.new result
         (HandsRead read.entry (answer_in result slot.new)) }
 {
@@ -111,7 +111,7 @@ fn hand_text<V: EventVisitor>(
     place: u64,
     slot: &mut FaultSlot,
     visitor: &mut V,
-) -> Result<ControlFlow<()>, Refused>
+) -> Result<ControlFlow<()>, StepError>
     requires { IsLongBytes KindText bytes.now }
     ensures handed { Hands V.step visitor.old visitor.new result (λ event.
         SetsEvent (text bytes.now) place (answer_in result slot.new) event
@@ -133,7 +133,7 @@ fn hand_wide_text<V: EventVisitor>(
     place: u64,
     slot: &mut FaultSlot,
     visitor: &mut V,
-) -> Result<ControlFlow<()>, Refused>
+) -> Result<ControlFlow<()>, StepError>
     requires { AreUnits 2 bytes.now }
     ensures handed { Hands V.step visitor.old visitor.new result (λ event.
         SetsEvent (wide_text bytes.now) place (answer_in result slot.new) event
@@ -153,7 +153,7 @@ fn hand_bytes<V: EventVisitor>(
     place: u64,
     slot: &mut FaultSlot,
     visitor: &mut V,
-) -> Result<ControlFlow<()>, Refused>
+) -> Result<ControlFlow<()>, StepError>
     requires units { AreUnits (unit_size kind) bytes.now }
     requires long { IsLongBytes kind bytes.now }
     ensures handed { Hands V.step visitor.old visitor.new result (λ event.
@@ -178,16 +178,16 @@ fn hand_far<S: Source, V: EventVisitor>(
     content: Content,
     slot: &mut FaultSlot,
     visitor: &mut V,
-) -> Result<ControlFlow<()>, Refused>
+) -> Result<ControlFlow<()>, StepError>
     requires fits { EndsIn64Bits place content }
     requires long { IsLong content }
-    // The answer.
+    // Result.
     ensures handed { Hands V.step visitor.old visitor.new result (λ event.
         SetsContentAt (S.known source.old) place content (answer_in result slot.new) event
         × OnOk result (is_small_event event ≡ false)) }
-    // A refusal.
+    // Errors.
     ensures fault { FailsInContent place content (answer_in result slot.new) }
-    // The state after it.
+    // State afterwards.
     ensures unchanged { S.known source.new ≡ S.known source.old }
     ensures failures { AnswersInSlot S.failures result slot.new source.old source.new }
 {
@@ -204,16 +204,16 @@ fn hand_content<S: Source, V: EventVisitor>(
     content: Content,
     slot: &mut FaultSlot,
     visitor: &mut V,
-) -> Result<ControlFlow<()>, Refused>
+) -> Result<ControlFlow<()>, StepError>
     requires fits { EndsIn64Bits place content }
     requires long { IsLong content }
-    // The answer.
+    // Result.
     ensures handed { Hands V.step visitor.old visitor.new result (λ event.
         SetsContentAt (S.known source.old) place content (answer_in result slot.new) event
         × OnOk result (is_small_event event ≡ false)) }
-    // A refusal.
+    // Errors.
     ensures fault { FailsInContent place content (answer_in result slot.new) }
-    // The state after it.
+    // State afterwards.
     ensures unchanged { S.known source.new ≡ S.known source.old }
     ensures failures { AnswersInSlot S.failures result slot.new source.old source.new }
 {
@@ -234,17 +234,17 @@ pub fn hand_decoded<S: Source, C: DecodeCounter, V: EventVisitor>(
     place: u64,
     decoded: Decoded,
     visitor: &mut V,
-) -> Result<ControlFlow<()>, Refused>
+) -> Result<ControlFlow<()>, StepError>
     requires { FitsBefore decoder.old.bounds.trailer place decoded }
-    // The answer.
+    // Result.
     ensures handed { Hands V.step visitor.old visitor.new result (λ event.
         SetsDecoded (S.known source.old) decoder.old.bounds place decoded
         (answer_in result decoder.new.slot) event
         × SetsAsSmall decoded result event) }
     ensures found { OnOk result (is_refused decoded ≡ false) }
-    // A refusal.
+    // Errors.
     ensures fault { ErrWithin place decoder.old.bounds.trailer (answer_in result decoder.new.slot) }
-    // The state after it.
+    // State afterwards.
     ensures unchanged { S.known source.new ≡ S.known source.old }
     ensures bounds { decoder.new.bounds ≡ decoder.old.bounds }
     ensures counter { decoder.new.counter ≡ decoder.old.counter }

@@ -75,13 +75,13 @@ impl Head {
 
     /// Reads the head of a file.
     pub fn read<S: Source>(alloc: Global, source: &mut S) -> Result<Self, Error>
-        // The answer.
+        // Result.
         ensures value { IfRead result (S.known source.old) IsHeadOf }
         ensures within { IfRead result (S.known source.old) LiesWithin }
-        // A refusal.
+        // Errors.
         ensures refused { IfRefused result (S.known source.old) IsFaultOfHead }
         ensures fault { ErrWithin 0 (2 ^ 64) result }
-        // The state after it.
+        // State afterwards.
         ensures unchanged { S.known source.new ≡ S.known source.old }
         ensures failures { AnswersIo result (S.failures source.old) (S.failures source.new) }
     {
@@ -101,13 +101,13 @@ impl Head {
     // Reads the head of a file whose trailer is at this offset.
     fn read_before<S: Source>(alloc: Global, source: &mut S, trailer: u64) -> Result<Self, Error>
         requires { trailer + 32 < 2 ^ 64 }
-        // The answer.
+        // Result.
         ensures value { IfRead result (S.known source.old) (IsHeadBefore trailer) }
         ensures trailer { IfOk result (λ head. head.trailer ≡ trailer) }
-        // A refusal.
+        // Errors.
         ensures refused { IfRefused result (S.known source.old) (IsFaultBefore trailer) }
         ensures fault { ErrWithin 0 (trailer + 32) result }
-        // The state after it.
+        // State afterwards.
         ensures unchanged { S.known source.new ≡ S.known source.old }
         ensures failures { AnswersIo result (S.failures source.old) (S.failures source.new) }
     {

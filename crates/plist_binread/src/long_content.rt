@@ -110,12 +110,12 @@ pub fn read_long<S: Source>(
 ) -> Result<OwnedEvent, Error>
     requires fits { EndsIn64Bits place content }
     requires long { IsLong content }
-    // The answer.
+    // Result.
     ensures decoded { ReadsContent (S.known source.old) place content result }
     ensures large { IsLarge result }
-    // A refusal.
+    // Errors.
     ensures fault { FailsInContent place content result }
-    // The state after it.
+    // State afterwards.
     ensures unchanged { S.known source.new ≡ S.known source.old }
     ensures failures { AnswersIo result (S.failures source.old) (S.failures source.new) }
 {

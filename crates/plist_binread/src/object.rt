@@ -6,7 +6,7 @@ ghost use Rattle.plist_binread.specs.Decoded.{CountsSmall, CountsUnread, Decodes
 use crate::counter::DecodeCounter;
 use crate::decoded::{Decoded, ObjectFault};
 use crate::decoder::Decoder;
-use crate::front::decode_seen;
+use crate::front::decode_front;
 use plist_base::{Source, read_exact_at};
 
 // As many bytes as any object needs but a long string or data: a marker, a length of nine bytes,
@@ -22,12 +22,12 @@ fn read_front<S: Source, C: DecodeCounter>(
     place: u64,
 ) -> Decoded
     requires place { place < decoder.old.bounds.trailer }
-    // The answer.
+    // Result.
     ensures decoded { DecodesAt (S.known source.old) decoder.old.bounds place result decoder.new.slot }
     ensures fits { is_unread result ≡ false → FitsBefore decoder.old.bounds.trailer place result }
-    // A refusal.
+    // Errors.
     ensures fault { FailsUnread place decoder.old.bounds.trailer result decoder.new.slot }
-    // The state after it.
+    // State afterwards.
     ensures counted { CountsSmall C.counts C.count decoder.old.counter decoder.new.counter
         result }
     ensures bounds { decoder.new.bounds ≡ decoder.old.bounds }
@@ -35,16 +35,16 @@ fn read_front<S: Source, C: DecodeCounter>(
     ensures failures { CountsUnread result decoder.new.slot (S.failures source.old) (S.failures source.new) }
 {
     let bounds = decoder.bounds;
-    let extent = bounds.trailer - place;
+    let to_trailer = bounds.trailer - place;
     let mut front = [0; FRONT];
-    let seen = &mut front[..extent.min(FRONT as u64) as usize];
+    let seen = &mut front[..to_trailer.min(FRONT as u64) as usize];
     match read_exact_at(source, place, seen) {
         Ok(()) => {
             let alloc = decoder.slot.alloc;
-            decode_seen(
+            decode_front(
                 alloc,
                 seen,
-                extent,
+                to_trailer,
                 bounds.reference_width,
                 &mut decoder.counter,
             )
@@ -63,12 +63,12 @@ pub fn decode<S: Source, C: DecodeCounter>(
     decoder: &mut Decoder<C>,
     place: u64,
 ) -> Decoded
-    // The answer.
+    // Result.
     ensures decoded { DecodesAt (S.known source.old) decoder.old.bounds place result decoder.new.slot }
     ensures fits { is_unread result ≡ false → FitsBefore decoder.old.bounds.trailer place result }
-    // A refusal.
+    // Errors.
     ensures fault { FailsUnread place decoder.old.bounds.trailer result decoder.new.slot }
-    // The state after it.
+    // State afterwards.
     ensures counted { CountsSmall C.counts C.count decoder.old.counter decoder.new.counter
         result }
     ensures bounds { decoder.new.bounds ≡ decoder.old.bounds }
@@ -79,15 +79,15 @@ pub fn decode<S: Source, C: DecodeCounter>(
     if place >= bounds.trailer {
         return Decoded::Faulty(ObjectFault::Overrun);
     }
-    let extent = bounds.trailer - place;
+    let to_trailer = bounds.trailer - place;
     let buffered = source.buffered(place);
-    let seen = &buffered[..extent.min(buffered.len() as u64) as usize];
-    if seen.len() >= FRONT || seen.len() as u64 == extent {
+    let seen = &buffered[..to_trailer.min(buffered.len() as u64) as usize];
+    if seen.len() >= FRONT || seen.len() as u64 == to_trailer {
         let alloc = decoder.slot.alloc;
-        return decode_seen(
+        return decode_front(
             alloc,
             seen,
-            extent,
+            to_trailer,
             bounds.reference_width,
             &mut decoder.counter,
         );

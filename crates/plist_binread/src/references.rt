@@ -8,12 +8,12 @@ ghost use Rattle.plist_binread.specs.Step.{RefusesEach};
 ghost use Rattle.plist_base.specs.Sources.{AnswersIo};
 ghost use Rattle.plist_binread.specs.Slot.{AnswersInSlot, answer_in, found_in};
 
-use crate::counted_content::front_length;
+use crate::counted_content::split_length;
 use crate::counter::DecodeCounter;
 use crate::decoder::Decoder;
-use crate::fault_slot::{FaultSlot, Refused};
+use crate::fault_slot::{FaultSlot, StepError};
 use crate::head::Bounds;
-use crate::numbers::read_far_number;
+use crate::numbers::read_unbuffered_number;
 use crate::run::Run;
 use plist_base::{Source, read_exact_at};
 use plist_format::{CountedKind, Marker};
@@ -76,16 +76,16 @@ fn pairs_in(kind: CountedKind, count: u64) -> Option<u64>
 // Finds the references of the collection at the front of these bytes, which are all bytes up to the
 // trailer, or at least a marker and a length.
 #[inline(always)]
-fn references_in(seen: &[u8], extent: u64, width: usize, place: u64) -> Option<References>
+fn references_in(seen: &[u8], to_trailer: u64, width: usize, place: u64) -> Option<References>
     requires width { 0 < width }
-    requires shown { ShowsLength extent seen.now }
+    requires shown { ShowsLength to_trailer seen.now }
     ensures place { IfSome result (λ references. references.place ≡ place) }
     ensures references { IfSome result (AreReferencesOfSeen width seen.now) }
-    ensures none { IfNone result (HasNoChild width extent seen.now) }
+    ensures none { IfNone result (HasNoChild width to_trailer seen.now) }
 {
     let (byte, rest) = seen.split_first()?;
     let (kind, low) = Marker::decode(*byte).counted()?;
-    let (count, behind) = front_length(low, rest)?;
+    let (count, behind) = split_length(low, rest)?;
     let pairs = pairs_in(kind, count)?;
     let start = (seen.len() - behind.len()) as u64;
     Some(References {
@@ -105,25 +105,25 @@ fn read_references<S: Source>(
     source: &mut S,
     bounds: &Bounds,
     place: u64,
-    extent: u64,
+    to_trailer: u64,
     slot: &mut FaultSlot,
-) -> Result<References, Refused>
+) -> Result<References, StepError>
     requires place { place < bounds.now.trailer }
-    requires extent { extent ≡ bounds.now.trailer - place }
-    // The answer.
+    requires to_trailer { to_trailer ≡ bounds.now.trailer - place }
+    // Result.
     ensures value { IfOk result (λ references. references.place ≡ place) }
     ensures references { FindsReferences (answer_in result slot.new) (S.known source.old) bounds.now
         place }
-    // A refusal.
+    // Errors.
     ensures fault { ErrWithin place bounds.now.trailer (answer_in result slot.new) }
-    // The state after it.
+    // State afterwards.
     ensures unchanged { S.known source.new ≡ S.known source.old }
     ensures failures { AnswersInSlot S.failures result slot.new source.old source.new }
 {
     let mut front = [0; LENGTH_END];
-    let seen = &mut front[..extent.min(LENGTH_END as u64) as usize];
+    let seen = &mut front[..to_trailer.min(LENGTH_END as u64) as usize];
     match read_exact_at(source, place, seen) {
-        Ok(()) => match references_in(seen, extent, bounds.reference_width, place) {
+        Ok(()) => match references_in(seen, to_trailer, bounds.reference_width, place) {
             Some(references) => Ok(references),
             None => Err(slot.refuse_overrun(place)),
         },
@@ -169,17 +169,17 @@ fn read_reference<S: Source>(
 ) -> Option<u64>
     requires width { width ≤ 8 }
     requires fits { place + width < 2 ^ 64 }
-    // The answer.
+    // Result.
     ensures value { ReadsNumber (found_in result slot.new) (S.known source.old) place width }
-    // A refusal.
+    // Errors.
     ensures refused { RefusesNumber (found_in result slot.new) (S.known source.old) place width }
     ensures fault { ErrWithin place (place + width) (found_in result slot.new) }
-    // The state after it.
+    // State afterwards.
     ensures unchanged { S.known source.new ≡ S.known source.old }
     ensures failures { AnswersIo (found_in result slot.new) (S.failures source.old)
         (S.failures source.new) }
 {
-    match read_far_number(source, place, width) {
+    match read_unbuffered_number(source, place, width) {
         Ok(number) => Some(number),
         Err(error) => {
             slot.refuse(error);
@@ -231,7 +231,7 @@ impl ReferenceReader {
         bounds: &Bounds,
         place: u64,
         slot: &mut FaultSlot,
-    ) -> Result<(), Refused>
+    ) -> Result<(), StepError>
         requires known { KnowsReferences (S.known source.old) bounds.now self.old }
         // Result.
         ensures place { OnOk result (self.new.site.place ≡ place) }
@@ -247,12 +247,12 @@ impl ReferenceReader {
         if place >= bounds.trailer {
             return Err(slot.refuse_overrun(place));
         }
-        let extent = bounds.trailer - place;
+        let to_trailer = bounds.trailer - place;
         self.near.fill(source, place);
         let buffered = self.near.bytes_from(place);
-        let seen = &buffered[..extent.min(buffered.len() as u64) as usize];
-        if seen.len() >= LENGTH_END || seen.len() as u64 == extent {
-            return match references_in(seen, extent, bounds.reference_width, place) {
+        let seen = &buffered[..to_trailer.min(buffered.len() as u64) as usize];
+        if seen.len() >= LENGTH_END || seen.len() as u64 == to_trailer {
+            return match references_in(seen, to_trailer, bounds.reference_width, place) {
                 Some(found) => {
                     self.site = found;
                     Ok(())
@@ -260,7 +260,7 @@ impl ReferenceReader {
                 None => Err(slot.refuse_overrun(place)),
             };
         }
-        self.site = read_references(source, bounds, place, extent, slot)?;
+        self.site = read_references(source, bounds, place, to_trailer, slot)?;
         Ok(())
     }
 
@@ -272,7 +272,7 @@ impl ReferenceReader {
         bounds: &Bounds,
         place: u64,
         slot: &mut FaultSlot,
-    ) -> Result<(), Refused>
+    ) -> Result<(), StepError>
         requires known { KnowsReferences (S.known source.old) bounds.now self.old }
         // Result.
         ensures place { OnOk result (self.new.site.place ≡ place) }
@@ -321,7 +321,7 @@ impl ReferenceReader {
         decoder: &mut Decoder<C>,
         place: u64,
         index: u64,
-    ) -> Result<u64, Refused>
+    ) -> Result<u64, StepError>
         requires known { KnowsReferences (S.known source.old) decoder.old.bounds self.old }
         // Result.
         ensures child { ReadsChildAt (answer_in result decoder.new.slot) (S.known source.old)
@@ -345,7 +345,7 @@ impl ReferenceReader {
                     Some(number) => Ok(number),
                     None => match read_reference(source, at, width, &mut decoder.slot) {
                         Some(number) => Ok(number),
-                        None => Err(Refused),
+                        None => Err(StepError),
                     },
                 }
             }

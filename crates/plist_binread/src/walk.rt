@@ -2,24 +2,12 @@
 
 ghost use Rattle.std.specs.Prelude.{◌≡◌, ◌<◌, length, reverse, true};
 ghost use Rattle.std.proofs.Props.{props};
-ghost use Rattle.plist_binread.specs.declared.walk.NextChild.TheVariants.{Closed};
 ghost use Rattle.plist_binread.specs.Remaining.{MarksOpenPath};
-ghost use Rattle.plist_binread.specs.NextChild.{ParentIsUncached, closes};
+ghost use Rattle.plist_binread.specs.NextChild.{IsEnd, ParentIsUncached, closes};
 
-use crate::frames::{Frames, Upcoming};
+use crate::frames::{Frames, NextChild};
 use crate::packed::unmark_open;
 use std::alloc::Global;
-
-/// What comes next of the innermost collection, which is closed once its children have come.
-#[derive(Clone, Copy)]
-pub enum NextChild {
-    /// Nothing is open.
-    Done,
-    /// It had no more children and was closed.
-    Closed,
-    /// A child: the number of its collection, and its index among that one's children.
-    Child(u64, u64),
-}
 
 /// How far a walk over the objects of a file is.
 #[derive(Drop)]
@@ -51,23 +39,23 @@ impl Walk {
 
     /// Takes the next child of the innermost collection, or closes it if it has no more.
     pub fn next_child(&mut self) -> NextChild
-        // The answer.
+        // Result.
         ensures remaining { WalkTakesNextChild self.old result self.new }
         ensures within { ParentIsUncached self.new.tags.items result }
-        ensures closes { closes (open_in self.old) ≡ true → result ≡ Closed }
-        // The state after it.
+        ensures closes { closes (open_in self.old) ≡ true → IsEnd result }
+        // State afterwards.
         ensures size { walk_objects self.new ≡ walk_objects self.old }
         ensures counted { cached_in self.new ≡ cached_in self.old }
         ensures weight { WalkWeightFalls self.old result self.new }
         ensures contents { self.new.contents.items ≡ self.old.contents.items }
     {
         match self.frames.next_child() {
-            Upcoming::Nothing => NextChild::Done,
-            Upcoming::End(object) => {
+            NextChild::Nothing => NextChild::Nothing,
+            NextChild::End(object) => {
                 unmark_open(&mut self.tags, object as usize);
-                NextChild::Closed
+                NextChild::End(object)
             }
-            Upcoming::Child(object, index) => NextChild::Child(object, index),
+            NextChild::Child(object, index) => NextChild::Child(object, index),
         }
     }
 }

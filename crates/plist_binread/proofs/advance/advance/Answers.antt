@@ -1,13 +1,13 @@
 use Rattle.std.proofs.Common.{◌≡◌, arith, ◌<◌, get_or, length, ◌-◌, reverse, IfSome, refl}
 use Rattle.std.proofs.lemmas.List.{get_or_read_under}
 use Rattle.std.proofs.lemmas.Result.{on_ok_weaker}
-use Rattle.plist_binread.specs.declared.walk.NextChild.TheVariants.{Child}
+use Rattle.plist_binread.specs.declared.frames.NextChild.TheVariants.{Child}
 use Rattle.plist_base.specs.Events.{EndCollection}
 use Rattle.plist_binread.specs.Slot.{answer_in}
-use Rattle.plist_binread.proofs.OverKnown.{IfSome-all}
+use Rattle.plist_binread.proofs.UnknownBytes.{IfSome-all}
 use Rattle.plist_binread.specs.Walking.{weight_in}
-use Rattle.plist_binread.proofs.Steps.{steps_positive}
-use Rattle.plist_binread.proofs.KnownChildren.{ChildTaken, known_child_taken, child_failed, child_kept, child_yields}
+use Rattle.plist_binread.proofs.WalkSteps.{steps_positive}
+use Rattle.plist_binread.proofs.ChildInvariant.{ChildTaken, known_child_taken, child_failed, child_kept, child_yields}
 use Rattle.plist_binread.proofs.advance.advance.Goals as goal
 use Rattle.plist_binread.proofs.advance.advance.Goals.{In-Child, After-read_child}
 
@@ -50,7 +50,7 @@ returns-in-Err-clause-handed g c =
             c.in-Child.ensures.within.1 (taken g t.In-Child) _
             (rw (place g t.After-read_child) at c.in-Err.ensures.child),
         IfSome-all _ (λ _. tt),
-        λ closes. (let no = c.next_child.ensures.closes closes in absurd (cc)),
+        λ closes. absurd (rw c.in-Child.is at (c.next_child.ensures.closes closes)),
       );
       taken = refl;
     }
@@ -82,7 +82,7 @@ returns-in-Ok-clause-handed g c =
             c.in-Child.ensures.within.0 c.in-Child.ensures.within.1 (taken g t.In-Child) _
             c.in-Ok.ensures.unchanged c.in-Ok.number (rw at at c.in-Ok.ensures.child) answer h.event
             c.enter.new.walk.tags.items h.is.1,
-        λ closes. (let no = c.next_child.ensures.closes closes in absurd (cc)),
+        λ closes. absurd (rw c.in-Child.is at (c.next_child.ensures.closes closes)),
       );
       taken = h.taken;
     }

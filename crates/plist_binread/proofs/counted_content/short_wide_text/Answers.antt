@@ -4,7 +4,7 @@ use Rattle.plist_base.specs.Trees.{String}
 use Rattle.plist_format.specs.Container.{numbers_spelled}
 use Rattle.plist_format.specs.Object.{Object, Scalar, wide_text}
 use Rattle.plist_binread.specs.Decoded.{IsDecodedAs}
-use Rattle.plist_binread.proofs.Decodings.{units_text}
+use Rattle.plist_binread.proofs.Decoding.{units_text}
 use Rattle.plist_binread.proofs.counted_content.short_wide_text.Goals as goal
 
 pub write_units-requires : goal.write_units-requires

@@ -1,6 +1,6 @@
 use Rattle.std.proofs.Common.{refl}
 use Rattle.plist_base.specs.Trees.{String}
-use Rattle.plist_binread.proofs.Packing.{packed_text}
+use Rattle.plist_binread.proofs.PackedScalars.{packed_text}
 use Rattle.plist_binread.proofs.counted_content.small_text.Goals as goal
 
 pub returns : goal.returns

@@ -6,11 +6,11 @@ use Rattle.plist_binread.specs.DecodeOutcome.{YieldsCurrent}
 use Rattle.plist_binread.specs.Packed.{content_bytes, unmarked, scalar_event}
 use Rattle.plist_binread.specs.Walking.{remaining_entering, remaining_in}
 use Rattle.plist_binread.specs.Remaining.{scalar_at}
-use Rattle.plist_binread.proofs.Steps.{yields_scalar, steps_positive}
-use Rattle.plist_binread.proofs.Opened.{not_open, cached_count-keep}
-use Rattle.plist_binread.proofs.Known.{as_many, known_kept}
-use Rattle.plist_binread.proofs.Packing.{kind_of_tag-some}
-use Rattle.plist_binread.proofs.Decodings.{collection-named, named-date, named-long, named-scalar}
+use Rattle.plist_binread.proofs.WalkSteps.{yields_scalar, steps_positive}
+use Rattle.plist_binread.proofs.OpenObjects.{not_open, cached_count-keep}
+use Rattle.plist_binread.proofs.WalkInvariant.{as_many, known_kept}
+use Rattle.plist_binread.proofs.PackedScalars.{kind_of_tag-some}
+use Rattle.plist_binread.proofs.Decoding.{collection-named, named-date, named-long, named-scalar}
 use Rattle.plist_binread.proofs.enter.cache_or_open.Goals as goal
 
 pub returns-in-Small-clause-counted : goal.returns-in-Small-clause-counted

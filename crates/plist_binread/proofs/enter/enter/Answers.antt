@@ -1,11 +1,11 @@
 use Rattle.std.proofs.Common.{◌≡◌, ◌<◌, true, arith, get_or, IfSome, ap, refl, rules, ◌∙◌}
 use Rattle.plist_base.specs.Events.{EndCollection}
-use Rattle.plist_binread.proofs.Decodings.{cached_if, fits_walk}
-use Rattle.plist_binread.proofs.Entering.{IsDecodedAt, known_decoded, on_answer, known_opens, known_read, known_refused, known_set, known_unpacked, known_unread}
+use Rattle.plist_binread.proofs.Decoding.{cached_if, fits_walk}
+use Rattle.plist_binread.proofs.ObjectEntry.{IsDecodedAt, known_decoded, on_answer, known_opens, known_read, known_refused, known_set, known_unpacked, known_unread}
 use Rattle.std.proofs.lemmas.Option.{IfSome_then}
-use Rattle.plist_binread.proofs.Known.{known_full, unfound_memory}
-use Rattle.plist_binread.proofs.OverKnown.{IfSome-all}
-use Rattle.plist_binread.proofs.Steps.{steps_positive}
+use Rattle.plist_binread.proofs.WalkInvariant.{known_full, unfound_memory}
+use Rattle.plist_binread.proofs.UnknownBytes.{IfSome-all}
+use Rattle.plist_binread.proofs.WalkSteps.{steps_positive}
 use Rattle.plist_binread.specs.Packed.{is_small_event, scalar_event, unmarked}
 use Rattle.plist_binread.specs.Slot.{answer_in}
 use Rattle.plist_binread.proofs.enter.enter.Goals as goal

@@ -1,7 +1,7 @@
 use Rattle.std.proofs.Common.{arith, ◌<◌, length, ap, sym, ◌∙◌}
 use Rattle.std.proofs.lemmas.List.{get_or_read}
 use Rattle.plist_binread.specs.Packed.{is_marked}
-use Rattle.plist_binread.proofs.Known.{unfound_beyond, unfound_open}
+use Rattle.plist_binread.proofs.WalkInvariant.{unfound_beyond, unfound_open}
 use Rattle.plist_binread.proofs.enter.look_up.Goals as goal
 
 pub returns-then-number-len-clause-refused : goal.returns-then-number-len-clause-refused

@@ -1,8 +1,8 @@
 use Rattle.std.proofs.Common.{arith, refl, ap, sym, ◌∙◌}
 use Rattle.plist_binread.specs.Packed.{unmarked}
-use Rattle.plist_binread.proofs.Steps.{yields_collection, reverse-push, start_falls}
-use Rattle.plist_binread.proofs.Opened.{IsOpen-push, not_open, admits_more, cached_count-mark}
-use Rattle.plist_binread.proofs.Known.{as_many, known_opened}
+use Rattle.plist_binread.proofs.WalkSteps.{yields_collection, reverse-push, start_falls}
+use Rattle.plist_binread.proofs.OpenObjects.{IsOpen-push, not_open, admits_more, cached_count-mark}
+use Rattle.plist_binread.proofs.WalkInvariant.{as_many, known_opened}
 use Rattle.plist_binread.proofs.enter.open.Goals as goal
 
 pub invariant_of-walk : goal.invariant_of-walk

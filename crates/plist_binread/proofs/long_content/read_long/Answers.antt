@@ -1,8 +1,8 @@
 use Rattle.std.proofs.Common.{arith}
 use Rattle.plist_base.specs.Faults.{fault_of}
 use Rattle.plist_binread.proofs.Contents.{content_read, content_refused, counts_answer}
-use Rattle.plist_binread.proofs.Failing.{err_within, from_within, passed}
-use Rattle.plist_binread.proofs.Decodings.{long_bytes}
+use Rattle.plist_binread.proofs.FaultOffsets.{err_within, from_within, passed}
+use Rattle.plist_binread.proofs.Decoding.{long_bytes}
 use Rattle.plist_binread.proofs.long_content.read_long.Goals as goal
 
 pub content_event-requires-clause-long : goal.content_event-requires-clause-long

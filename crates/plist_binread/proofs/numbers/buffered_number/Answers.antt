@@ -1,5 +1,5 @@
 use Rattle.std.proofs.Common.{arith}
-use Rattle.plist_binread.proofs.Columns.{known_at_hand}
+use Rattle.plist_binread.proofs.NumberRuns.{known_at_hand}
 use Rattle.plist_binread.proofs.numbers.buffered_number.Goals as goal
 
 pub returns-clause-value : goal.returns-clause-value

@@ -1,7 +1,7 @@
 use Rattle.std.proofs.Common.{◌≡◌, ◌+◌, ◌-◌, ◌*◌, ◌/◌, ◌≤◌, ◌∙◌, ap, arith, length, rules, take, drop}
 use Rattle.std.proofs.Math.Nat.{div-mul-le_self}
 use Rattle.plist_format.specs.Container.{number_of}
-use Rattle.plist_binread.proofs.Columns.{number_within, numbers_at_hand, numbers_more}
+use Rattle.plist_binread.proofs.NumberRuns.{number_within, numbers_at_hand, numbers_more}
 use Rattle.plist_binread.proofs.numbers.take_buffered.Goals as goal
 
 pub loop-i-preserved : goal.loop-i-preserved

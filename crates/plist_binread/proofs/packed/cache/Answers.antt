@@ -1,7 +1,7 @@
 use Rattle.std.proofs.Common.{refl, ap, ◌∙◌}
 use Rattle.std.proofs.lemmas.List.{get_or_read_under}
 use Rattle.plist_binread.specs.Packed.{kind_of_tag}
-use Rattle.plist_binread.proofs.Marks.{retagged, tag_kept, mark_kept}
+use Rattle.plist_binread.proofs.Tags.{retagged, tag_kept, mark_kept}
 use Rattle.plist_binread.proofs.packed.cache.Goals as goal
 
 pub returns-clause-tags : goal.returns-clause-tags

@@ -1,7 +1,7 @@
 use Rattle.std.proofs.Common.{refl, arith}
 use Rattle.std.proofs.lemmas.Bool.Decides.{nat_tests}
 use Rattle.std.proofs.lemmas.List.{get_or_read_under}
-use Rattle.plist_binread.proofs.Marks.{remarked}
+use Rattle.plist_binread.proofs.Tags.{remarked}
 use Rattle.plist_binread.proofs.packed.unmark_open.Goals as goal
 
 pub returns : goal.returns

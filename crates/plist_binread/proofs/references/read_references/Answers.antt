@@ -1,7 +1,7 @@
 use Rattle.std.proofs.Common.{rules, Err, sym, arith}
 use Rattle.std.proofs.Math.Seq.{take-length}
 use Rattle.plist_binread.proofs.Children.{known_references, known_childless}
-use Rattle.plist_binread.proofs.Seen.{known_front}
+use Rattle.plist_binread.proofs.ObjectFronts.{known_front}
 use Rattle.plist_binread.proofs.references.read_references.Goals as goal
 
 pub returns-in-Some-clause-references : goal.returns-in-Some-clause-references
@@ -15,4 +15,4 @@ pub returns-in-None-clause-references : goal.returns-in-None-clause-references
 returns-in-None-clause-references g c = λ index.
     known_childless _ c.args.bounds.now c.args.place index c.read_exact_at.new.buf
     (Err c.refuse_overrun.new.self.fault) (search rules) c.in-Ok.ensures.bytes
-    (rw c.requires.extent at c.in-None.ensures.none)
+    (rw c.requires.to_trailer at c.in-None.ensures.none)

@@ -1,8 +1,8 @@
 use Rattle.std.proofs.Common.{refl, ap, sym, arith, length, ◌++◌}
 use Rattle.plist_binread.proofs.Children.{childless, nothing_there, uncounted}
-use Rattle.plist_binread.proofs.Counted.{nothing_more}
+use Rattle.plist_binread.proofs.Lengths.{nothing_more}
 use Rattle.plist_binread.proofs.Markers.{object_by_half, uncounted_childless}
-use Rattle.plist_binread.proofs.Seen.{front_slots}
+use Rattle.plist_binread.proofs.ObjectFronts.{front_slots}
 use Rattle.plist_binread.proofs.references.references_in.Goals as goal
 
 pub returns-clause-references : goal.returns-clause-references
@@ -16,7 +16,7 @@ returns-clause-references c = λ more.
 
 pub returns-in_err-byte-clause-none : goal.returns-in_err-byte-clause-none
 returns-in_err-byte-clause-none c = rw c.from_residual.ensures (λ more whole.
-    nothing_there c.args.width c.args.extent c.args.seen.now more whole c.requires.shown
+    nothing_there c.args.width c.args.to_trailer c.args.seen.now more whole c.requires.shown
     c.in_err-byte.ensures.cases)
 
 pub returns-in_err-kind-clause-none : goal.returns-in_err-kind-clause-none
@@ -30,7 +30,7 @@ pub returns-in_err-count-clause-none : goal.returns-in_err-count-clause-none
 returns-in_err-count-clause-none c = rw c.from_residual-in_err-count.ensures (λ more whole.
     let first = c.in_ok-byte.ensures.cases.0 in
     let short = c.in_err-count.ensures.cut in
-    rw (nothing_more c.args.extent c.args.seen.now more whole
+    rw (nothing_more c.args.to_trailer c.args.seen.now more whole
     (c.requires.shown (omega (arith, ap length first, short.0))))
     (childless c.args.width _ c.args.seen.now _ first
     (rw (object_by_half c.args.width _ c.decode.result _ _ c.decode.ensures.byte

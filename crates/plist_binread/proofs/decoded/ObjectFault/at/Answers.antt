@@ -1,4 +1,4 @@
-use Rattle.plist_binread.proofs.Decodings.{fault_there}
+use Rattle.plist_binread.proofs.Decoding.{fault_there}
 use Rattle.plist_binread.proofs.decoded.ObjectFault.at.Goals as goal
 
 pub returns-in_default : goal.returns-in_default

@@ -5,7 +5,7 @@ use Rattle.plist_format.specs.Container.{Head, head_of}
 use Rattle.plist_binread.specs.inner.Heads.{head_seen}
 use Rattle.std.proofs.lemmas.Result.{IfOk-weaker, IfErr-weaker}
 use Rattle.plist_binread.proofs.Heads.{refused_short, refused_io, refused_magic, refused_cut, HeadSaid, head_whole}
-use Rattle.plist_binread.proofs.Failing.{err_within, from_reading, passed}
+use Rattle.plist_binread.proofs.FaultOffsets.{err_within, from_reading, passed}
 use Rattle.plist_binread.proofs.head.Head.read.Goals as goal
 use Rattle.plist_binread.proofs.head.Head.read.Goals.{After-read_before}
 

@@ -1,6 +1,6 @@
 use Rattle.std.proofs.Common.{◌+◌, ◌*◌, arith}
 use Rattle.plist_binread.specs.inner.Heads.{trailer_seen}
-use Rattle.plist_binread.proofs.Failing.{counts_fault, from_reading, from_within, passed}
+use Rattle.plist_binread.proofs.FaultOffsets.{counts_fault, from_reading, from_within, passed}
 use Rattle.plist_binread.proofs.Heads.{fault_checking, fault_placing, fault_reading, head_placed}
 use Rattle.plist_binread.proofs.head.Head.read_before.Goals as goal
 

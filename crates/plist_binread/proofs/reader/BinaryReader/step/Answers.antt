@@ -1,9 +1,9 @@
 use Rattle.std.proofs.Common.{refl, Some}
 use Rattle.plist_base.specs.Events.{EndCollection}
-use Rattle.plist_binread.proofs.Taken.{left_behind, nothing_ended}
+use Rattle.plist_binread.proofs.ReaderCalls.{left_behind, nothing_ended}
 use Rattle.plist_binread.proofs.Children.{known_no_references}
-use Rattle.plist_binread.proofs.OverKnown.{IfSome-all, IfSome-never}
-use Rattle.plist_binread.proofs.Stepped.{first_walks, item_walks, not_fresh, walks_on_ok}
+use Rattle.plist_binread.proofs.UnknownBytes.{IfSome-all, IfSome-never}
+use Rattle.plist_binread.proofs.UnlimitedSteps.{first_walks, item_walks, not_fresh, walks_on_ok}
 use Rattle.plist_binread.proofs.reader.BinaryReader.step.Goals as goal
 
 pub returns-in-Ended-clause-walks : goal.returns-in-Ended-clause-walks

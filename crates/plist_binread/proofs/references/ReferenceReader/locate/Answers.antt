@@ -1,6 +1,6 @@
 use Rattle.std.proofs.Common.{rules, Err, refl, arith}
 use Rattle.plist_binread.proofs.Children.{known_references, known_beyond, known_childless}
-use Rattle.plist_binread.proofs.Seen.{known_front, known_prefix}
+use Rattle.plist_binread.proofs.ObjectFronts.{known_front, known_prefix}
 use Rattle.plist_binread.proofs.references.ReferenceReader.locate.Goals as goal
 
 pub returns-then-place-bounds-clause-refused : goal.returns-then-place-bounds-clause-refused

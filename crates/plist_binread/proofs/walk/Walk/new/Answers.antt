@@ -1,5 +1,5 @@
 use Rattle.std.proofs.Common.{ap, length, sym, ◌∙◌}
-use Rattle.plist_binread.proofs.Opened.{IsOpen-empty}
+use Rattle.plist_binread.proofs.OpenObjects.{IsOpen-empty}
 use Rattle.plist_binread.proofs.walk.Walk.new.Goals as goal
 
 pub invariant_of-result : goal.invariant_of-result

@@ -2,8 +2,8 @@ use Rattle.std.proofs.Common.{ap, not, sym, ◌∙◌}
 use Rattle.std.proofs.lemmas.Bool.{lt-ltb}
 use Rattle.plist_binread.specs.Frames.{frame_of}
 use Rattle.plist_binread.specs.NextChild.{closes}
-use Rattle.plist_binread.proofs.ChildTaken.{next_path, child_remaining, closed_remaining, child_weight, closed_weight}
-use Rattle.plist_binread.proofs.Opened.{IsOpen-pop, first_below, first_uncached, cached_count-mark}
+use Rattle.plist_binread.proofs.InnermostChild.{next_path, child_remaining, closed_remaining, child_weight, closed_weight}
+use Rattle.plist_binread.proofs.OpenObjects.{IsOpen-pop, first_below, first_uncached, cached_count-mark}
 use Rattle.plist_binread.proofs.walk.Walk.next_child.Goals as goal
 
 pub returns-in-Nothing-clause-closes : goal.returns-in-Nothing-clause-closes

@@ -1,0 +1,96 @@
+-- What is known after the next child was taken.
+use Rattle.std.proofs.Common.{◌≡◌, ℕ, ◌<◌, List, get_or, Option, Some, Result, Ok, Err, IfSome, MatchResult, ap, ◌∙◌}
+use Rattle.std.specs.List.{slice_get}
+use Rattle.plist_base.specs.declared.error.Error.{Error}
+use Rattle.plist_base.specs.Visits.{Flow}
+use Rattle.plist_base.specs.Events.{PlainEvent}
+use Rattle.plist_base.specs.Faults.{IsIo, kind_of, error_kind_of}
+use Rattle.plist_base.proofs.Refusals.{MatchFault-weaker}
+use Rattle.plist_binread.specs.Beginning.{IsKnownWalk}
+use Rattle.plist_binread.specs.DecodeOutcome.{YieldsAnswer}
+use Rattle.plist_binread.specs.declared.frames.NextChild.{NextChild}
+use Rattle.plist_binread.specs.declared.frames.NextChild.TheVariants.{Child}
+use Rattle.plist_binread.specs.declared.walk.Walk.{Walk}
+use Rattle.plist_binread.specs.declared.head.Bounds.{Bounds}
+use Rattle.plist_binread.specs.Packed.{unmarked}
+use Rattle.plist_format.specs.Unfolding.{until_fault}
+use Rattle.plist_binread.specs.Reading.{ReadsChildAt}
+use Rattle.plist_binread.specs.Remaining.{place_at, children_at, entries_of, next_number, Explains}
+use Rattle.plist_binread.specs.Step.{WalkTakesNextChild}
+use Rattle.plist_binread.specs.NextChild.{IsCurrentCached, TakesNextChild}
+use Rattle.plist_binread.specs.Walking.{IsWalkOf, open_in, remaining_entering, remaining_in, walk_objects}
+use Rattle.plist_binread.proofs.WalkInvariant.{as_many, entry_there, held_place}
+use Rattle.std.proofs.lemmas.Option.{IfSome_then}
+use Rattle.plist_binread.proofs.UnknownBytes.{IfSome-both}
+
+-- ---- the next child
+
+abbrev pub ChildTaken : (bytes : List ℕ) → Bounds → (old : Walk) → NextChild → (new : Walk) → Type 0
+ChildTaken bytes bounds old child new =
+    TakesNextChild (entries_of bytes bounds) (open_in old) child (open_in new) × IsWalkOf bytes bounds new
+
+pub known_child_taken : (known : Option (List ℕ)) (bounds : Bounds) (old new : Walk) (child : NextChild)
+    → IsKnownWalk known bounds old → WalkTakesNextChild old child new
+    → IfSome known (λ bytes. ChildTaken bytes bounds old child new)
+known_child_taken known bounds old new child k takes =
+    IfSome_then known k (λ bytes k. takes bytes bounds k)
+
+-- the number of the child of an object
+abbrev pub child_of : (bytes : List ℕ) → Bounds → (object index : ℕ) → ℕ
+child_of bytes bounds object index =
+    get_or (children_at (slice_get (entries_of bytes bounds) object)) index 0
+
+module _ (known : Option (List ℕ)) (bounds : Bounds) (old mid : Walk) (object index : ℕ)
+    (h : object < walk_objects mid) (none : unmarked (get_or mid.tags.items object 0) ≡ 0)
+    (taken : IfSome known (λ bytes. ChildTaken bytes bounds old (Child object index) mid)) where
+  -- the number that was read is that of the child
+  pub child_read : (answer : Result ℕ Error)
+      → ReadsChildAt answer known bounds (get_or mid.contents.items object 0) index
+      → IfSome known (λ bytes. ChildTaken bytes bounds old (Child object index) mid
+      × MatchResult answer (λ number. number ≡ child_of bytes bounds object index)
+      (λ error. IsIo (kind_of (error_kind_of error))))
+  child_read answer reads = IfSome-both known taken reads (λ bytes taken reads.
+      let k = taken.1 in
+      let there = entry_there bytes bounds mid.tags.items mid.contents.items (open_in mid) k object
+      h in
+      let place = held_place bytes bounds mid.tags.items mid.contents.items (open_in mid) k object h
+      none ∙ ap place_at there in
+      (taken, rw there ((rw place at (reads k.within)) (rw there at taken.0.1))))
+
+  -- a read of the reference failed
+  pub child_failed : (e : Error)
+      → ReadsChildAt (Err e) known bounds (get_or mid.contents.items object 0) index
+      → IfSome known (λ bytes. Explains (until_fault (remaining_in bytes bounds old)) e)
+  child_failed e reads = IfSome_then known (child_read (Err e) reads) (λ bytes child.
+      MatchFault-weaker (kind_of (error_kind_of e)) (λ _. child.0.0.2) (λ none. absurd none)
+      (λ none. absurd none) child.1)
+
+  -- the child is entered, where the source is read no more
+  module _ (now : Option (List ℕ)) (same : now ≡ known) (number : ℕ)
+      (reads : ReadsChildAt (Ok number) known bounds (get_or mid.contents.items object 0) index)
+    where
+      -- the items of the child come first
+      child_first : IfSome known (λ bytes. remaining_in bytes bounds old
+          ≡ remaining_entering bytes bounds mid (get_or mid.contents.items object 0) number)
+      child_first = IfSome_then known (child_read (Ok number) reads) (λ bytes child.
+          let k = child.0.1 in
+          let place = held_place bytes bounds mid.tags.items mid.contents.items (open_in mid) k object
+          h none in
+          let many = as_many bytes bounds mid.tags.items mid.contents.items (open_in mid) k in
+          rw (child.1, ← many, place) child.0.0.0)
+
+      pub child_yields : (answer : Result Flow Error) (current : PlainEvent) (new : Walk)
+          → IfSome now (λ bytes. YieldsAnswer (remaining_entering bytes bounds mid
+          (get_or mid.contents.items object 0) number) answer current (remaining_in bytes bounds new))
+          → IfSome known (λ bytes. YieldsAnswer (remaining_in bytes bounds old) answer current
+          (remaining_in bytes bounds new))
+      child_yields answer current new yields = IfSome-both known child_first (rw same at yields)
+          (λ bytes first yields. rw first yields)
+
+      -- and it is cached if it is small
+      pub child_kept : (answer : Result Flow Error) (current : PlainEvent) (tags : List ℕ)
+          → IfSome now (λ bytes. IsCurrentCached (Some number) (Some answer) current tags)
+          → IfSome known (λ bytes. IsCurrentCached
+          (next_number (entries_of bytes bounds) (open_in old)) (Some answer) current tags)
+      child_kept answer current tags kept = IfSome-both known (child_read (Ok number) reads)
+          (rw same at kept) (λ bytes child kept. rw (child.0.0.3, ← child.1) kept)

@@ -1,0 +1,456 @@
+-- What is decoded of an object, and what is wrong with one.
+use Rattle.std.proofs.Common.{◌≡◌, ℕ, suc, inl, inr, ◌+◌, ◌-◌, ◌*◌, ◌<◌, ◌≤◌, Bool, true, false, List, ◌∷◌, ◌++◌, length, take, drop, get_or, replicate, Option, None, Some, Result, Ok, Err, IfSome, refl, ap, sym, subst, ◌∙◌, arith}
+use Rattle.std.specs.Prelude.{⊤, OnOk, if◌then◌else◌}
+use Rattle.std.proofs.lemmas.Bool.{cases_lt, false≢true, le-leb}
+use Rattle.std.proofs.lemmas.List.{length-append, length-drop, length-take-le, drop-append-le, drop-drop, take-take}
+use Rattle.std.proofs.lemmas.Option.{IfSome_then}
+use Rattle.std.specs.Char.Utf16.{has_unpaired_surrogate, utf16_lossy_chars}
+use Rattle.std.specs.Str.{encode_utf8_all}
+use Rattle.std.proofs.Math.ListN.{length-replicate}
+use Rattle.std.proofs.Math.Seq.{take-length}
+use Rattle.plist_base.specs.declared.error.Error.{Error}
+use Rattle.plist_base.specs.Events.{PlainEvent, ScalarEvent}
+use Rattle.plist_base.specs.Faults.{Fault, FaultKind, MatchFault, OutOfMemory, error_kind_of, fault_at, fault_nowhere, fault_of, kind_of}
+use Rattle.plist_base.specs.Faults as faults
+use Rattle.plist_base.specs.Sources.{CountsIo, LiesAt}
+use Rattle.plist_base.specs.Trees as trees
+use Rattle.plist_base.proofs.Refusals.{MatchFault-at}
+use Rattle.plist_format.specs.Object.{Object, Scalar, Array, Dictionary, Faulty, date, date_if_any, length_in, object_in, text, text_of_units}
+use Rattle.plist_binread.specs.CountedContent.{content_means, counted_with, unit_size}
+use Rattle.plist_binread.specs.Decoded.{DecodesAfter, DecodesAt, DecodesSeen, CountsUnread, FailsUnread, FitsBefore, FitsWalk, IsDecodedAs, IsObjectFault, IsLongCount, IsDecodedOrUnread, SetsContentAt, SetsDecoded, SetsEvent, bytes_at, content_size, event_of_object, is_unread, kind_of_object_fault, small_count}
+use Rattle.plist_binread.specs.Decoding.{Allocates, IsCollection, IsRefusedAs, scalar_event_in}
+use Rattle.plist_binread.specs.FaultOffsets.{FailsWithin, MatchReader}
+use Rattle.plist_binread.specs.Packed.{MayAllocate, content_bytes, is_small_event, scalar_event, unmarked, unpacked}
+use Rattle.plist_binread.specs.NextChild.{IsCurrentCached}
+use Rattle.plist_binread.specs.Reading.{data_of_content, object_at, object_with}
+use Rattle.plist_binread.specs.Slot.{answer_in}
+use Rattle.plist_binread.specs.declared.decoded.Content.{Content}
+use Rattle.plist_binread.specs.declared.decoded.ContentKind.{ContentKind}
+use Rattle.plist_binread.specs.declared.decoded.ContentKind.TheVariants as content_kind
+use Rattle.plist_binread.specs.declared.decoded.Decoded.{Decoded}
+use Rattle.plist_binread.specs.declared.decoded.Decoded.TheVariants as decoded
+use Rattle.plist_binread.specs.declared.decoded.ObjectFault.{ObjectFault}
+use Rattle.plist_binread.specs.declared.decoded.ObjectFault.TheVariants as fault
+use Rattle.plist_binread.specs.declared.fault_slot.FaultSlot.{FaultSlot}
+use Rattle.plist_binread.specs.declared.fault_slot.StepError.{StepError}
+use Rattle.plist_binread.specs.declared.head.Bounds.{Bounds}
+use Rattle.plist_binread.specs.declared.packed.PackedKind.{PackedKind}
+use Rattle.plist_binread.specs.declared.packed.PackedKind.TheVariants as kind
+use Rattle.plist_binread.proofs.NumberRuns.{take-drop-take}
+use Rattle.plist_binread.proofs.Contents.{refused_as}
+use Rattle.plist_binread.proofs.Lengths.{content_seen}
+use Rattle.plist_binread.proofs.Extents.{leb_short}
+use Rattle.plist_binread.proofs.FaultOffsets.{counts_at, from_fault}
+use Rattle.plist_binread.proofs.UnknownBytes.{IfSome-all}
+use Rattle.plist_binread.proofs.ObjectFronts.{known_front, object_front}
+
+-- ---- what is wrong
+
+by_kind : (kind : FaultKind) (place : ℕ) (e : Error) → fault_of e ≡ fault_at kind place
+    → MatchFault kind ⊥ ⊥ ⊤ → MatchReader kind ⊥ ⊥ ⊤
+    → ((object : Object) → object ≡ Faulty kind → IsRefusedAs object place e)
+    × ((end : ℕ) → FailsWithin place end (fault_of e)) × ((count : ℕ) → CountsIo e count count)
+by_kind kind place e is inside reader = (
+  λ object h. refused_as object place e kind is inside h,
+  λ end. from_fault _ kind place place end is reader,
+  λ count. counts_at e kind place count count is inside refl,
+)
+
+-- the error of an object's fault at its place
+pub fault_there : (f : ObjectFault) (kind : FaultKind) (place : ℕ) (e : Error)
+    → (f ≡ fault.NoMemory → ⊥) → kind ≡ kind_of_object_fault f → fault_of e ≡ fault_at kind place
+    → ((object : Object) → IsObjectFault object f → IsRefusedAs object place e)
+    × ((end : ℕ) → FailsWithin place end (fault_of e)) × ((count : ℕ) → CountsIo e count count)
+fault_there fault.NoMemory kind place e other same is = absurd (other refl)
+fault_there fault.Overrun kind place e other same is =
+    by_kind faults.ObjectOffsetTooLarge place e (is ∙ ap (λ k. fault_at k place) same) tt tt
+fault_there fault.Null kind place e other same is =
+    by_kind faults.NullObjectUnimplemented place e (is ∙ ap (λ k. fault_at k place) same) tt tt
+fault_there fault.Fill kind place e other same is =
+    by_kind faults.FillObjectUnimplemented place e (is ∙ ap (λ k. fault_at k place) same) tt tt
+fault_there (fault.Unknown marker) kind place e other same is =
+    by_kind (faults.UnknownObjectType marker) place e (is ∙ ap (λ k. fault_at k place) same) tt tt
+fault_there fault.OutOfRange kind place e other same is =
+    by_kind faults.IntegerOutOfRange place e (is ∙ ap (λ k. fault_at k place) same) tt tt
+fault_there fault.NoDate kind place e other same is =
+    by_kind faults.OverflowOrNanDate place e (is ∙ ap (λ k. fault_at k place) same) tt tt
+fault_there fault.NotUtf8 kind place e other same is =
+    by_kind faults.InvalidUtf8String place e (is ∙ ap (λ k. fault_at k place) same) tt tt
+fault_there fault.NotUtf16 kind place e other same is =
+    by_kind faults.InvalidUtf16String place e (is ∙ ap (λ k. fault_at k place) same) tt tt
+
+-- ---- a text or data
+
+-- of which only the length was looked at
+pub long_decoded : (kind : ContentKind) (low count first : ℕ) (rest behind more : List ℕ)
+    → length_in low (rest ++ more) ≡ Some (count, behind ++ more)
+    → count * unit_size kind ≤ length (behind ++ more) → length behind ≤ length rest
+    → drop (length rest - length behind) rest ≡ behind → IsLongCount kind count
+    → IsDecodedAs (first ∷ (rest ++ more)) (counted_with kind low (rest ++ more))
+    (decoded.Long kind (1 + (length rest - length behind)) count)
+long_decoded kind low count first rest behind more is fits short lies long =
+    let k = length rest - length behind in
+    let next : 1 + k ≡ suc k = omega arith in
+    let there : drop (1 + k) (first ∷ (rest ++ more)) ≡ behind ++ more =
+    rw next (drop-append-le k rest more (omega arith) ∙ ap (λ xs. xs ++ more) lies) in (
+      omega (arith, length-append rest more, length-append behind more, fits, short),
+      rw (is, le-leb (count * unit_size kind) (length (behind ++ more)) fits)
+          (ap (λ xs. content_means kind (take (count * unit_size kind) xs)) (sym there)),
+      long,
+    )
+
+-- few bytes of data
+pub small_data : (low count content first : ℕ) (rest behind bytes more : List ℕ)
+    → length_in low (rest ++ more) ≡ Some (count, behind ++ more) → count ≤ length behind → count ≤ 8
+    → bytes ≡ take count behind → take (length bytes) (content_bytes content) ≡ bytes
+    → IsDecodedAs (first ∷ (rest ++ more)) (counted_with content_kind.Data low (rest ++ more))
+    (decoded.Small (kind.Data count) content)
+small_data low count content first rest behind bytes more is seen small cut packed =
+    let one : count * 1 ≡ count = omega arith in
+    let n : length bytes ≡ count = ap length cut ∙ length-take-le count behind seen in (
+      trees.Data bytes,
+      content_seen low 1 count rest behind more is (rw one seen) data_of_content
+          ∙ ap (λ xs. Scalar (trees.Data xs)) (ap (λ k. take k behind) one ∙ sym cut),
+      ap (λ xs. Some (trees.Data xs)) (rw n at packed),
+      small,
+    )
+
+-- few bytes of a text, whatever they mean
+pub few_bytes : (kind : ContentKind) (low count size first : ℕ) (rest behind bytes more : List ℕ)
+    (answer : Decoded)
+    → length_in low (rest ++ more) ≡ Some (count, behind ++ more) → size ≡ count * unit_size kind
+    → size ≤ length behind → bytes ≡ take size behind
+    → ((all : List ℕ) → IsDecodedAs all (content_means kind bytes) answer)
+    → IsDecodedAs (first ∷ (rest ++ more)) (counted_with kind low (rest ++ more)) answer
+few_bytes kind low count size first rest behind bytes more answer is same seen cut means =
+    let e : counted_with kind low (rest ++ more) ≡ content_means kind bytes =
+    content_seen low (unit_size kind) count rest behind more is (rw same at seen)
+    (content_means kind)
+    ∙ ap (content_means kind) (ap (λ k. take k behind) (sym same) ∙ sym cut) in
+    subst (λ object. IsDecodedAs (first ∷ (rest ++ more)) object answer) (sym e)
+    (means (first ∷ (rest ++ more)))
+
+-- ---- what is seen of an object
+
+-- its marker and what lies after it
+pub seen_after : (w m to_trailer : ℕ) (seen rest : List ℕ) (answer : Decoded)
+    → seen ≡ m ∷ rest → DecodesAfter (to_trailer - 1) (object_with w m) rest answer
+    → DecodesSeen to_trailer (object_in w) seen answer
+seen_after w m to_trailer seen rest answer is means = λ more whole.
+    let e : seen ++ more ≡ m ∷ (rest ++ more) = ap (λ xs. xs ++ more) is in
+    let n : length (rest ++ more) ≡ to_trailer - 1 = omega (arith, ap length e, whole) in
+    let o : object_in w (seen ++ more) ≡ object_with w m (rest ++ more) =
+    object_front w m (seen ++ more) (rest ++ more) e in
+    subst (λ object. IsDecodedAs (seen ++ more) object answer) (sym o)
+    (subst (λ all. IsDecodedAs all (object_with w m (rest ++ more)) answer) (sym e)
+    (means m more n))
+
+-- over known bytes
+seen_answers : (known : Option (List ℕ)) (bounds : Bounds) (place : ℕ) (seen : List ℕ)
+    (answer : Decoded)
+    → place + length seen ≤ bounds.trailer → IfSome known (λ bytes. LiesAt bytes place seen)
+    → DecodesSeen (bounds.trailer - place) (object_in bounds.reference_width) seen answer
+    → IfSome known (λ bytes. bounds.trailer ≤ length bytes
+    → IsDecodedAs (bytes_at bounds place bytes) (object_at bounds place bytes) answer)
+seen_answers known bounds place seen answer buffered is means = IfSome_then known is (λ bytes is fits.
+    let cut = known_front (Some bytes) seen seen bounds.trailer place _ buffered (omega arith)
+    (sym (take-length _)) is fits in
+    let to_trailer = ap length (sym cut.1) ∙ length-drop place (take bounds.trailer bytes)
+    ∙ ap (λ m. m - place) (length-take-le bounds.trailer bytes fits) in
+    subst (λ all. IsDecodedAs all (object_in bounds.reference_width all) answer) (sym cut.1)
+    (means cut.0 to_trailer))
+
+-- it was read
+read_as : (all : List ℕ) (object : Object) (place : ℕ) (d : Decoded) (slot : FaultSlot)
+    → IsDecodedAs all object d → IsDecodedOrUnread all object place d slot
+read_as all object place (decoded.Small kind content) slot is = is
+read_as all object place (decoded.Date content) slot is = is
+read_as all object place (decoded.Long kind start count) slot is = is
+read_as all object place (decoded.Array count) slot is = is
+read_as all object place (decoded.Dictionary count) slot is = is
+read_as all object place (decoded.Faulty fault) slot is = is
+read_as all object place decoded.Unread slot is = absurd is
+
+pub seen_decodes : (known : Option (List ℕ)) (bounds : Bounds) (place : ℕ) (seen : List ℕ)
+    (answer : Decoded) (slot : FaultSlot)
+    → place + length seen ≤ bounds.trailer → IfSome known (λ bytes. LiesAt bytes place seen)
+    → DecodesSeen (bounds.trailer - place) (object_in bounds.reference_width) seen answer
+    → DecodesAt known bounds place answer slot
+seen_decodes known bounds place seen answer slot buffered is means =
+    IfSome_then known (seen_answers known bounds place seen answer buffered is means)
+    (λ bytes there fits. read_as _ _ place answer slot (there fits))
+
+-- whatever the bytes are
+decoded_fits : (trailer place : ℕ) (all : List ℕ) (object : Object) (d : Decoded)
+    → place + length all ≤ trailer → IsDecodedAs all object d → FitsBefore trailer place d
+decoded_fits trailer place all object (decoded.Small kind content) h is = is.3
+decoded_fits trailer place all object (decoded.Date content) h is = tt
+decoded_fits trailer place all object (decoded.Long kind start count) h is =
+    (omega (arith, h, is.0), is.2)
+decoded_fits trailer place all object (decoded.Array count) h is = tt
+decoded_fits trailer place all object (decoded.Dictionary count) h is = omega (arith, h, is.1)
+decoded_fits trailer place all object (decoded.Faulty fault) h is = tt
+decoded_fits trailer place all object decoded.Unread h is = is
+
+-- an answer for bytes that are seen
+pub seen_as : (bounds : Bounds) (place : ℕ) (seen : List ℕ) (answer : Decoded)
+    → place + length seen ≤ bounds.trailer
+    → DecodesSeen (bounds.trailer - place) (object_in bounds.reference_width) seen answer
+    → (all : List ℕ) × (place + length all ≤ bounds.trailer)
+    × IsDecodedAs all (object_in bounds.reference_width all) answer
+seen_as bounds place seen answer h means =
+    let k = bounds.trailer - place - length seen in
+    let more = replicate k 0 in
+    let n : length (seen ++ more) ≡ bounds.trailer - place =
+    omega (arith, length-append seen more, length-replicate {A = ℕ} k 0, h) in
+    (seen ++ more, omega (arith, n, h), means more n)
+
+pub seen_fits : (bounds : Bounds) (place : ℕ) (seen : List ℕ) (answer : Decoded)
+    → place + length seen ≤ bounds.trailer
+    → DecodesSeen (bounds.trailer - place) (object_in bounds.reference_width) seen answer
+    → FitsBefore bounds.trailer place answer
+seen_fits bounds place seen answer h means =
+    let a = seen_as bounds place seen answer h means in
+    decoded_fits bounds.trailer place a.0 _ answer a.1 a.2
+
+-- and they were read
+read_all : (all : List ℕ) (object : Object) (d : Decoded) → IsDecodedAs all object d
+    → is_unread d ≡ false
+read_all all object (decoded.Small kind content) is = refl
+read_all all object (decoded.Date content) is = refl
+read_all all object (decoded.Long kind start count) is = refl
+read_all all object (decoded.Array count) is = refl
+read_all all object (decoded.Dictionary count) is = refl
+read_all all object (decoded.Faulty fault) is = refl
+read_all all object decoded.Unread is = absurd is
+
+pub seen_read : (bounds : Bounds) (place : ℕ) (seen : List ℕ) (answer : Decoded)
+    → place + length seen ≤ bounds.trailer
+    → DecodesSeen (bounds.trailer - place) (object_in bounds.reference_width) seen answer
+    → is_unread answer ≡ false
+seen_read bounds place seen answer h means =
+    let a = seen_as bounds place seen answer h means in read_all a.0 _ answer a.2
+
+pub fails_none : (start end : ℕ) (d : Decoded) (slot : FaultSlot) → is_unread d ≡ false
+    → FailsUnread start end d slot
+fails_none start end d slot read unread = absurd (false≢true (sym read ∙ unread))
+
+pub counts_none : (d : Decoded) (slot : FaultSlot) (old new : ℕ) → is_unread d ≡ false
+    → new ≡ old → CountsUnread d slot old new
+counts_none (decoded.Small kind content) slot old new read same = same
+counts_none (decoded.Date content) slot old new read same = same
+counts_none (decoded.Long kind start count) slot old new read same = same
+counts_none (decoded.Array count) slot old new read same = same
+counts_none (decoded.Dictionary count) slot old new read same = same
+counts_none (decoded.Faulty fault) slot old new read same = same
+counts_none decoded.Unread slot old new read same = absurd (false≢true (sym read))
+
+pub fits_walk : (bounds : Bounds) (place : ℕ) (d : Decoded) → FitsBefore bounds.trailer place d
+    → FitsWalk d
+fits_walk bounds place (decoded.Small kind content) h = h
+fits_walk bounds place (decoded.Date content) h = tt
+fits_walk bounds place (decoded.Long kind start count) h = tt
+fits_walk bounds place (decoded.Faulty fault) h = tt
+fits_walk bounds place decoded.Unread h = tt
+fits_walk bounds place (decoded.Array count) h = tt
+fits_walk bounds place (decoded.Dictionary count) h =
+    let small = bounds.small in omega (arith, h, small)
+
+-- ---- the event of an object
+
+pub scalar_event-named : (object : Object) (event : PlainEvent) → scalar_event_in object ≡ Some event
+    → event_of_object object ≡ Some event
+scalar_event-named (Scalar scalar) event h = h
+scalar_event-named (Array items) event h = absurd (cc)
+scalar_event-named (Dictionary pairs) event h = absurd (cc)
+scalar_event-named (Faulty kind) event h = absurd (cc)
+
+pub named-scalar : (object : Object) (scalar : trees.Scalar) (event : PlainEvent)
+    → object ≡ Scalar scalar → event_of_object object ≡ Some event
+    → scalar_event_in object ≡ Some event
+named-scalar object scalar event is named =
+    ap scalar_event_in is ∙ sym (ap event_of_object is) ∙ named
+
+named-if : (b : Bool) (s : trees.Scalar) (k : FaultKind) (event : PlainEvent)
+    → event_of_object (if b then Scalar s else Faulty k) ≡ Some event
+    → scalar_event_in (if b then Scalar s else Faulty k) ≡ Some event
+named-if true s k event h = h
+named-if false s k event h = absurd (cc)
+
+named-unless : (b : Bool) (s : trees.Scalar) (k : FaultKind) (event : PlainEvent)
+    → event_of_object (if b then Faulty k else Scalar s) ≡ Some event
+    → scalar_event_in (if b then Faulty k else Scalar s) ≡ Some event
+named-unless true s k event h = absurd (cc)
+named-unless false s k event h = h
+
+named-content : (kind : ContentKind) (bytes : List ℕ) (event : PlainEvent)
+    → event_of_object (content_means kind bytes) ≡ Some event
+    → scalar_event_in (content_means kind bytes) ≡ Some event
+named-content content_kind.Data bytes event h = h
+named-content content_kind.Text bytes event h = named-if _ _ _ event h
+named-content content_kind.WideText bytes event h = named-unless _ _ _ event h
+
+pub named-long : (object : Object) (kind : ContentKind) (bytes : List ℕ) (event : PlainEvent)
+    → object ≡ content_means kind bytes → event_of_object object ≡ Some event
+    → scalar_event_in object ≡ Some event
+named-long object kind bytes event is named =
+    ap scalar_event_in is ∙ named-content kind bytes event (sym (ap event_of_object is) ∙ named)
+
+pub named-date : (object : Object) (bytes : List ℕ) (event : PlainEvent) → object ≡ date bytes
+    → event_of_object object ≡ Some event → scalar_event_in object ≡ Some event
+named-date object bytes event is named =
+    ap scalar_event_in is ∙ by _ (sym (ap event_of_object is) ∙ named)
+  where
+    by : (found : Option (List ℕ)) → event_of_object (date_if_any found) ≡ Some event
+        → scalar_event_in (date_if_any found) ≡ Some event
+    by None h = absurd (cc)
+    by (Some bytes) h = h
+
+pub collection-named : (object : Object) (start : PlainEvent) (count : ℕ)
+    → IsCollection object start count → event_of_object object ≡ Some start
+collection-named (Array items) start count h = ap Some (sym h.0)
+collection-named (Dictionary pairs) start count h = ap Some (sym h.0)
+collection-named (Scalar scalar) start count h = absurd h
+collection-named (Faulty kind) start count h = absurd h
+
+-- of a small scalar that is unpacked
+pub small-named : (all : List ℕ) (object : Object) (kind : PackedKind) (content : ℕ)
+    (current : PlainEvent) → scalar_event (unpacked kind content) ≡ Some current
+    → IsDecodedAs all object (decoded.Small kind content) → event_of_object object ≡ Some current
+small-named all object kind content current unpacks is =
+    ap event_of_object is.1 ∙ sym (ap scalar_event is.2) ∙ unpacks
+
+grows-small : (scalar : trees.Scalar) → MayAllocate (Some scalar) → Allocates (Scalar scalar)
+grows-small (trees.String text) h = tt
+grows-small (trees.Data bytes) h = tt
+grows-small scalar h = absurd h
+
+-- a small object is refused where allocation fails
+pub small-refused : (all : List ℕ) (object : Object) (place : ℕ) (kind : PackedKind) (content : ℕ)
+    (e : Error) → fault_of e ≡ fault_nowhere OutOfMemory → MayAllocate (unpacked kind content)
+    → IsDecodedAs all object (decoded.Small kind content) → IsRefusedAs object place e
+small-refused all object place kind content e memory wanted is =
+    MatchFault-at _ _ _ _ _ (ap (λ (f : Fault). f.kind) memory)
+    (subst Allocates (sym is.1) (grows-small is.0 (subst MayAllocate is.2 wanted)))
+
+-- ---- a content
+
+pub long_bytes : (kind : ContentKind) (count : ℕ) (bytes : List ℕ)
+    → length bytes ≡ count * unit_size kind → IsLongCount kind count
+    → IsLongCount kind (length bytes)
+long_bytes content_kind.Data count bytes is h = omega (arith, is, h)
+long_bytes content_kind.Text count bytes is h = omega (arith, is, h)
+long_bytes content_kind.WideText count bytes is h = tt
+
+-- one that is lent
+pub lent_sets : {A : Type 0} (known : Option (List ℕ)) (kind : ContentKind) (start size place : ℕ)
+    (buffered : List ℕ) (answer : Result A Error) (current : PlainEvent)
+    → IfSome known (λ bytes. LiesAt bytes start buffered) → size ≤ length buffered
+    → SetsEvent (content_means kind (take size buffered)) place answer current
+    → IfSome known (λ bytes. start + size ≤ length bytes
+    → SetsEvent (content_means kind (take size (drop start bytes))) place answer current)
+lent_sets known kind start size place buffered answer current is h sets =
+    IfSome_then known is (λ bytes is fits.
+    let e : take size buffered ≡ take size (drop start bytes) =
+    ap (take size) is ∙ take-take size (length buffered) (drop start bytes) h in
+    subst (λ xs. SetsEvent (content_means kind xs) place answer current) e sets)
+
+-- one that is read
+pub read_sets : (known : Option (List ℕ)) (kind : ContentKind) (start size : ℕ)
+    (event current : PlainEvent) → current ≡ event
+    → IfSome known (λ bytes. start + size ≤ length bytes
+    → scalar_event_in (content_means kind (take size (drop start bytes))) ≡ Some event)
+    → IfSome known (λ bytes. start + size ≤ length bytes
+    → event_of_object (content_means kind (take size (drop start bytes))) ≡ Some current)
+read_sets known kind start size event current same read = IfSome_then known read (λ bytes read fits.
+    scalar_event-named _ _ (read fits) ∙ ap Some (sym same))
+
+-- that of the object at a place
+pub long_sets : {A : Type 0} (known : Option (List ℕ)) (bounds : Bounds) (place : ℕ)
+    (content : Content) (answer : Result A Error) (current : PlainEvent)
+    → place + content.start + content_size content ≤ bounds.trailer
+    → SetsContentAt known place content answer current
+    → SetsDecoded known bounds place (decoded.Long content.kind content.start content.count) answer
+    current
+long_sets known bounds place content answer current lies sets =
+    IfSome_then known sets (λ bytes sets fits is.
+    let n = content_size content in
+    let there = is.1
+    ∙ ap (λ xs. content_means content.kind (take n xs))
+    (drop-drop content.start place (take bounds.trailer bytes))
+    ∙ ap (content_means content.kind)
+    (take-drop-take (place + content.start) n bounds.trailer bytes lies) in
+    subst (λ object. SetsEvent object place answer current) (sym there)
+    (sets (omega (arith, lies, fits))))
+
+-- ---- a text or data that isn't small
+
+pub large_data : (bytes : List ℕ) (current : PlainEvent) → 8 < length bytes
+    → event_of_object (data_of_content bytes) ≡ Some current → is_small_event current ≡ false
+large_data bytes current h is =
+    let e : current ≡ ScalarEvent (trees.Data bytes) = cc in
+    ap is_small_event e ∙ leb_short _ 8 h
+
+pub large_text : (bytes : List ℕ) (current : PlainEvent) → 8 < length bytes
+    → event_of_object (text bytes) ≡ Some current → is_small_event current ≡ false
+large_text bytes current h is = by _ is
+  where
+    by : (b : Bool) → event_of_object (if b then Scalar (trees.String bytes) else Faulty
+        faults.InvalidUtf8String) ≡ Some current → is_small_event current ≡ false
+    by true is =
+        let e : current ≡ ScalarEvent (trees.String bytes) = cc in
+        ap is_small_event e ∙ leb_short _ 8 h
+    by false is = absurd (cc)
+
+pub large_on : {A : Type 0} (answer : Result A Error) (object : Object) (place : ℕ)
+    (current : PlainEvent) → SetsEvent object place answer current
+    → (event_of_object object ≡ Some current → is_small_event current ≡ false)
+    → OnOk answer (is_small_event current ≡ false)
+large_on (Ok value) object place current sets large = large sets
+large_on (Err error) object place current sets large = tt
+
+-- what isn't small is of no small object
+pub large_unlike : {A E : Type 0} (answer : Result A E) (d : Decoded) (current : PlainEvent)
+    → OnOk answer (is_small_event current ≡ false)
+    → OnOk answer (is_small_event current ≡ true → small_count d ≡ 1)
+large_unlike (Ok value) d current large = λ small. absurd (false≢true (sym large ∙ small))
+large_unlike (Err error) d current large = tt
+
+-- an object that was cached, if its event is small
+pub cached_if : {A : Type 0} (known : Option (List ℕ)) (number : ℕ) (answer : Result A StepError)
+    (slot : FaultSlot) (current : PlainEvent) (d : Decoded) (tags : List ℕ)
+    → OnOk answer (is_small_event current ≡ true → small_count d ≡ 1)
+    → (small_count d ≡ 1 → 0 < unmarked (get_or tags number 0))
+    → IfSome known (λ _. IsCurrentCached (Some number) (Some (answer_in answer slot)) current tags)
+cached_if known number (Ok value) slot current d tags small caches =
+    IfSome-all known (λ _ is. caches (small is))
+cached_if known number (Err error) slot current d tags small caches = IfSome-all known (λ _. tt)
+
+-- the event of what was decoded, whatever the bytes are
+pub sets_all : {A : Type 0} (known : Option (List ℕ)) (bounds : Bounds) (place : ℕ) (d : Decoded)
+    (answer : Result A Error) (current : PlainEvent)
+    → ((all : List ℕ) (object : Object) → IsDecodedAs all object d
+    → SetsEvent object place answer current) → SetsDecoded known bounds place d answer current
+sets_all None bounds place d answer current h = tt
+sets_all (Some bytes) bounds place d answer current h = λ fits is. h _ _ is
+
+-- a content of few bytes is seen whole
+pub content_enough : (size to_trailer rest behind : ℕ) → (rest < 25 → to_trailer ≤ rest)
+    → rest - behind + size ≤ to_trailer → behind ≤ rest → rest ≤ behind + 9 → size ≤ 16 → size ≤ behind
+content_enough size to_trailer rest behind shown within short near few = elim (cases_lt rest 25) [
+  | inl less ↦ let whole = shown less in omega arith
+  | inr more ↦ omega arith
+]
+
+pub large_on_slot : {A : Type 0} (answer : Result A StepError) (slot : FaultSlot) (object : Object)
+    (place : ℕ) (current : PlainEvent) → SetsEvent object place (answer_in answer slot) current
+    → (event_of_object object ≡ Some current → is_small_event current ≡ false)
+    → OnOk answer (is_small_event current ≡ false)
+large_on_slot (Ok value) slot object place current sets large = large sets
+large_on_slot (Err refused) slot object place current sets large = tt
+
+-- the text of units
+pub units_text : (units bytes : List ℕ) → has_unpaired_surrogate units ≡ false
+    → bytes ≡ encode_utf8_all (utf16_lossy_chars units)
+    → text_of_units units ≡ Scalar (trees.String bytes)
+units_text units bytes paired is = rw paired (ap (λ xs. Scalar (trees.String xs)) (sym is))

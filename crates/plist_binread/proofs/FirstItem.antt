@@ -1,0 +1,202 @@
+-- The first item of a file.
+use Rattle.std.proofs.Common.{◌≡◌, ℕ, suc, ◌<◌, ◌≤◌, ◌-◌, get_or, replicate, List, [], ◌∷◌, ◌++◌, length, reverse, inl, inr, Option, Result, Ok, Err, IfSome, MatchResult, refl, ap, sym, ◌∙◌, arith, append-nil}
+use Rattle.std.specs.Prelude.{⊤}
+use Rattle.std.specs.List.{slice_get}
+use Rattle.std.proofs.lemmas.Bool.{cases_lt}
+use Rattle.std.proofs.Math.ListN.{length-replicate}
+use Rattle.plist_base.specs.declared.error.Error.{Error}
+use Rattle.plist_base.specs.Visits.{Flow}
+use Rattle.plist_base.specs.Faults.{Fault, OutOfMemory, MatchFault, fault_nowhere, kind_of, error_kind_of, fault_of}
+use Rattle.plist_base.specs.Events.{PlainEvent, Item}
+use Rattle.plist_base.proofs.Refusals.{MatchFault-all, MatchFault-at, MatchFault-weaker}
+use Rattle.plist_binread.specs.declared.frames.Frame.{Frame}
+use Rattle.plist_binread.specs.declared.head.Head as code
+use Rattle.plist_format.specs.Container.{Head, head_of}
+use Rattle.plist_format.specs.Object.{Object}
+use Rattle.plist_format.specs.Unfolding.{table_of, items_of, unfolding_of, until_fault, items_with, items_of_file}
+use Rattle.plist_binread.specs.declared.head.Bounds.{Bounds}
+use Rattle.plist_binread.specs.Remaining.{path_of, remaining_items, entries_of, places_with, places_of, CountsObjects, IsHeld, MatchesFile, SomeRemain, AllocatesFirst}
+use Rattle.plist_binread.specs.Beginning.{CachesRoot, CountsRoot, RefusesFirst}
+use Rattle.plist_binread.specs.Step.{CachesEntered}
+use Rattle.plist_binread.specs.declared.fault_slot.FaultSlot.{FaultSlot}
+use Rattle.plist_binread.specs.declared.fault_slot.StepError.{StepError}
+use Rattle.plist_binread.specs.DecodeOutcome.{YieldsAnswer}
+use Rattle.plist_binread.specs.Walking.{walk_objects}
+use Rattle.plist_binread.specs.declared.walk.Walk.{Walk}
+use Rattle.plist_binread.specs.inner.Heads.{head_seen}
+use Rattle.plist_binread.proofs.WalkSteps.{items_beyond, items_step, remaining_at}
+use Rattle.plist_format.proofs.Tables.{slice_get-within, slice_get-beyond}
+use Rattle.plist_binread.proofs.OpenObjects.{get_or-zeros}
+use Rattle.plist_binread.proofs.WalkInvariant.{found}
+use Rattle.std.proofs.lemmas.Option.{IfSome_then}
+use Rattle.plist_binread.proofs.UnknownBytes.{IfSome-all, IfSome-both}
+use Rattle.std.proofs.lemmas.List.{nil_from_length}
+
+-- memory is wanted only where some items remain
+remaining_if_wanted : (items : List Item) → AllocatesFirst items → SomeRemain items
+remaining_if_wanted [] h = absurd h
+remaining_if_wanted (item ∷ items) h = omega arith
+
+remaining_alone : (object : Object) (place : ℕ) (child : ℕ → List Item)
+    → SomeRemain (until_fault (items_of place object child))
+remaining_alone object place child =
+    rw (← append-nil (items_of place object child)) (remaining_at object place child [])
+
+-- what a reference finds begins with an item
+unfolding_remaining : (before places : List ℕ) (width at i : ℕ)
+    → SomeRemain (until_fault (unfolding_of (table_of before width places) (length places) [] at i))
+unfolding_remaining before [] width at i =
+    rw (items_beyond (table_of before width []) 0 [] at i
+    (slice_get-beyond before [] width i (omega arith))) (omega arith)
+unfolding_remaining before (p ∷ places) width at i = elim (cases_lt i (length (p ∷ places))) [
+  | inl low ↦ rw (items_step (table_of before width (p ∷ places)) (length places) [] at i _
+      (slice_get-within before (p ∷ places) _ i low) refl) (remaining_alone _ _ _)
+  | inr high ↦ rw (items_beyond (table_of before width (p ∷ places)) (suc (length places)) [] at i
+      (slice_get-beyond before (p ∷ places) width i high)) (omega arith)
+]
+
+-- and so does a file
+remaining_with : (bytes : List ℕ) (head : Result Head Fault) → SomeRemain (items_with bytes head)
+remaining_with bytes (Err fault) = omega arith
+remaining_with bytes (Ok head) =
+    unfolding_remaining _ _ _ _ _
+
+remaining_file : (bytes : List ℕ) → SomeRemain (items_of_file bytes)
+unfolding items_of_file
+remaining_file bytes = remaining_with _ _
+
+-- the fault of a head is the file's one item
+file_refused : (bytes : List ℕ) (fault : Fault) → head_of bytes ≡ Err fault
+    → items_of_file bytes ≡ Err fault ∷ []
+unfolding items_of_file
+file_refused bytes fault is = rw is refl
+
+module _ (bytes : List ℕ) (head : code.Head) (bounds : Bounds)
+    (is : head_of bytes ≡ Ok (head_seen head)) (trailer : bounds.trailer ≡ head.trailer)
+    (width : bounds.reference_width ≡ head.reference_width) where
+  file_walked : items_of_file bytes
+      ≡ until_fault (unfolding_of (entries_of bytes bounds) (length head.places.items) []
+      head.trailer head.root)
+  unfolding items_of_file
+  file_walked = rw (is, trailer, width) refl
+
+  -- what is known once the head was read
+  known_first : (tags : List ℕ) (n : ℕ) → tags ≡ replicate n 0 → n ≡ length head.places.items
+      → head.trailer ≤ length bytes → MatchesFile bytes bounds tags head.places.items []
+  known_first tags n zeros count within = record {
+    head = rw is (trailer, width);
+    within = rw trailer within;
+    size = ap (λ head. length (places_with head)) is
+        ∙ sym (ap length zeros ∙ length-replicate n 0 ∙ count);
+    held = λ number less. held number (rw (zeros, length-replicate, count) at less);
+    counts = tt;
+  }
+    where
+      held : (number : ℕ) → number < length head.places.items
+          → IsHeld (slice_get (entries_of bytes bounds) number) (get_or tags number 0)
+          (get_or head.places.items number 0)
+      held number less =
+          let there = found bytes bounds number (rw is less) in
+          rw (zeros, get_or-zeros n number, there, is) refl
+
+-- the answer to the first call
+abbrev pub Begins : List ℕ → Result Flow Error → PlainEvent → List Item → Type 0
+Begins bytes answer current after = MatchResult answer
+    (λ _. items_of_file bytes ≡ Ok current ∷ until_fault after) (RefusesFirst bytes)
+
+pub known_unread : (known : Option (List ℕ)) (e : Error)
+    → IfSome known (λ bytes. MatchFault (kind_of (error_kind_of e)) ⊤ ⊤
+    (head_of bytes ≡ Err (fault_of e))) → IfSome known (λ bytes. RefusesFirst bytes e)
+known_unread known e refused = IfSome_then known refused (λ bytes.
+    MatchFault-weaker (kind_of (error_kind_of e)) (λ _. remaining_file bytes)
+    (λ _. remaining_file bytes)
+    (λ is. file_refused bytes (fault_of e) is))
+
+begins_with : (bytes : List ℕ) (before after : List Item) (answer : Result Flow Error)
+    (current : PlainEvent) → items_of_file bytes ≡ until_fault before
+    → YieldsAnswer before answer current after → Begins bytes answer current after
+begins_with bytes before after (Ok _) current is yields = is ∙ yields
+begins_with bytes before after (Err e) current is yields =
+    MatchFault-weaker (kind_of (error_kind_of e)) (λ remaining. rw is remaining)
+    (λ wanted. rw is (remaining_if_wanted (until_fault before) wanted)) (λ only. is ∙ only) yields
+
+pub known_wanted : (known : Option (List ℕ)) (e : Error) → fault_of e ≡ fault_nowhere OutOfMemory
+    → IfSome known (λ bytes. RefusesFirst bytes e)
+known_wanted known e memory = IfSome-all known (λ bytes.
+    MatchFault-at (kind_of (error_kind_of e)) OutOfMemory _ _ _ (ap (λ (f : Fault). f.kind) memory)
+    (remaining_file bytes))
+
+pub known_opens : (known now : Option (List ℕ)) (head : code.Head) (bounds : Bounds) (tags : List ℕ)
+    (n : ℕ) (fs : List Frame) → now ≡ known
+    → IfSome known (λ bytes. head_of bytes ≡ Ok (head_seen head))
+    → IfSome known (λ bytes. head.trailer ≤ length bytes) → bounds.trailer ≡ head.trailer
+    → bounds.reference_width ≡ head.reference_width
+    → tags ≡ replicate n 0 → n ≡ length head.places.items → length fs ≡ 0
+    → IfSome now (λ bytes. MatchesFile bytes bounds tags head.places.items (reverse fs))
+known_opens known now head bounds tags n fs same value within trailer width zeros count len =
+    rw (same, nil_from_length fs len) (IfSome-both known value within (λ bytes value within.
+    known_first bytes head bounds value trailer width tags n zeros count within))
+
+pub known_begun : (known now : Option (List ℕ)) (head : code.Head) (bounds : Bounds) (tags : List ℕ)
+    (fs gs : List Frame) (answer : Result Flow Error) (current : PlainEvent) → now ≡ known
+    → length fs ≡ 0
+    → length tags ≡ length head.places.items → bounds.trailer ≡ head.trailer
+    → bounds.reference_width ≡ head.reference_width
+    → IfSome known (λ bytes. head_of bytes ≡ Ok (head_seen head))
+    → IfSome now (λ bytes. YieldsAnswer (unfolding_of (entries_of bytes bounds)
+    (length tags - length (reverse fs)) (path_of (reverse fs)) head.trailer head.root
+    ++ remaining_items (entries_of bytes bounds) (reverse fs)) answer current
+    (remaining_items (entries_of bytes bounds) (reverse gs)))
+    → IfSome known (λ bytes. Begins bytes answer current
+    (remaining_items (entries_of bytes bounds) (reverse gs)))
+known_begun known now head bounds tags fs gs answer current same len count trailer width value
+    yields =
+    let whole : length tags - 0 ≡ length head.places.items = omega arith in
+    let yields' = rw (same, nil_from_length fs len, whole) at yields in
+    IfSome-both known value yields' (λ bytes value yields. begins_with bytes _ _ answer current
+    (file_walked bytes head bounds value trailer width
+    ∙ ap until_fault (sym (append-nil
+    (unfolding_of (entries_of bytes bounds) (length head.places.items) [] head.trailer
+    head.root)))) yields)
+
+-- ---- how many objects there are
+
+pub known_counted : (known : Option (List ℕ)) (head : code.Head)
+    (answer : Result Flow StepError) (slot : FaultSlot) (walk : Walk)
+    → walk_objects walk ≡ length head.places.items
+    → IfSome known (λ bytes. head_of bytes ≡ Ok (head_seen head))
+    → IfSome known (CountsRoot answer slot walk)
+known_counted known head (Ok value) slot walk count read = IfSome_then known read (λ bytes is.
+    count ∙ sym (ap (λ head. length (places_with head)) is))
+known_counted known head (Err refused) slot walk count read = IfSome_then known read (λ bytes is.
+    MatchFault-all (kind_of (error_kind_of slot.fault)) tt tt
+    (count ∙ sym (ap (λ head. length (places_with head)) is)))
+
+-- a head that isn't read counts none
+pub known_uncounted : (known : Option (List ℕ)) (e : Error) (count : ℕ) → count ≡ 0
+    → IfSome known (λ bytes. MatchFault (kind_of (error_kind_of e)) ⊤ ⊤
+    (head_of bytes ≡ Err (fault_of e)))
+    → IfSome known (λ bytes. CountsObjects {A = Flow} bytes (Err e) count)
+known_uncounted known e count none refused = IfSome_then known refused (λ bytes.
+    MatchFault-weaker (kind_of (error_kind_of e)) (λ _. tt) (λ _. tt)
+    (λ is. none ∙ sym (ap (λ head. length (places_with head)) is)))
+
+pub known_hidden : (known : Option (List ℕ)) (e : Error) (count : ℕ)
+    → fault_of e ≡ fault_nowhere OutOfMemory
+    → IfSome known (λ bytes. CountsObjects {A = Flow} bytes (Err e) count)
+known_hidden known e count memory = IfSome-all known (λ bytes.
+    MatchFault-at (kind_of (error_kind_of e)) OutOfMemory _ _ _ (ap (λ (f : Fault). f.kind) memory)
+    tt)
+
+pub known_few : (known : Option (List ℕ)) (tags : List ℕ) → length tags ≡ 0
+    → IfSome known (λ bytes. length tags ≤ length (places_of bytes))
+known_few known tags count = IfSome-all known (λ bytes. omega arith)
+
+-- the root is cached if it is small
+pub known_cached : (known now : Option (List ℕ)) (head : code.Head) (number : ℕ)
+    (answer : Result Flow Error) (event : PlainEvent) (walk : Walk) → now ≡ known
+    → head.root ≡ number
+    → IfSome known (λ bytes. head_of bytes ≡ Ok (head_seen head))
+    → CachesEntered now number answer event walk → IfSome known (CachesRoot answer event walk)
+known_cached known now head number answer event walk same root value caches =
+    IfSome-both known value (rw same at caches) (λ bytes is caches. rw (is, root) caches)

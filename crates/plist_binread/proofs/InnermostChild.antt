@@ -1,0 +1,93 @@
+-- What the innermost collection asks for.
+use Rattle.std.proofs.Common.{◌≡◌, cond, ℕ, suc, ◌+◌, ◌-◌, ◌*◌, ◌<◌, ◌≤◌, List, [], ◌∷◌, ◌++◌, length, drop, get_or, Ok, Err, refl, ap, sym, ◌∙◌, arith, append_assoc, add-one, None, Some, false}
+use Rattle.std.specs.List.{flat_map, slice_get}
+use Rattle.std.proofs.lemmas.Bool.{lt-ltb}
+use Rattle.std.proofs.Math.Seq.{drop-cons}
+use Rattle.plist_base.specs.Events.{PlainEvent, EndCollection, Item}
+use Rattle.plist_binread.specs.declared.frames.Frame.{Frame}
+use Rattle.plist_binread.specs.Packed.{MarkChanged}
+use Rattle.plist_format.specs.Unfolding.{TableEntry, unfolding_of, until_fault}
+use Rattle.plist_binread.specs.declared.head.Bounds.{Bounds}
+use Rattle.plist_binread.specs.Remaining.{path_of, MarksOpenPath, MatchesFile, children_at, place_at, entries_of, remaining_items, SomeRemain, next_number, walk_steps, walk_weight}
+use Rattle.std.proofs.lemmas.List.{drop_all, get_or_default}
+use Rattle.plist_binread.proofs.WalkInvariant.{known_with}
+
+-- the frame with another number of its next child
+abbrev pub with_next : Frame → ℕ → Frame
+with_next f n = record { object = f.object; next = n; count = f.count }
+
+-- the frame after its next child was taken
+abbrev pub after : Frame → Frame
+after f = with_next f (f.next + 1)
+
+pub next_path : (tags : List ℕ) (f : Frame) (n : ℕ) (fs : List Frame) → MarksOpenPath tags (f ∷ fs)
+    → MarksOpenPath tags (with_next f n ∷ fs)
+next_path tags f n fs o =
+    record { distinct = o.distinct; below = o.below; marks = o.marks; uncached = o.uncached }
+
+child_flat : (step : ℕ → List Item) (xs : List ℕ) (more : List Item) (i x : ℕ) → i < length xs
+    → x ≡ get_or xs i x → flat_map step (drop i xs) ++ more ≡ step x
+    ++ (flat_map step (drop (i + 1) xs) ++ more)
+child_flat step xs more i x h e =
+    let rest = drop-cons xs i x h
+    ∙ ap (λ y. y ∷ drop (suc i) xs) (sym e) ∙ ap (λ j. x ∷ drop j xs) (sym (add-one i)) in
+    rw rest (append_assoc (step x) (flat_map _ (drop _ xs)) more)
+
+until_some : (items : List Item) (event : PlainEvent) (more : List Item)
+    → SomeRemain (until_fault (items ++ Ok event ∷ more))
+until_some [] event more = omega arith
+until_some (Ok e ∷ items) event more = omega arith
+until_some (Err f ∷ items) event more = omega arith
+
+module _ (bytes tags contents : List ℕ) (bounds : Bounds) (f : Frame) (fs : List Frame)
+    (k : MatchesFile bytes bounds tags contents (f ∷ fs)) where
+  abbrev table : List TableEntry
+  table = entries_of bytes bounds
+
+  abbrev children : List ℕ
+  children = children_at (slice_get table f.object)
+
+  -- its next child
+  pub child_remaining : f.next < f.count
+      → ((remaining_items table (f ∷ fs) ≡ unfolding_of table (length table - length (after f ∷ fs))
+      (path_of (after f ∷ fs)) (place_at (slice_get table f.object)) (get_or children f.next 0)
+      ++ remaining_items table (after f ∷ fs))
+      × (f.next < length children)
+      × SomeRemain (until_fault (remaining_items table (f ∷ fs)))
+      × (next_number table (f ∷ fs) ≡ Some (get_or children f.next 0)))
+      × MatchesFile bytes bounds tags contents (after f ∷ fs)
+  child_remaining h = (
+    (
+      child_flat (λ c. unfolding_of table (length table - suc (length fs)) (f.object ∷ path_of fs)
+          (place_at (slice_get table f.object)) c) children _
+          _ _ (rw k.counts.0 h)
+          (get_or_default children _ 0 _ (rw k.counts.0 h)),
+      rw k.counts.0 h,
+      until_some _ _ _,
+      ap (λ b. cond b (Some (get_or children f.next 0)) None) (lt-ltb _ _ h),
+    ),
+    known_with bytes bounds tags contents (f ∷ fs) k tags contents (after f ∷ fs) refl k.held
+        (k.counts.0, k.counts.1),
+  )
+
+  -- or its end
+  pub closed_remaining : (new : List ℕ) → f.count ≤ f.next → MarkChanged f.object false tags new
+      → (remaining_items table (f ∷ fs) ≡ Ok EndCollection ∷ remaining_items table fs)
+      × MatchesFile bytes bounds new contents fs
+  closed_remaining new h m = (
+    rw (drop_all f.next children (rw k.counts.0 h)) refl,
+    known_with bytes bounds tags contents (f ∷ fs) k new contents fs m.size
+        (λ q less. rw (m.tags q) (k.held q less)) k.counts.1,
+  )
+
+one_less : (l i s w : ℕ) → i < l → (l - i) * s + 1 + w ≡ (l - (i + 1)) * s + 1 + w + s
+one_less l i s w h = let e : l - i ≡ suc (l - (i + 1)) = omega arith in rw e (omega arith)
+
+pub child_weight : (n : ℕ) (f : Frame) (fs : List Frame) → f.next < f.count
+    → walk_weight n (f ∷ fs) ≡ walk_weight n (after f ∷ fs) + walk_steps (n - length (after f ∷ fs))
+child_weight n f fs h = one_less _ _ _ _ h
+
+pub closed_weight : (n : ℕ) (f : Frame) (fs : List Frame) → f.count ≤ f.next
+    → walk_weight n (f ∷ fs) ≡ walk_weight n fs + 1
+closed_weight n f fs h =
+    let none : f.count - f.next ≡ 0 = omega arith in rw none (omega arith)

@@ -1,0 +1,95 @@
+-- A length, and what lies after it.
+use Rattle.std.proofs.Common.{◌≡◌, ℕ, suc, ◌-◌, ◌*◌, ◌%◌, ◌^◌, ◌<◌, ◌≤◌, List, [], ◌∷◌, ◌++◌, length, take, drop, None, Some, refl, ap, ◌∙◌, arith}
+use Rattle.std.proofs.lemmas.Bool.{le-leb}
+use Rattle.std.proofs.lemmas.List.{append-nil, length-append, length-drop, take_all, take-append-le, drop-append-le}
+use Rattle.plist_base.specs.Faults.{ObjectOffsetTooLarge}
+use Rattle.plist_format.specs.Container.{number_of}
+use Rattle.plist_format.specs.Object.{Object, Faulty, length_in, meaning_counted}
+use Rattle.plist_binread.proofs.Extents.{leb_short, length_beyond}
+
+-- ---- the length
+
+-- a slice from a place on is all that lies there
+pub tail_whole : (w : ℕ) (xs : List ℕ) → take (length xs - w) (drop w xs) ≡ drop w xs
+tail_whole w xs = take_all (length xs - w) (drop w xs) (omega (arith, length-drop w xs))
+
+module _ (m byte w : ℕ) (rest behind : List ℕ) (beyond : 15 ≤ m % 16) (is : rest ≡ byte ∷ behind)
+    (width : w ≡ 2 ^ (byte % 4)) where
+  pub length_front : (tail more : List ℕ) → w ≤ length behind → tail ≡ drop w behind
+      → length_in m (rest ++ more) ≡ Some (number_of (take w behind), tail ++ more)
+  length_front tail more h cut =
+      let enough : w ≤ length (behind ++ more) = omega (arith, length-append behind more) in
+      length_beyond m (rest ++ more) beyond
+      ∙ rw (
+        is,
+        ← width,
+        le-leb w (length (behind ++ more)) enough,
+        take-append-le w behind more h,
+        drop-append-le w behind more h,
+        cut,
+      ) refl
+
+  -- it isn't all there
+  pub length_cut : w ≤ 8 → length behind < w → (length rest < 9) × (length_in m rest ≡ None)
+  length_cut small short = (
+    omega (arith, ap length is),
+    length_beyond m rest beyond ∙ rw (is, ← width, leb_short w (length behind) short) refl,
+  )
+
+pub lies_behind : (byte w : ℕ) (rest behind tail : List ℕ) → rest ≡ byte ∷ behind
+    → w ≤ length behind → tail ≡ drop w behind → drop (length rest - length tail) rest ≡ tail
+lies_behind byte w rest behind tail is h cut =
+    let n : length rest - length (drop w behind) ≡ suc w = omega
+    (arith, ap length is, length-drop w behind) in
+    rw (cut, n, is) refl
+
+-- ---- what lies after it
+
+module _ (m size left count : ℕ) (rest behind more : List ℕ)
+    (is : length_in m (rest ++ more) ≡ Some (count, behind ++ more))
+    (buffered : length (behind ++ more) ≡ left) where
+  -- the content ends before the trailer
+  pub count_there : count * size ≤ left
+      → (length_in m (rest ++ more) ≡ Some (count, behind ++ more))
+      × (count * size ≤ length (behind ++ more))
+  count_there fits = (is, omega arith)
+
+  -- or it doesn't
+  pub count_cut : left < count * size → (meaning : ℕ → List ℕ → Object)
+      → meaning_counted size meaning (length_in m (rest ++ more)) ≡ Faulty ObjectOffsetTooLarge
+  count_cut cut meaning =
+      let short : length (behind ++ more) < count * size = omega arith in
+      rw (is, leb_short (count * size) (length (behind ++ more)) short) refl
+
+-- this many bytes lie between the length and the trailer
+pub length_left : (to_trailer : ℕ) (rest behind more : List ℕ) → length (rest ++ more) ≡ to_trailer
+    → length behind ≤ length rest
+    → length (behind ++ more) ≡ to_trailer - (length rest - length behind)
+length_left to_trailer rest behind more whole short =
+    omega (arith, length-append rest more, length-append behind more)
+
+-- nothing lies after bytes that reach so far
+pub nothing_more : (to_trailer : ℕ) (seen more : List ℕ) → length (seen ++ more) ≡ to_trailer
+    → to_trailer ≤ length seen → seen ++ more ≡ seen
+nothing_more to_trailer seen [] whole far = append-nil seen
+nothing_more to_trailer seen (x ∷ more) whole far =
+    absurd (omega (arith, length-append seen (x ∷ more)))
+
+-- a length that isn't there
+pub count_none : (m size to_trailer : ℕ) (rest more : List ℕ) → length (rest ++ more) ≡ to_trailer
+    → (length rest < 16 → to_trailer ≤ length rest) → (length rest < 9) × (length_in m rest ≡ None)
+    → (meaning : ℕ → List ℕ → Object)
+    → meaning_counted size meaning (length_in m (rest ++ more)) ≡ Faulty ObjectOffsetTooLarge
+count_none m size to_trailer rest more whole far cut meaning =
+    rw (nothing_more to_trailer rest more whole (far (omega (arith, cut.0))), cut.1) refl
+
+-- a content that is all seen
+pub content_seen : (m size count : ℕ) (rest behind more : List ℕ)
+    → length_in m (rest ++ more) ≡ Some (count, behind ++ more) → count * size ≤ length behind
+    → (meaning : List ℕ → Object) → meaning_counted size (λ _. meaning) (length_in m (rest ++ more))
+    ≡ meaning (take (count * size) behind)
+content_seen m size count rest behind more is h meaning =
+    let enough : count * size ≤ length (behind ++ more) = omega (arith, length-append behind more)
+    in
+    rw (is, le-leb (count * size) (length (behind ++ more)) enough)
+    (ap meaning (take-append-le (count * size) behind more h))

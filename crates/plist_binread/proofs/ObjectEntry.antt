@@ -1,0 +1,153 @@
+-- Entering an object.
+use Rattle.std.proofs.Common.{◌≡◌, ℕ, ◌<◌, ◌≤◌, true, false, List, length, get_or, Option, Some, Result, Ok, Err, IfSome, ap, sym, subst, ◌∙◌}
+use Rattle.std.specs.List.{slice_get}
+use Rattle.plist_base.specs.Events.{PlainEvent}
+use Rattle.plist_base.specs.declared.error.Error.{Error}
+use Rattle.plist_binread.specs.Reading.{object_at}
+use Rattle.plist_binread.specs.declared.decoded.Decoded.{Decoded}
+use Rattle.plist_binread.specs.declared.decoded.Decoded.TheVariants as decoded
+use Rattle.plist_binread.specs.declared.fault_slot.FaultSlot.{FaultSlot}
+use Rattle.plist_binread.specs.declared.fault_slot.StepError.{StepError}
+use Rattle.plist_binread.specs.Slot.{answer_in}
+use Rattle.plist_format.specs.Object.{Object}
+use Rattle.std.specs.Prelude.{OnOk}
+use Rattle.std.proofs.lemmas.Bool.{false≢true}
+use Rattle.plist_binread.specs.declared.head.Bounds.{Bounds}
+use Rattle.plist_binread.specs.declared.walk.Walk.{Walk}
+use Rattle.plist_binread.specs.Beginning.{IsKnownWalk}
+use Rattle.plist_binread.specs.Remaining.{Explains, entries_of}
+use Rattle.plist_binread.specs.Decoded.{DecodesAt, IsDecodedAs, IsDecodedOrUnread, SetsDecoded, SetsEvent, bytes_at, event_of_object, is_refused, is_unread}
+use Rattle.plist_binread.specs.Decoding.{IsRefusedAs}
+use Rattle.plist_binread.specs.DecodeOutcome.{YieldsAnswer, YieldsCurrent}
+use Rattle.plist_binread.specs.Step.{OpensObject}
+use Rattle.plist_binread.specs.Walking.{IsWalkOf, open_in, remaining_entering, remaining_in, walk_objects}
+use Rattle.plist_format.specs.Unfolding.{until_fault}
+use Rattle.plist_binread.specs.Packed.{is_marked, unmarked, cached, scalar_event}
+use Rattle.plist_binread.proofs.WalkInvariant.{IsPlaceIn, entry_of, entry_there, found_refused, found_scalar, held_scalar, place_is}
+use Rattle.std.proofs.lemmas.Option.{IfSome_then}
+use Rattle.plist_binread.proofs.UnknownBytes.{IfSome-both, IfSome-three}
+
+-- the object of a number is what was decoded at its place
+pub record IsDecodedAt (bytes : List ℕ) (bounds : Bounds) (number place : ℕ) (d : Decoded) : Type 0
+  where
+    pub entry : slice_get (entries_of bytes bounds) number ≡ Some (entry_of bytes bounds number)
+    pub there : (entry_of bytes bounds number).object ≡ object_at bounds place bytes
+    pub at_place : place ≡ (entry_of bytes bounds number).place
+    pub within : bounds.trailer ≤ length bytes
+    pub decoded : IsDecodedAs (bytes_at bounds place bytes) (object_at bounds place bytes) d
+
+-- what was read is decoded
+was_read : (all : List ℕ) (object : Object) (place : ℕ) (d : Decoded) (slot : FaultSlot)
+    → is_unread d ≡ false → IsDecodedOrUnread all object place d slot → IsDecodedAs all object d
+was_read all object place (decoded.Small kind content) slot read is = is
+was_read all object place (decoded.Date content) slot read is = is
+was_read all object place (decoded.Long kind start count) slot read is = is
+was_read all object place (decoded.Array count) slot read is = is
+was_read all object place (decoded.Dictionary count) slot read is = is
+was_read all object place (decoded.Faulty fault) slot read is = is
+was_read all object place decoded.Unread slot read is = absurd (false≢true (sym read))
+
+pub known_read : (known : Option (List ℕ)) (bounds : Bounds) (place : ℕ) (d : Decoded)
+    (slot : FaultSlot) → is_unread d ≡ false → DecodesAt known bounds place d slot
+    → IfSome known (λ bytes. bounds.trailer ≤ length bytes
+    → IsDecodedAs (bytes_at bounds place bytes) (object_at bounds place bytes) d)
+known_read known bounds place d slot read decodes = IfSome_then known decodes (λ bytes decodes fits.
+    was_read _ _ place d slot read (decodes fits))
+
+-- what wasn't is refused
+pub known_unread : (known : Option (List ℕ)) (bounds : Bounds) (place : ℕ) (d : Decoded)
+    (slot : FaultSlot) → is_unread d ≡ true → DecodesAt known bounds place d slot
+    → IfSome known (λ bytes. bounds.trailer ≤ length bytes
+    → IsRefusedAs (object_at bounds place bytes) place slot.fault)
+known_unread known bounds place d slot unread decodes = IfSome_then known decodes
+    (λ bytes decodes fits. by d _ _ unread (decodes fits))
+  where
+    by : (d : Decoded) (all : List ℕ) (object : Object) → is_unread d ≡ true
+        → IsDecodedOrUnread all object place d slot → IsRefusedAs object place slot.fault
+    by decoded.Unread all object unread is = is
+    by other all object unread is = absurd (false≢true unread)
+
+-- the same of the answer with the error that is kept
+pub on_answer : {A : Type 0} (P : Type 0) (answer : Result A StepError) (slot : FaultSlot)
+    → OnOk answer P
+    → OnOk (answer_in answer slot) P
+on_answer P (Ok value) slot h = h
+on_answer P (Err refused) slot h = tt
+
+module _ (known : Option (List ℕ)) (bounds : Bounds) (walk : Walk) (number : ℕ)
+    (k : IsKnownWalk known bounds walk) (h : number < walk_objects walk) where
+  -- a scalar that is cached
+  pub known_unpacked : (at : ℕ) (current : PlainEvent)
+      → is_marked (get_or walk.tags.items number 0) ≡ false
+      → 0 < unmarked (get_or walk.tags.items number 0)
+      → scalar_event (cached (get_or walk.tags.items number 0)
+      (get_or walk.contents.items number 0)) ≡ Some current
+      → IfSome known (λ bytes. YieldsCurrent (remaining_entering bytes bounds walk at number) current
+      (remaining_in bytes bounds walk))
+  known_unpacked at current free some is = IfSome_then known k (λ bytes k.
+      found_scalar bytes bounds walk.tags.items walk.contents.items (open_in walk) k walk.path at
+      number h free current (ap scalar_event (held_scalar bytes bounds walk.tags.items
+      walk.contents.items (open_in walk) k number h some) ∙ is))
+
+  -- an object that is refused at its place
+  pub known_refused : (at place : ℕ) (e : Error)
+      → is_marked (get_or walk.tags.items number 0) ≡ false → IsPlaceIn walk number place
+      → IfSome known (λ bytes. bounds.trailer ≤ length bytes
+      → IsRefusedAs (object_at bounds place bytes) place e)
+      → IfSome known (λ bytes. Explains (until_fault (remaining_entering bytes bounds walk at number))
+      e)
+  known_refused at place e free is refused = IfSome-both known k refused (λ bytes k refused.
+      found_refused bytes bounds walk.tags.items walk.contents.items (open_in walk) k walk.path at
+      number h free e
+      (rw (place_is bytes bounds walk k number place h is) at (refused k.within)))
+
+  -- the object of a number is what is decoded at its place
+  pub known_decoded : (place : ℕ) (d : Decoded) (slot : FaultSlot) → IsPlaceIn walk number place
+      → is_unread d ≡ false → DecodesAt known bounds place d slot
+      → IfSome known (λ bytes. IsDecodedAt bytes bounds number place d)
+  known_decoded place d slot is read decodes = IfSome-both known k decodes (λ bytes k decodes. record {
+    entry = entry_there bytes bounds walk.tags.items walk.contents.items (open_in walk) k number h;
+    there = ap (λ p. object_at bounds p bytes) (sym (place_is bytes bounds walk k number place h is));
+    at_place = place_is bytes bounds walk k number place h is;
+    within = k.within;
+    decoded = was_read _ _ place d slot read (decodes k.within);
+  })
+
+  -- its event comes, or it is refused
+  pub known_set : {A : Type 0} (at place : ℕ) (d : Decoded) (new : Walk) (now : Option (List ℕ))
+      (answer : Result A Error) (current : PlainEvent) → now ≡ known
+      → is_marked (get_or walk.tags.items number 0) ≡ false
+      → IfSome known (λ bytes. IsDecodedAt bytes bounds number place d)
+      → OpensObject number d walk new → SetsDecoded now bounds place d answer current
+      → OnOk answer (is_refused d ≡ false)
+      → IfSome known (λ bytes. YieldsAnswer (remaining_entering bytes bounds walk at number) answer
+      current (remaining_in bytes bounds new))
+  known_set {A = A} at place d new now answer current same free there opens sets found =
+      IfSome-three known k there (rw same at sets) (λ bytes k t sets.
+      by bytes k t (opens bytes bounds (entry_of bytes bounds number)
+      (bytes_at bounds place bytes) k t.entry
+      (subst (λ o. IsDecodedAs (bytes_at bounds place bytes) o d) (sym t.there) t.decoded)).0
+      answer found (sets t.within t.decoded))
+    where
+      by : (bytes : List ℕ) → IsWalkOf bytes bounds walk → IsDecodedAt bytes bounds number place d
+          → ((at : ℕ) (event : PlainEvent) → is_refused d ≡ false
+          → event_of_object (entry_of bytes bounds number).object ≡ Some event
+          → YieldsCurrent (remaining_entering bytes bounds walk at number) event
+          (remaining_in bytes bounds new))
+          → (answer : Result A Error) → OnOk answer (is_refused d ≡ false)
+          → SetsEvent (object_at bounds place bytes) place answer current
+          → YieldsAnswer (remaining_entering bytes bounds walk at number) answer current
+          (remaining_in bytes bounds new)
+      by bytes k t yields (Ok value) found sets =
+          yields at current found (ap event_of_object t.there ∙ sets)
+      by bytes k t yields (Err e) found sets =
+          found_refused bytes bounds walk.tags.items walk.contents.items (open_in walk) k walk.path
+          at number h free e (subst (λ p. IsRefusedAs (object_at bounds p bytes) p e) t.at_place sets)
+
+  -- the walk goes on with it
+  pub known_opens : (place : ℕ) (d : Decoded) (new : Walk)
+      → IfSome known (λ bytes. IsDecodedAt bytes bounds number place d)
+      → OpensObject number d walk new → IfSome known (λ bytes. IsWalkOf bytes bounds new)
+  known_opens place d new there opens = IfSome-both known k there (λ bytes k t.
+      (opens bytes bounds (entry_of bytes bounds number) (bytes_at bounds place bytes) k t.entry
+      (subst (λ o. IsDecodedAs (bytes_at bounds place bytes) o d) (sym t.there) t.decoded)).1)

@@ -1,0 +1,179 @@
+-- Which objects are open, and how many; how many are cached.
+use Rattle.std.proofs.Common.{◌≡◌, ℕ, zero, suc, ◌+◌, ◌<◌, ◌≤◌, inl, inr, Bool, true, false, cond, ◌||◌, nat_eq, nat_lt, List, [], ◌∷◌, length, get_or, reverse, replicate, refl, ap, sym, ◌∙◌, arith}
+use Rattle.std.specs.List.{list_any, IsDistinct}
+use Rattle.std.proofs.lemmas.Bool.Decides.{eqb_tells}
+use Rattle.std.proofs.Math.Dec.{eqb-suc-suc, eqb-suc-zero, eqb-zero-suc}
+use Rattle.std.proofs.lemmas.Bool.{or_right, eq-eqb, lt-ltb}
+use Rattle.plist_base.proofs.Paths.{none_equal, any_none, below_cons, path_fuel, path_rises}
+use Rattle.plist_binread.specs.declared.frames.Frame.{Frame}
+use Rattle.plist_binread.specs.Packed.{is_marked, unmarked, KindChanged, MarkChanged}
+use Rattle.plist_binread.specs.declared.packed.PackedKind.{PackedKind}
+use Rattle.plist_binread.proofs.PackedScalars.{kind_of_tag-some}
+use Rattle.plist_binread.specs.Remaining.{path_of, MarksOpenPath, cached_count}
+use Rattle.std.proofs.lemmas.List.{nil_from_length}
+
+pub length-path_of : (fs : List Frame) → length (path_of fs) ≡ length fs
+length-path_of [] = refl
+length-path_of (f ∷ fs) = ap suc (length-path_of fs)
+
+-- the marks after one more object is opened
+marks_push : (i q : ℕ) (tags new xs : List ℕ) → MarkChanged i true tags new
+    → is_marked (get_or tags q 0) ≡ list_any (nat_eq q) xs
+    → is_marked (get_or new q 0) ≡ list_any (nat_eq q) (i ∷ xs)
+marks_push i q tags new xs m was =
+    elim (eqb_tells q i) [
+      | inl e ↦ cc
+      | inr e ↦ cc (m.others q e.0)
+    ]
+
+-- and after it is closed
+marks_pop : (i q : ℕ) (tags new xs : List ℕ) → MarkChanged i false tags new
+    → list_any (nat_eq i) xs ≡ false → is_marked (get_or tags q 0) ≡ list_any (nat_eq q) (i ∷ xs)
+    → is_marked (get_or new q 0) ≡ list_any (nat_eq q) xs
+marks_pop i q tags new xs m none was =
+    elim (eqb_tells q i) [
+      | inl e ↦ cc
+      | inr e ↦ cc (m.others q e.0)
+    ]
+
+-- an object that is marked isn't cached, where its tag is as it was or it was opened now
+uncached_with : (i q : ℕ) (marked : Bool) (tags new : List ℕ) → MarkChanged i marked tags new
+    → unmarked (get_or tags i 0) ≡ 0
+    → (is_marked (get_or tags q 0) ≡ true → unmarked (get_or tags q 0) ≡ 0)
+    → is_marked (get_or new q 0) ≡ true → unmarked (get_or new q 0) ≡ 0
+uncached_with i q marked tags new m none was h =
+    elim (eqb_tells q i) [
+      | inl e ↦ cc (m.tags q)
+      | inr e ↦ cc (m.others q e.0, was (sym (ap is_marked (m.others q e.0)) ∙ h))
+    ]
+
+-- an object without tag and mark isn't open
+pub not_open : {tags : List ℕ} {fs : List Frame} {i : ℕ} → MarksOpenPath tags fs → i < length tags
+    → get_or tags i 0 ≡ 0 → list_any (nat_eq i) (path_of fs) ≡ false
+not_open {i = i} o h none = cc (o.marks i h)
+
+-- the innermost one is marked, and has a tag
+pub first_below : (tags : List ℕ) (f : Frame) (fs : List Frame) → MarksOpenPath tags (f ∷ fs)
+    → f.object < length tags
+first_below tags f fs o =
+    o.below _ (ap (λ b. b || list_any (nat_eq f.object) (path_of fs)) (eq-eqb f.object _ refl))
+
+pub first_uncached : (tags : List ℕ) (f : Frame) (fs : List Frame) → MarksOpenPath tags (f ∷ fs)
+    → unmarked (get_or tags f.object 0) ≡ 0
+first_uncached tags f fs o =
+    o.uncached _ (cc (o.marks f.object (first_below tags f fs o), eq-eqb f.object f.object refl))
+
+-- one more object may be opened
+pub IsOpen-push : (tags new : List ℕ) (f : Frame) (fs : List Frame) → MarksOpenPath tags fs
+    → f.object < length tags → list_any (nat_eq f.object) (path_of fs) ≡ false
+    → unmarked (get_or tags f.object 0) ≡ 0 → MarkChanged f.object true tags new → MarksOpenPath new (f ∷ fs)
+unfolding IsDistinct
+IsOpen-push tags new f fs o h apart none m = record {
+  distinct = (none_equal f.object (path_of fs) apart, o.distinct);
+  below = λ q any. rw m.size (below_cons f.object (length tags) q (path_of fs) h o.below any);
+  marks = λ q less. marks_push f.object q tags new (path_of fs) m (o.marks q (rw m.size at less));
+  uncached = λ q. uncached_with f.object q true tags new m none (o.uncached q);
+}
+
+-- what is left when the innermost one closes
+pub IsOpen-pop : (tags new : List ℕ) (f : Frame) (fs : List Frame) → MarksOpenPath tags (f ∷ fs)
+    → MarkChanged f.object false tags new → MarksOpenPath new fs
+unfolding IsDistinct
+IsOpen-pop tags new f fs o m = record {
+  distinct = o.distinct.1;
+  below = λ q any. rw m.size (o.below q
+      (or_right (nat_eq q f.object) (list_any (nat_eq q) (path_of fs)) any));
+  marks = λ q less. marks_pop f.object q tags new (path_of fs) m
+      (any_none f.object (path_of fs) o.distinct.0) (o.marks q (rw m.size at less));
+  uncached = λ q. uncached_with f.object q false tags new m (first_uncached tags f fs o)
+      (o.uncached q);
+}
+
+-- never more objects are open than there are
+pub IsOpen-length : (tags : List ℕ) (fs : List Frame) → MarksOpenPath tags fs → length fs ≤ length tags
+IsOpen-length tags fs o =
+    rw (← length-path_of fs) (path_fuel (record { distinct = o.distinct; below = o.below }))
+
+-- there is room for an object that isn't open
+pub admits_more : (tags : List ℕ) (i : ℕ) (fs : List Frame) → MarksOpenPath tags fs → i < length tags
+    → list_any (nat_eq i) (path_of fs) ≡ false → length fs < length tags
+admits_more tags i fs o h new =
+    rw (← length-path_of fs)
+    (path_rises i (record { distinct = o.distinct; below = o.below }) h new)
+
+pub get_or-zeros : (n q : ℕ) → ◌≡◌ {A = ℕ} (get_or (replicate n 0) q 0) 0
+get_or-zeros zero q = refl
+get_or-zeros (suc n) zero = refl
+get_or-zeros (suc n) (suc q) = get_or-zeros n q
+
+-- where no frame is kept, none is open
+pub IsOpen-none : (n : ℕ) (tags : List ℕ) (fs : List Frame) → tags ≡ replicate n 0 → length fs ≡ 0
+    → MarksOpenPath tags (reverse fs)
+unfolding IsDistinct
+IsOpen-none n tags [] is h = record {
+  distinct = tt;
+  below = λ q any. absurd (cc);
+  marks = λ q less. ap (λ ts. is_marked (get_or ts q 0)) is ∙ ap is_marked (get_or-zeros n q);
+  uncached = λ q marked. ap (λ ts. unmarked (get_or ts q 0)) is ∙ ap unmarked (get_or-zeros n q);
+}
+IsOpen-none n tags (f ∷ fs) is h = absurd (omega arith)
+
+pub IsOpen-empty : (tags : List ℕ) (fs : List Frame) → length tags ≡ 0 → length fs ≡ 0
+    → MarksOpenPath tags (reverse fs)
+IsOpen-empty tags fs none h = IsOpen-none 0 _ fs (nil_from_length _ none) h
+
+-- ---- how many are cached
+
+same_count : (xs ys : List ℕ) → length xs ≡ length ys
+    → ((i : ℕ) → unmarked (get_or xs i 0) ≡ unmarked (get_or ys i 0))
+    → cached_count xs ≡ cached_count ys
+same_count [] [] h all = refl
+same_count [] (y ∷ ys) h all = absurd (omega arith)
+same_count (x ∷ xs) [] h all = absurd (omega arith)
+same_count (x ∷ xs) (y ∷ ys) h all =
+    let first = all 0 in
+    let rest = same_count xs ys (omega arith) (λ i. all (suc i))
+    in
+    cc
+
+one_more : (n : ℕ) (xs ys : List ℕ) → length xs ≡ length ys → n < length xs
+    → ((i : ℕ) → nat_eq i n ≡ false → get_or ys i 0 ≡ get_or xs i 0) → unmarked (get_or xs n 0) ≡ 0
+    → 0 < unmarked (get_or ys n 0) → cached_count ys ≡ cached_count xs + 1
+one_more n [] ys h less all was now = absurd (omega arith)
+one_more n (x ∷ xs) [] h less all was now = absurd (omega arith)
+one_more zero (x ∷ xs) (y ∷ ys) h less all was now =
+    let rest = same_count ys xs (omega arith)
+    (λ i. ap unmarked (all (suc i) (eqb-suc-zero i))) in
+    let one = ap (λ b. cond {A = ℕ} b 1 0) (lt-ltb 0 _ now) in
+    let nought : cond {A = ℕ} (nat_lt 0 (unmarked x)) 1 0
+    ≡ 0 = ap (λ t. cond {A = ℕ} (nat_lt 0 t) 1 0) was in
+    omega arith
+one_more (suc n) (x ∷ xs) (y ∷ ys) h less all was now =
+    let rest = one_more n xs ys (omega arith) (omega arith)
+    (λ i e. all (suc i) (eqb-suc-suc i n ∙ e))
+    was now in
+    let first = ap
+    (λ t. cond {A = ℕ} (nat_lt 0 (unmarked t)) 1 0) (all 0 (eqb-zero-suc n)) in
+    omega arith
+
+-- marks don't count
+pub cached_count-mark : (i : ℕ) (marked : Bool) (tags new : List ℕ) → MarkChanged i marked tags new
+    → cached_count new ≡ cached_count tags
+cached_count-mark i marked tags new m = same_count new _ m.size m.tags
+
+-- and one more is cached
+pub cached_count-keep : (i : ℕ) (kind : PackedKind) (tags new : List ℕ) → i < length tags
+    → unmarked (get_or tags i 0) ≡ 0 → KindChanged i kind tags new
+    → cached_count new ≡ cached_count tags + 1
+cached_count-keep i kind tags new h none m =
+    one_more i _ new (sym m.size) h m.others none (kind_of_tag-some _ kind m.here)
+
+zero_count : (n : ℕ) → cached_count (replicate n 0) ≡ 0
+zero_count zero = refl
+zero_count (suc n) = let rest = zero_count n in omega arith
+
+pub cached_count-none : (n : ℕ) (tags : List ℕ) → tags ≡ replicate n 0 → cached_count tags ≡ 0
+cached_count-none n tags is = cc (zero_count n)
+
+pub cached_count-empty : (tags : List ℕ) → length tags ≡ 0 → cached_count tags ≡ 0
+cached_count-empty tags h = cached_count-none 0 _ (nil_from_length _ h)

@@ -1,0 +1,52 @@
+-- What a call of a reader leaves behind.
+use Rattle.std.proofs.Common.{◌≡◌, ℕ, ◌≤◌, arith, false, List, [], length, Option, None, Some, IfSome, MatchOption, refl, sym}
+use Rattle.std.proofs.lemmas.List.{length-reverse}
+use Rattle.plist_base.specs.declared.source.Source.{Ghosts}
+use Rattle.plist_base.specs.Events.{PlainEvent}
+use Rattle.plist_binread.specs.declared.frames.Frame.{Frame}
+use Rattle.plist_binread.specs.declared.counter.DecodeCounter.{Ghosts as CounterGhosts}
+use Rattle.plist_binread.specs.declared.reader.BinaryReader.{BinaryReader}
+use Rattle.plist_binread.specs.declared.head.Bounds.{Bounds}
+use Rattle.plist_binread.specs.declared.walk.Walk.{Walk}
+use Rattle.plist_format.specs.Container.{head_of}
+use Rattle.plist_binread.specs.Beginning.{IsBounded, IsKnownWalk}
+use Rattle.plist_binread.specs.BinaryReader.{AreListsWithin, GivesAs, KeepsInvariant}
+use Rattle.plist_binread.specs.Remaining.{AreBoundsOf, places_of}
+use Rattle.plist_binread.specs.Walking.{cached_in, walk_objects}
+use Rattle.plist_binread.proofs.OpenObjects.{IsOpen-length}
+use Rattle.plist_binread.proofs.UnknownBytes.{IfSome-all}
+use Rattle.std.proofs.lemmas.Option.{IfSome_then}
+
+-- what is known of a file is known with its head
+pub holds_head : (known : Option (List ℕ)) (bounds : Bounds) (walk : Walk) (walking : Type 0)
+    → IsKnownWalk known bounds walk → IfSome known (λ bytes. walking
+    → AreBoundsOf (head_of bytes) bounds × (walk_objects walk ≡ length (places_of bytes)))
+holds_head known bounds walk walking k =
+    IfSome_then known k (λ bytes k w. (k.head, sym k.size))
+
+-- no list is longer than there are objects in the file, or else in the reader
+lists_within : (known : Option (List ℕ)) (tags contents : List ℕ) (fs : List Frame)
+    → length fs ≤ length tags → length contents ≡ length tags
+    → IfSome known (λ bytes. length tags ≤ length (places_of bytes))
+    → MatchOption known (length fs ≤ length tags) (λ bytes. length fs ≤ length (places_of bytes))
+    × IfSome known (λ bytes. AreListsWithin (length (places_of bytes)) tags contents fs)
+lists_within None tags contents fs few same bounded = (few, tt)
+lists_within (Some bytes) tags contents fs few same bounded =
+    (omega arith, (bounded, omega arith, omega arith))
+
+pub left_behind : {R C : Type 0} {g : Ghosts R} {h : CounterGhosts C}
+    (known : R → Option (List ℕ)) (counts : Type 0) (count : C → ℕ) (old new : BinaryReader R C g h)
+    → (counts → count new.decoder.counter ≡ cached_in new.walk)
+    → IfSome (known old.source) (IsBounded new.walk) → KeepsInvariant known counts count old new
+left_behind known counts count old new counted bounded =
+    let walk = new.walk in
+    let few : length walk.frames ≤ walk_objects walk =
+    rw (← length-reverse walk.frames) (IsOpen-length _ _ walk.path) in
+    let within = lists_within (known old.source) walk.tags.items walk.contents.items walk.frames few
+    walk.same bounded in
+    record { nested = within.0; marked = walk.path; counted = counted; lists = within.1 }
+
+-- nothing comes of what has ended
+pub nothing_ended : (known : Option (List ℕ))
+    → IfSome known (λ bytes. GivesAs {A = PlainEvent} (λ event. event) false [] None [])
+nothing_ended known = IfSome-all known (λ bytes. (refl, refl))

@@ -1,0 +1,199 @@
+-- One step of a reader that knows no limits.
+use Rattle.std.proofs.Common.{◌≡◌, ℕ, ◌^◌, ◌<◌, true, List, Option, None, Some, Result, Ok, Err, IfSome, refl, ap, sym, arith}
+use Rattle.std.specs.Option.{is_some}
+use Rattle.std.specs.Prelude.{OnOk}
+use Rattle.plist_base.specs.declared.error.Error.{Error}
+use Rattle.plist_base.specs.declared.source.Source.{Ghosts}
+use Rattle.plist_base.specs.Faults.{error_kind_of, kind_of}
+use Rattle.plist_format.specs.Unfolding.{until_fault}
+use Rattle.plist_binread.specs.declared.counter.DecodeCounter.{Ghosts as CounterGhosts}
+use Rattle.plist_binread.specs.declared.reader.BinaryReader.{BinaryReader}
+use Rattle.plist_binread.specs.declared.reader.WalkState.{WalkState}
+use Rattle.plist_binread.specs.declared.reader.WalkState.TheVariants.{Fresh, Walking}
+use Rattle.plist_binread.specs.Beginning.{CountsRoot, GivesRoot, IsBounded, IsKnownWalk, CachesRoot}
+use Rattle.plist_binread.specs.BinaryReader.{objects_in_head}
+use Rattle.plist_binread.specs.Remaining.{CountsObjects, walk_steps}
+use Rattle.plist_binread.specs.FaultOffsets.{ErrWithin, ItemWithin}
+use Rattle.plist_binread.specs.DecodeOutcome.{YieldsNext}
+use Rattle.plist_binread.specs.Step.{CachesNext, LightensNext}
+use Rattle.plist_base.specs.Events.{PlainEvent}
+use Rattle.plist_base.specs.Visits.{Flow}
+use Rattle.plist_binread.specs.Advancing.{Walks, item_with}
+use Rattle.plist_binread.specs.declared.fault_slot.StepError.{StepError}
+use Rattle.plist_binread.specs.Slot.{AnswersInSlot, ItemAnswersInSlot, answer_in, item_in}
+use Rattle.plist_binread.specs.NextChild.{is_fresh, is_walking, state_after}
+use Rattle.plist_binread.specs.Walking.{cached_in, remaining_in, walk_objects, weight_in}
+use Rattle.plist_base.proofs.Refusals.{MatchFault-all}
+use Rattle.plist_binread.proofs.FaultOffsets.{from_within}
+use Rattle.plist_binread.proofs.UnknownBytes.{IfSome-all, IfSome-never}
+use Rattle.plist_binread.proofs.WalkSteps.{steps_up}
+use Rattle.plist_binread.proofs.ReaderCalls.{holds_head, left_behind}
+use Rattle.std.proofs.lemmas.Option.{IfSome_then}
+
+-- ---- the state
+
+-- it is never fresh again
+pub not_fresh : {E : Type 0} (item : Option (Result Flow E)) (after : WalkState)
+    → after ≡ state_after item → is_fresh after ≡ true → ⊥
+not_fresh None after is fresh = let no = ap is_fresh is in absurd (cc)
+not_fresh (Some (Ok value)) after is fresh = let no = ap is_fresh is in absurd (cc)
+not_fresh (Some (Err error)) after is fresh = let no = ap is_fresh is in absurd (cc)
+
+-- it walks only where an event was given
+pub walks_on_ok : {E : Type 0} (answer : Result Flow E) (after : WalkState) (P : Type 0)
+    → after ≡ state_after (Some answer) → OnOk answer P → is_walking after ≡ true → P
+walks_on_ok (Ok value) after P is known walking = known
+walks_on_ok (Err error) after P is known walking = let no = ap is_walking is in absurd (cc)
+
+-- ---- how many objects there are
+
+-- where they are told, they are told in the place of an event
+pub tells_fault : (known : Option (List ℕ)) (error : Error) (count : ℕ)
+    → IfSome known (λ bytes. count ≡ objects_in_head bytes)
+    → IfSome known (λ bytes. CountsObjects {A = PlainEvent} bytes (Err error) count)
+tells_fault known error count same = IfSome_then known same (λ bytes same.
+    MatchFault-all (kind_of (error_kind_of error)) tt tt same)
+
+-- ---- all of it
+
+module _ {R C : Type 0} {g : Ghosts R} {h : CounterGhosts C} (known : R → Option (List ℕ))
+    (failed : R → ℕ) (counts : Type 0) (count : C → ℕ) (old new : BinaryReader R C g h)
+    (same : known new.source ≡ known old.source)
+    (counted : counts → count new.decoder.counter ≡ cached_in new.walk)
+    (limiter : new.limiter ≡ old.limiter) where
+  pub first_walks : (noted : Result Flow StepError) (event : PlainEvent) → old.state ≡ Fresh
+      → new.state ≡ state_after (Some noted)
+      → IfSome (known old.source) (GivesRoot (answer_in noted new.decoder.slot) event new.decoder.bounds new.walk)
+      → ErrWithin 0 (2 ^ 64) (answer_in noted new.decoder.slot)
+      → IfSome (known old.source) (IsBounded new.walk)
+      → IfSome (known old.source) (CountsRoot noted new.decoder.slot new.walk)
+      → OnOk noted (IsKnownWalk (known old.source) new.decoder.bounds new.walk)
+      → IfSome (known old.source) (CachesRoot (answer_in noted new.decoder.slot) event new.walk)
+      → OnOk noted (weight_in new.walk < walk_steps (walk_objects new.walk))
+      → AnswersInSlot failed noted new.decoder.slot old.source new.source
+      → Walks known failed counts count old (item_with (item_in (Some noted) new.decoder.slot) event) new
+  first_walks (Ok value) event fresh is yields within bounded objects held kept falls failures = record {
+    gives = record {
+      unchanged = same;
+      items = simp (fresh, is) yields;
+      failures = failures;
+      ended = λ e. absurd (cc);
+      ends = tt;
+      begun = ap is_fresh is;
+      faults = tt;
+      head = holds_head (known old.source) new.decoder.bounds new.walk (is_walking new.state ≡ true) held;
+      cached = simp fresh kept;
+      leaves = left_behind known counts count old new counted bounded;
+      objects = objects;
+      kept = (ap is_some limiter, λ begun. absurd (cc (ap is_fresh fresh)));
+    };
+    falls =
+        let up = steps_up (walk_objects new.walk) (2 ^ 64)
+        (omega (arith, new.walk.tags.ok, new.walk.tags.small)) in
+        simp (fresh, is) (omega (arith, falls, up));
+  }
+  first_walks (Err r) event fresh is yields within bounded objects held kept falls failures = record {
+    gives = record {
+      unchanged = same;
+      items = simp (fresh, is) (IfSome_then (known old.source) yields (λ bytes h. (refl, h)));
+      failures = failures;
+      ended = λ e. absurd (cc);
+      ends = is;
+      begun = ap is_fresh is;
+      faults = within;
+      head = IfSome-never (known old.source) _ (λ w. absurd (cc));
+      cached = IfSome-all (known old.source) (λ bytes. tt);
+      leaves = left_behind known counts count old new counted bounded;
+      objects = objects;
+      kept = (ap is_some limiter, λ begun. absurd (cc (ap is_fresh fresh)));
+    };
+    falls = simp (fresh, is) (omega arith);
+  }
+
+  item_walks_at : (noted : Option (Result Flow StepError)) (event : PlainEvent) → old.state ≡ Walking
+      → new.state ≡ state_after noted
+      → IfSome (known old.source) (λ bytes. YieldsNext (remaining_in bytes old.decoder.bounds old.walk)
+      (item_in noted new.decoder.slot) event (remaining_in bytes new.decoder.bounds new.walk))
+      → ItemWithin 0 old.decoder.bounds.trailer (item_in noted new.decoder.slot)
+      → walk_objects new.walk ≡ walk_objects old.walk
+      → IfSome (known old.source) (IsBounded old.walk)
+      → IsKnownWalk (known old.source) new.decoder.bounds new.walk
+      → CachesNext (known old.source) old.decoder.bounds old.walk (item_in noted new.decoder.slot) event new.walk
+      → LightensNext old.walk noted new.walk
+      → ItemAnswersInSlot failed noted new.decoder.slot old.source new.source
+      → Walks known failed counts count old (item_with (item_in noted new.decoder.slot) event) new
+  item_walks_at None event walking is yields within size bounded held kept falls failures = record {
+    gives = record {
+      unchanged = same;
+      items = simp (walking, is) (IfSome_then (known old.source) yields
+          (λ bytes nothing. (ap until_fault nothing.0, refl)));
+      failures = failures;
+      ended = λ e. refl;
+      ends = is;
+      begun = ap is_fresh is;
+      faults = tt;
+      head = holds_head (known old.source) new.decoder.bounds new.walk (is_walking new.state ≡ true) held;
+      cached = IfSome-all (known old.source) (λ bytes. tt);
+      leaves = left_behind known counts count old new counted (rw (size, IsBounded) bounded);
+      objects = IfSome-all (known old.source) (λ bytes. tt);
+      kept = (ap is_some limiter, λ _. size);
+    };
+    falls = tt;
+  }
+  item_walks_at (Some (Ok x)) event walking is yields within size bounded held kept falls failures = record {
+    gives = record {
+      unchanged = same;
+      items = simp (walking, is) yields;
+      failures = failures;
+      ended = λ e. absurd (cc);
+      ends = tt;
+      begun = ap is_fresh is;
+      faults = tt;
+      head = holds_head (known old.source) new.decoder.bounds new.walk (is_walking new.state ≡ true) held;
+      cached = simp walking kept;
+      leaves = left_behind known counts count old new counted (rw (size, IsBounded) bounded);
+      objects = IfSome_then (known old.source) held (λ bytes held. sym held.size);
+      kept = (ap is_some limiter, λ _. size);
+    };
+    falls = simp (walking, is, size) falls.1;
+  }
+  item_walks_at (Some (Err r)) event walking is yields within size bounded held kept falls failures = record {
+    gives = record {
+      unchanged = same;
+      items = simp (walking, is) (IfSome_then (known old.source) yields (λ bytes next. (
+        refl,
+        next,
+      )));
+      failures = failures;
+      ended = λ e. absurd (cc);
+      ends = is;
+      begun = ap is_fresh is;
+      faults = from_within _ 0 old.decoder.bounds.trailer 0 (2 ^ 64) within (omega arith)
+          (omega (arith, old.decoder.bounds.small));
+      head = holds_head (known old.source) new.decoder.bounds new.walk (is_walking new.state ≡ true) held;
+      cached = IfSome-all (known old.source) (λ bytes. tt);
+      leaves = left_behind known counts count old new counted (rw (size, IsBounded) bounded);
+      objects = tells_fault (known old.source) new.decoder.slot.fault (walk_objects new.walk)
+          (IfSome_then (known old.source) held (λ bytes held. sym held.size));
+      kept = (ap is_some limiter, λ _. size);
+    };
+    falls = simp (walking, is) falls.0;
+  }
+
+  pub item_walks : (noted : Option (Result Flow StepError)) (event : PlainEvent) → old.state ≡ Walking
+      → new.decoder.bounds ≡ old.decoder.bounds → new.state ≡ state_after noted
+      → IfSome (known old.source) (λ bytes. YieldsNext
+      (remaining_in bytes old.decoder.bounds old.walk)
+      (item_in noted new.decoder.slot) event (remaining_in bytes old.decoder.bounds new.walk))
+      → ItemWithin 0 old.decoder.bounds.trailer (item_in noted new.decoder.slot)
+      → walk_objects new.walk ≡ walk_objects old.walk
+      → IfSome (known old.source) (IsBounded old.walk)
+      → IsKnownWalk (known old.source) old.decoder.bounds new.walk
+      → CachesNext (known old.source) old.decoder.bounds old.walk (item_in noted new.decoder.slot) event
+      new.walk
+      → LightensNext old.walk noted new.walk
+      → ItemAnswersInSlot failed noted new.decoder.slot old.source new.source
+      → Walks known failed counts count old (item_with (item_in noted new.decoder.slot) event) new
+  item_walks noted event walking bounds is yields within size bounded held kept falls failures =
+      item_walks_at noted event walking is (rw bounds yields) within size bounded (rw bounds held) kept
+      falls failures

@@ -1,0 +1,51 @@
+-- What a visitor within limits took.
+use Rattle.std.proofs.Common.{◌≡◌, inl, inr, Option, None, Some, Result, Ok, Err, subst, sym}
+use Rattle.plist_base.specs.declared.error.Error.{Error}
+use Rattle.plist_base.specs.Events.{PlainEvent}
+use Rattle.plist_base.specs.Faults.{Fault, fault_of}
+use Rattle.plist_base.specs.Limits.{Refuses, RefusesAny}
+use Rattle.plist_base.specs.declared.limits.Limiter.{Limiter}
+use Rattle.plist_base.specs.Visits.{Flow}
+use Rattle.plist_binread.specs.Advancing.{TakesWithin}
+use Rattle.plist_binread.specs.Handing.{HandsItem}
+use Rattle.plist_binread.specs.declared.fault_slot.StepError.{StepError}
+use Rattle.plist_binread.specs.declared.within.Within.{Within}
+
+-- an event came that reaches a limit, with this error
+pub record Reached {V : Type 0} (old new : Within V)
+    (P : Option (Result Flow StepError) → PlainEvent → Type 0) (error : Error) : Type 0 where
+  pub flow : Flow
+  pub event : PlainEvent
+  pub is : P (Some (Ok flow)) event
+  pub refused : Refuses old.limiter.now event (fault_of error)
+  pub untaken : new.visitor.now ≡ old.visitor.now
+
+pub reached_limit : {V : Type 0} (step : V → PlainEvent → Flow → V → Type 0) (old new : Within V)
+    (item : Option (Result Flow StepError)) (P : Option (Result Flow StepError) → PlainEvent → Type 0)
+    (error : Error)
+    → old.reached.now ≡ Ok tt → new.reached.now ≡ Err error
+    → HandsItem (TakesWithin step) old new item (P item) → Reached old new P error
+reached_limit step old new None P error before after h =
+    let same = h.taken in absurd (cc)
+reached_limit step old new (Some (Err refused)) P error before after h =
+    let same = h.taken in absurd (cc)
+reached_limit step old new (Some (Ok flow)) P error before after h = elim h.taken.takes [
+  | inl admitted ↦ let same = admitted.reached in absurd (cc)
+  | inr limit ↦
+      let same : limit.error ≡ error = let is = limit.reached in cc in
+      record {
+        flow = flow;
+        event = h.event;
+        is = h.is;
+        refused = rw same at limit.refused;
+        untaken = limit.untaken;
+      }
+]
+
+-- the limiter of a reader refuses the event that its visitor was refused
+pub refuses_any : (limiter : Option Limiter) (limits now : Limiter) (event : PlainEvent)
+    (fault given : Fault) → limiter ≡ Some limits → now ≡ limits → given ≡ fault
+    → Refuses now event given → RefusesAny limiter event fault
+refuses_any limiter limits now event fault given is at same refused =
+    subst (λ l. RefusesAny l event fault) (sym is) (subst (λ l. Refuses l event fault) at
+    (subst (λ f. Refuses now event f) same refused))

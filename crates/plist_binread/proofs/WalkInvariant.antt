@@ -1,0 +1,257 @@
+-- What is known of the file's bytes, and how it changes.
+use Rattle.std.proofs.Common.{◌≡◌, ℕ, ◌-◌, ◌<◌, ◌≤◌, inl, inr, Bool, true, false, nat_eq, List, [], ◌∷◌, ◌++◌, length, take, drop, get_or, slice_set, Option, None, Some, Ok, Err, IfSome, refl, ap, sym, ◌∙◌, arith}
+use Rattle.std.specs.Prelude.{⊤}
+use Rattle.std.specs.List.{AllByRecursion, slice_get}
+use Rattle.std.proofs.lemmas.Bool.Decides.{eqb_tells, nat_tests}
+use Rattle.std.proofs.lemmas.List.{get_or-set_same, get_or-set_other}
+use Rattle.plist_base.specs.declared.error.Error.{Error}
+use Rattle.plist_base.specs.Faults.{Fault, FaultKind, OutOfMemory, ObjectReferenceTooLarge, RecursiveObject, MatchFault, fault_of, fault_at, fault_nowhere}
+use Rattle.plist_base.specs.Events.{PlainEvent, ScalarEvent, Item}
+use Rattle.plist_base.specs.Trees.{Scalar}
+use Rattle.plist_base.proofs.Refusals.{MatchFault-at, MatchFault-weaker}
+use Rattle.plist_binread.specs.declared.frames.Frame.{Frame}
+use Rattle.plist_binread.specs.Decoded.{IsDecodedAs, bytes_at}
+use Rattle.plist_binread.specs.Reading.{object_at}
+use Rattle.plist_binread.specs.declared.decoded.Decoded.{Decoded}
+use Rattle.plist_binread.specs.declared.decoded.Decoded.TheVariants as decoded
+use Rattle.plist_binread.specs.Step.{IsCollectionStart}
+use Rattle.plist_binread.specs.Walking.{IsWalkOf, open_in, walk_objects}
+use Rattle.plist_binread.specs.declared.walk.Walk.{Walk}
+use Rattle.plist_binread.specs.declared.head.Bounds.{Bounds}
+use Rattle.plist_format.specs.Object.{Object, object_in}
+use Rattle.plist_binread.specs.Packed.{is_marked, unmarked, unpacked, cached, scalar_event, IsTextOrData, MayAllocate, KindChanged, MarkChanged}
+use Rattle.plist_binread.specs.declared.packed.PackedKind.{PackedKind}
+use Rattle.plist_binread.proofs.PackedScalars.{kind_of_tag-some}
+use Rattle.plist_format.specs.Unfolding.{TableEntry, unfolding_of, until_fault}
+use Rattle.plist_binread.specs.Remaining.{children_at, place_at, scalar_at, path_of, MarksOpenPath, HoldsPlaceOr, IsHeld, MatchesFile, places_of, entries_of, remaining_items, Explains}
+use Rattle.plist_binread.specs.Decoding.{IsCollection, IsRefusedAs, scalar_event_in, scalar_in}
+use Rattle.plist_binread.proofs.WalkSteps.{collection_count, items_beyond, items_open, yields_refused, yields_scalar, refused_cached, refused_memory}
+use Rattle.plist_format.proofs.Tables.{slice_get-within, slice_get-beyond, length-table_of}
+use Rattle.std.proofs.lemmas.Option.{IfSome_then}
+use Rattle.std.proofs.lemmas.Bool.{eqb-false}
+
+not_zero : (t : ℕ) → 0 < t → nat_eq t 0 ≡ false
+not_zero t h = grind (arith, nat_tests)
+
+-- what is held and isn't a place is this scalar, and memory is wanted for it where it may be
+held_as : (b : Bool) (scalar : Option Scalar) (content : ℕ) (entry : Option TableEntry) → b ≡ false
+    → HoldsPlaceOr b scalar content entry
+    → (scalar_at entry ≡ scalar) × (MayAllocate scalar → IsTextOrData scalar)
+held_as true scalar content entry b h = absurd (cc)
+held_as false None content entry b h = absurd h
+held_as false (Some s) content entry b h = (h, λ wanted. wanted)
+
+-- the scalar of this event
+abbrev unsingle : Option PlainEvent → Option Scalar
+unsingle (Some (ScalarEvent scalar)) = Some scalar
+unsingle event = None
+
+unsingle-single : (scalar : Option Scalar) → unsingle (scalar_event scalar) ≡ scalar
+unsingle-single None = refl
+unsingle-single (Some scalar) = refl
+
+from_scalar : (b : Bool) (scalar : Option Scalar) (content : ℕ) (entry : Option TableEntry)
+    (event : PlainEvent) → b ≡ false → scalar_event scalar ≡ Some event
+    → scalar_event (scalar_at entry) ≡ Some event → HoldsPlaceOr b scalar content entry
+from_scalar true scalar content entry event b is h = absurd (cc)
+from_scalar false None content entry event b is h = absurd (cc)
+from_scalar false (Some s) content entry event b is h =
+    sym (unsingle-single _) ∙ ap unsingle (h ∙ sym is)
+
+module _ (bytes : List ℕ) (bounds : Bounds) where
+  abbrev table : List TableEntry
+  table = entries_of bytes bounds
+
+  -- the object of a number below the count
+  abbrev pub entry_of : ℕ → TableEntry
+  entry_of number =
+      record {
+        place = get_or (places_of bytes) number 0;
+        object = object_in bounds.reference_width
+            (drop (get_or (places_of bytes) number 0) (take bounds.trailer bytes));
+      }
+
+  pub length-entries : length table ≡ length (places_of bytes)
+  length-entries =
+      length-table_of _ _ _
+
+  pub found : (number : ℕ) → number < length (places_of bytes)
+      → slice_get table number ≡ Some (entry_of number)
+  found number h =
+      slice_get-within _ _ _ _ h
+
+  module _ (tags contents : List ℕ) (fs : List Frame) (k : MatchesFile bytes bounds tags contents fs)
+    where
+      pub as_many : length table ≡ length tags
+      as_many = length-entries ∙ k.size
+
+      pub entry_there : (number : ℕ) → number < length tags
+          → slice_get table number ≡ Some (entry_of number)
+      entry_there number h = found _ (rw k.size h)
+
+      -- an object that isn't cached is at the place that is held
+      pub held_place : (number : ℕ) → number < length tags → unmarked (get_or tags number 0) ≡ 0
+          → get_or contents number 0 ≡ place_at (slice_get table number)
+      held_place number h none = rw none at (k.held _ h)
+
+      -- and one that is cached is the scalar that is held
+      pub held_scalar : (number : ℕ) → number < length tags → 0 < unmarked (get_or tags number 0)
+          → scalar_in (entry_of number).object
+          ≡ cached (get_or tags number 0) (get_or contents number 0)
+      held_scalar number h some =
+          sym (ap scalar_at (entry_there number h))
+          ∙ (held_as _ _ _ _ (not_zero _ some) (k.held number h)).0
+
+      -- the same with other tags, contents and open collections
+      pub known_with : (new others : List ℕ) (gs : List Frame) → length new ≡ length tags
+          → ((q : ℕ) → q < length tags
+          → IsHeld (slice_get table q) (get_or new q 0) (get_or others q 0))
+          → AllByRecursion (λ f. length (children_at (slice_get table f.object)) ≡ f.count) gs
+          → MatchesFile bytes bounds new others gs
+      known_with new others gs size held counts = record {
+        head = k.head;
+        within = k.within;
+        size = k.size ∙ sym size;
+        held = λ q less. held q (rw size at less);
+        counts = counts;
+      }
+
+      -- one more object is open
+      pub known_opened : (new : List ℕ) (f : Frame) (start : PlainEvent) (entry : TableEntry)
+          → MarkChanged f.object true tags new → slice_get table f.object ≡ Some entry
+          → IsCollection entry.object start f.count → MatchesFile bytes bounds new contents (f ∷ fs)
+      known_opened new f start entry m is collection =
+          known_with new contents (f ∷ fs) m.size (λ q less. rw (m.tags q) (k.held q less))
+          (rw is (collection_count entry.object start f.count collection), k.counts)
+
+      -- one more object is cached
+      pub known_kept : (number : ℕ) (kind : PackedKind) (content : ℕ) (new : List ℕ)
+          (event : PlainEvent) → number < length tags → length contents ≡ length tags
+          → KindChanged number kind tags new → scalar_event (unpacked kind content) ≡ Some event
+          → scalar_event (scalar_at (slice_get table number)) ≡ Some event
+          → MatchesFile bytes bounds new (slice_set contents number content) fs
+      known_kept number kind content new event h same m packs is =
+          known_with new (slice_set contents number content) fs m.size held k.counts
+        where
+          here : IsHeld (slice_get table number) (get_or new number 0)
+              (get_or (slice_set contents number content) number 0)
+          here = from_scalar _ _ _ _ _
+              (not_zero _ (kind_of_tag-some _ kind m.here))
+              (cc (get_or-set_same contents number content 0 (rw same h), m.here))
+              is
+
+          held : (q : ℕ) → q < length tags
+              → IsHeld (slice_get table q) (get_or new q 0)
+              (get_or (slice_set contents number content) q 0)
+          held q less = elim (eqb_tells q number) [
+            | inl e ↦ rw e.1 here
+            | inr e ↦ rw (
+              m.others q e.0,
+              get_or-set_other contents number q content 0
+                  (eqb-false q number e.0),
+            )
+                (k.held q less)
+          ]
+
+      -- ---- a number that isn't entered
+
+      module _ (o : MarksOpenPath tags fs) (at number : ℕ) where
+        abbrev before : List Item
+        before = unfolding_of table (length tags - length fs) (path_of fs) at number
+            ++ remaining_items table fs
+
+        explained : (kind : FaultKind) (offset : Option ℕ) (e : Error)
+            → fault_of e ≡ record { kind = kind; offset = offset } → MatchFault kind ⊥ ⊥ ⊤
+            → unfolding_of table (length tags - length fs) (path_of fs) at number
+            ≡ Err (record { kind = kind; offset = offset }) ∷ [] → Explains (until_fault before) e
+        explained kind offset e is inside only =
+            MatchFault-at _ _ _ _ _ (ap (λ (f : Fault). f.kind) is)
+            (MatchFault-weaker kind (λ none. absurd none) (λ none. absurd none)
+            (λ _. ap (λ items. until_fault (items ++ remaining_items table fs))
+            (only ∙ ap (λ f. Err f ∷ []) (sym is))) inside)
+
+        -- it has no tag
+        pub unfound_beyond : (e : Error) → length tags ≤ number
+            → fault_of e ≡ fault_at ObjectReferenceTooLarge at → Explains (until_fault before) e
+        unfound_beyond e h is =
+            explained _ _ e is tt
+            (items_beyond _ _ _ at number
+            (slice_get-beyond _ (places_of _) _
+            _ (rw k.size h)))
+
+        -- it is open
+        pub unfound_open : (e : Error) → number < length tags
+            → is_marked (get_or tags number 0) ≡ true
+            → fault_of e ≡ fault_at RecursiveObject (get_or contents number 0)
+            → Explains (until_fault before) e
+        unfound_open e h marked is =
+            explained _ _ e is tt
+            (items_open _ _ _ at number (entry_of _)
+            (entry_there _ h) (cc (o.marks number h))
+            ∙ ap (λ p. Err (fault_at RecursiveObject p) ∷ [])
+            (sym (held_place _ h (o.uncached _ marked)
+            ∙ ap place_at (entry_there _ h))))
+
+        module _ (h : number < length tags) (free : is_marked (get_or tags number 0) ≡ false) where
+          -- it is found, and is a scalar, or refused
+          pub found_scalar : (event : PlainEvent)
+              → scalar_event_in (entry_of number).object ≡ Some event
+              → until_fault before ≡ Ok event ∷ until_fault (remaining_items table fs)
+          found_scalar = yields_scalar table tags as_many fs at number (entry_of number) o h
+              (entry_there number h) (sym (o.marks number h) ∙ free)
+
+          pub found_refused : (e : Error)
+              → IsRefusedAs (entry_of number).object (entry_of number).place e
+              → Explains (until_fault before) e
+          found_refused = yields_refused table tags as_many fs at number (entry_of number) o h
+              (entry_there number h) (sym (o.marks number h) ∙ free)
+
+          -- memory was wanted for the scalar that is held
+          pub unfound_memory : (e : Error) → 0 < unmarked (get_or tags number 0)
+              → fault_of e ≡ fault_nowhere OutOfMemory
+              → MayAllocate (cached (get_or tags number 0) (get_or contents number 0))
+              → Explains (until_fault before) e
+          unfound_memory e some memory wanted = found_refused e
+              (refused_cached (entry_of number).object (entry_of number).place e _ memory
+              (held_scalar number h some)
+              ((held_as _ _ _ (slice_get table number) (not_zero _ some) (k.held number h)).1
+              wanted))
+
+-- ---- over bytes that may be unknown
+
+pub first : (known : Option (List ℕ)) (P Q : List ℕ → Type 0)
+    → IfSome known (λ bytes. P bytes × Q bytes) → IfSome known P
+first known P Q h = IfSome_then known h (λ bytes h. h.0)
+
+pub second : (known : Option (List ℕ)) (P Q : List ℕ → Type 0)
+    → IfSome known (λ bytes. P bytes × Q bytes) → IfSome known Q
+second known P Q h = IfSome_then known h (λ bytes h. h.1)
+
+-- the object isn't cached, and this is its place
+abbrev pub IsPlaceIn : Walk → (number place : ℕ) → Type 0
+IsPlaceIn walk number place = (unmarked (get_or walk.tags.items number 0) ≡ 0)
+    × (place ≡ get_or walk.contents.items number 0)
+
+pub place_is : (bytes : List ℕ) (bounds : Bounds) (walk : Walk) → IsWalkOf bytes bounds walk
+    → (number place : ℕ) → number < walk_objects walk → IsPlaceIn walk number place
+    → place ≡ (entry_of bytes bounds number).place
+place_is bytes bounds walk k number place h is = cc (
+  held_place bytes bounds walk.tags.items walk.contents.items (open_in walk) k number h is.0,
+  entry_there bytes bounds walk.tags.items walk.contents.items (open_in walk) k number h,
+)
+
+-- a collection for which room is wanted
+pub known_full : (known : Option (List ℕ)) (bounds : Bounds) (place : ℕ) (d : Decoded) (e : Error)
+    → fault_of e ≡ fault_nowhere OutOfMemory → IsCollectionStart d
+    → IfSome known (λ bytes. bounds.trailer ≤ length bytes
+    → IsDecodedAs (bytes_at bounds place bytes) (object_at bounds place bytes) d)
+    → IfSome known (λ bytes. bounds.trailer ≤ length bytes
+    → IsRefusedAs (object_at bounds place bytes) place e)
+known_full known bounds place d e memory wanted decodes =
+    IfSome_then known decodes (λ bytes decodes fits. by _ _ d wanted (decodes fits))
+  where
+    by : (all : List ℕ) (object : Object) (d : Decoded) → IsCollectionStart d
+        → IsDecodedAs all object d → IsRefusedAs object place e
+    by all object (decoded.Array count) wanted h = refused_memory object place e _ _ memory h
+    by all object (decoded.Dictionary count) wanted h = refused_memory object place e _ _ memory h.0
+    by all object other wanted h = absurd wanted
