@@ -5,9 +5,9 @@ ghost use Rattle.plist_binwrite.specs.EventTable.{plain_events};
 ghost use Rattle.plist_binwrite.specs.inner.Laying.{IsOrder, HasAll};
 ghost use Rattle.plist_binwrite.specs.inner.Planning.{IsPlanned, count_of};
 
+use crate::children::{Children, Half};
 use crate::compact_numbers::Numbers;
 use crate::event_table::EventTable;
-use crate::kinds::EntryKind;
 use crate::plan::Plan;
 use std::alloc::{AllocError, Global};
 
@@ -49,26 +49,6 @@ impl FileLayout {
         Ok(())
     }
 
-    // Appends the keys of a dictionary to the order, from an index on.
-    fn put_keys(
-        &mut self,
-        events: &EventTable<'_>,
-        plan: &Plan,
-        from: usize,
-    ) -> Result<(), AllocError>
-        requires planned { IsPlanned (plain_events events.now) plan.now }
-        requires order { IsOrder (count_of plan.now) self.old.order self.old.places }
-        ensures order { OnOk result (IsOrder (count_of plan.now) self.new.order self.new.places) }
-        ensures keeps { OnOk result (KeepsMarks self.old.places self.new.places) }
-    {
-        let mut key = from;
-        'walk: while events.has_item(key) {
-            self.put(events, plan, key)?;
-            key = events.index_after_pair(key);
-        }
-        Ok(())
-    }
-
     // Appends the object of the event at an index to the order, and then those of its keys.
     fn put_here(
         &mut self,
@@ -84,10 +64,10 @@ impl FileLayout {
         ensures marked { OnOk result (MarksItem events.now plan.now index self.new.places) }
     {
         self.put(events, plan, index)?;
-        match events.kind_at(index) {
-            EntryKind::Dictionary => self.put_keys(events, plan, index + 1),
-            EntryKind::Array | EntryKind::Scalar | EntryKind::End => Ok(()),
+        for key in Children::new(events, index, Half::Keys) {
+            self.put(events, plan, key)?;
         }
+        Ok(())
     }
 }
 

@@ -4,9 +4,9 @@ ghost use Rattle.std.specs.Prelude.{◌≡◌, length, IfOk};
 ghost use Rattle.plist_binwrite.specs.EventTable.{plain_events, AllBelow};
 ghost use Rattle.plist_binwrite.specs.inner.Numbering.{IsNumberingOf, NumbersRoot, NumbersTree};
 
+use crate::children::{Children, Half};
 use crate::compact_numbers::Numbers;
 use crate::event_table::EventTable;
-use crate::kinds::{EntryKind, key_or_value};
 use std::alloc::{AllocError, Global};
 
 // Buffered events, and the class of each.
@@ -27,7 +27,7 @@ struct Numbered {
 impl Numbered {
     ghost use Rattle.std.specs.Prelude.{◌≡◌, ◌<◌, [], length, IfOk, OnOk};
     ghost use Rattle.plist_binwrite.specs.EventTable.{plain_events};
-    ghost use Rattle.plist_binwrite.specs.inner.Numbering.{AreMarks, BeginsAt, IsNumberedSoFar, HaveIdsOf, IsPlanOf, KeepsNumbers, NumbersAll, NumbersChildren, NumbersKeysOrValues, NumbersItem, NumbersItems, RootIsFirst};
+    ghost use Rattle.plist_binwrite.specs.inner.Numbering.{AreMarks, BeginsAt, IsNumberedSoFar, HaveIdsOf, IsPlanOf, KeepsNumbers, NumbersAll, NumbersChildren, NumbersHalf, NumbersItem, RootIsFirst};
 
     // Starts without numbers. Memory for the first index of each class is reserved, since lists
     // that grow would leave gaps between those that are full.
@@ -76,43 +76,26 @@ impl Numbered {
         Ok(())
     }
 
-    // Numbers the items of an array, from an index on.
-    fn number_items(&mut self, given: &Classed<'_, '_>, from: usize) -> Result<(), AllocError>
-        requires so_far { IsNumberedSoFar given.now self.old }
-        ensures so_far { OnOk result (IsNumberedSoFar given.now self.new) }
-        ensures keeps { OnOk result (KeepsNumbers self.old self.new) }
-        ensures numbered { OnOk result (NumbersItems given.now from self.new) }
-    {
-        let mut index = from;
-        'walk: while given.events.has_item(index) {
-            self.number_one(given, index)?;
-            index = given.events.index_after(index);
-        }
-        Ok(())
-    }
-
-    // Numbers the values of a dictionary, or its keys, from an index on.
-    fn number_keys_or_values(
+    // Numbers a half of the children of the collection that begins at an index.
+    fn number_half(
         &mut self,
         given: &Classed<'_, '_>,
-        from: usize,
-        values: bool,
+        index: usize,
+        half: Half,
     ) -> Result<(), AllocError>
         requires so_far { IsNumberedSoFar given.now self.old }
+        requires index { index < length (plain_events given.now.events.now) }
         ensures so_far { OnOk result (IsNumberedSoFar given.now self.new) }
         ensures keeps { OnOk result (KeepsNumbers self.old self.new) }
-        ensures numbered { OnOk result (NumbersKeysOrValues given.now values from self.new) }
+        ensures numbered { OnOk result (NumbersHalf given.now half index self.new) }
     {
-        let mut key = from;
-        'walk: while given.events.has_item(key) {
-            let index = key_or_value(key, key + 1, values);
-            self.number_one(given, index)?;
-            key = given.events.index_after_pair(key);
+        for child in Children::new(given.events, index, half) {
+            self.number_one(given, child)?;
         }
         Ok(())
     }
 
-    // Numbers the keys of the collection that begins at an index, and then its values.
+    // Numbers the keys of the collection that begins at an index, and then its items or values.
     fn number_children(&mut self, given: &Classed<'_, '_>, index: usize) -> Result<(), AllocError>
         requires so_far { IsNumberedSoFar given.now self.old }
         requires index { index < length (plain_events given.now.events.now) }
@@ -120,16 +103,9 @@ impl Numbered {
         ensures keeps { OnOk result (KeepsNumbers self.old self.new) }
         ensures numbered { OnOk result (NumbersChildren given.now index self.new) }
     {
-        let inside = index + 1;
-        match given.events.kind_at(index) {
-            EntryKind::Array => self.number_items(given, inside),
-            EntryKind::Dictionary => {
-                self.number_keys_or_values(given, inside, false)?;
-                self.number_keys_or_values(given, inside, true)?;
-                Ok(())
-            }
-            EntryKind::Scalar | EntryKind::End => Ok(()),
-        }
+        self.number_half(given, index, Half::Keys)?;
+        self.number_half(given, index, Half::Values)?;
+        Ok(())
     }
 
     // Numbers all objects: when a collection has its turn, its keys and then its values are

@@ -3,11 +3,14 @@
 
 ghost use Rattle.std.specs.Prelude.{◌≡◌, ◌+◌, ◌^◌, ◌<◌, ◌≤◌, ℕ, length, true, false, IfOk, IfSome, None, OnOk, Some};
 ghost use Rattle.plist_base.specs.Outcomes.{OnlyMemory};
+ghost use Rattle.plist_binwrite.specs.Children.{children_of};
+ghost use Rattle.plist_binwrite.specs.EventTable.{plain_events};
 ghost use Rattle.plist_binwrite.specs.inner.Laying.{IsOrder};
 ghost use Rattle.plist_binwrite.specs.inner.Planning.{IsPlanned, count_of, events_in};
 ghost use Rattle.plist_binwrite.specs.Sizes.{IsSizeOrNone, size_with};
-ghost use Rattle.plist_binwrite.specs.inner.Sizing.{AreLaid, CountsItems, ExceedsWith, FitsWith, IsWritableAt, IsEndOrNone, IsSizeOrNoneAt};
+ghost use Rattle.plist_binwrite.specs.inner.Sizing.{AreLaid, ExceedsWith, FitsWith, IsWritableAt, IsEndOrNone, IsSizeOrNoneAt};
 
+use crate::children::{Children, Half};
 use crate::compact_numbers::Numbers;
 use crate::event_table::EventTable;
 use crate::kinds::EntryKind;
@@ -16,18 +19,12 @@ use crate::plan::Planned;
 use crate::widths::offset_width;
 use plist_base::Error;
 
-/// Counts the items of a collection from an index on. In a dictionary, keys and values both count.
-pub fn count_items(events: &EventTable<'_>, from: usize) -> usize
-    ensures value { CountsItems events.now from result }
-    ensures small { result < 2 ^ 64 }
+/// Counts a half of the children of the collection that begins at an index.
+pub fn count_children(events: &EventTable<'_>, index: usize, half: Half) -> usize
+    requires { index < length (plain_events events.now) }
+    ensures { result ≡ length (children_of (plain_events events.now) half index) }
 {
-    let mut count = 0;
-    let mut index = from;
-    'walk: while events.has_item(index) {
-        count += 1;
-        index = events.index_after(index);
-    }
-    count
+    Children::new(events, index, half).count()
 }
 
 // Returns the size of the object of the tree that begins at an index.
@@ -40,12 +37,12 @@ fn size_of_object(file: &Planned<'_, '_>, index: usize) -> Option<u64>
 {
     match file.events.kind_at(index) {
         EntryKind::Array => {
-            let count = count_items(file.events, index + 1) as u64;
+            let count = count_children(file.events, index, Half::Values) as u64;
             length_of_collection(count, count, file.width as u64)
         }
         EntryKind::Dictionary => {
-            let count = count_items(file.events, index + 1) as u64;
-            length_of_collection(count / 2, count, file.width as u64)
+            let count = count_children(file.events, index, Half::Values) as u64;
+            length_of_collection(count, 2 * count, file.width as u64)
         }
         EntryKind::Scalar | EntryKind::End => match file.events.scalar_at(index) {
             Some(scalar) => length_of_scalar(scalar),

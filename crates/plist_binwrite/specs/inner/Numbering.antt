@@ -1,14 +1,16 @@
 -- Words for the numbers that buffered events have so far, and for how a call changes them.
-use Rattle.std.specs.Prelude.{◌≡◌, ℕ, ◌-◌, ◌^◌, Bool, false, List, length, get_or, replicate}
+use Rattle.std.specs.Prelude.{◌≡◌, ℕ, ◌-◌, ◌^◌, false, List, length, get_or, replicate}
 use Rattle.std.specs.List.{AllByRecursion}
 use Rattle.plist_base.specs.Bracketing.{lengthless}
-use Rattle.plist_base.specs.Trees.{Tree, Trees, Members}
-use Rattle.plist_binwrite.specs.Occurrences.{OccursAt, ItemsOccurAt, PairsOccurAt}
+use Rattle.plist_base.specs.Trees.{Tree}
+use Rattle.plist_binwrite.specs.Children.{children_of}
+use Rattle.plist_binwrite.specs.declared.children.Half.{Half}
+use Rattle.plist_binwrite.specs.declared.children.Half.TheVariants.{Keys, Values}
 use Rattle.plist_binwrite.specs.declared.event_table.EventTable.{EventTable}
 use Rattle.plist_binwrite.specs.declared.numbering.Classed.{Classed}
 use Rattle.plist_binwrite.specs.declared.numbering.Numbered.{Numbered}
 use Rattle.plist_binwrite.specs.declared.numbering.Numbering.{Numbering}
-use Rattle.plist_binwrite.specs.EventTable.{plain_events, is_end, event_at, nth_number, item_indices, key_or_value_indices, keys_in, values_in, AllNumbered, IsNumbered, KeepsNumbering}
+use Rattle.plist_binwrite.specs.EventTable.{plain_events, is_end, event_at, nth_number, AllNumbered, IsNumbered, KeepsNumbering}
 use Rattle.plist_binwrite.specs.inner.PlansBy.{IsPlan, HaveIds}
 
 -- this many numbers, all of which are unknown
@@ -50,23 +52,14 @@ module _ (given : Classed) where
   NumbersItem index found = is_end (event_at (plain_events given.events.now) index) ≡ false
       → IsNumbered found.numbers found.firsts index
 
-  -- the items of an array have numbers, from this index on
-  abbrev pub NumbersItems : (from : ℕ) → Numbered → Type 0
-  NumbersItems from found = (ts : Trees) → ItemsOccurAt (plain_events given.events.now) ts from
-      → AllByRecursion (IsNumbered found.numbers found.firsts) (item_indices ts from)
+  -- a half of the children of the collection that begins at this index have numbers
+  abbrev pub NumbersHalf : Half → (index : ℕ) → Numbered → Type 0
+  NumbersHalf half index found = AllByRecursion (IsNumbered found.numbers found.firsts)
+      (children_of (plain_events given.events.now) half index)
 
-  -- the values of a dictionary, or its keys, have numbers
-  abbrev pub NumbersKeysOrValues : (of_values : Bool) → (from : ℕ) → Numbered → Type 0
-  NumbersKeysOrValues of_values from found =
-      (ms : Members) → PairsOccurAt (plain_events given.events.now) ms from
-      → AllByRecursion (IsNumbered found.numbers found.firsts)
-      (key_or_value_indices of_values ms from)
-
-  -- the keys and the values of the collection that begins at this index have numbers
+  -- all of its children have
   abbrev pub NumbersChildren : (index : ℕ) → Numbered → Type 0
-  NumbersChildren index found = (t : Tree) → OccursAt (plain_events given.events.now) t index
-      → AllByRecursion (IsNumbered found.numbers found.firsts) (keys_in t index)
-      × AllByRecursion (IsNumbered found.numbers found.firsts) (values_in t index)
+  NumbersChildren index found = NumbersHalf Keys index found × NumbersHalf Values index found
 
   -- if the events are a tree's, each item has a number
   abbrev pub NumbersAll : Numbered → Type 0

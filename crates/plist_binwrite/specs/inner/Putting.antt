@@ -1,15 +1,21 @@
 -- Words for what is put and written of a planned file.
-use Rattle.std.specs.Prelude.{ℕ, ◌+◌, Bool, List, map, Option, Result}
+use Rattle.std.specs.Prelude.{ℕ, List, ◌++◌, length, map, Option, Result}
+use Rattle.plist_base.specs.Events.{PlainEvent}
 use Rattle.plist_base.specs.Writing.{answer_of}
 use Rattle.plist_base.specs.declared.error.Error.{Error}
 use Rattle.plist_base.specs.declared.sink.Sink.{Sink}
 use Rattle.plist_base.specs.Sinks.{Puts}
-use Rattle.plist_base.specs.Trees.{Tree, Trees, Members, Array, Dictionary}
+use Rattle.plist_base.specs.Trees.{Tree}
+use Rattle.plist_format.specs.Marker.{high_half}
+use Rattle.plist_format.specs.declared.marker.CountedKind.{CountedKind}
 use Rattle.plist_format.specs.Object.{Object}
-use Rattle.plist_binwrite.specs.Forms.{form, table_form}
-use Rattle.plist_binwrite.specs.EventTable.{plain_events, item_indices, key_or_value_indices, Describes}
+use Rattle.plist_binwrite.specs.Forms.{form, length_form, table_form}
+use Rattle.plist_binwrite.specs.EventTable.{plain_events, Describes}
 use Rattle.plist_binwrite.specs.Numberings.{object_of}
-use Rattle.plist_binwrite.specs.Occurrences.{OccursAt, ItemsOccurAt, PairsOccurAt}
+use Rattle.plist_binwrite.specs.Occurrences.{OccursAt}
+use Rattle.plist_binwrite.specs.Children.{children_of}
+use Rattle.plist_binwrite.specs.declared.children.Half.{Half}
+use Rattle.plist_binwrite.specs.declared.children.Half.TheVariants.{Keys, Values}
 use Rattle.plist_binwrite.specs.Written.{object_table}
 use Rattle.plist_binwrite.specs.Classes.{SendsBy}
 use Rattle.plist_binwrite.specs.declared.send_file.Draft.{Draft}
@@ -20,35 +26,32 @@ use Rattle.plist_binwrite.specs.inner.PlannedFiles.{SendsReady, file_of, numbers
 use Rattle.plist_binwrite.specs.inner.Planning.{IsPlanByClass}
 pub use Rattle.plist_binwrite.specs.inner.Planning.{numbers_of, events_in, numbers_by}
 
-module _ {W : Type 0} (contents : W → Option (List ℕ)) (old : Sink W) where
-  -- the references to the items of an array are put, from this index on
-  abbrev pub PutsItems : Planned → (from : ℕ) → Result (Unit {0}) Error → (new : Sink W) → Type 0
-  PutsItems file from result new = (ts : Trees) → ItemsOccurAt (events_in file) ts from
-      → Puts contents old
-      (table_form file.width (map (numbers_by file) (item_indices ts from))) result new
+module _ (number : ℕ → ℕ) (width : ℕ) (es : List PlainEvent) where
+  -- the references to a half of the children of the collection that begins at an index
+  abbrev pub references_of : Half → (index : ℕ) → List ℕ
+  references_of half index = table_form width (map number (children_of es half index))
 
-  -- the references to the values of a dictionary, or to its keys, are put
-  abbrev pub PutsKeysOrValues : Planned → (of_values : Bool) → (from : ℕ) → Result (Unit {0}) Error
-      → (new : Sink W) → Type 0
-  PutsKeysOrValues file of_values from result new =
-      (ms : Members) → PairsOccurAt (events_in file) ms from
-      → Puts contents old
-      (table_form file.width (map (numbers_by file) (key_or_value_indices of_values ms from)))
+  -- a collection: its length, and the references to its keys and to its items or values
+  abbrev pub collection_of : (high index : ℕ) → List ℕ
+  collection_of high index = length_form high (length (children_of es Values index))
+      ++ (references_of Keys index ++ references_of Values index)
+
+module _ {W : Type 0} (contents : W → Option (List ℕ)) (old : Sink W) where
+  -- the references to a half of the children of the collection that begins at this index are put
+  abbrev pub PutsHalf : Planned → Half → (index : ℕ) → Result (Unit {0}) Error → (new : Sink W)
+      → Type 0
+  PutsHalf file half index result new =
+      Puts contents old (references_of (numbers_by file) file.width (events_in file) half index)
       result new
 
-  -- the object of the array, of the dictionary, and of any tree that begins at this index is put
-  abbrev pub PutsArray : Planned → (index : ℕ) → Result (Unit {0}) Error → (new : Sink W) → Type 0
-  PutsArray file index result new = (ts : Trees) → ItemsOccurAt (events_in file) ts
-      (index + 1)
-      → Puts contents old
-      (form file.width (object_of (numbers_by file) (Array ts) index)) result new
+  -- the marker of its length and the references to all of its children are put
+  abbrev pub PutsCollection : Planned → CountedKind → (index : ℕ) → Result (Unit {0}) Error
+      → (new : Sink W) → Type 0
+  PutsCollection file kind index result new =
+      Puts contents old
+      (collection_of (numbers_by file) file.width (events_in file) (high_half kind) index) result new
 
-  abbrev pub PutsDictionary : Planned → (index : ℕ) → Result (Unit {0}) Error → (new : Sink W) → Type 0
-  PutsDictionary file index result new =
-      (ms : Members) → PairsOccurAt (events_in file) ms (index + 1)
-      → Puts contents old
-      (form file.width (object_of (numbers_by file) (Dictionary ms) index)) result new
-
+  -- the object of the tree that begins at this index is put
   abbrev pub PutsObject : Planned → (index : ℕ) → Result (Unit {0}) Error → (new : Sink W) → Type 0
   PutsObject file index result new = (t : Tree) → OccursAt (events_in file) t index
       → Puts contents old

@@ -1,12 +1,12 @@
 -- Words for the order of a planned file's objects, their offsets, and its size.
 use Rattle.std.specs.Prelude.{◌≡◌, ◌≢◌, ℕ, ◌+◌, ◌^◌, ◌<◌, ◌≤◌, false, List, length, get_or, Option, IfSome}
-use Rattle.plist_base.specs.Trees.{Tree, Trees, number_of_trees}
+use Rattle.plist_base.specs.Trees.{Tree}
 use Rattle.plist_format.specs.Object.{Object}
 use Rattle.plist_binwrite.specs.Forms.{IsWritable}
 use Rattle.plist_binwrite.specs.EventTable.{plain_events, is_end, table_event, nth_number, Describes}
 use Rattle.plist_binwrite.specs.Numberings.{object_of}
 use Rattle.plist_binwrite.specs.Sizes.{IsSizeOrNone, object_size, size_with}
-use Rattle.plist_binwrite.specs.Occurrences.{OccursAt, ItemsOccurAt}
+use Rattle.plist_binwrite.specs.Occurrences.{OccursAt}
 use Rattle.plist_binwrite.specs.Written.{Laid}
 use Rattle.plist_binwrite.specs.declared.event_table.EventTable.{EventTable}
 use Rattle.plist_binwrite.specs.declared.plan.Plan.{Plan}
@@ -19,11 +19,6 @@ abbrev pub MarksItem : EventTable → Plan → (index : ℕ) → (marks : List �
 MarksItem held plan index marks = index < length (plain_events held)
     → is_end (table_event held index) ≡ false
     → get_or marks (nth_number (numbers_of plan) index) 0 ≢ 0
-
--- the number of an array's items from this index on
-abbrev pub CountsItems : EventTable → (from count : ℕ) → Type 0
-CountsItems held from count =
-    (ts : Trees) → ItemsOccurAt (plain_events held) ts from → count ≡ number_of_trees ts
 
 -- a file with this many objects, whose offset table lies at `table`, has less than 2^64 bytes, or
 -- doesn't

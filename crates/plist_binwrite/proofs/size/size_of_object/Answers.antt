@@ -1,32 +1,48 @@
-use Rattle.std.proofs.Common.{refl}
-use Rattle.plist_binwrite.proofs.TreeObjects.{collection_fits, dictionary_told, of_array, of_dictionary, of_nothing, of_scalar}
-use Rattle.plist_binwrite.proofs.Skipping.{as_items, pairs_as_items}
+use Rattle.std.proofs.Common.{◌∙◌, arith, refl}
+use Rattle.plist_binwrite.specs.EventTable.{plain_events, scalars_of}
+use Rattle.plist_binwrite.specs.declared.children.Half.TheVariants.{Values}
+use Rattle.plist_binwrite.proofs.ChildIndices.{few_children}
+use Rattle.plist_binwrite.proofs.HeldEntries.{long_shown}
+use Rattle.plist_binwrite.proofs.TreeObjects.{collection_fits, count_items, count_pairs, dictionary_told, of_array, of_dictionary, of_nothing, of_scalar}
 use Rattle.plist_binwrite.proofs.size.size_of_object.Goals as goal
+
+pub overflow_mul-count : goal.overflow_mul-count
+overflow_mul-count c =
+    let held = c.args.file.now.events.now in
+    omega (
+      arith,
+      c.count_children-count-in-Dictionary.ensures,
+      few_children (plain_events held) Values c.args.index,
+      long_shown (scalars_of held) held.entries,
+      held.few,
+    )
 
 pub returns-in-Array-clause-size : goal.returns-in-Array-clause-size
 returns-in-Array-clause-size c =
     of_array c.kind_at.ensures _ c.in-Array.is
-    (λ ts r. rw (← c.count_items-count.ensures.value ts r)
+    (λ ts s. rw (← count_items s, ← c.count_children-count.ensures)
     (c.length_of_collection.ensures.value 0xa))
 
 pub returns-in-Array-clause-writable : goal.returns-in-Array-clause-writable
 returns-in-Array-clause-writable c = λ t s.
-    collection_fits _ _ _ _ c.requires.planned.all c.requires.fits t _ _ s
-    (λ e. cc (c.kind_at.ensures, c.in-Array.is)) c.count_items-count.ensures.small
-    c.count_items-count.ensures.value
+    let held = c.args.file.now.events.now in
+    collection_fits _ _ _ _ c.requires.planned.all c.requires.fits
+    (omega (arith, long_shown (scalars_of held) held.entries, held.few)) t _ s
+    (λ e. cc (c.kind_at.ensures, c.in-Array.is))
 
 pub returns-in-Dictionary-clause-size : goal.returns-in-Dictionary-clause-size
 returns-in-Dictionary-clause-size c =
     of_dictionary c.kind_at.ensures _ c.in-Dictionary.is
-    (λ ms r. dictionary_told _ _ _ ms
-    (c.count_items-count-in-Dictionary.ensures.value (as_items ms) (pairs_as_items r))
+    (λ ms s. dictionary_told _ _ _ _
+    (c.count_children-count-in-Dictionary.ensures ∙ count_pairs s)
     (c.length_of_collection-in-Dictionary.ensures.value 0xd))
 
 pub returns-in-Dictionary-clause-writable : goal.returns-in-Dictionary-clause-writable
 returns-in-Dictionary-clause-writable c = λ t s.
-    collection_fits _ _ _ _ c.requires.planned.all c.requires.fits t _ _ s
+    let held = c.args.file.now.events.now in
+    collection_fits _ _ _ _ c.requires.planned.all c.requires.fits
+    (omega (arith, long_shown (scalars_of held) held.entries, held.few)) t _ s
     (λ e. cc (c.kind_at.ensures, c.in-Dictionary.is))
-    c.count_items-count-in-Dictionary.ensures.small c.count_items-count-in-Dictionary.ensures.value
 
 pub returns-in-Some-clause-size : goal.returns-in-Some-clause-size
 returns-in-Some-clause-size c =

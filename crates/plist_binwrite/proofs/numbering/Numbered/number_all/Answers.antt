@@ -1,4 +1,6 @@
-use Rattle.std.proofs.Common.{◌<◌, length, arith, below_more, ap, ◌∙◌}
+use Rattle.std.proofs.Common.{◌<◌, length, arith, below_more, ap, ◌∙◌, subst}
+use Rattle.std.specs.List.{AllByRecursion}
+use Rattle.plist_binwrite.proofs.ChildIndices.{keys_are_in, values_are_in}
 use Rattle.plist_binwrite.specs.EventTable.{IsNumbered}
 use Rattle.plist_binwrite.proofs.Inside.{positions_all, positions_have}
 use Rattle.plist_binwrite.proofs.Skipping.{begins, occurs_in}
@@ -12,7 +14,7 @@ loop-index-preserved c =
     let one = c.in_ok-number_children.ensures in (
       one.so_far,
       keeps_then c.loop-index.invariant.1 one.keeps,
-      below_more _ _ (λ p lt t s. let o = c.loop-index.invariant.2 p lt t s in (
+      below_more _ _ (λ p lt. let o = c.loop-index.invariant.2 p lt in (
         all_from _ _ one.keeps.numbered _ o.0,
         all_from _ _ one.keeps.numbered _ o.1,
       )) one.numbered,
@@ -22,7 +24,10 @@ pub returns-clause-all : goal.returns-clause-all
 returns-clause-all c = λ t e.
     let one = IsNumbered _ _ in
     positions_all _ one t e (positions_have _ one
-    (λ u r s. c.loop-index.invariant.2 r (omega (arith, occurs_in s)) u s)
+    (λ u r s. let o = c.loop-index.invariant.2 r (omega (arith, occurs_in s)) in (
+      subst (AllByRecursion one) (keys_are_in _ u r s) o.0,
+      subst (AllByRecursion one) (values_are_in _ u r s) o.1,
+    ))
     t 0 (occurs_whole e) (c.loop-index.invariant.1.numbered 0
     (c.in_ok-number_one.ensures.numbered (begins t 0 (occurs_whole e)))))
 
