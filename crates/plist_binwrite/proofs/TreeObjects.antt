@@ -9,8 +9,8 @@ use Rattle.plist_binwrite.specs.declared.kinds.EntryKind.{EntryKind}
 use Rattle.plist_binwrite.specs.declared.kinds.EntryKind.TheVariants as kind
 use Rattle.plist_binwrite.specs.Occurrences.{event_count, OccursAt, ItemsOccurAt, PairsOccurAt}
 use Rattle.plist_binwrite.specs.Numberings.{references, pairs, object_of}
-use Rattle.plist_binwrite.specs.Forms.{big_endian, length_form, units_of, is_ascii_text, text_form, table_form, form, key_numbers, value_numbers, IsWritable, AllFit}
-use Rattle.plist_binwrite.specs.EventTable.{IfScalar, is_end, entry_kind_of, event_at, item_indices, key_indices, value_indices, nth_number, AllNumbered, IsBracketed}
+use Rattle.plist_binwrite.specs.Forms.{big_endian, length_form, units_of, is_ascii_text, text_form, table_form, form, key_numbers, value_numbers, IsWritable, IsWritableScalar, AllFit}
+use Rattle.plist_binwrite.specs.EventTable.{IfScalar, is_end, entry_kind_of, event_at, item_indices, key_indices, value_indices, AllNumbered, IsBracketed}
 use Rattle.plist_binwrite.specs.Sizes.{IsSizeOrNone, dictionary_size, marked_size}
 use Rattle.plist_binwrite.specs.Children.{children_of}
 use Rattle.plist_binwrite.specs.declared.children.Half.TheVariants.{Values}
@@ -45,21 +45,21 @@ module _ {es : List PlainEvent} {p : ℕ} where
 
 -- ---- references fit
 
-module _ (es : List PlainEvent) (numbers : List ℕ) (count w : ℕ)
-    (all : AllNumbered es numbers count) (wide : count ≤ 256 ^ w) where
-  number_fits : (t : Tree) (p : ℕ) → OccursAt es t p → nth_number numbers p < 256 ^ w
+module _ (es : List PlainEvent) (number : ℕ → ℕ) (count w : ℕ)
+    (all : AllNumbered es number count) (wide : count ≤ 256 ^ w) where
+  number_fits : (t : Tree) (p : ℕ) → OccursAt es t p → number p < 256 ^ w
   number_fits t p s =
       omega (arith, all p (occurs_in s) (begins t p s))
 
   refs_fit : (ts : Trees) (q : ℕ) → ItemsOccurAt es ts q
-      → AllFit w (references (nth_number numbers) ts q)
+      → AllFit w (references number ts q)
   refs_fit NoTrees q s = tt
   refs_fit (TreeAnd t ts) q s =
       (number_fits t q (occurs_item s), refs_fit ts _ (occurs_next s))
 
   pairs_fit : (ms : Members) (q : ℕ) → PairsOccurAt es ms q
-      → AllFit w (key_numbers (pairs (nth_number numbers) ms q))
-      × AllFit w (value_numbers (pairs (nth_number numbers) ms q))
+      → AllFit w (key_numbers (pairs number ms q))
+      × AllFit w (value_numbers (pairs number ms q))
   pairs_fit NoMembers q s = (tt, tt)
   pairs_fit (MemberAnd k t ms) q s =
       let more = pairs_fit ms _ (occurs_next_pair s) in (
@@ -67,29 +67,29 @@ module _ (es : List PlainEvent) (numbers : List ℕ) (count w : ℕ)
         (number_fits t _ (occurs_value s), more.1),
       )
 
-  -- a collection whose children are numbered can be written
-  pub collection_fits : length es < 2 ^ 64 → (t : Tree) (p : ℕ) → OccursAt es t p
-      → (entry_kind_of (event_at es p) ≡ kind.Scalar → ⊥)
-      → IsWritable w (object_of (nth_number numbers) t p)
-  collection_fits few (Leaf x) p s k = absurd (k (ap entry_kind_of (stands_single s)))
-  collection_fits few (Array ts) p s k = (
+  -- an object whose children are numbered can be written
+  pub object_fits : length es < 2 ^ 64 → (p : ℕ)
+      → ((x : Scalar) → event_at es p ≡ ScalarEvent x → IsWritableScalar x) → (t : Tree)
+      → OccursAt es t p → IsWritable w (object_of number t p)
+  object_fits few p scalar (Leaf x) s = scalar x (stands_single s)
+  object_fits few p scalar (Array ts) s = (
     omega (
       arith,
       few,
       few_children es Values p,
       count_items s,
-      length-references (nth_number numbers) ts (p + 1),
+      length-references number ts (p + 1),
     ),
     refs_fit ts _ (occurs_items s),
   )
-  collection_fits few (Dictionary ms) p s k =
+  object_fits few p scalar (Dictionary ms) s =
       let fit = pairs_fit ms _ (occurs_pairs s) in (
         omega (
           arith,
           few,
           few_children es Values p,
           count_pairs s,
-          length-pairs (nth_number numbers) ms (p + 1),
+          length-pairs number ms (p + 1),
         ),
         fit.0,
         fit.1,
@@ -98,7 +98,7 @@ module _ (es : List PlainEvent) (numbers : List ℕ) (count w : ℕ)
 -- ---- by the kind of the event at an index
 
 -- a scalar has no length
-scalar_is : (e : PlainEvent) (x : Scalar) → without_length e ≡ ScalarEvent x → e ≡ ScalarEvent x
+pub scalar_is : (e : PlainEvent) (x : Scalar) → without_length e ≡ ScalarEvent x → e ≡ ScalarEvent x
 scalar_is (ScalarEvent y) x h = h
 scalar_is e x h = cc
 

@@ -101,21 +101,23 @@ AllBelow n ps = (i : ℕ) → i < length ps → get_or ps i 0 < n
 abbrev pub nth_number : List ℕ → ℕ → ℕ
 nth_number numbers p = get_or numbers p 0
 
-abbrev pub IsNumbered : List ℕ → List ℕ → ℕ → Type 0
-IsNumbered numbers firsts p = get_or numbers p 0 < length firsts
+-- the event at an index has a number
+abbrev pub IsNumbered : (number : ℕ → ℕ) (firsts : List ℕ) → (index : ℕ) → Type 0
+IsNumbered number firsts p = number p < length firsts
 
 -- what has a number keeps it
-pub record KeepsNumbering (old_numbers old_firsts new_numbers new_firsts : List ℕ) : Type 0 where
-  pub numbered : (p : ℕ) → IsNumbered old_numbers old_firsts p → IsNumbered new_numbers new_firsts p
+pub record KeepsNumbering (old : ℕ → ℕ) (old_firsts : List ℕ) (new : ℕ → ℕ)
+    (new_firsts : List ℕ) : Type 0 where
+  pub numbered : (p : ℕ) → IsNumbered old old_firsts p → IsNumbered new new_firsts p
   pub first : 0 < length old_firsts → get_or new_firsts 0 0 ≡ get_or old_firsts 0 0
   pub grows : length old_firsts ≤ length new_firsts
 
 -- each event has a number below the count
-abbrev pub AllNumbered : List PlainEvent → List ℕ → ℕ → Type 0
-AllNumbered es numbers count = (p : ℕ) → p < length es → is_end (event_at es p) ≡ false
-    → get_or numbers p 0 < count
+abbrev pub AllNumbered : List PlainEvent → (number : ℕ → ℕ) → (count : ℕ) → Type 0
+AllNumbered es number count = (p : ℕ) → p < length es → is_end (event_at es p) ≡ false
+    → number p < count
 
 -- the objects of a numbering
-abbrev pub Describes : List PlainEvent → List ℕ → (ℕ → Object) → Type 0
-Describes es numbers objects = (t : Tree) (p : ℕ) → OccursAt es t p
-    → objects (get_or numbers p 0) ≡ object_of (nth_number numbers) t p
+abbrev pub Describes : List PlainEvent → (number : ℕ → ℕ) → (ℕ → Object) → Type 0
+Describes es number objects = (t : Tree) (p : ℕ) → OccursAt es t p
+    → objects (number p) ≡ object_of number t p

@@ -33,7 +33,8 @@ fn is_content(event: &Event<'_>) -> bool {
 impl<'e> EventTable<'e> {
     ghost use Rattle.std.specs.Prelude.{◌≤◌, [], None, Some, false, slice_get, IfSome, ◌+◌};
     ghost use Rattle.plist_binwrite.specs.EventTable.{plain_event, plain_events, scalars_of, entry_kind_of, event_at, GrowsBy, HasItem, IsScalarAt, LacksItem, table_event, entry_event};
-    ghost use Rattle.plist_binwrite.specs.inner.Entries.{is_start, IsUnclosed};
+    ghost use Rattle.plist_binwrite.specs.inner.Columns.{scalar_named};
+    ghost use Rattle.plist_binwrite.specs.inner.Entries.{entry_at, is_start, IsUnclosed};
     ghost use Rattle.plist_binwrite.specs.inner.Expected.{expected_inside, innermost};
     ghost use Rattle.plist_binwrite.specs.inner.UnclosedStarts.{skip_after};
 
@@ -113,6 +114,7 @@ impl<'e> EventTable<'e> {
         requires { index < length (plain_events self.now) }
         ensures some { IfSome result (IsScalarAt self.now index) }
         ensures leaf { IfSome result (λ _. is_leaf (table_event self.now index) ≡ true) }
+        ensures named { result ≡ scalar_named (entry_at self.now.entries index) }
         ensures none { result ≡ None → is_leaf (table_event self.now index) ≡ false }
     {
         self.entries.scalar(index)

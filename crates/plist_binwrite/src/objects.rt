@@ -1,15 +1,15 @@
 //! Puts the objects of a planned file.
 
 ghost use Rattle.std.specs.Prelude.{◌<◌, length};
-ghost use Rattle.plist_binwrite.specs.EventTable.{AllBelow};
-ghost use Rattle.plist_binwrite.specs.inner.Planning.{CanPut, count_of, events_in};
-ghost use Rattle.plist_binwrite.specs.inner.Putting.{PutsCollection, PutsHalf, PutsObject, PutsOrder};
+ghost use Rattle.plist_binwrite.specs.EventClasses.{events_in};
+ghost use Rattle.plist_binwrite.specs.inner.PlannedFiles.{IsFilePlan};
+ghost use Rattle.plist_binwrite.specs.inner.Putting.{PutsCollection, PutsHalf, PutsObject, PutsObjects};
 
 use crate::children::{Children, Half};
-use crate::compact_numbers::Numbers;
+use crate::classes::Classed;
 use crate::forms::{CountedKind, put_length, put_next_number, put_scalar};
 use crate::kinds::EntryKind;
-use crate::plan::Planned;
+use crate::plan::FilePlan;
 use crate::size::count_children;
 use plist_base::{Error, Sink};
 use std::io::Write;
@@ -17,16 +17,17 @@ use std::io::Write;
 // Puts references to a half of the children of the collection that begins at an index.
 fn put_half<W: Write>(
     sink: &mut Sink<'_, W>,
-    file: &Planned<'_, '_>,
+    given: &Classed<'_, '_>,
+    plan: &FilePlan,
     index: usize,
     half: Half,
 ) -> Result<(), Error>
-    requires file { CanPut file.now }
-    requires index { index < length (events_in file.now) }
-    ensures { PutsHalf W.contents sink.old file.now half index result sink.new }
+    requires plan { IsFilePlan given.now plan.now }
+    requires index { index < length (events_in given.now) }
+    ensures { PutsHalf W.contents sink.old given.now plan.now half index result sink.new }
 {
-    for child in Children::new(file.events, index, half) {
-        put_next_number(sink, file.width, file.plan.number(child) as u64)?;
+    for child in Children::new(given.events, index, half) {
+        put_next_number(sink, plan.width, plan.numbering.number(given, child) as u64)?;
     }
     Ok(())
 }
@@ -34,56 +35,57 @@ fn put_half<W: Write>(
 // Puts the object of the collection that begins at an index.
 fn put_collection<W: Write>(
     sink: &mut Sink<'_, W>,
-    file: &Planned<'_, '_>,
+    given: &Classed<'_, '_>,
+    plan: &FilePlan,
     index: usize,
     kind: CountedKind,
 ) -> Result<(), Error>
-    requires file { CanPut file.now }
-    requires index { index < length (events_in file.now) }
-    ensures { PutsCollection W.contents sink.old file.now kind index result sink.new }
+    requires plan { IsFilePlan given.now plan.now }
+    requires index { index < length (events_in given.now) }
+    ensures { PutsCollection W.contents sink.old given.now plan.now kind index result sink.new }
 {
     put_length(
         sink,
         kind,
-        count_children(file.events, index, Half::Values) as u64,
+        count_children(given.events, index, Half::Values) as u64,
     )?;
-    put_half(sink, file, index, Half::Keys)?;
-    put_half(sink, file, index, Half::Values)
+    put_half(sink, given, plan, index, Half::Keys)?;
+    put_half(sink, given, plan, index, Half::Values)
 }
 
 // Puts the object of the tree that begins at an index.
 fn put_object<W: Write>(
     sink: &mut Sink<'_, W>,
-    file: &Planned<'_, '_>,
+    given: &Classed<'_, '_>,
+    plan: &FilePlan,
     index: usize,
 ) -> Result<(), Error>
-    requires file { CanPut file.now }
-    requires index { index < length (events_in file.now) }
-    ensures { PutsObject W.contents sink.old file.now index result sink.new }
+    requires plan { IsFilePlan given.now plan.now }
+    requires index { index < length (events_in given.now) }
+    ensures { PutsObject W.contents sink.old given.now plan.now index result sink.new }
 {
-    match file.events.kind_at(index) {
-        EntryKind::Array => put_collection(sink, file, index, CountedKind::Array),
-        EntryKind::Dictionary => put_collection(sink, file, index, CountedKind::Dictionary),
-        EntryKind::Scalar | EntryKind::End => match file.events.scalar_at(index) {
+    match given.events.kind_at(index) {
+        EntryKind::Array => put_collection(sink, given, plan, index, CountedKind::Array),
+        EntryKind::Dictionary => put_collection(sink, given, plan, index, CountedKind::Dictionary),
+        EntryKind::Scalar | EntryKind::End => match given.events.scalar_at(index) {
             Some(scalar) => put_scalar(sink, scalar),
             None => Ok(()),
         },
     }
 }
 
-/// Puts the objects in this order.
+/// Puts the objects in their order.
 pub fn put_objects<W: Write>(
     sink: &mut Sink<'_, W>,
-    file: &Planned<'_, '_>,
-    order: &Numbers,
+    given: &Classed<'_, '_>,
+    plan: &FilePlan,
 ) -> Result<(), Error>
-    requires file { CanPut file.now }
-    requires order { AllBelow (count_of file.now.plan.now) order.now }
-    ensures { PutsOrder W.contents sink.old file.now order.now result sink.new }
+    requires { IsFilePlan given.now plan.now }
+    ensures { PutsObjects W.contents sink.old given.now plan.now result sink.new }
 {
-    for index in 0..order.len() {
-        let first = file.plan.first(order.get(index));
-        put_object(sink, file, first)?;
+    for index in 0..plan.order.len() {
+        let first = plan.numbering.first(plan.order.get(index));
+        put_object(sink, given, plan, first)?;
     }
     Ok(())
 }

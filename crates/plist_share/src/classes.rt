@@ -6,17 +6,26 @@ ghost use Rattle.plist_base.specs.Outcomes.{OnlyMemory};
 ghost use Rattle.plist_binwrite.specs.Children.{children_of};
 ghost use Rattle.plist_binwrite.specs.Classes.{AreClasses};
 ghost use Rattle.plist_binwrite.specs.EventTable.{plain_events, AllBelow, nth_number, table_event, entry_kind_of};
-ghost use Rattle.plist_binwrite.specs.inner.Scalars.{AreDistinct, AreClassesOf};
-ghost use Rattle.plist_share.specs.inner.Nodes.{SeparatesAll, SeparatesTrees, Extends, nodes_seen, AddsClasses, AreClassesWithin, AreClassesFrom, IsClassAt, IsNodeAt, is_dictionary};
+ghost use Rattle.plist_binwrite.specs.inner.Scalars.{AreDistinct};
+ghost use Rattle.plist_share.specs.inner.Nodes.{AreEventClasses, SeparatesAll, SeparatesTrees, Extends, nodes_seen, AddsClasses, AreClassesWithin, AreClassesFrom, IsClassAt, IsNodeAt, is_dictionary};
 
 use indexmap::IndexSet;
 use plist_base::{Error, ErrorKind};
 use plist_binwrite::EventTable;
 use plist_binwrite::children::{Children, Half};
-use plist_binwrite::classes::{Classes, classes_of};
+use plist_binwrite::classes::{Classed, Classes};
 use plist_binwrite::compact_numbers::Numbers;
 use plist_binwrite::kinds::{EntryKind, push_index};
 use std::alloc::{AllocError, Global};
+
+/// The class of each event by its index, and a number above all classes.
+#[derive(Drop)]
+pub struct TreeClasses {
+    /// The class of each event by its index.
+    pub of: Numbers,
+    /// A number above all classes.
+    pub count: usize,
+}
 
 /// A collection by its kind and the classes of its children.
 #[derive(PartialEq, Eq, Hash, Drop)]
@@ -155,7 +164,7 @@ fn give_class(
 fn give_classes(
     alloc: Global,
     events: &EventTable<'_>,
-    found: &mut Classes,
+    found: &mut TreeClasses,
     seen: &mut IndexSet<Collection>,
 ) -> Result<(), Error>
     requires long { length found.old.of ≡ length (plain_events events.now) }
@@ -180,11 +189,31 @@ fn give_classes(
     }
 }
 
+// Returns a class for each event: equal scalars have one class, and each other event has its own.
+fn event_classes(alloc: Global, events: &EventTable<'_>) -> Result<TreeClasses, Error>
+    ensures long { IfOk result (λ r. length r.of ≡ length (plain_events events.now)) }
+    ensures classes { IfOk result (AreEventClasses events.now) }
+    ensures memory { OnlyMemory result }
+{
+    let given = Classed {
+        events,
+        classes: &Classes::EqualScalars,
+    };
+    let mut of = Numbers::with_capacity(alloc, events.len())?;
+    for index in 0..events.len() {
+        of.push(given.class_at(index))?;
+    }
+    Ok(TreeClasses {
+        of,
+        count: given.bound(),
+    })
+}
+
 // Sets the classes of the trees, given that each event has the class of its scalar or one of its
 // own.
-fn give_trees(alloc: Global, events: &EventTable<'_>, found: &mut Classes) -> Result<(), Error>
+fn give_trees(alloc: Global, events: &EventTable<'_>, found: &mut TreeClasses) -> Result<(), Error>
     requires long { length found.old.of ≡ length (plain_events events.now) }
-    requires classes { AreClassesOf events.now found.old }
+    requires classes { AreEventClasses events.now found.old }
     ensures classes { OnOk result (SeparatesAll events.now found.new) }
     ensures memory { OnlyMemory result }
 {
@@ -198,7 +227,7 @@ fn give_trees(alloc: Global, events: &EventTable<'_>, found: &mut Classes) -> Re
 /// # Errors
 ///
 /// `OutOfMemory`, without an offset.
-pub fn tree_classes(alloc: Global, events: &EventTable<'_>) -> Result<Classes, Error>
+pub fn tree_classes(alloc: Global, events: &EventTable<'_>) -> Result<TreeClasses, Error>
     // The answer.
     ensures objects { IfOk result (λ r. AreClasses (plain_events events.now) (nth_number r.of)) }
     ensures trees { IfOk result (λ r. SeparatesTrees (plain_events events.now) (nth_number r.of)) }
@@ -207,7 +236,7 @@ pub fn tree_classes(alloc: Global, events: &EventTable<'_>) -> Result<Classes, E
     // A refusal.
     ensures memory { OnlyMemory result }
 {
-    let mut found = classes_of(alloc, events)?;
+    let mut found = event_classes(alloc, events)?;
     give_trees(alloc, events, &mut found)?;
     Ok(found)
 }

@@ -4,16 +4,17 @@ use Rattle.plist_base.proofs.SinkSteps.{puts_as, puts_none, puts_then, puts_refu
 use Rattle.plist_binwrite.specs.Children.{children_of, indices_left}
 use Rattle.plist_binwrite.specs.EventTable.{HasItem}
 use Rattle.plist_binwrite.specs.Forms.{table_form}
-use Rattle.plist_binwrite.specs.inner.Putting.{events_in, numbers_by}
+use Rattle.plist_binwrite.specs.inner.Planning.{number_in}
+use Rattle.plist_binwrite.specs.EventClasses.{events_in}
 use Rattle.plist_binwrite.proofs.ChildIndices.{are_items}
 use Rattle.plist_binwrite.proofs.objects.put_half.Goals as goal
 use Rattle.plist_binwrite.proofs.objects.put_half.Goals.{After-into_iter-child-iterator as Begun, In-Some as Next}
 
 begun : (g : _) (c : Begun g) → indices_left c.into_iter-child-iterator.result
-    ≡ children_of (events_in c.args.file.now) c.args.half c.args.index
+    ≡ children_of (events_in c.args.given.now) c.args.half c.args.index
 begun g c = cc (c.into_iter-child-iterator.ensures.into_iter_gives, c.new-child-items.ensures)
 
-items : (g : _) (c : Next g) → AllByRecursion (HasItem (events_in c.args.file.now))
+items : (g : _) (c : Next g) → AllByRecursion (HasItem (events_in c.args.given.now))
     (c.in-Some.child ∷ indices_left c.next.new.self)
 items g c = subst (AllByRecursion (HasItem _)) c.in-Some.ensures.steps c.loop-child.invariant.items
 
@@ -24,17 +25,18 @@ loop-child-init g c = record {
       (are_items _ c.args.half c.args.index);
 }
 
-pub number-requires : goal.number-requires
-number-requires g c =
-    omega (
-      arith,
-      (items g (goal.at.number-requires g c).In-Some).0.0,
-      c.requires.file.planned.numbered.long,
-    )
+pub number-requires-clause-index : goal.number-requires-clause-index
+number-requires-clause-index g c =
+    (items g (goal.at.number-requires-clause-index g c).In-Some).0.0
+
+pub number-requires-clause-class : goal.number-requires-clause-class
+number-requires-clause-class g c =
+    c.requires.plan.numbered.planned.numbered.below _
+    (items g (goal.at.number-requires-clause-class g c).In-Some).0.0
 
 -- the remaining references, with the next one
 abbrev rest : (g : _) (c : Next g) → List ℕ → List ℕ
-rest g c l = table_form c.args.file.now.width (map (numbers_by c.args.file.now) l)
+rest g c l = table_form c.args.plan.now.width (map (number_in c.args.given.now c.args.plan.now.numbering) l)
 
 pub loop-child-preserved : goal.loop-child-preserved
 loop-child-preserved g c =
@@ -57,7 +59,7 @@ returns-in_err-put_next_number g c =
 
 pub returns : goal.returns
 returns g c =
-    let all : List ℕ → List ℕ = λ l. table_form c.args.file.now.width
-    (map (numbers_by c.args.file.now) l) in
+    let all : List ℕ → List ℕ = λ l. table_form c.args.plan.now.width
+    (map (number_in c.args.given.now c.args.plan.now.numbering) l) in
     puts_as (ap all (begun g (goal.at.returns g c).After-into_iter-child-iterator))
     (c.loop-child.invariant.put _ _ (puts_as (ap all (sym c.in-None.ensures.steps.0)) puts_none))
