@@ -1,5 +1,5 @@
 -- A plan by classes is a numbering: each number has one object.
-use Rattle.std.proofs.Common.{◌≡◌, ◌⊎◌, inl, inr, ℕ, ◌+◌, ◌<◌, ◌≤◌, List, [], ◌∷◌, get_or, refl, ap, sym, ◌∙◌, arith}
+use Rattle.std.proofs.Common.{◌≡◌, ◌⊎◌, inl, inr, ℕ, ◌+◌, ◌<◌, ◌≤◌, List, [], ◌∷◌, length, get_or, refl, ap, sym, ◌∙◌, arith}
 use Rattle.std.proofs.lemmas.Bool.{cases_lt}
 use Rattle.plist_base.specs.Events.{PlainEvent}
 use Rattle.plist_base.specs.Trees as trees
@@ -7,10 +7,10 @@ use Rattle.plist_base.specs.Trees.{Scalar, Tree, Leaf, Array, Dictionary, Trees,
 use Rattle.plist_format.specs.Object as obj
 use Rattle.plist_format.specs.Object.{Object}
 use Rattle.plist_binwrite.specs.Classes.{AreClasses}
-use Rattle.plist_binwrite.specs.EventTable.{nth_number, Describes}
+use Rattle.plist_binwrite.specs.EventTable.{Describes}
 use Rattle.plist_binwrite.specs.Numberings.{references, pairs, object_of}
-use Rattle.plist_binwrite.specs.declared.plan.Plan.{Plan}
-use Rattle.plist_binwrite.specs.inner.Planning.{IsPlanned, IsPlanByClass, numbers_of, firsts_of, count_of}
+use Rattle.plist_binwrite.specs.inner.Planning.{IsPlanned}
+use Rattle.plist_binwrite.specs.inner.PlansBy.{number_by}
 use Rattle.plist_binwrite.proofs.TreeObjects.{occurs_at}
 use Rattle.plist_binwrite.specs.Occurrences.{event_count, OccursAt, ItemsOccurAt, PairsOccurAt}
 use Rattle.plist_binwrite.proofs.Occurring.{occurs_items, occurs_pairs, occurs_item, occurs_next, occurs_key, occurs_value, occurs_next_pair}
@@ -89,60 +89,58 @@ module _ {es : List PlainEvent} {class : ℕ → ℕ} (c : AreClasses es class) 
   sound t u p q s r e = (one_object _ (λ t u p q s r e. e) t u p q s r e).0
 
 -- what a plan says of the numbers: their objects, and the sizes of their trees
-pub record Numbered (es : List PlainEvent) (numbers : List ℕ) : Type 0 where
+pub record Numbered (es : List PlainEvent) (number : ℕ → ℕ) : Type 0 where
   pub rank : ℕ → ℕ
-  pub ranked : (t : Tree) (p : ℕ) → OccursAt es t p → rank (nth_number numbers p) ≡ event_count t
+  pub ranked : (t : Tree) (p : ℕ) → OccursAt es t p → rank (number p) ≡ event_count t
   pub objects : ℕ → Object
-  pub describes : Describes es numbers objects
+  pub describes : Describes es number objects
 
-module _ {es : List PlainEvent} {plan : Plan} (planned : IsPlanned es plan) where
+module _ {es : List PlainEvent} {class : ℕ → ℕ} {by_class firsts : List ℕ}
+    (planned : IsPlanned es class by_class firsts) where
   abbrev num : ℕ → ℕ
-  num p = nth_number (numbers_of plan) p
+  num = number_by class by_class
 
   abbrev first : ℕ → ℕ
-  first k = get_or (firsts_of plan) k 0
+  first k = get_or firsts k 0
 
-  pub number_below : (t : Tree) (p : ℕ) → OccursAt es t p → num p < count_of plan
+  pub number_below : (t : Tree) (p : ℕ) → OccursAt es t p → num p < length firsts
   number_below t p s = planned.all p (occurs_in s) (begins t p s)
 
-  module _ {class : ℕ → ℕ} (goes : IsPlanByClass es class plan) where
-    first_class : (t : Tree) (p : ℕ) → OccursAt es t p → class (first (num p)) ≡ class p
-    first_class t p s = goes.same p (occurs_in s) (number_below t p s)
+  first_class : (t : Tree) (p : ℕ) → OccursAt es t p → class (first (num p)) ≡ class p
+  first_class t p s =
+      planned.numbered.same (class p) (planned.numbered.below p (occurs_in s)) (number_below t p s)
 
-    -- indices of one number have one class, and indices of one class have one number
-    pub number_apart : (t u : Tree) (p q : ℕ) → OccursAt es t p → OccursAt es u q → num p ≡ num q
-        → class p ≡ class q
-    number_apart t u p q s r e =
-        cc (first_class t p s, first_class u q r)
+  -- indices of one number have one class, and indices of one class have one number
+  pub number_apart : (t u : Tree) (p q : ℕ) → OccursAt es t p → OccursAt es u q → num p ≡ num q
+      → class p ≡ class q
+  number_apart t u p q s r e =
+      sym (first_class t p s) ∙ ap (λ k. class (first k)) e ∙ first_class u q r
 
-    pub number_same : (t u : Tree) (p q : ℕ) → OccursAt es t p → OccursAt es u q → class p ≡ class q
-        → num p ≡ num q
-    number_same t u p q s r e =
-        goes.apart _ _ (number_below t p s) (number_below u q r)
-        (first_class t p s ∙ e ∙ sym (first_class u q r))
+  pub number_same : (t u : Tree) (p q : ℕ) → OccursAt es t p → OccursAt es u q → class p ≡ class q
+      → num p ≡ num q
+  number_same t u p q s r e = ap (λ c. get_or by_class c 0) e
 
-  tree_of : (k : ℕ) → k < count_of plan → (u : Tree) × OccursAt es u (first k)
+  tree_of : (k : ℕ) → k < length firsts → (u : Tree) × OccursAt es u (first k)
   tree_of k h = let n = planned.numbered.known k h in occurs_at es planned.whole _ n.0 n.2
 
   -- the object of a number, and its rank
-  made_of : (k : ℕ) → (k < count_of plan) ⊎ (count_of plan ≤ k) → Object × ℕ
+  made_of : (k : ℕ) → (k < length firsts) ⊎ (length firsts ≤ k) → Object × ℕ
   made_of k (inl h) = let u = (tree_of k h).0 in (object_of num u (first k), event_count u)
   made_of k (inr h) = (obj.Array [], 0)
 
   made_is : (t : Tree) (p : ℕ) → OccursAt es t p
-      → (d : (num p < count_of plan) ⊎ (count_of plan ≤ num p))
+      → (d : (num p < length firsts) ⊎ (length firsts ≤ num p))
       → made_of (num p) d ≡ (object_of num t p, event_count t)
   unfolding made_of
   made_is t p s (inl h) =
       let f = tree_of (num p) h in
-      let e = first_class planned.numbered t p s in
-      let k = one_object planned.classes num (number_same planned.numbered) f.0 t _ p f.1 s e in
+      let k = one_object planned.classes num number_same f.0 t _ p f.1 s (first_class t p s) in
       λ i. (k.1 i, event_count (k.0 i))
   made_is t p s (inr h) = absurd (omega (arith, number_below t p s))
 
-  pub numbered : Numbered es (numbers_of plan)
+  pub numbered : Numbered es num
   numbered =
-      let made = λ (k : ℕ). made_of k (cases_lt k (count_of plan)) in record {
+      let made = λ (k : ℕ). made_of k (cases_lt k (length firsts)) in record {
         rank = λ k. (made k).1;
         ranked = λ t p s. ap (λ m. m.1) (made_is t p s (cases_lt _ _));
         objects = λ k. (made k).0;

@@ -387,10 +387,5 @@ module _ {scalars : List PlainEvent} {es : List EventEntry} {unclosed : List ℕ
       pub scalar_is_leaf : is_leaf (event_at (events_of_entries scalars es) index) ≡ true
       scalar_is_leaf = ap is_leaf stored ∙ leaf_here
 
-    pub behind_forward : (index < index_after_at es index)
-        × (index_after_at es index ≤ length (events_of_entries scalars es))
-    behind_forward = rw (kept.entries_are.skips index lt) (skip_forward (events_of_entries scalars es) index here)
-
-    pub behind_ends : (t : Tree) → OccursAt (events_of_entries scalars es) t index
-        → index_after_at es index ≡ index + event_count t
-    behind_ends t s = kept.entries_are.skips index lt ∙ skip_ends (events_of_entries scalars es) t index s
+    pub behind_skips : index_after_at es index ≡ skip_after (events_of_entries scalars es) index
+    behind_skips = kept.entries_are.skips index lt

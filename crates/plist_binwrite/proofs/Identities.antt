@@ -1,51 +1,18 @@
 -- Classes of events.
-use Rattle.std.proofs.Common.{◌≡◌, ◌≢◌, ◌⊎◌, inl, inr, ℕ, ◌+◌, ◌<◌, ◌≤◌, false, List, length, set, Some, refl, ap, sym, ◌∙◌, arith}
+use Rattle.std.proofs.Common.{◌≡◌, ◌⊎◌, inl, inr, ℕ, ◌+◌, ◌<◌, ◌≤◌, true, false, List, length, Option, None, Some, refl, ap, sym, ◌∙◌, arith}
 use Rattle.std.specs.Prelude.{slice_get}
 use Rattle.std.proofs.lemmas.Option.{slice_get_within}
 use Rattle.plist_base.specs.Events.{ScalarEvent, PlainEvent}
 use Rattle.plist_base.specs.Trees.{Scalar}
-use Rattle.plist_binwrite.specs.EventTable.{event_at, nth_number}
+use Rattle.plist_binwrite.specs.EventClasses.{class_of, scalar_or_own}
+use Rattle.plist_binwrite.specs.EventTable.{event_at, plain_events, scalars_of}
+use Rattle.plist_binwrite.specs.declared.classes.Classes.TheVariants.{EqualScalars}
+use Rattle.plist_binwrite.specs.declared.event_table.EventTable.{EventTable}
+use Rattle.plist_binwrite.specs.inner.Columns.{scalar_named}
+use Rattle.plist_binwrite.specs.inner.Entries.{entry_at}
 use Rattle.plist_binwrite.specs.inner.Scalars.{identity_at, identity_of, shared, alone, AreDistinct, HaveClasses, AreIdentities, is_leaf}
-use Rattle.plist_binwrite.proofs.Changes.{at_set}
-
--- ---- one more event gets its class
-
-module _ {es scalars : List PlainEvent} {top index : ℕ} (cs : List ℕ) (v : ℕ)
-    (lt : index < length cs) (have : HaveClasses es (nth_number cs) scalars top index) where
-  at_write : (q : ℕ) → (P : ℕ → Type 0) → (q ≡ index → P v) → (q ≢ index → P (nth_number cs q))
-      → P (nth_number (set cs index v) q)
-  at_write q P same other = at_set cs _ v 0 q P lt same other
-
-  -- a scalar's class is its index among the different scalars, and any other event's is new
-  pub one_more : (new : ℕ) → top ≤ new
-      → ((x : Scalar) → event_at es index ≡ ScalarEvent x → slice_get scalars v ≡ Some (ScalarEvent x))
-      → (is_leaf (event_at es index) ≡ false → (top ≤ v) × (v < new) × (length scalars ≤ v))
-      → HaveClasses es (nth_number (set cs index v)) scalars new (index + 1)
-  one_more new more scalar other = record {
-    scalars = λ p l x s. at_write p (λ w. slice_get scalars w ≡ Some (ScalarEvent x))
-        (λ i. scalar x (rw i at s)) (λ d. have.scalars p (omega (arith, l, d)) x s);
-    others = λ p l n. at_write p (λ w. (length scalars ≤ w) × (w < new))
-        (λ i. let o = other (rw i at n) in (o.2, o.1))
-        (λ d. let h = have.others p (omega (arith, l, d)) n in (h.0, omega (arith, h.1)));
-    apart = λ p q l m n o. at_write p (λ w. w ≡ nth_number (set cs index v) q → p ≡ q)
-        (λ i. at_write q (λ w. v ≡ w → p ≡ q) (λ j h. i ∙ sym j)
-        (λ f h. absurd (omega (
-          arith,
-          h,
-          (other (rw i at n)).0,
-          (have.others q (omega (arith, m, f)) o).1,
-        ))))
-        (λ d. at_write q (λ w. nth_number cs p ≡ w → p ≡ q)
-        (λ j h. absurd (omega (
-          arith,
-          h,
-          (other (rw j at o)).0,
-          (have.others p (omega (arith, l, d)) n).1,
-        )))
-        (λ f h. have.apart p q (omega (arith, l, d)) (omega (arith, m, f)) n o h));
-  }
-
--- ---- at the end
+use Rattle.plist_binwrite.proofs.Columns.{named}
+use Rattle.plist_binwrite.proofs.HeldEntries.{no_scalar, scalar_stored, scalar_is_leaf}
 
 module _ {es keys : List PlainEvent} {class : ℕ → ℕ} {top index : ℕ}
     (full : length es ≤ index) (have : HaveClasses es class keys top index) (apart : AreDistinct keys)
@@ -108,3 +75,75 @@ module _ {es keys : List PlainEvent} {class : ℕ → ℕ} {top index : ℕ}
       ]
     ];
   }
+
+-- ---- the classes of buffered events
+
+module _ (held : EventTable) where
+  abbrev class : ℕ → ℕ
+  class = class_of EqualScalars held
+
+  abbrev scalars : List PlainEvent
+  scalars = scalars_of held
+
+  abbrev top : ℕ
+  top = length scalars + length (plain_events held)
+
+  -- a scalar's class is its index among the different scalars
+  record IsScalar (p : ℕ) : Type 0 where
+    key : slice_get scalars (class p) ≡ Some (event_at (plain_events held) p)
+    leaf : is_leaf (event_at (plain_events held) p) ≡ true
+
+  -- any other event has one of its own
+  record IsOther (p : ℕ) : Type 0 where
+    own : class p ≡ length scalars + p
+    other : is_leaf (event_at (plain_events held) p) ≡ false
+
+  told : (p : ℕ) → p < length (plain_events held) → IsScalar p ⊎ IsOther p
+  told p lt = by (scalar_named (entry_at held.entries p)) refl
+    where
+      by : (found : Option ℕ) → scalar_named (entry_at held.entries p) ≡ found
+          → IsScalar p ⊎ IsOther p
+      by None is = inr (record {
+        own = ap (λ o. scalar_or_own o (length scalars + p)) is;
+        other = no_scalar held.kept lt is;
+      })
+      by (Some scalar) is =
+          let entry = named _ _ is in
+          let same : class p ≡ scalar = ap (λ o. scalar_or_own o (length scalars + p)) is in
+          inl (record {
+            key = ap (slice_get scalars) same ∙ scalar_stored held.kept lt entry;
+            leaf = scalar_is_leaf held.kept lt entry;
+          })
+
+  have : HaveClasses (plain_events held) class scalars top (length (plain_events held))
+  have = record {
+    scalars = λ p l x is. elim (told p l) [
+      | inl s ↦ s.key ∙ ap Some is
+      | inr n ↦ cc (n.other, ap is_leaf is)
+    ];
+    others = λ p l no. elim (told p l) [
+      | inl s ↦ cc (s.leaf)
+      | inr n ↦ (omega (arith, n.own), omega (arith, n.own, l))
+    ];
+    apart = λ p q l m no none e. elim (told p l) [
+      | inl s ↦ cc (s.leaf)
+      | inr n ↦ elim (told q m) [
+        | inl s ↦ cc (s.leaf)
+        | inr o ↦ omega (arith, n.own, o.own, e)
+      ]
+    ];
+  }
+
+  -- equal scalars have one class, and each other event has its own
+  pub equal_scalars : AreIdentities (plain_events held) class top
+  equal_scalars = owners (omega arith) have held.kept.apart (omega arith)
+
+-- classes that are equal have the same property
+pub identities_as : {es : List PlainEvent} {class other : ℕ → ℕ} {count : ℕ}
+    → AreIdentities es class count → ((p : ℕ) → p < length es → other p ≡ class p)
+    → AreIdentities es other count
+identities_as o same = record {
+  below = λ p l. omega (arith, o.below p l, same p l);
+  sound = λ p q l m h. o.sound p q l m (sym (same p l) ∙ h ∙ same q m);
+  complete = λ p q l m h. same p l ∙ o.complete p q l m h ∙ sym (same q m);
+}

@@ -11,10 +11,10 @@ use Rattle.plist_base.specs.Trees.{Tree}
 use Rattle.plist_format.specs.Object.{Object}
 use Rattle.plist_binwrite.specs.Classes.{same_class, representatives, count_by, objects_by}
 use Rattle.plist_binwrite.specs.Forms.{form}
-use Rattle.plist_binwrite.specs.EventTable.{nth_number, Describes}
-use Rattle.plist_binwrite.specs.declared.plan.Plan.{Plan}
+use Rattle.plist_binwrite.specs.EventTable.{Describes}
 use Rattle.plist_binwrite.specs.inner.Laying.{AllOnce}
-use Rattle.plist_binwrite.specs.inner.Planning.{IsPlanned, IsPlanByClass, numbers_of, firsts_of, count_of}
+use Rattle.plist_binwrite.specs.inner.Planning.{IsPlanned}
+use Rattle.plist_binwrite.specs.inner.PlansBy.{number_by}
 use Rattle.plist_binwrite.specs.Sizes.{total, object_size}
 use Rattle.plist_binwrite.specs.Occurrences.{positions}
 use Rattle.plist_binwrite.specs.Written.{object_table}
@@ -28,31 +28,31 @@ use Rattle.plist_binwrite.proofs.Uniques.{all_from, all_unique, members_self, me
 
 -- ---- a plan's numbers
 
-module _ {es : List PlainEvent} {plan : Plan} (planned : IsPlanned es plan) {class : ℕ → ℕ}
-    (goes : IsPlanByClass es class plan) (whole : Tree) (e : es ≡ lengthless whole) where
+module _ {es : List PlainEvent} {class : ℕ → ℕ} {by_class firsts : List ℕ}
+    (planned : IsPlanned es class by_class firsts) (whole : Tree) (e : es ≡ lengthless whole) where
   stand : AllByRecursion (Stands es) (positions whole 0)
   stand = positions_stand es _ 0 (occurs_whole e)
 
   abbrev number : ℕ × Tree → ℕ
-  number one = nth_number (numbers_of plan) one.0
+  number one = number_by class by_class one.0
 
   abbrev given : List ℕ
   given = map number (positions whole 0)
 
   -- a plan's numbers are those below the count
-  total_numbers : (w : ℕ → ℕ) → total w (unique_keys eqb given) ≡ total_below w (count_of plan)
+  total_numbers : (w : ℕ → ℕ) → total w (unique_keys eqb given) ≡ total_below w (length firsts)
   total_numbers w =
-      total_all w (count_of plan) (unique_keys eqb given) (unique_distinct eqb eqb_tells given)
-      (λ q h. member_has number (λ k. k < count_of plan)
+      total_all w (length firsts) (unique_keys eqb given) (unique_distinct eqb eqb_tells given)
+      (λ q h. member_has number (λ k. k < length firsts)
       (positions whole 0) q
-      (all_from (λ one. number one < count_of plan) (Stands es)
+      (all_from (λ one. number one < length firsts) (Stands es)
       (λ one s. number_below planned one.1 one.0 s) (positions whole 0) stand)
       (sym (unique_member eqb eqb_tells given q) ∙ h))
-      (λ q h. let f = goes.known q h in
-      let m = positions_all es (λ p. is_member eqb given (nth_number (numbers_of plan) p)
+      (λ q h. let f = planned.numbered.known q h in
+      let m = positions_all es (λ p. is_member eqb given (number_by class by_class p)
       ≡ true) whole e
       (members_self number (positions whole 0))
-      (get_or (firsts_of plan) q 0) f.0 f.2 in
+      (get_or firsts q 0) f.0 f.2 in
       unique_member eqb eqb_tells given q ∙ ap (λ k. is_member eqb given k) (sym f.1) ∙ m)
 
   -- there is one number for each class of a position
@@ -62,24 +62,24 @@ module _ {es : List PlainEvent} {plan : Plan} (planned : IsPlanned es plan) {cla
       unique_seen (same_class class) eqb number (Stands es)
       (λ a b s r. tells_both eqb eqb (class a.0) (class b.0) (number a) (number b)
       (eqb_tells _ _) (eqb_tells _ _)
-      (number_same planned goes a.1 b.1 a.0 b.0 s r)
-      (number_apart planned goes a.1 b.1 a.0 b.0 s r))
+      (number_same planned a.1 b.1 a.0 b.0 s r)
+      (number_apart planned a.1 b.1 a.0 b.0 s r))
       (positions whole 0) stand
 
   -- there are as many objects as classes
-  pub planned_count : count_of plan ≡ count_by class whole
+  pub planned_count : length firsts ≡ count_by class whole
   planned_count =
-      sym (count_below (count_of plan)) ∙ sym (total_numbers (λ x. 1))
+      sym (count_below (length firsts)) ∙ sym (total_numbers (λ x. 1))
       ∙ total_one (unique_keys eqb given)
       ∙ ap length (sym kept_numbers) ∙ length-map (representatives class whole)
       number
 
   -- the objects of a plan have as many bytes as the classes
-  pub planned_size : (w : ℕ) (objects : ℕ → Object) → Describes es (numbers_of plan) objects
-      → (order : List ℕ) → AllOnce (count_of plan) order
+  pub planned_size : (w : ℕ) (objects : ℕ → Object) → Describes es (number_by class by_class) objects
+      → (order : List ℕ) → AllOnce (length firsts) order
       → length (object_table w objects order) ≡ objects_by class w whole
   planned_size w objects describes order all =
-      total_bodies w objects order (count_of plan) all
+      total_bodies w objects order (length firsts) all
       ∙ sym (total_numbers (λ k. length (form w (objects k))))
       ∙ ap (total (λ k. length (form w (objects k)))) (sym kept_numbers)
       ∙ total-map number (λ k. length (form w (objects k)))
@@ -89,5 +89,5 @@ module _ {es : List PlainEvent} {plan : Plan} (planned : IsPlanned es plan) {cla
       (all_from (λ one. length (form w (objects (number one)))
       ≡ object_size w one.1) (Stands es)
       (λ one s. ap (λ o. length (form w o)) (describes one.1 one.0 s)
-      ∙ form_size w (nth_number (numbers_of plan)) one.1 one.0)
+      ∙ form_size w (number_by class by_class) one.1 one.0)
       (representatives class whole) (all_unique (Stands es) (same_class class) (positions whole 0) stand))

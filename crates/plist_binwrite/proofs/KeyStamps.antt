@@ -1,116 +1,140 @@
 -- Stamps on the keys of a dictionary: a key that has the stamp already occurred before.
-use Rattle.std.proofs.Common.{◌≡◌, ◌≢◌, inl, inr, ℕ, ◌+◌, ◌<◌, false, Some, List, length, get_or, set, refl, ap, sym, ◌∙◌, subst, arith}
+use Rattle.std.proofs.Common.{◌≡◌, ◌≢◌, inl, inr, ℕ, ◌+◌, ◌<◌, true, false, Some, List, [], ◌∷◌, length, get_or, set, refl, ap, sym, ◌∙◌, subst, arith}
 use Rattle.std.specs.List.{AllByRecursion}
-use Rattle.std.specs.Prelude.{slice_get}
+use Rattle.std.specs.Prelude.{slice_get, ⊤}
 use Rattle.std.proofs.lemmas.Bool.Decides.{eqb_tells}
 use Rattle.std.proofs.lemmas.List.{get_or-set_same, get_or-set_other}
 use Rattle.std.proofs.lemmas.List.Elements.{All-get_or, All-set, All-from_get_or}
-use Rattle.std.proofs.lemmas.Option.{slice_get_within}
+use Rattle.std.proofs.lemmas.Option.{slice_get_within, same_Some}
 use Rattle.plist_base.specs.Bracketing.{lengthless}
 use Rattle.plist_base.specs.Events.{PlainEvent, EndCollection, ScalarEvent}
 use Rattle.plist_base.specs.Trees.{String, Tree, Leaf, Array, Dictionary, Trees, NoTrees, TreeAnd, Members, NoMembers, MemberAnd}
 use Rattle.plist_binwrite.specs.declared.kinds.EntryKind.TheVariants as kind
-use Rattle.plist_binwrite.specs.EventTable.{AllBelow, EndsTree, LacksItem, event_at, is_end, entry_kind_of}
+use Rattle.plist_binwrite.specs.EventTable.{AllBelow, event_at, is_end, entry_kind_of, key_indices}
 use Rattle.plist_binwrite.specs.inner.Entries.{AreDistinct, is_leaf}
 use Rattle.plist_binwrite.specs.RepeatedKeys.{Lacks, HasDistinctKeys, HasKeysOnce, ItemsHaveKeysOnce, ValuesHaveKeysOnce}
 use Rattle.plist_binwrite.specs.Occurrences.{event_count, OccursAt, ItemsOccurAt, PairsOccurAt, positions, positions_in_items, positions_in_pairs}
 use Rattle.plist_binwrite.proofs.Inside.{positions_all}
 use Rattle.plist_binwrite.proofs.Occurring.{occurs_whole, occurs_items, occurs_pairs, occurs_item, occurs_next, occurs_key, occurs_value, occurs_next_pair}
 use Rattle.plist_binwrite.proofs.Skipping.{stands_single, starts_array}
-use Rattle.plist_binwrite.proofs.Passing.{Left, FirstPair, pairs_first, onward, pairs_stop}
 use Rattle.plist_binwrite.proofs.Uniques.{all_both}
 
-same_key : (k l : List ℕ) → Some (ScalarEvent (String k)) ≡ Some (ScalarEvent (String l)) → k ≡ l
-same_key k l p = cc
+-- ---- one dictionary, by the events of its keys
 
--- ---- one dictionary
+-- no key is this event
+abbrev pub LacksEvent : List PlainEvent → PlainEvent → (keys : List ℕ) → Type 0
+LacksEvent es e keys = AllByRecursion (λ k. e ≢ event_at es k) keys
 
--- the key has the stamp
-abbrev pub IsStamped : (scalars : List PlainEvent) (mark : ℕ) (stamps : List ℕ) → List ℕ → Type 0
-IsStamped scalars mark stamps key =
-    (s : ℕ) × (slice_get scalars s ≡ Some (ScalarEvent (String key))) × (get_or stamps s 0 ≡ mark)
+-- the keys differ
+abbrev pub Differ : List PlainEvent → (keys : List ℕ) → Type 0
+Differ es [] = ⊤
+Differ es (k ∷ keys) = LacksEvent es (event_at es k) keys × Differ es keys
 
--- no key of these pairs has the stamp
-abbrev pub AreFresh : (scalars : List PlainEvent) (mark : ℕ) (stamps : List ℕ) → Members → Type 0
-AreFresh scalars mark stamps ms =
-    (key : List ℕ) → IsStamped scalars mark stamps key → Lacks key ms
+-- the event has the stamp
+abbrev pub IsStamped : (scalars : List PlainEvent) (mark : ℕ) (stamps : List ℕ) → PlainEvent → Type 0
+IsStamped scalars mark stamps e =
+    (s : ℕ) × (slice_get scalars s ≡ Some e) × (get_or stamps s 0 ≡ mark)
 
--- the pairs that are left decide whether all keys differ
-pub record Tells (scalars : List PlainEvent) (mark : ℕ) (stamps : List ℕ) (all left : Members)
-    (q : ℕ) : Type 0 where
-  pub down : HasDistinctKeys all → HasDistinctKeys left × AreFresh scalars mark stamps left
-  pub up : HasDistinctKeys left × AreFresh scalars mark stamps left → HasDistinctKeys all
+-- no key has the stamp
+abbrev pub AreFresh : (scalars : List PlainEvent) (mark : ℕ) (stamps : List ℕ) → List PlainEvent
+    → (keys : List ℕ) → Type 0
+AreFresh scalars mark stamps es keys =
+    (e : PlainEvent) → IsStamped scalars mark stamps e → LacksEvent es e keys
+
+-- the keys that are left decide whether all of them differ
+pub record Tells (scalars : List PlainEvent) (mark : ℕ) (stamps : List ℕ) (es : List PlainEvent)
+    (all left : List ℕ) : Type 0 where
+  pub down : Differ es all → Differ es left × AreFresh scalars mark stamps es left
+  pub up : Differ es left × AreFresh scalars mark stamps es left → Differ es all
 
 module _ {scalars : List PlainEvent} {mark : ℕ} {es : List PlainEvent} {stamps : List ℕ} where
-  pub walked_start : (start : ℕ) → mark ≡ start + 1 → length stamps ≡ length scalars
-      → AllBelow (start + 1) stamps → (all : Members) → OccursAt es (Dictionary all) start
-      → Left PairsOccurAt es (Tells scalars mark stamps all) (start + 1)
-  walked_start start is long older all occurs = record {
-    left = all;
-    occurs = occurs_pairs occurs;
-    goes = record {
-      down = λ d. (
-        d,
-        λ key (s, at, m).
-            let lt : s < length stamps = omega (arith, long, slice_get_within scalars s _ at) in
-            absurd (omega (arith, is, m, older s lt)),
-      );
-      up = λ d. d.0;
-    };
+  pub tells_start : (start : ℕ) → mark ≡ start + 1 → length stamps ≡ length scalars
+      → AllBelow (start + 1) stamps → (keys : List ℕ) → Tells scalars mark stamps es keys keys
+  tells_start start is long older keys = record {
+    down = λ d. (
+      d,
+      λ e (s, at, m).
+          let lt : s < length stamps = omega (arith, long, slice_get_within scalars s _ at) in
+          absurd (omega (arith, is, m, older s lt)),
+    );
+    up = λ d. d.0;
   }
 
-  module _ {q : ℕ} {all : Members} (w : Left PairsOccurAt es (Tells scalars mark stamps all) q)
-    where
-      pub walked_end : LacksItem es q → HasDistinctKeys all
-      walked_end h = (pairs_stop w h).up (tt, λ key stamped. tt)
+  module _ {all : List ℕ} where
+    pub tells_end : Tells scalars mark stamps es all [] → Differ es all
+    tells_end w = w.up (tt, λ e stamped. tt)
 
-      key_is : (f : FirstPair es (Tells scalars mark stamps all) q)
-          → event_at es q ≡ ScalarEvent (String f.key)
-      key_is f = stands_single f.named
+    module _ {key : ℕ} {left : List ℕ} (w : Tells scalars mark stamps es all (key ∷ left)) (s : ℕ)
+        (apart : AreDistinct scalars) (here : slice_get scalars s ≡ Some (event_at es key)) where
+      -- a key that has the stamp occurred before
+      pub tells_repeats : get_or stamps s 0 ≡ mark → Differ es all → ⊥
+      tells_repeats is d = ((w.down d).1 (event_at es key) (s, here, is)).0 refl
 
-      -- each key is a scalar
-      pub walked_leaf : {A : Type 0} → is_end (event_at es q) ≡ false
-          → is_leaf (event_at es q) ≡ false → A
-      walked_leaf h leaf = cc (ap is_leaf (key_is (pairs_first w h)))
+      -- a key that doesn't have the stamp gets it
+      pub tells_next : get_or stamps s 0 ≢ mark → s < length stamps
+          → Tells scalars mark (set stamps s mark) es all left
+      tells_next other within = record {
+        down = λ d. let l = w.down d in (
+          l.0.1,
+          λ e (t, at, m). elim (eqb_tells t s) [
+            | inl same ↦ subst (λ k. LacksEvent es k left)
+                (same_Some _ _ (sym here ∙ sym (ap (slice_get scalars) same.1) ∙ at)) l.0.0
+            | inr n ↦ (l.1 e (t, at, sym (get_or-set_other stamps s t mark 0 n.1) ∙ m)).1
+          ],
+        );
+        up = λ (d, fresh). w.up (
+          (fresh (event_at es key) (s, here, get_or-set_same stamps s mark 0 within), d),
+          λ e (t, at, m).
+              let off : t ≢ s = λ e. other (ap (λ n. get_or stamps n 0) (sym e) ∙ m) in (
+                (λ is. off (apart t s e at (here ∙ ap Some (sym is)))),
+                fresh e (t, at, get_or-set_other stamps s t mark 0 off ∙ m),
+              ),
+        );
+      }
 
-      module _ (s : ℕ) (apart : AreDistinct scalars) (here : slice_get scalars s ≡ Some (event_at es q))
-        where
-          -- a key that has the stamp occurred before
-          pub walked_repeats : is_end (event_at es q) ≡ false → get_or stamps s 0 ≡ mark
-              → HasDistinctKeys all → ⊥
-          walked_repeats h is d =
-              let f = pairs_first w h in
-              ((f.goes.down d).1 f.key (s, here ∙ ap Some (key_is f), is)).0 refl
+-- each key is a scalar
+pub keys_leaves : {es : List PlainEvent} (ms : Members) (q : ℕ) → PairsOccurAt es ms q
+    → AllByRecursion (λ k. is_leaf (event_at es k) ≡ true) (key_indices ms q)
+keys_leaves NoMembers q s = tt
+keys_leaves (MemberAnd k t ms) q s =
+    (ap is_leaf (stands_single (occurs_key s)), keys_leaves ms _ (occurs_next_pair s))
 
-          -- a key that doesn't have the stamp gets it
-          pub walked_next : (next : ℕ) → get_or stamps s 0 ≢ mark → s < length stamps
-              → is_end (event_at es q) ≡ false
-              → EndsTree es (q + 1) next
-              → Left PairsOccurAt es (Tells scalars mark (set stamps s mark) all) next
-          walked_next next other within h skip =
-              let f = pairs_first w h in
-              let is : slice_get scalars s ≡ Some (ScalarEvent (String f.key)) = here ∙ ap Some
-              (key_is f) in
-              onward f.value skip (λ goes. record {
-                down = λ d. let l = goes.down d in (
-                  l.0.1,
-                  λ key (t, at, m). elim (eqb_tells t s) [
-                    | inl e ↦ subst (λ k. Lacks k f.rest) (same_key f.key key
-                        (sym is ∙ sym (ap (slice_get scalars) e.1) ∙ at)) l.0.0
-                    | inr n ↦
-                        (l.1 key (t, at, sym (get_or-set_other stamps s t mark 0 n.1) ∙ m)).1
-                  ],
-                );
-                up = λ (d, fresh). goes.up (
-                  (fresh f.key (s, is, get_or-set_same stamps s mark 0 within), d),
-                  λ key (t, at, m).
-                      let off : t ≢ s = λ e. other (ap (λ n. get_or stamps n 0) (sym e) ∙ m) in (
-                        (λ e. off (apart t s (ScalarEvent (String key)) at
-                            (is ∙ ap (λ k. Some (ScalarEvent (String k))) (sym e)))),
-                        fresh key (t, at, get_or-set_other stamps s t mark 0 off ∙ m),
-                      ),
-                );
-              })
+-- the keys of a dictionary differ where their events do
+same_key : (k l : List ℕ) → ScalarEvent (String k) ≡ ScalarEvent (String l) → k ≡ l
+same_key k l p = cc
+
+module _ {es : List PlainEvent} where
+  lacks_down : (e : PlainEvent) (key : List ℕ) (ms : Members) (q : ℕ) → PairsOccurAt es ms q
+      → e ≡ ScalarEvent (String key) → LacksEvent es e (key_indices ms q) → Lacks key ms
+  lacks_down e key NoMembers q s is h = tt
+  lacks_down e key (MemberAnd k t ms) q s is h = (
+    (λ same. h.0 (is ∙ ap (λ l. ScalarEvent (String l)) same ∙ sym (stands_single (occurs_key s)))),
+    lacks_down e key ms _ (occurs_next_pair s) is h.1,
+  )
+
+  lacks_up : (e : PlainEvent) (key : List ℕ) (ms : Members) (q : ℕ) → PairsOccurAt es ms q
+      → e ≡ ScalarEvent (String key) → Lacks key ms → LacksEvent es e (key_indices ms q)
+  lacks_up e key NoMembers q s is h = tt
+  lacks_up e key (MemberAnd k t ms) q s is h = (
+    (λ same. h.0 (same_key key k (sym is ∙ same ∙ stands_single (occurs_key s)))),
+    lacks_up e key ms _ (occurs_next_pair s) is h.1,
+  )
+
+  pub differ_down : (ms : Members) (q : ℕ) → PairsOccurAt es ms q → Differ es (key_indices ms q)
+      → HasDistinctKeys ms
+  differ_down NoMembers q s d = tt
+  differ_down (MemberAnd k t ms) q s d = (
+    lacks_down _ k ms _ (occurs_next_pair s) (stands_single (occurs_key s)) d.0,
+    differ_down ms _ (occurs_next_pair s) d.1,
+  )
+
+  pub differ_up : (ms : Members) (q : ℕ) → PairsOccurAt es ms q → HasDistinctKeys ms
+      → Differ es (key_indices ms q)
+  differ_up NoMembers q s d = tt
+  differ_up (MemberAnd k t ms) q s d = (
+    lacks_up _ k ms _ (occurs_next_pair s) (stands_single (occurs_key s)) d.0,
+    differ_up ms _ (occurs_next_pair s) d.1,
+  )
 
 -- ---- the stamps
 

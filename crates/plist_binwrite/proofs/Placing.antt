@@ -15,9 +15,9 @@ use Rattle.plist_binwrite.specs.inner.Laying.{IsOrder, KeepsMarks, laid_out, All
 use Rattle.std.proofs.lemmas.List.Folds.{list_any_at}
 use Rattle.plist_base.specs.Events.{PlainEvent}
 use Rattle.plist_base.specs.Trees.{Tree, Leaf, Array, Dictionary}
-use Rattle.plist_binwrite.specs.EventTable.{nth_number, Describes}
-use Rattle.plist_binwrite.specs.declared.plan.Plan.{Plan}
-use Rattle.plist_binwrite.specs.inner.Planning.{IsPlanned, numbers_of, firsts_of, count_of}
+use Rattle.plist_binwrite.specs.EventTable.{Describes}
+use Rattle.plist_binwrite.specs.inner.Planning.{IsPlanned}
+use Rattle.plist_binwrite.specs.inner.PlansBy.{number_by}
 use Rattle.plist_binwrite.specs.Occurrences.{OccursAt}
 use Rattle.plist_binwrite.specs.Numberings.{object_of}
 use Rattle.plist_binwrite.specs.Sizes.{total, IsSizeOrNone, object_size}
@@ -267,29 +267,30 @@ along_next w objects order places i v at next lt distinct below good is sum none
     by at next is none given laid = tt
 
 -- the object of a number is that of the tree which begins at its first event
-module _ {es : List PlainEvent} {plan : Plan} (planned : IsPlanned es plan) (objects : ℕ → Object)
-    (k first : ℕ) (e : first ≡ get_or (firsts_of plan) k 0) (h : k < count_of plan)
-    (describes : Describes es (numbers_of plan) objects) where
+module _ {es : List PlainEvent} {class : ℕ → ℕ} {by_class firsts : List ℕ}
+    (planned : IsPlanned es class by_class firsts) (objects : ℕ → Object) (k first : ℕ)
+    (e : first ≡ get_or firsts k 0) (h : k < length firsts)
+    (describes : Describes es (number_by class by_class) objects) where
   pub described : (u : Tree) × OccursAt es u first
-      × (objects k ≡ object_of (nth_number (numbers_of plan)) u first)
+      × (objects k ≡ object_of (number_by class by_class) u first)
   described =
       let f = planned.numbered.known k h in
       let u = occurs_at es planned.whole _ f.0 f.2 in
       let s = subst (OccursAt es u.0) (sym e) u.1 in (
         u.0,
         s,
-        ap objects (sym (ap (nth_number _) e ∙ f.1)) ∙ describes u.0 _ s,
+        ap objects (sym (ap (number_by class by_class) e ∙ f.1)) ∙ describes u.0 _ s,
       )
 
   pub sized : (w : ℕ) (given : Option ℕ)
       → ((t : Tree) → OccursAt es t first → IsSizeOrNone given (object_size w t))
-      → ((t : Tree) → OccursAt es t first → IsWritable w (object_of (nth_number
-      (numbers_of plan)) t first))
+      → ((t : Tree) → OccursAt es t first
+      → IsWritable w (object_of (number_by class by_class) t first))
       → IsSizeOrNone given (length (form w (objects k))) × IsWritable w (objects k)
   sized w given size good =
       let d = described in (
         rw (ap (λ v. length (form w v)) d.2
-            ∙ form_size w (nth_number (numbers_of plan)) d.0 first) (size d.0 d.1),
+            ∙ form_size w (number_by class by_class) d.0 first) (size d.0 d.1),
         rw d.2 (good d.0 d.1),
       )
 

@@ -1,13 +1,16 @@
 -- What writing a file does.
-use Rattle.std.proofs.Common.{◌≡◌, ℕ, ◌^◌, ◌<◌, List, Option, Ok, Err, ◌∙◌, subst, refl}
+use Rattle.std.proofs.Common.{◌≡◌, inl, inr, ℕ, ◌^◌, ◌<◌, List, Option, Ok, Err, ◌∙◌, subst, refl}
 use Rattle.plist_binwrite.specs.declared.event_table.EventTable.{EventTable}
 use Rattle.plist_base.specs.Bracketing.{bracketing, lengthless, AreAlike, AreTreeEvents, AreComplete}
 use Rattle.plist_base.specs.Events.{PlainEvent}
-use Rattle.plist_base.specs.Faults.{FaultKind, Fault, Io, OutOfMemory, PlistTooLarge, fault_nowhere}
+use Rattle.plist_base.specs.Faults.{FaultKind, Fault, Io, OutOfMemory, PlistTooLarge}
 use Rattle.plist_base.specs.Trees.{Tree}
 use Rattle.plist_base.specs.Writing.{Answer}
 use Rattle.plist_base.proofs.Grammar.{complete_of_whole, whole_alike}
-use Rattle.plist_binwrite.specs.Classes.{IsFileBy, IsOversized, SendsBy, size_by}
+use Rattle.plist_binwrite.specs.Classes.{IsFileBy, SendsBy, size_by}
+use Rattle.plist_binwrite.specs.EventClasses.{class_in, events_in}
+use Rattle.plist_binwrite.specs.declared.classes.Classed.{Classed}
+use Rattle.plist_binwrite.specs.inner.PlannedFiles.{IsPlanFault}
 use Rattle.plist_binwrite.specs.Files.{IsFileOf}
 use Rattle.plist_binwrite.specs.EventTable.{plain_events}
 use Rattle.plist_binwrite.specs.SendingAs.{IsFileAs, FailsAs, SendsAs}
@@ -50,23 +53,15 @@ module _ (One Other : Tree → List ℕ → Type 0) (size other : Tree → ℕ) 
     sends_as (Ok done) old new (file, of, all) = (file, file_as file of, all)
     sends_as (Err fault) old new (nowhere, fails) = (nowhere, fails_as _ old new fails)
 
--- if an allocation fails, nothing is written
-pub sends_nothing : {W : Type 0} (contents : W → Option (List ℕ)) (class : ℕ
-    → ℕ) (events : EventTable)
-    (fault : Fault) (old new : W) → fault ≡ fault_nowhere OutOfMemory → new ≡ old
-    → SendsBy class contents (plain_events events) (Err fault) old new
-sends_nothing contents class events fault old new is same = rw is (refl, same)
-
--- a file that is too large isn't written
-pub sends_too_large : {W : Type 0} (contents : W → Option (List ℕ)) (class : ℕ
-    → ℕ) (events : EventTable)
-    (fault : Fault) (old new : W) → fault ≡ fault_nowhere PlistTooLarge
-    → AreTreeEvents (plain_events events) → IsOversized class (plain_events events) → new ≡ old
-    → SendsBy class contents (plain_events events) (Err fault) old new
-sends_too_large contents class events fault old new is whole large same = rw is (
+-- if the file can't be planned, nothing is written
+pub sends_nothing : {W : Type 0} (contents : W → Option (List ℕ)) (given : Classed) (fault : Fault)
+    (old new : W) → AreTreeEvents (events_in given) → IsPlanFault given fault → new ≡ old
+    → SendsBy (class_in given) contents (events_in given) (Err fault) old new
+sends_nothing contents given fault old new whole (inl is) same = rw is (refl, same)
+sends_nothing contents given fault old new whole (inr large) same = rw large.0 (
   refl,
   (
-    (complete_of_whole _ whole, λ t alike. large t (plain_lengthless events t alike)),
+    (complete_of_whole _ whole, λ t alike. large.1 t (plain_lengthless given.events.now t alike)),
     same,
   ),
 )

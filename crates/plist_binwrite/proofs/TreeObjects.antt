@@ -1,5 +1,6 @@
 -- The objects of trees by their indices: their forms, their sizes, and that they can be written.
 use Rattle.std.proofs.Common.{◌≡◌, ◌⊎◌, inl, inr, ℕ, ◌+◌, ◌*◌, ◌/◌, ◌^◌, ◌<◌, ◌≤◌, false, List, ◌∷◌, ◌++◌, length, flat_map, map, Option, None, Some, SomeIff, refl, ap, sym, ◌∙◌, subst, arith, length-append}
+use Rattle.std.proofs.lemmas.List.{length-map}
 use Rattle.std.proofs.lemmas.Bool.{cases_lt}
 use Rattle.plist_base.specs.Events.{PlainEvent, ScalarEvent}
 use Rattle.plist_base.specs.Trees.{number_of_trees, number_of_members, Scalar, Tree, Leaf, Array, Dictionary, Trees, NoTrees, TreeAnd, Members, NoMembers, MemberAnd}
@@ -8,39 +9,57 @@ use Rattle.plist_binwrite.specs.declared.kinds.EntryKind.{EntryKind}
 use Rattle.plist_binwrite.specs.declared.kinds.EntryKind.TheVariants as kind
 use Rattle.plist_binwrite.specs.Occurrences.{event_count, OccursAt, ItemsOccurAt, PairsOccurAt}
 use Rattle.plist_binwrite.specs.Numberings.{references, pairs, object_of}
-use Rattle.plist_binwrite.specs.Forms.{big_endian, length_form, units_of, is_ascii_text, text_form, table_form, form, key_numbers, value_numbers, IsWritable, AllFit}
-use Rattle.plist_binwrite.specs.EventTable.{IfScalar, is_end, entry_kind_of, event_at, item_indices, key_indices, value_indices, nth_number, AllNumbered, IsBracketed}
-use Rattle.plist_binwrite.specs.Sizes.{IsSizeOrNone, dictionary_size}
+use Rattle.plist_binwrite.specs.Forms.{big_endian, length_form, units_of, is_ascii_text, text_form, table_form, form, key_numbers, value_numbers, IsWritable, IsWritableScalar, AllFit}
+use Rattle.plist_binwrite.specs.EventTable.{IfScalar, is_end, entry_kind_of, event_at, item_indices, key_indices, value_indices, AllNumbered, IsBracketed}
+use Rattle.plist_binwrite.specs.Sizes.{IsSizeOrNone, dictionary_size, marked_size}
+use Rattle.plist_binwrite.specs.Children.{children_of}
+use Rattle.plist_binwrite.specs.declared.children.Half.TheVariants.{Values}
+use Rattle.plist_binwrite.specs.inner.Putting.{collection_of}
 use Rattle.plist_binwrite.specs.inner.Entries.{is_leaf}
 use Rattle.plist_binwrite.proofs.Occurring.{occurs_whole, occurs_items, occurs_pairs, occurs_item, occurs_next, occurs_key, occurs_value, occurs_next_pair}
-use Rattle.plist_binwrite.proofs.Skipping.{stands_single, starts_array, starts_dictionary, no_start, begins, occurs_in, as_items, pairs_as_items}
+use Rattle.plist_binwrite.proofs.Skipping.{stands_single, starts_array, starts_dictionary, no_start, begins, occurs_in}
+use Rattle.plist_binwrite.proofs.ChildIndices.{few_children, keys_are_in, values_are_in}
 use Rattle.plist_binwrite.proofs.Inside.{Stands, positions_stand, positions_all}
 use Rattle.plist_binwrite.proofs.ReadingNumbers.{length-table}
 use Rattle.plist_binwrite.proofs.Uniques.{all_from}
 use Rattle.plist_binwrite.proofs.Unfold.{length-references, length-pairs}
 
--- a dictionary has twice as many keys and values as pairs
-twice : (ms : Members) → number_of_trees (as_items ms) ≡ 2 * number_of_members ms
-twice NoMembers = refl
-twice (MemberAnd k t ms) = omega (arith, twice ms)
+-- ---- the children of a tree
+
+length-items : (ts : Trees) (q : ℕ) → length (item_indices ts q) ≡ number_of_trees ts
+length-items NoTrees q = refl
+length-items (TreeAnd t ts) q = omega (arith, length-items ts (q + event_count t))
+
+length-values : (ms : Members) (q : ℕ) → length (value_indices ms q) ≡ number_of_members ms
+length-values NoMembers q = refl
+length-values (MemberAnd k t ms) q = omega (arith, length-values ms (q + 1 + event_count t))
+
+module _ {es : List PlainEvent} {p : ℕ} where
+  pub count_items : {ts : Trees} → OccursAt es (Array ts) p
+      → length (children_of es Values p) ≡ number_of_trees ts
+  count_items {ts} s = ap length (values_are_in es (Array ts) p s) ∙ length-items ts (p + 1)
+
+  pub count_pairs : {ms : Members} → OccursAt es (Dictionary ms) p
+      → length (children_of es Values p) ≡ number_of_members ms
+  count_pairs {ms} s = ap length (values_are_in es (Dictionary ms) p s) ∙ length-values ms (p + 1)
 
 -- ---- references fit
 
-module _ (es : List PlainEvent) (numbers : List ℕ) (count w : ℕ)
-    (all : AllNumbered es numbers count) (wide : count ≤ 256 ^ w) where
-  number_fits : (t : Tree) (p : ℕ) → OccursAt es t p → nth_number numbers p < 256 ^ w
+module _ (es : List PlainEvent) (number : ℕ → ℕ) (count w : ℕ)
+    (all : AllNumbered es number count) (wide : count ≤ 256 ^ w) where
+  number_fits : (t : Tree) (p : ℕ) → OccursAt es t p → number p < 256 ^ w
   number_fits t p s =
       omega (arith, all p (occurs_in s) (begins t p s))
 
   refs_fit : (ts : Trees) (q : ℕ) → ItemsOccurAt es ts q
-      → AllFit w (references (nth_number numbers) ts q)
+      → AllFit w (references number ts q)
   refs_fit NoTrees q s = tt
   refs_fit (TreeAnd t ts) q s =
       (number_fits t q (occurs_item s), refs_fit ts _ (occurs_next s))
 
   pairs_fit : (ms : Members) (q : ℕ) → PairsOccurAt es ms q
-      → AllFit w (key_numbers (pairs (nth_number numbers) ms q))
-      × AllFit w (value_numbers (pairs (nth_number numbers) ms q))
+      → AllFit w (key_numbers (pairs number ms q))
+      × AllFit w (value_numbers (pairs number ms q))
   pairs_fit NoMembers q s = (tt, tt)
   pairs_fit (MemberAnd k t ms) q s =
       let more = pairs_fit ms _ (occurs_next_pair s) in (
@@ -48,44 +67,55 @@ module _ (es : List PlainEvent) (numbers : List ℕ) (count w : ℕ)
         (number_fits t _ (occurs_value s), more.1),
       )
 
-  -- a collection whose children are numbered can be written
-  pub collection_fits : (t : Tree) (p many : ℕ) → OccursAt es t p
-      → (entry_kind_of (event_at es p) ≡ kind.Scalar → ⊥) → many < 2 ^ 64
-      → ((ts : Trees) → ItemsOccurAt es ts (p + 1) → many ≡ number_of_trees ts)
-      → IsWritable w (object_of (nth_number numbers) t p)
-  collection_fits (Leaf x) p many s k few h = absurd (k (ap entry_kind_of (stands_single s)))
-  collection_fits (Array ts) p many s k few h = (
-    omega (arith, few, length-references (nth_number numbers) ts (p + 1), h ts (occurs_items s)),
+  -- an object whose children are numbered can be written
+  pub object_fits : length es < 2 ^ 64 → (p : ℕ)
+      → ((x : Scalar) → event_at es p ≡ ScalarEvent x → IsWritableScalar x) → (t : Tree)
+      → OccursAt es t p → IsWritable w (object_of number t p)
+  object_fits few p scalar (Leaf x) s = scalar x (stands_single s)
+  object_fits few p scalar (Array ts) s = (
+    omega (
+      arith,
+      few,
+      few_children es Values p,
+      count_items s,
+      length-references number ts (p + 1),
+    ),
     refs_fit ts _ (occurs_items s),
   )
-  collection_fits (Dictionary ms) p many s k few h =
-      let n = h (as_items ms) (pairs_as_items (occurs_pairs s)) in
-      let small : length (pairs (nth_number numbers) ms (p + 1)) < 2 ^ 64
-      = omega (arith, twice ms, length-pairs (nth_number numbers) ms (p + 1)) in
-      let fit = pairs_fit ms _ (occurs_pairs s) in (small, fit.0, fit.1)
+  object_fits few p scalar (Dictionary ms) s =
+      let fit = pairs_fit ms _ (occurs_pairs s) in (
+        omega (
+          arith,
+          few,
+          few_children es Values p,
+          count_pairs s,
+          length-pairs number ms (p + 1),
+        ),
+        fit.0,
+        fit.1,
+      )
 
 -- ---- by the kind of the event at an index
 
 -- a scalar has no length
-scalar_is : (e : PlainEvent) (x : Scalar) → without_length e ≡ ScalarEvent x → e ≡ ScalarEvent x
+pub scalar_is : (e : PlainEvent) (x : Scalar) → without_length e ≡ ScalarEvent x → e ≡ ScalarEvent x
 scalar_is (ScalarEvent y) x h = h
 scalar_is e x h = cc
 
 module _ {es : List PlainEvent} {k : EntryKind} {p : ℕ} (at : k ≡ entry_kind_of (event_at es p))
     (P : Tree → Type 0) where
-  pub of_array : k ≡ kind.Array → ((ts : Trees) → ItemsOccurAt es ts (p + 1) → P (Array ts))
+  pub of_array : k ≡ kind.Array → ((ts : Trees) → OccursAt es (Array ts) p → P (Array ts))
       → (t : Tree) → OccursAt es t p → P t
   of_array is h (Leaf x) s = cc (ap entry_kind_of (stands_single s))
-  of_array is h (Array ts) s = h ts (occurs_items s)
+  of_array is h (Array ts) s = h ts s
   of_array is h (Dictionary ms) s = cc (ap entry_kind_of (starts_dictionary s))
 
   pub of_dictionary : k ≡ kind.Dictionary
-      → ((ms : Members) → PairsOccurAt es ms (p + 1) → P (Dictionary ms)) → (t : Tree)
-      → OccursAt es t p
-      → P t
+      → ((ms : Members) → OccursAt es (Dictionary ms) p → P (Dictionary ms)) → (t : Tree)
+      → OccursAt es t p → P t
   of_dictionary is h (Leaf x) s = cc (ap entry_kind_of (stands_single s))
   of_dictionary is h (Array ts) s = cc (ap entry_kind_of (starts_array s))
-  of_dictionary is h (Dictionary ms) s = h ms (occurs_pairs s)
+  of_dictionary is h (Dictionary ms) s = h ms s
 
   -- no collection begins at this index
   module _ (other : (k ≡ kind.Scalar) ⊎ (k ≡ kind.End)) where
@@ -122,33 +152,37 @@ module _ (num : ℕ → ℕ) where
   values_are NoMembers q = refl
   values_are (MemberAnd k t ms) q = ap (λ l. num (q + 1) ∷ l) (values_are ms _)
 
-pub array_is : (num : ℕ → ℕ) (w count : ℕ) (ts : Trees) (p : ℕ) → count ≡ number_of_trees ts
-    → length_form 0xa count ++ table_form w (map num (item_indices ts (p + 1)))
-    ≡ form w (object_of num (Array ts) p)
-array_is num w count ts p e =
-    λ i. length_form 0xa ((e ∙ sym (length-references num ts (p + 1))) i) ++ table_form w
-    (sym (refs_are num ts (p + 1)) i)
+-- the bytes of a collection are those of its object
+module _ {es : List PlainEvent} (num : ℕ → ℕ) (w : ℕ) {p : ℕ} where
+  pub array_is : {ts : Trees} → OccursAt es (Array ts) p
+      → collection_of num w es 0xa p ≡ form w (object_of num (Array ts) p)
+  array_is {ts} s =
+      rw (
+        keys_are_in es (Array ts) p s,
+        values_are_in es (Array ts) p s,
+        refs_are num ts (p + 1),
+        length-map (item_indices ts (p + 1)) num,
+      ) refl
 
-pub dictionary_is : {es : List PlainEvent} (num : ℕ → ℕ) (w count : ℕ) (ms : Members) (p : ℕ)
-    → PairsOccurAt es ms (p + 1)
-    → ((ts : Trees) → ItemsOccurAt es ts (p + 1) → count ≡ number_of_trees ts)
-    → length_form 0xd (count / 2) ++ (table_form w (map num (key_indices ms (p + 1)))
-    ++ table_form w (map num (value_indices ms (p + 1)))) ≡ form w (object_of num (Dictionary ms) p)
-dictionary_is num w count ms p s h =
-    let n = h (as_items ms) (pairs_as_items s) ∙ twice ms in
-    let e : count / 2 ≡ number_of_members ms = omega arith in
-    λ i. length_form 0xd ((e ∙ sym (length-pairs num ms (p + 1))) i) ++ (table_form w
-    (sym (keys_are num ms (p + 1)) i) ++ table_form w (sym (values_are num ms (p + 1)) i))
+  pub dictionary_is : {ms : Members} → OccursAt es (Dictionary ms) p
+      → collection_of num w es 0xd p ≡ form w (object_of num (Dictionary ms) p)
+  dictionary_is {ms} s =
+      rw (
+        keys_are_in es (Dictionary ms) p s,
+        values_are_in es (Dictionary ms) p s,
+        keys_are num ms (p + 1),
+        values_are num ms (p + 1),
+        length-values ms (p + 1),
+        length-pairs num ms (p + 1),
+      ) refl
 
-pub dictionary_told : (given : Option ℕ) (w count : ℕ) (ms : Members)
-    → count ≡ number_of_trees (as_items ms)
-    → IsSizeOrNone given (length (length_form 0xd (count / 2)) + count * w)
-    → IsSizeOrNone given (dictionary_size w (number_of_members ms))
-dictionary_told given w count ms h told_is =
-    let half : count / 2 ≡ number_of_members ms = omega (arith, twice ms) in
-    let two : count * w ≡ number_of_members ms * w + number_of_members ms * w =
-    rw (h, twice ms) (grind arith) in
-    subst (IsSizeOrNone _) (λ i. length (length_form 0xd (half i)) + two i) told_is
+-- the size of a dictionary, by the number of its references
+pub dictionary_told : (given : Option ℕ) (w count pairs : ℕ) → count ≡ pairs
+    → IsSizeOrNone given (marked_size 0xd count (2 * count * w))
+    → IsSizeOrNone given (dictionary_size w pairs)
+dictionary_told given w count pairs h told_is =
+    let two : 2 * count * w ≡ pairs * w + pairs * w = rw h (grind arith) in
+    subst (IsSizeOrNone _) (λ i. length (length_form 0xd (h i)) + two i) told_is
 
 pub told_if : (given : Option ℕ) (event_count : ℕ) → SomeIff given (event_count < 2 ^ 64) event_count
     → IsSizeOrNone given event_count

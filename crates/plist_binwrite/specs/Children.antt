@@ -1,39 +1,45 @@
--- Words for the indices of a collection's children among buffered events.
-use Rattle.std.specs.Prelude.{◌≡◌, ℕ, ◌++◌, length}
-use Rattle.std.specs.declared.alloc.Global.{Global}
-use Rattle.std.specs.declared.vec.Vec.{Vec}
-use Rattle.plist_base.specs.Trees.{Tree, Trees, Members}
-use Rattle.plist_binwrite.specs.EventTable.{plain_events, AllBelow, item_indices, key_indices, value_indices, keys_in, values_in}
-use Rattle.plist_binwrite.specs.Occurrences.{OccursAt, ItemsOccurAt, PairsOccurAt}
-use Rattle.plist_binwrite.specs.declared.event_table.EventTable.{EventTable}
+-- The indices of a collection's children among buffered events.
+use Rattle.std.specs.Prelude.{ℕ, zero, suc, ◌+◌, if◌then◌else◌, List, [], ◌∷◌, length}
+use Rattle.plist_base.specs.Events.{PlainEvent, StartArray, StartDictionary}
+use Rattle.plist_binwrite.specs.EventTable.{plain_events, is_end, event_at}
+use Rattle.plist_binwrite.specs.declared.children.Child.{Child}
+use Rattle.plist_binwrite.specs.declared.children.Child.TheVariants.{Item, Key, Value}
+use Rattle.plist_binwrite.specs.declared.children.Children.{Children}
+use Rattle.plist_binwrite.specs.declared.children.Half.{Half}
+use Rattle.plist_binwrite.specs.declared.children.Half.TheVariants.{Keys, Values}
+use Rattle.plist_binwrite.specs.inner.UnclosedStarts.{skip_after}
 
--- the indices are those of events
-abbrev pub AreEventIndices : EventTable → (indices : Vec ℕ Global) → Type 0
-AreEventIndices held indices = AllBelow (length (plain_events held)) indices.items
+-- the index of a child, and that of the last tree of its item or pair, which begins at an index
+abbrev pub child_at : Child → ℕ → ℕ
+child_at Value first = first + 1
+child_at child first = first
 
-abbrev pub StayWithin : EventTable → (old new : Vec ℕ Global) → Type 0
-StayWithin held old new = AreEventIndices held old → AreEventIndices held new
+abbrev pub last_at : Child → ℕ → ℕ
+last_at Item first = first
+last_at child first = first + 1
 
-module _ (held : EventTable) (from : ℕ) (old new : Vec ℕ Global) where
-  -- the indices of an array's items from this index on are appended
-  abbrev pub AddsItems : Type 0
-  AddsItems = (ts : Trees) → ItemsOccurAt (plain_events held) ts from
-      → new.items ≡ old.items ++ item_indices ts from
+-- the children from an index on, of at most this many items or pairs
+abbrev pub children_within : (most : ℕ) → Child → List PlainEvent → (from : ℕ) → List ℕ
+children_within zero child es q = []
+children_within (suc most) child es q =
+    if is_end (event_at es q) then [] else (if is_end (event_at es (last_at child q)) then [] else
+    child_at child q ∷ children_within most child es (skip_after es (last_at child q)))
 
-  -- the indices of a dictionary's keys, or of its values, are appended
-  abbrev pub AddsKeys : Type 0
-  AddsKeys = (ms : Members) → PairsOccurAt (plain_events held) ms from
-      → new.items ≡ old.items ++ key_indices ms from
+-- all children from an index on
+abbrev pub children_from : Child → List PlainEvent → (from : ℕ) → List ℕ
+children_from child es from = children_within (length es) child es from
 
-  abbrev pub AddsValues : Type 0
-  AddsValues = (ms : Members) → PairsOccurAt (plain_events held) ms from
-      → new.items ≡ old.items ++ value_indices ms from
+-- a half of the children of the collection with this start
+abbrev pub children_after : PlainEvent → Half → List PlainEvent → (from : ℕ) → List ℕ
+children_after (StartArray hint) Values es from = children_from Item es from
+children_after (StartDictionary hint) Keys es from = children_from Key es from
+children_after (StartDictionary hint) Values es from = children_from Value es from
+children_after event half es from = []
 
--- the indices are those of the keys of the collection that begins at this index, or of its values
-abbrev pub AreKeysOf : EventTable → (index : ℕ) → (indices : Vec ℕ Global) → Type 0
-AreKeysOf held index indices = (t : Tree) → OccursAt (plain_events held) t index
-    → indices.items ≡ keys_in t index
+-- a half of the children of the collection that begins at an index
+abbrev pub children_of : List PlainEvent → Half → (index : ℕ) → List ℕ
+children_of es half index = children_after (event_at es index) half es (index + 1)
 
-abbrev pub AreValuesOf : EventTable → (index : ℕ) → (indices : Vec ℕ Global) → Type 0
-AreValuesOf held index indices = (t : Tree) → OccursAt (plain_events held) t index
-    → indices.items ≡ values_in t index
+-- those that an iterator has still to yield
+abbrev pub indices_left : Children → List ℕ
+indices_left children = children_from children.child (plain_events children.events.now) children.next

@@ -4,16 +4,17 @@ use Rattle.plist_base.specs.Trees.{Tree}
 use Rattle.plist_base.specs.Writing.{answer_of}
 use Rattle.plist_base.specs.declared.error.Error.{Error}
 use Rattle.plist_binwrite.specs.Classes.{SendsBy}
-use Rattle.plist_binwrite.specs.EventTable.{nth_number, plain_events}
+use Rattle.plist_binwrite.specs.EventClasses.{class_in, events_in}
+use Rattle.plist_binwrite.specs.EventTable.{plain_events}
 use Rattle.plist_binwrite.specs.SendingAs.{SendsAs}
-use Rattle.plist_binwrite.specs.declared.classes.Classes.{Classes}
+use Rattle.plist_binwrite.specs.declared.classes.Classed.{Classed}
 use Rattle.plist_binwrite.specs.declared.event_table.EventTable.{EventTable}
 
 -- with one object for each class
-abbrev pub SendsByClass : {W : Type 0} → Classes → (W → Option (List ℕ)) → EventTable
+abbrev pub SendsByClass : {W : Type 0} → Classed → (W → Option (List ℕ))
     → Result (Unit {0}) Error → (old new : W) → Type 0
-SendsByClass classes contents held result old new =
-    SendsBy (nth_number classes.of) contents (plain_events held) (answer_of result) old new
+SendsByClass given contents result old new =
+    SendsBy (class_in given) contents (events_in given) (answer_of result) old new
 
 -- for any kind of file and its size
 abbrev pub SendsHeld : {W : Type 0} → (IsFile : Tree → List ℕ → Type 0) → (size : Tree → ℕ)

@@ -54,10 +54,6 @@ HasItem es p = (p < length es) × (is_end (event_at es p) ≡ false)
 abbrev pub LacksItem : List PlainEvent → (index : ℕ) → Type 0
 LacksItem es p = (is_end (event_at es p) ≡ true) ⊎ (length es ≤ p)
 
--- the tree that begins at an index ends before this one
-abbrev pub EndsTree : List PlainEvent → (index behind : ℕ) → Type 0
-EndsTree es p behind = (t : Tree) → OccursAt es t p → behind ≡ p + event_count t
-
 -- the different scalar with this number is at an index
 abbrev pub IsScalarAt : EventTable → (index scalar : ℕ) → Type 0
 IsScalarAt held p scalar =
@@ -80,21 +76,15 @@ abbrev pub item_indices : Trees → ℕ → List ℕ
 item_indices NoTrees q = []
 item_indices (TreeAnd t ts) q = q ∷ item_indices ts (q + event_count t)
 
--- the index of a pair's value, or of its key
-abbrev pub key_or_value_at : Bool → ℕ → ℕ
-key_or_value_at of_values q = if of_values then q + 1 else q
-
--- the indices of the values, or of the keys
-abbrev pub key_or_value_indices : Bool → Members → ℕ → List ℕ
-key_or_value_indices of_values NoMembers q = []
-key_or_value_indices of_values (MemberAnd k t ms) q =
-    key_or_value_at of_values q ∷ key_or_value_indices of_values ms (q + 1 + event_count t)
-
+-- the indices of the keys
 abbrev pub key_indices : Members → ℕ → List ℕ
-key_indices ms q = key_or_value_indices false ms q
+key_indices NoMembers q = []
+key_indices (MemberAnd k t ms) q = q ∷ key_indices ms (q + 1 + event_count t)
 
+-- the indices of the values
 abbrev pub value_indices : Members → ℕ → List ℕ
-value_indices ms q = key_or_value_indices true ms q
+value_indices NoMembers q = []
+value_indices (MemberAnd k t ms) q = (q + 1) ∷ value_indices ms (q + 1 + event_count t)
 
 abbrev pub keys_in : Tree → ℕ → List ℕ
 keys_in (Dictionary ms) p = key_indices ms (p + 1)
@@ -111,21 +101,23 @@ AllBelow n ps = (i : ℕ) → i < length ps → get_or ps i 0 < n
 abbrev pub nth_number : List ℕ → ℕ → ℕ
 nth_number numbers p = get_or numbers p 0
 
-abbrev pub IsNumbered : List ℕ → List ℕ → ℕ → Type 0
-IsNumbered numbers firsts p = get_or numbers p 0 < length firsts
+-- the event at an index has a number
+abbrev pub IsNumbered : (number : ℕ → ℕ) (firsts : List ℕ) → (index : ℕ) → Type 0
+IsNumbered number firsts p = number p < length firsts
 
 -- what has a number keeps it
-pub record KeepsNumbering (old_numbers old_firsts new_numbers new_firsts : List ℕ) : Type 0 where
-  pub numbered : (p : ℕ) → IsNumbered old_numbers old_firsts p → IsNumbered new_numbers new_firsts p
+pub record KeepsNumbering (old : ℕ → ℕ) (old_firsts : List ℕ) (new : ℕ → ℕ)
+    (new_firsts : List ℕ) : Type 0 where
+  pub numbered : (p : ℕ) → IsNumbered old old_firsts p → IsNumbered new new_firsts p
   pub first : 0 < length old_firsts → get_or new_firsts 0 0 ≡ get_or old_firsts 0 0
   pub grows : length old_firsts ≤ length new_firsts
 
 -- each event has a number below the count
-abbrev pub AllNumbered : List PlainEvent → List ℕ → ℕ → Type 0
-AllNumbered es numbers count = (p : ℕ) → p < length es → is_end (event_at es p) ≡ false
-    → get_or numbers p 0 < count
+abbrev pub AllNumbered : List PlainEvent → (number : ℕ → ℕ) → (count : ℕ) → Type 0
+AllNumbered es number count = (p : ℕ) → p < length es → is_end (event_at es p) ≡ false
+    → number p < count
 
 -- the objects of a numbering
-abbrev pub Describes : List PlainEvent → List ℕ → (ℕ → Object) → Type 0
-Describes es numbers objects = (t : Tree) (p : ℕ) → OccursAt es t p
-    → objects (get_or numbers p 0) ≡ object_of (nth_number numbers) t p
+abbrev pub Describes : List PlainEvent → (number : ℕ → ℕ) → (ℕ → Object) → Type 0
+Describes es number objects = (t : Tree) (p : ℕ) → OccursAt es t p
+    → objects (number p) ≡ object_of number t p

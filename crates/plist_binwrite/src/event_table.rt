@@ -32,9 +32,11 @@ fn is_content(event: &Event<'_>) -> bool {
 
 impl<'e> EventTable<'e> {
     ghost use Rattle.std.specs.Prelude.{◌≤◌, [], None, Some, false, slice_get, IfSome, ◌+◌};
-    ghost use Rattle.plist_binwrite.specs.EventTable.{plain_event, plain_events, scalars_of, entry_kind_of, event_at, EndsTree, GrowsBy, HasItem, IsScalarAt, LacksItem, table_event, entry_event};
-    ghost use Rattle.plist_binwrite.specs.inner.Entries.{is_start, IsUnclosed};
+    ghost use Rattle.plist_binwrite.specs.EventTable.{plain_event, plain_events, scalars_of, entry_kind_of, event_at, GrowsBy, HasItem, IsScalarAt, LacksItem, table_event, entry_event};
+    ghost use Rattle.plist_binwrite.specs.inner.Columns.{scalar_named};
+    ghost use Rattle.plist_binwrite.specs.inner.Entries.{entry_at, is_start, IsUnclosed};
     ghost use Rattle.plist_binwrite.specs.inner.Expected.{expected_inside, innermost};
+    ghost use Rattle.plist_binwrite.specs.inner.UnclosedStarts.{skip_after};
 
     /// Creates an empty table. It allocates no memory.
     pub fn new(alloc: Global) -> EventTable<'e>
@@ -101,23 +103,9 @@ impl<'e> EventTable<'e> {
     /// Returns the index after the tree that begins at this index.
     pub fn index_after(&self, index: usize) -> usize
         requires { index < length (plain_events self.now) }
-        ensures forward { (index < result) × (result ≤ length (plain_events self.now)) }
-        ensures ends { EndsTree (plain_events self.now) index result }
+        ensures { result ≡ skip_after (plain_events self.now) index }
     {
         self.entries.behind(index)
-    }
-
-    /// Returns the index after the pair whose key is at this index.
-    pub fn index_after_pair(&self, key: usize) -> usize
-        requires { key < length (plain_events self.now) }
-        ensures forward { (key < result) × (result ≤ length (plain_events self.now)) }
-        ensures ends { EndsTree (plain_events self.now) (key + 1) result }
-    {
-        let value = key + 1;
-        if value >= self.len() {
-            return value;
-        }
-        self.index_after(value)
     }
 
     /// Returns the index of the scalar at this index among the different scalars, which are in the
@@ -126,6 +114,7 @@ impl<'e> EventTable<'e> {
         requires { index < length (plain_events self.now) }
         ensures some { IfSome result (IsScalarAt self.now index) }
         ensures leaf { IfSome result (λ _. is_leaf (table_event self.now index) ≡ true) }
+        ensures named { result ≡ scalar_named (entry_at self.now.entries index) }
         ensures none { result ≡ None → is_leaf (table_event self.now index) ≡ false }
     {
         self.entries.scalar(index)

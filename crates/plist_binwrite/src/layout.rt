@@ -1,14 +1,13 @@
 //! The order of a file's objects.
 
 ghost use Rattle.std.specs.Prelude.{IfOk};
-ghost use Rattle.plist_binwrite.specs.EventTable.{plain_events};
 ghost use Rattle.plist_binwrite.specs.inner.Laying.{IsOrder, HasAll};
-ghost use Rattle.plist_binwrite.specs.inner.Planning.{IsPlanned, count_of};
+ghost use Rattle.plist_binwrite.specs.inner.Planning.{IsNumberedBy, count_of};
 
+use crate::children::{Children, Half};
+use crate::classes::Classed;
 use crate::compact_numbers::Numbers;
-use crate::event_table::EventTable;
-use crate::kinds::EntryKind;
-use crate::plan::Plan;
+use crate::numbering::Numbering;
 use std::alloc::{AllocError, Global};
 
 /// The numbers of a file's objects in its order, and a list for the offset of each.
@@ -22,25 +21,30 @@ pub struct FileLayout {
 }
 
 impl FileLayout {
-    ghost use Rattle.std.specs.Prelude.{◌<◌, length, OnOk};
-    ghost use Rattle.plist_binwrite.specs.EventTable.{plain_events};
+    ghost use Rattle.std.specs.Prelude.{OnOk};
+    ghost use Rattle.plist_binwrite.specs.EventClasses.{events_in};
+    ghost use Rattle.plist_binwrite.specs.EventTable.{HasItem};
     ghost use Rattle.plist_binwrite.specs.inner.Laying.{IsOrder, KeepsMarks};
-    ghost use Rattle.plist_binwrite.specs.inner.Planning.{IsPlanned, count_of};
+    ghost use Rattle.plist_binwrite.specs.inner.Planning.{IsNumberedBy, count_of};
     ghost use Rattle.plist_binwrite.specs.inner.Sizing.{MarksItem};
 
     // Appends the object of the event at an index to the order, unless it is there already. The
     // mark of an object that is there isn't 0.
-    fn put(&mut self, events: &EventTable<'_>, plan: &Plan, index: usize) -> Result<(), AllocError>
-        requires planned { IsPlanned (plain_events events.now) plan.now }
-        requires order { IsOrder (count_of plan.now) self.old.order self.old.places }
-        ensures order { OnOk result (IsOrder (count_of plan.now) self.new.order self.new.places) }
+    fn put(
+        &mut self,
+        given: &Classed<'_, '_>,
+        numbering: &Numbering,
+        index: usize,
+    ) -> Result<(), AllocError>
+        requires numbered { IsNumberedBy given.now numbering.now }
+        requires item { HasItem (events_in given.now) index }
+        requires order { IsOrder (count_of numbering.now) self.old.order self.old.places }
+        ensures order { OnOk result (IsOrder (count_of numbering.now) self.new.order
+            self.new.places) }
         ensures keeps { OnOk result (KeepsMarks self.old.places self.new.places) }
-        ensures marked { OnOk result (MarksItem events.now plan.now index self.new.places) }
+        ensures marked { OnOk result (MarksItem given.now numbering.now index self.new.places) }
     {
-        if !events.has_item(index) {
-            return Ok(());
-        }
-        let number = plan.number(index);
+        let number = numbering.number(given, index);
         if self.places.get(number) != 0 {
             return Ok(());
         }
@@ -49,45 +53,29 @@ impl FileLayout {
         Ok(())
     }
 
-    // Appends the keys of a dictionary to the order, from an index on.
-    fn put_keys(
-        &mut self,
-        events: &EventTable<'_>,
-        plan: &Plan,
-        from: usize,
-    ) -> Result<(), AllocError>
-        requires planned { IsPlanned (plain_events events.now) plan.now }
-        requires order { IsOrder (count_of plan.now) self.old.order self.old.places }
-        ensures order { OnOk result (IsOrder (count_of plan.now) self.new.order self.new.places) }
-        ensures keeps { OnOk result (KeepsMarks self.old.places self.new.places) }
-    {
-        let mut key = from;
-        'walk: while events.has_item(key) {
-            self.put(events, plan, key)?;
-            key = events.index_after_pair(key);
-        }
-        Ok(())
-    }
-
     // Appends the object of the event at an index to the order, and then those of its keys.
     fn put_here(
         &mut self,
-        events: &EventTable<'_>,
-        plan: &Plan,
+        given: &Classed<'_, '_>,
+        numbering: &Numbering,
         index: usize,
     ) -> Result<(), AllocError>
-        requires planned { IsPlanned (plain_events events.now) plan.now }
-        requires index { index < length (plain_events events.now) }
-        requires order { IsOrder (count_of plan.now) self.old.order self.old.places }
-        ensures order { OnOk result (IsOrder (count_of plan.now) self.new.order self.new.places) }
+        requires numbered { IsNumberedBy given.now numbering.now }
+        requires order { IsOrder (count_of numbering.now) self.old.order self.old.places }
+        ensures order { OnOk result (IsOrder (count_of numbering.now) self.new.order
+            self.new.places) }
         ensures keeps { OnOk result (KeepsMarks self.old.places self.new.places) }
-        ensures marked { OnOk result (MarksItem events.now plan.now index self.new.places) }
+        ensures marked { OnOk result (HasItem (events_in given.now) index
+            → MarksItem given.now numbering.now index self.new.places) }
     {
-        self.put(events, plan, index)?;
-        match events.kind_at(index) {
-            EntryKind::Dictionary => self.put_keys(events, plan, index + 1),
-            EntryKind::Array | EntryKind::Scalar | EntryKind::End => Ok(()),
+        if !given.events.has_item(index) {
+            return Ok(());
         }
+        self.put(given, numbering, index)?;
+        for key in Children::new(given.events, index, Half::Keys) {
+            self.put(given, numbering, key)?;
+        }
+        Ok(())
     }
 }
 
@@ -95,19 +83,19 @@ impl FileLayout {
 /// values.
 pub fn order_objects(
     alloc: Global,
-    events: &EventTable<'_>,
-    plan: &Plan,
+    given: &Classed<'_, '_>,
+    numbering: &Numbering,
 ) -> Result<FileLayout, AllocError>
-    requires planned { IsPlanned (plain_events events.now) plan.now }
-    ensures order { IfOk result (λ r. IsOrder (count_of plan.now) r.order r.places) }
-    ensures all { IfOk result (λ r. HasAll (count_of plan.now) r.order) }
+    requires numbered { IsNumberedBy given.now numbering.now }
+    ensures order { IfOk result (λ r. IsOrder (count_of numbering.now) r.order r.places) }
+    ensures all { IfOk result (λ r. HasAll (count_of numbering.now) r.order) }
 {
-    let count = plan.numbering.firsts.len();
+    let count = numbering.firsts.len();
     let places = Numbers::zeros(alloc, count)?;
     let order = Numbers::with_capacity(alloc, count)?;
     let mut layout = FileLayout { order, places };
-    for index in 0..events.len() {
-        layout.put_here(events, plan, index)?;
+    for index in 0..given.events.len() {
+        layout.put_here(given, numbering, index)?;
     }
     Ok(layout)
 }

@@ -1,135 +1,112 @@
 //! The numbers of objects: one for each class.
 
-ghost use Rattle.std.specs.Prelude.{◌≡◌, length, IfOk};
-ghost use Rattle.plist_binwrite.specs.EventTable.{plain_events, AllBelow};
-ghost use Rattle.plist_binwrite.specs.inner.Numbering.{IsNumberingOf, NumbersRoot, NumbersTree};
+ghost use Rattle.plist_binwrite.specs.EventClasses.{IsClassed, events_in};
+ghost use Rattle.plist_binwrite.specs.EventTable.{IsBracketed};
+ghost use Rattle.plist_binwrite.specs.inner.Planning.{IsNumberedBy};
+ghost use Rattle.std.specs.Prelude.{IfOk};
 
+use crate::children::{Children, Half};
+use crate::classes::Classed;
 use crate::compact_numbers::Numbers;
-use crate::event_table::EventTable;
-use crate::kinds::{EntryKind, key_or_value};
 use std::alloc::{AllocError, Global};
 
-// Buffered events, and the class of each.
-#[derive(Clone, Copy)]
-struct Classed<'p, 'e> {
-    events: &'p EventTable<'e>,
-    classes: &'p Numbers,
-}
-
-// The numbers so far: by class, by event, and for each number the index of its first event.
+/// The number of each class's object, and the first event of each object.
 #[derive(Drop)]
-struct Numbered {
-    ids: Numbers,
-    numbers: Numbers,
-    firsts: Numbers,
+pub struct Numbering {
+    /// The number of each class's object, or 2^64 - 1 while it has none.
+    pub by_class: Numbers,
+    /// The index of each object's first event, by the object's number.
+    pub firsts: Numbers,
 }
 
-impl Numbered {
+impl Numbering {
     ghost use Rattle.std.specs.Prelude.{◌≡◌, ◌<◌, [], length, IfOk, OnOk};
-    ghost use Rattle.plist_binwrite.specs.EventTable.{plain_events};
-    ghost use Rattle.plist_binwrite.specs.inner.Numbering.{AreMarks, BeginsAt, IsNumberedSoFar, HaveIdsOf, IsPlanOf, KeepsNumbers, NumbersAll, NumbersChildren, NumbersKeysOrValues, NumbersItem, NumbersItems, RootIsFirst};
+    ghost use Rattle.plist_binwrite.specs.EventClasses.{IsListed, class_in, events_in};
+    ghost use Rattle.plist_binwrite.specs.EventTable.{nth_number, HasItem, IsBracketed};
+    ghost use Rattle.plist_binwrite.specs.inner.Numbering.{AreMarks, BeginsAt, IsNumberedSoFar, KeepsNumbers, NumbersAll, NumbersChildren, NumbersHalf, NumbersItem, RootIsFirst};
+    ghost use Rattle.plist_binwrite.specs.inner.Planning.{number_in};
 
     // Starts without numbers. Memory for the first index of each class is reserved, since lists
     // that grow would leave gaps between those that are full.
-    fn new(alloc: Global, events: &EventTable<'_>, count: usize) -> Result<Numbered, AllocError>
-        ensures ids { IfOk result (λ r. AreMarks count r.ids) }
-        ensures numbers { IfOk result (λ r. AreMarks (length (plain_events events.now)) r.numbers) }
+    fn new(alloc: Global, bound: usize) -> Result<Numbering, AllocError>
+        ensures unknown { IfOk result (λ r. AreMarks bound r.by_class) }
         ensures firsts { IfOk result (λ r. r.firsts ≡ []) }
     {
-        let ids = Numbers::marks(alloc, count)?;
-        let numbers = Numbers::marks(alloc, events.len())?;
-        let firsts = Numbers::with_capacity(alloc, count)?;
-        Ok(Numbered {
-            ids,
-            numbers,
-            firsts,
-        })
+        let by_class = Numbers::marks(alloc, bound)?;
+        let firsts = Numbers::with_capacity(alloc, bound)?;
+        Ok(Numbering { by_class, firsts })
+    }
+
+    /// Returns the number of the object of the event at an index.
+    #[inline(always)]
+    pub fn number(&self, given: &Classed<'_, '_>, index: usize) -> usize
+        requires index { index < length (events_in given.now) }
+        requires listed { IsListed given.now }
+        requires class { class_in given.now index < length self.now.by_class }
+        ensures { result ≡ number_in given.now self.now index }
+    {
+        self.by_class.get(given.class_at(index))
+    }
+
+    /// Returns the index of the first event of an object.
+    pub fn first(&self, number: usize) -> usize
+        requires { number < length self.now.firsts }
+        ensures { result ≡ nth_number self.now.firsts number }
+    {
+        self.firsts.get(number)
     }
 
     // Numbers the object of the event at an index, unless it has a number.
     fn number_one(&mut self, given: &Classed<'_, '_>, index: usize) -> Result<(), AllocError>
         requires so_far { IsNumberedSoFar given.now self.old }
+        requires item { HasItem (events_in given.now) index }
         // The answer.
         ensures numbered { OnOk result (NumbersItem given.now index self.new) }
-        ensures first { OnOk result (BeginsAt given.now index self.old self.new) }
+        ensures first { OnOk result (BeginsAt index self.old self.new) }
         // The state after it.
-        ensures plan { OnOk result (IsPlanOf given.now self.new) }
-        ensures ids { OnOk result (HaveIdsOf given.now self.new) }
-        ensures keeps { OnOk result (KeepsNumbers self.old self.new) }
-    {
-        if !given.events.has_item(index) {
-            return Ok(());
-        }
-        if self.numbers.get(index) < self.firsts.len() {
-            return Ok(());
-        }
-        let class = given.classes.get(index);
-        let number = self.ids.get(class);
-        if number < self.firsts.len() {
-            self.numbers.set(index, number)?;
-            return Ok(());
-        }
-        let count = self.firsts.len();
-        self.firsts.push(index)?;
-        self.ids.set(class, count)?;
-        self.numbers.set(index, count)?;
-        Ok(())
-    }
-
-    // Numbers the items of an array, from an index on.
-    fn number_items(&mut self, given: &Classed<'_, '_>, from: usize) -> Result<(), AllocError>
-        requires so_far { IsNumberedSoFar given.now self.old }
         ensures so_far { OnOk result (IsNumberedSoFar given.now self.new) }
-        ensures keeps { OnOk result (KeepsNumbers self.old self.new) }
-        ensures numbered { OnOk result (NumbersItems given.now from self.new) }
+        ensures keeps { OnOk result (KeepsNumbers given.now self.old self.new) }
     {
-        let mut index = from;
-        'walk: while given.events.has_item(index) {
-            self.number_one(given, index)?;
-            index = given.events.index_after(index);
+        let class = given.class_at(index);
+        let number = self.firsts.len();
+        if self.by_class.get(class) < number {
+            return Ok(());
         }
+        self.firsts.push(index)?;
+        self.by_class.set(class, number)?;
         Ok(())
     }
 
-    // Numbers the values of a dictionary, or its keys, from an index on.
-    fn number_keys_or_values(
+    // Numbers a half of the children of the collection that begins at an index.
+    fn number_half(
         &mut self,
         given: &Classed<'_, '_>,
-        from: usize,
-        values: bool,
+        index: usize,
+        half: Half,
     ) -> Result<(), AllocError>
         requires so_far { IsNumberedSoFar given.now self.old }
+        requires index { index < length (events_in given.now) }
         ensures so_far { OnOk result (IsNumberedSoFar given.now self.new) }
-        ensures keeps { OnOk result (KeepsNumbers self.old self.new) }
-        ensures numbered { OnOk result (NumbersKeysOrValues given.now values from self.new) }
+        ensures keeps { OnOk result (KeepsNumbers given.now self.old self.new) }
+        ensures numbered { OnOk result (NumbersHalf given.now half index self.new) }
     {
-        let mut key = from;
-        'walk: while given.events.has_item(key) {
-            let index = key_or_value(key, key + 1, values);
-            self.number_one(given, index)?;
-            key = given.events.index_after_pair(key);
+        for child in Children::new(given.events, index, half) {
+            self.number_one(given, child)?;
         }
         Ok(())
     }
 
-    // Numbers the keys of the collection that begins at an index, and then its values.
+    // Numbers the keys of the collection that begins at an index, and then its items or values.
     fn number_children(&mut self, given: &Classed<'_, '_>, index: usize) -> Result<(), AllocError>
         requires so_far { IsNumberedSoFar given.now self.old }
-        requires index { index < length (plain_events given.now.events.now) }
+        requires index { index < length (events_in given.now) }
         ensures so_far { OnOk result (IsNumberedSoFar given.now self.new) }
-        ensures keeps { OnOk result (KeepsNumbers self.old self.new) }
+        ensures keeps { OnOk result (KeepsNumbers given.now self.old self.new) }
         ensures numbered { OnOk result (NumbersChildren given.now index self.new) }
     {
-        let inside = index + 1;
-        match given.events.kind_at(index) {
-            EntryKind::Array => self.number_items(given, inside),
-            EntryKind::Dictionary => {
-                self.number_keys_or_values(given, inside, false)?;
-                self.number_keys_or_values(given, inside, true)?;
-                Ok(())
-            }
-            EntryKind::Scalar | EntryKind::End => Ok(()),
-        }
+        self.number_half(given, index, Half::Keys)?;
+        self.number_half(given, index, Half::Values)?;
+        Ok(())
     }
 
     // Numbers all objects: when a collection has its turn, its keys and then its values are
@@ -137,7 +114,8 @@ impl Numbered {
     fn number_all(&mut self, given: &Classed<'_, '_>) -> Result<(), AllocError>
         requires so_far { IsNumberedSoFar given.now self.old }
         requires none { self.old.firsts ≡ [] }
-        ensures plan { OnOk result (IsPlanOf given.now self.new) }
+        requires whole { IsBracketed (events_in given.now) }
+        ensures so_far { OnOk result (IsNumberedSoFar given.now self.new) }
         ensures all { OnOk result (NumbersAll given.now self.new) }
         ensures root { OnOk result (RootIsFirst given.now self.new) }
     {
@@ -149,36 +127,14 @@ impl Numbered {
     }
 }
 
-/// The number of each buffered event's object, and for each number the index of the first event of
-/// that object.
-#[derive(Drop)]
-pub struct Numbering {
-    /// The number of each event's object, by the event's index.
-    pub numbers: Numbers,
-    /// The index of each object's first event, by the object's number.
-    pub firsts: Numbers,
-}
-
-/// Numbers the objects of the buffered events, one for each class: when a collection has its turn,
-/// its keys and then its values are numbered.
-pub fn number_by_class(
-    alloc: Global,
-    events: &EventTable<'_>,
-    classes: &Numbers,
-    count: usize,
-) -> Result<Numbering, AllocError>
-    requires long { length classes.now ≡ length (plain_events events.now) }
-    requires below { AllBelow count classes.now }
-    ensures plan { IfOk result (IsNumberingOf events.now classes.now) }
-    ensures all { IfOk result (NumbersTree events.now) }
-    ensures root { IfOk result (NumbersRoot events.now) }
+/// Numbers the objects of a tree's events, one for each class: when a collection has its turn, its
+/// keys and then its values are numbered.
+pub fn number_objects(alloc: Global, given: &Classed<'_, '_>) -> Result<Numbering, AllocError>
+    requires whole { IsBracketed (events_in given.now) }
+    requires classed { IsClassed given.now }
+    ensures { IfOk result (IsNumberedBy given.now) }
 {
-    let mut found = Numbered::new(alloc, events, count)?;
-    found.number_all(&Classed { events, classes })?;
-    let Numbered {
-        numbers,
-        firsts,
-        ..
-    } = found;
-    Ok(Numbering { numbers, firsts })
+    let mut numbering = Numbering::new(alloc, given.bound())?;
+    numbering.number_all(given)?;
+    Ok(numbering)
 }

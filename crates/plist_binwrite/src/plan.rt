@@ -1,71 +1,61 @@
-//! What is planned for buffered events before their file is laid out.
+//! The plan of a file, which is complete before a byte of it is written.
 
-ghost use Rattle.std.specs.Prelude.{◌≡◌, ◌<◌, length, IfOk};
-ghost use Rattle.plist_base.specs.Outcomes.{OnlyMemory};
-ghost use Rattle.plist_binwrite.specs.Classes.{AreClasses};
-ghost use Rattle.plist_binwrite.specs.EventTable.{plain_events, nth_number, AllBelow, IsBracketed};
-ghost use Rattle.plist_binwrite.specs.inner.Planning.{IsPlanned, IsPlanByClass, numbers_of, firsts_of};
+ghost use Rattle.std.specs.Prelude.{IfOk};
+ghost use Rattle.plist_base.specs.Outcomes.{IfFault};
+ghost use Rattle.plist_binwrite.specs.EventClasses.{IsClassed, events_in};
+ghost use Rattle.plist_binwrite.specs.EventTable.{IsBracketed};
+ghost use Rattle.plist_binwrite.specs.inner.PlannedFiles.{IsFilePlan, IsPlanFault};
 
-use crate::classes::Classes;
-use crate::event_table::EventTable;
-use crate::numbering::{Numbering, number_by_class};
-use plist_base::Error;
+use crate::classes::Classed;
+use crate::compact_numbers::Numbers;
+use crate::layout::order_objects;
+use crate::numbering::{Numbering, number_objects};
+use crate::size::{check_size, place_objects};
+use crate::widths::reference_width;
+use plist_base::{Error, ErrorKind};
 use std::alloc::Global;
 
-/// What is planned for events: the numbers of their objects.
+/// The plan of a file of less than 2^64 bytes.
 #[derive(Drop)]
-pub struct Plan {
-    /// The numbers of the objects.
+pub struct FilePlan {
+    /// The numbers of its objects.
     pub numbering: Numbering,
-}
-
-impl Plan {
-    /// Returns the number of the object of the event at an index.
-    pub fn number(&self, index: usize) -> usize
-        requires { index < length (numbers_of self.now) }
-        ensures { result ≡ nth_number (numbers_of self.now) index }
-    {
-        self.numbering.numbers.get(index)
-    }
-
-    /// Returns the index of the first event of an object.
-    pub fn first(&self, number: usize) -> usize
-        requires { number < length (firsts_of self.now) }
-        ensures { result ≡ nth_number (firsts_of self.now) number }
-    {
-        self.numbering.firsts.get(number)
-    }
-}
-
-/// A planned file: its events, what is planned for them, and the width of a reference.
-#[derive(Clone, Copy)]
-pub struct Planned<'p, 'e> {
-    /// The events.
-    pub events: &'p EventTable<'e>,
-    /// What is planned for them.
-    pub plan: &'p Plan,
+    /// Its objects by their numbers, in their order in the file.
+    pub order: Numbers,
+    /// The offset of each object, by its number.
+    pub places: Numbers,
     /// The number of bytes in a reference.
     pub width: usize,
+    /// The offset of the offset table.
+    pub table: usize,
 }
 
-/// Plans the events of a tree: one object for each class. All classes are below a count.
+/// Plans the file of a tree's events with one object for each class.
 ///
 /// # Errors
 ///
-/// `OutOfMemory`, without an offset.
-pub fn plan_by_class(
-    alloc: Global,
-    events: &EventTable<'_>,
-    classes: Classes,
-) -> Result<Plan, Error>
-    requires whole { IsBracketed (plain_events events.now) }
-    requires long { length classes.of ≡ length (plain_events events.now) }
-    requires below { AllBelow classes.count classes.of }
-    requires classes { AreClasses (plain_events events.now) (nth_number classes.of) }
-    ensures planned { IfOk result (λ plan. IsPlanned (plain_events events.now) plan) }
-    ensures class { IfOk result (IsPlanByClass (plain_events events.now) (nth_number classes.of)) }
-    ensures memory { OnlyMemory result }
+/// `PlistTooLarge` if the file would have 2^64 bytes or more, and `OutOfMemory`, without an offset.
+pub fn plan_file(alloc: Global, given: &Classed<'_, '_>) -> Result<FilePlan, Error>
+    requires whole { IsBracketed (events_in given.now) }
+    requires classed { IsClassed given.now }
+    ensures plan { IfOk result (IsFilePlan given.now) }
+    ensures refused { IfFault result (IsPlanFault given.now) }
 {
-    let numbering = number_by_class(alloc, events, &classes.of, classes.count)?;
-    Ok(Plan { numbering })
+    let numbering = number_objects(alloc, given)?;
+    let layout = order_objects(alloc, given, &numbering)?;
+    let order = layout.order;
+    let mut places = layout.places;
+    let count = places.len() as u64;
+    let width = reference_width(count);
+    let end = place_objects(given, &numbering, width, &order, &mut places)?;
+    match check_size(end, count) {
+        Some(table) => Ok(FilePlan {
+            numbering,
+            order,
+            places,
+            width,
+            table: table as usize,
+        }),
+        None => Err(ErrorKind::PlistTooLarge.without_position()),
+    }
 }

@@ -6,6 +6,7 @@ ghost use Rattle.plist_binwrite.specs.EventTable.{plain_events, scalars_of, AllB
 ghost use Rattle.plist_binwrite.specs.declared.kinds.EntryKind.TheVariants.{Dictionary as KindDictionary};
 ghost use Rattle.plist_binwrite.specs.RepeatedKeys.{TestsKeysOnce, TestsRepeats};
 
+use crate::children::{Children, Half};
 use crate::event_table::EventTable;
 use crate::kinds::EntryKind;
 use plist_base::Error;
@@ -38,15 +39,13 @@ fn repeats_at(events: &EventTable<'_>, start: usize, stamps: &mut Vec<usize>) ->
         return false;
     };
     let mark = start + 1;
-    let mut key = mark;
-    'walk: while events.has_item(key) {
+    for key in Children::new(events, start, Half::Keys) {
         let Some(scalar) = events.scalar_index(key) else {
             return false;
         };
         if stamp(stamps, scalar, mark) {
             return true;
         }
-        key = events.index_after_pair(key);
     }
     false
 }

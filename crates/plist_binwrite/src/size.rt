@@ -3,51 +3,48 @@
 
 ghost use Rattle.std.specs.Prelude.{◌≡◌, ◌+◌, ◌^◌, ◌<◌, ◌≤◌, ℕ, length, true, false, IfOk, IfSome, None, OnOk, Some};
 ghost use Rattle.plist_base.specs.Outcomes.{OnlyMemory};
+ghost use Rattle.plist_binwrite.specs.Children.{children_of};
+ghost use Rattle.plist_binwrite.specs.EventTable.{plain_events};
 ghost use Rattle.plist_binwrite.specs.inner.Laying.{IsOrder};
-ghost use Rattle.plist_binwrite.specs.inner.Planning.{IsPlanned, count_of, events_in};
+ghost use Rattle.plist_binwrite.specs.inner.Planning.{IsNumberedBy, count_of};
 ghost use Rattle.plist_binwrite.specs.Sizes.{IsSizeOrNone, size_with};
-ghost use Rattle.plist_binwrite.specs.inner.Sizing.{AreLaid, CountsItems, ExceedsWith, FitsWith, IsWritableAt, IsEndOrNone, IsSizeOrNoneAt};
+ghost use Rattle.plist_binwrite.specs.inner.Sizing.{AreLaid, ExceedsWith, FitsWith, IsWritableAt, IsEndOrNone, IsSizeOrNoneAt};
 
+use crate::children::{Children, Half};
+use crate::classes::Classed;
 use crate::compact_numbers::Numbers;
 use crate::event_table::EventTable;
 use crate::kinds::EntryKind;
 use crate::lengths::{add, length_of_collection, length_of_scalar};
-use crate::plan::Planned;
+use crate::numbering::Numbering;
 use crate::widths::offset_width;
 use plist_base::Error;
 
-/// Counts the items of a collection from an index on. In a dictionary, keys and values both count.
-pub fn count_items(events: &EventTable<'_>, from: usize) -> usize
-    ensures value { CountsItems events.now from result }
-    ensures small { result < 2 ^ 64 }
+/// Counts a half of the children of the collection that begins at an index.
+pub fn count_children(events: &EventTable<'_>, index: usize, half: Half) -> usize
+    requires { index < length (plain_events events.now) }
+    ensures { result ≡ length (children_of (plain_events events.now) half index) }
 {
-    let mut count = 0;
-    let mut index = from;
-    'walk: while events.has_item(index) {
-        count += 1;
-        index = events.index_after(index);
-    }
-    count
+    Children::new(events, index, half).count()
 }
 
-// Returns the size of the object of the tree that begins at an index.
-fn size_of_object(file: &Planned<'_, '_>, index: usize) -> Option<u64>
-    requires planned { IsPlanned (events_in file.now) file.now.plan.now }
-    requires index { index < length (events_in file.now) }
-    requires fits { count_of file.now.plan.now ≤ 256 ^ file.now.width }
-    ensures size { IsSizeOrNoneAt file.now index result }
-    ensures writable { IsWritableAt file.now index }
+// Returns the size of the object of the tree that begins at an index, if references have this
+// width.
+fn size_of_object(events: &EventTable<'_>, width: usize, index: usize) -> Option<u64>
+    requires index { index < length (plain_events events.now) }
+    ensures size { IsSizeOrNoneAt events.now width index result }
+    ensures writable { IsWritableAt events.now index }
 {
-    match file.events.kind_at(index) {
+    match events.kind_at(index) {
         EntryKind::Array => {
-            let count = count_items(file.events, index + 1) as u64;
-            length_of_collection(count, count, file.width as u64)
+            let count = count_children(events, index, Half::Values) as u64;
+            length_of_collection(count, count, width as u64)
         }
         EntryKind::Dictionary => {
-            let count = count_items(file.events, index + 1) as u64;
-            length_of_collection(count / 2, count, file.width as u64)
+            let count = count_children(events, index, Half::Values) as u64;
+            length_of_collection(count, 2 * count, width as u64)
         }
-        EntryKind::Scalar | EntryKind::End => match file.events.scalar_at(index) {
+        EntryKind::Scalar | EntryKind::End => match events.scalar_at(index) {
             Some(scalar) => length_of_scalar(scalar),
             None => Some(0),
         },
@@ -68,24 +65,25 @@ fn place_or_none(place: Option<u64>) -> usize
 ///
 /// `OutOfMemory`, without an offset.
 pub fn place_objects(
-    file: &Planned<'_, '_>,
+    given: &Classed<'_, '_>,
+    numbering: &Numbering,
+    width: usize,
     order: &Numbers,
     places: &mut Numbers,
 ) -> Result<Option<u64>, Error>
-    requires planned { IsPlanned (events_in file.now) file.now.plan.now }
-    requires fits { count_of file.now.plan.now ≤ 256 ^ file.now.width }
-    requires order { IsOrder (count_of file.now.plan.now) order.now places.old }
-    ensures long { OnOk result (length places.new ≡ count_of file.now.plan.now) }
-    ensures size { IfOk result (IsEndOrNone file.now order.now) }
-    ensures laid { IfOk result (AreLaid file.now order.now places.new) }
+    requires numbered { IsNumberedBy given.now numbering.now }
+    requires fits { count_of numbering.now ≤ 256 ^ width }
+    requires order { IsOrder (count_of numbering.now) order.now places.old }
+    ensures long { OnOk result (length places.new ≡ count_of numbering.now) }
+    ensures size { IfOk result (IsEndOrNone given.now numbering.now width order.now) }
+    ensures laid { IfOk result (AreLaid given.now numbering.now width order.now places.new) }
     ensures memory { OnlyMemory result }
 {
     let mut at = Some(8);
     for index in 0..order.len() {
         let number = order.get(index);
         places.set(number, place_or_none(at))?;
-        let first = file.plan.first(number);
-        let size = size_of_object(file, first);
+        let size = size_of_object(given.events, width, numbering.first(number));
         at = add(at, size);
     }
     Ok(at)

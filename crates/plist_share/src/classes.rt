@@ -3,19 +3,29 @@
 
 ghost use Rattle.std.specs.Prelude.{◌≡◌, ◌+◌, ◌<◌, length, IfOk, OnOk};
 ghost use Rattle.plist_base.specs.Outcomes.{OnlyMemory};
+ghost use Rattle.plist_binwrite.specs.Children.{children_of};
 ghost use Rattle.plist_binwrite.specs.Classes.{AreClasses};
 ghost use Rattle.plist_binwrite.specs.EventTable.{plain_events, AllBelow, nth_number, table_event, entry_kind_of};
-ghost use Rattle.plist_binwrite.specs.inner.Scalars.{AreDistinct, AreClassesOf};
-ghost use Rattle.plist_share.specs.inner.Nodes.{SeparatesAll, SeparatesTrees, Extends, nodes_seen, AddsClasses, AreClassesWithin, AreClassesFrom, IsClassAt, IsNodeAt, is_dictionary};
+ghost use Rattle.plist_binwrite.specs.inner.Scalars.{AreDistinct};
+ghost use Rattle.plist_share.specs.inner.Nodes.{AreEventClasses, SeparatesAll, SeparatesTrees, Extends, nodes_seen, AddsClasses, AreClassesWithin, AreClassesFrom, IsClassAt, IsNodeAt, is_dictionary};
 
 use indexmap::IndexSet;
 use plist_base::{Error, ErrorKind};
 use plist_binwrite::EventTable;
-use plist_binwrite::children::child_indices;
-use plist_binwrite::classes::{Classes, classes_of};
+use plist_binwrite::children::{Children, Half};
+use plist_binwrite::classes::{Classed, Classes};
 use plist_binwrite::compact_numbers::Numbers;
 use plist_binwrite::kinds::{EntryKind, push_index};
 use std::alloc::{AllocError, Global};
+
+/// The class of each event by its index, and a number above all classes.
+#[derive(Drop)]
+pub struct TreeClasses {
+    /// The class of each event by its index.
+    pub of: Numbers,
+    /// A number above all classes.
+    pub count: usize,
+}
 
 /// A collection by its kind and the classes of its children.
 #[derive(PartialEq, Eq, Hash, Drop)]
@@ -24,15 +34,6 @@ pub struct Collection {
     pub is_dictionary: bool,
     /// The classes of its children, a dictionary's keys before its values.
     pub children: Vec<usize>,
-}
-
-/// The indices of a collection's children. The lists are reused for each collection.
-#[derive(Drop)]
-pub struct Indices {
-    /// The indices of a dictionary's keys.
-    pub keys: Vec<usize>,
-    /// The indices of an array's items, or of a dictionary's values.
-    pub values: Vec<usize>,
 }
 
 // Returns the index of a collection: that of an equal one that was inserted before, or a new one.
@@ -50,14 +51,22 @@ fn index_of(seen: &mut IndexSet<Collection>, collection: Collection) -> Result<u
     Ok(index)
 }
 
-// Appends the classes of the events at these indices.
-fn push_classes(found: &mut Vec<usize>, classes: &Numbers, indices: &[usize]) -> Result<(), Error>
-    requires { AllBelow (length classes.now) indices.now }
-    ensures pushed { OnOk result (AddsClasses found.old classes.now indices.now found.new) }
+// Appends the classes of a half of the children of the collection that begins at an index.
+fn push_half(
+    found: &mut Vec<usize>,
+    events: &EventTable<'_>,
+    classes: &Numbers,
+    index: usize,
+    half: Half,
+) -> Result<(), Error>
+    requires index { index < length (plain_events events.now) }
+    requires long { length classes.now ≡ length (plain_events events.now) }
+    ensures pushed { OnOk result (AddsClasses found.old classes.now
+        (children_of (plain_events events.now) half index) found.new) }
     ensures memory { OnlyMemory result }
 {
-    for index in indices {
-        push_index(found, classes.get(*index))?;
+    for child in Children::new(events, index, half) {
+        push_index(found, classes.get(child))?;
     }
     Ok(())
 }
@@ -68,17 +77,15 @@ fn classes_within(
     events: &EventTable<'_>,
     classes: &Numbers,
     index: usize,
-    indices: &mut Indices,
 ) -> Result<Vec<usize>, Error>
     requires index { index < length (plain_events events.now) }
     requires long { length classes.now ≡ length (plain_events events.now) }
     ensures classes { IfOk result (AreClassesWithin events.now classes.now index) }
     ensures memory { OnlyMemory result }
 {
-    child_indices(events, index, &mut indices.keys, &mut indices.values)?;
     let mut found = Vec::new(alloc);
-    push_classes(&mut found, classes, indices.keys.as_slice())?;
-    push_classes(&mut found, classes, indices.values.as_slice())?;
+    push_half(&mut found, events, classes, index, Half::Keys)?;
+    push_half(&mut found, events, classes, index, Half::Values)?;
     Ok(found)
 }
 
@@ -101,7 +108,6 @@ fn class_of_collection(
     classes: &Numbers,
     base: usize,
     index: usize,
-    indices: &mut Indices,
     seen: &mut IndexSet<Collection>,
 ) -> Result<usize, Error>
     requires index { index < length (plain_events events.now) }
@@ -115,7 +121,7 @@ fn class_of_collection(
     ensures extends { OnOk result (Extends (nodes_seen seen.old.keys) (nodes_seen seen.new.keys)) }
     ensures apart { OnOk result (AreDistinct (nodes_seen seen.new.keys)) }
 {
-    let children = classes_within(alloc, events, classes, index, indices)?;
+    let children = classes_within(alloc, events, classes, index)?;
     let collection = Collection {
         is_dictionary: begins_dictionary(events, index),
         children,
@@ -132,7 +138,6 @@ fn give_class(
     events: &EventTable<'_>,
     base: usize,
     index: usize,
-    indices: &mut Indices,
     classes: &mut Numbers,
     seen: &mut IndexSet<Collection>,
 ) -> Result<(), Error>
@@ -148,7 +153,7 @@ fn give_class(
     match events.kind_at(index) {
         EntryKind::Scalar | EntryKind::End => Ok(()),
         EntryKind::Array | EntryKind::Dictionary => {
-            let class = class_of_collection(alloc, events, classes, base, index, indices, seen)?;
+            let class = class_of_collection(alloc, events, classes, base, index, seen)?;
             classes.set(index, class)?;
             Ok(())
         }
@@ -159,8 +164,7 @@ fn give_class(
 fn give_classes(
     alloc: Global,
     events: &EventTable<'_>,
-    indices: &mut Indices,
-    found: &mut Classes,
+    found: &mut TreeClasses,
     seen: &mut IndexSet<Collection>,
 ) -> Result<(), Error>
     requires long { length found.old.of ≡ length (plain_events events.now) }
@@ -174,7 +178,7 @@ fn give_classes(
     let mut index = found.of.len();
     'back: while index > 0 {
         index -= 1;
-        give_class(alloc, events, base, index, indices, &mut found.of, seen)?;
+        give_class(alloc, events, base, index, &mut found.of, seen)?;
     }
     match base.checked_add(seen.len()) {
         Some(count) => {
@@ -185,20 +189,36 @@ fn give_classes(
     }
 }
 
+// Returns a class for each event: equal scalars have one class, and each other event has its own.
+fn event_classes(alloc: Global, events: &EventTable<'_>) -> Result<TreeClasses, Error>
+    ensures long { IfOk result (λ r. length r.of ≡ length (plain_events events.now)) }
+    ensures classes { IfOk result (AreEventClasses events.now) }
+    ensures memory { OnlyMemory result }
+{
+    let given = Classed {
+        events,
+        classes: &Classes::EqualScalars,
+    };
+    let mut of = Numbers::with_capacity(alloc, events.len())?;
+    for index in 0..events.len() {
+        of.push(given.class_at(index))?;
+    }
+    Ok(TreeClasses {
+        of,
+        count: given.bound(),
+    })
+}
+
 // Sets the classes of the trees, given that each event has the class of its scalar or one of its
 // own.
-fn give_trees(alloc: Global, events: &EventTable<'_>, found: &mut Classes) -> Result<(), Error>
+fn give_trees(alloc: Global, events: &EventTable<'_>, found: &mut TreeClasses) -> Result<(), Error>
     requires long { length found.old.of ≡ length (plain_events events.now) }
-    requires classes { AreClassesOf events.now found.old }
+    requires classes { AreEventClasses events.now found.old }
     ensures classes { OnOk result (SeparatesAll events.now found.new) }
     ensures memory { OnlyMemory result }
 {
     let mut seen = IndexSet::new(alloc);
-    let mut indices = Indices {
-        keys: Vec::new(alloc),
-        values: Vec::new(alloc),
-    };
-    give_classes(alloc, events, &mut indices, found, &mut seen)
+    give_classes(alloc, events, found, &mut seen)
 }
 
 /// Returns the classes of the trees that begin among the events of a tree. They are found from the
@@ -207,7 +227,7 @@ fn give_trees(alloc: Global, events: &EventTable<'_>, found: &mut Classes) -> Re
 /// # Errors
 ///
 /// `OutOfMemory`, without an offset.
-pub fn tree_classes(alloc: Global, events: &EventTable<'_>) -> Result<Classes, Error>
+pub fn tree_classes(alloc: Global, events: &EventTable<'_>) -> Result<TreeClasses, Error>
     // The answer.
     ensures objects { IfOk result (λ r. AreClasses (plain_events events.now) (nth_number r.of)) }
     ensures trees { IfOk result (λ r. SeparatesTrees (plain_events events.now) (nth_number r.of)) }
@@ -216,7 +236,7 @@ pub fn tree_classes(alloc: Global, events: &EventTable<'_>) -> Result<Classes, E
     // A refusal.
     ensures memory { OnlyMemory result }
 {
-    let mut found = classes_of(alloc, events)?;
+    let mut found = event_classes(alloc, events)?;
     give_trees(alloc, events, &mut found)?;
     Ok(found)
 }

@@ -5,6 +5,7 @@ ghost use Rattle.plist_share.specs.SharedSizes.{shared_file_size};
 
 use crate::classes::tree_classes;
 use plist_base::{Error, Sealed};
+use plist_binwrite::classes::{Classed, Classes};
 use plist_binwrite::{EventTable, Sharing, complete_by_class};
 use std::alloc::Global;
 use std::io::Write;
@@ -25,7 +26,12 @@ impl Sharing for EqualTrees {
         events: &EventTable<'_>,
         writer: &mut W,
     ) -> Result<(), Error> {
-        let classes = tree_classes(alloc, events)?;
-        complete_by_class(alloc, events, classes, writer)
+        let found = tree_classes(alloc, events)?;
+        let classes = Classes::Listed(found.of, found.count);
+        let given = Classed {
+            events,
+            classes: &classes,
+        };
+        complete_by_class(alloc, &given, writer)
     }
 }

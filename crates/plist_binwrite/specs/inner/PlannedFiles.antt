@@ -1,82 +1,52 @@
 -- A planned file, and what writing it does.
-use Rattle.std.specs.Prelude.{◌≡◌, ℕ, List, length, Option, Some, Ok, Err, IfSome, ⊤}
+use Rattle.std.specs.Prelude.{◌≡◌, ◌⊎◌, ◌≤◌, ℕ, List, length, Option, Ok, Err}
 use Rattle.std.specs.Io.KnownBytes.{Appends}
-use Rattle.plist_base.specs.Faults.{Fault, Io, MatchFault, fault_nowhere}
+use Rattle.plist_base.specs.Bracketing.{lengthless}
+use Rattle.plist_base.specs.Faults.{Fault, Io, OutOfMemory, PlistTooLarge, fault_nowhere}
+use Rattle.plist_base.specs.Prefixes.{AppendsPrefix}
+use Rattle.plist_base.specs.Trees.{Tree}
 use Rattle.plist_base.specs.Writing.{Answer}
 use Rattle.plist_format.specs.Object.{Object}
-use Rattle.plist_binwrite.specs.declared.classes.Classes.{Classes}
-use Rattle.plist_binwrite.specs.declared.send_file.Draft.{Draft}
-use Rattle.plist_binwrite.specs.declared.send_file.Ready.{Ready}
-use Rattle.plist_binwrite.specs.declared.event_table.EventTable.{EventTable}
 use Rattle.plist_binwrite.specs.Classes.{IsFileBy, IsOversized}
-use Rattle.plist_base.specs.Prefixes.{AppendsPrefix}
-use Rattle.plist_binwrite.specs.EventTable.{AllBelow, Describes, nth_number, plain_events}
-use Rattle.plist_binwrite.specs.inner.Laying.{laid_out, with_table_and_trailer}
-use Rattle.plist_base.specs.Events.{PlainEvent}
-use Rattle.plist_base.specs.Trees.{Tree}
-use Rattle.plist_base.specs.Bracketing.{lengthless}
-use Rattle.plist_binwrite.specs.inner.Planning.{IsPlanned, IsPlanByClass, count_of, numbers_of}
-use Rattle.plist_binwrite.specs.inner.Sizing.{ExceedsWith, FitsWith}
+use Rattle.plist_binwrite.specs.EventClasses.{class_in, events_in}
+use Rattle.plist_binwrite.specs.EventTable.{AllBelow, Describes}
 use Rattle.plist_binwrite.specs.Widths.{reference_width}
+use Rattle.plist_binwrite.specs.declared.classes.Classed.{Classed}
+use Rattle.plist_binwrite.specs.declared.plan.FilePlan.{FilePlan}
+use Rattle.plist_binwrite.specs.inner.Laying.{laid_out, with_table_and_trailer}
+use Rattle.plist_binwrite.specs.inner.Planning.{IsNumberedBy, count_of, number_in}
 
--- for each event, the number of its object
-abbrev pub numbers_in : Ready → List ℕ
-numbers_in ready = numbers_of ready.plan
+-- the objects of a planned file
+abbrev pub AreObjectsOf : Classed → FilePlan → (ℕ → Object) → Type 0
+AreObjectsOf given plan objects =
+    Describes (events_in given) (number_in given plan.numbering) objects
 
 -- the planned file, if its objects are these
-abbrev pub file_of : Ready → (ℕ → Object) → List ℕ
-file_of ready objects =
-    with_table_and_trailer (laid_out (reference_width (length ready.places)) objects ready.order)
-    ready.places
+abbrev pub file_of : FilePlan → (ℕ → Object) → List ℕ
+file_of plan objects =
+    with_table_and_trailer (laid_out plan.width objects plan.order) plan.places
 
--- the file of the tree with these events is ready to be written
-pub record IsReady (es : List PlainEvent) (ready : Ready) : Type 0 where
-  pub planned : IsPlanned es ready.plan
-  pub order : AllBelow (count_of ready.plan) ready.order
-  pub long : length ready.places ≡ count_of ready.plan
-  pub table : (objects : ℕ → Object) → Describes es (numbers_of ready.plan) objects
-      → ready.table
-      ≡ length (laid_out (reference_width (length ready.places)) objects ready.order)
-  pub file : (objects : ℕ → Object) → Describes es (numbers_of ready.plan) objects
-      → (class : ℕ → ℕ) → IsPlanByClass es class ready.plan → (t : Tree) → es ≡ lengthless t
-      → IsFileBy class t (file_of ready objects)
+-- the file of the tree with these events is planned, and has less than 2^64 bytes
+pub record IsFilePlan (given : Classed) (plan : FilePlan) : Type 0 where
+  pub numbered : IsNumberedBy given plan.numbering
+  pub order : AllBelow (count_of plan.numbering) plan.order
+  pub width : plan.width ≡ reference_width (length plan.places)
+  pub narrow : plan.width ≤ 8
+  pub table : (objects : ℕ → Object) → AreObjectsOf given plan objects
+      → plan.table ≡ length (laid_out plan.width objects plan.order)
+  pub file : (objects : ℕ → Object) → AreObjectsOf given plan objects → (t : Tree)
+      → events_in given ≡ lengthless t → IsFileBy (class_in given) t (file_of plan objects)
 
--- a planned file whose offset table lies at `table`
-abbrev pub ready_at : Draft → (table : ℕ) → Ready
-ready_at draft table =
-    record { plan = draft.plan; order = draft.order; places = draft.places; table = table }
-
--- the file has 2^64 bytes or more
-abbrev pub IsDraftTooLarge : Draft → Type 0
-IsDraftTooLarge draft = IfSome draft.table (λ table. ExceedsWith table (length draft.places))
-
--- the file has less than 2^64 bytes
-pub record IsFitting (draft : Draft) (ready : Ready) : Type 0 where
-  pub same : ready ≡ ready_at draft ready.table
-  pub placed : draft.table ≡ Some ready.table
-  pub fits : FitsWith ready.table (length draft.places)
-
--- the file of the tree with these events is planned: if it has less than 2^64 bytes it is ready,
--- and else it is too large for any classes that the plan follows
-pub record IsDraftOf (es : List PlainEvent) (draft : Draft) : Type 0 where
-  pub ready : (table : ℕ) → draft.table ≡ Some table → FitsWith table (length draft.places)
-      → IsReady es (ready_at draft table)
-  pub oversized : IsDraftTooLarge draft → (class : ℕ → ℕ) → IsPlanByClass es class draft.plan
-      → IsOversized class es
-
-abbrev pub IsDraftBy : Classes → EventTable → Draft → Type 0
-IsDraftBy classes held draft = IsPlanByClass (plain_events held) (nth_number classes.of) draft.plan
-
--- the error isn't `OutOfMemory`
-abbrev pub NeedsNoMemory : Fault → Type 0
-NeedsNoMemory fault = MatchFault fault.kind ⊤ ⊥ ⊤
+-- the file isn't planned: an allocation failed, or it would have 2^64 bytes or more
+abbrev pub IsPlanFault : Classed → Fault → Type 0
+IsPlanFault given fault = (fault ≡ fault_nowhere OutOfMemory)
+    ⊎ ((fault ≡ fault_nowhere PlistTooLarge) × IsOversized (class_in given) (events_in given))
 
 module _ {W : Type 0} (contents : W → Option (List ℕ)) where
   -- the file is written; or an I/O operation fails, and a prefix of it is
-  abbrev pub SendsReady : List PlainEvent → Ready → Answer → (old new : W) → Type 0
-  SendsReady es ready (Ok done) old new = (objects : ℕ → Object)
-      → Describes es (numbers_of ready.plan) objects
-      → Appends (contents old) (contents new) (file_of ready objects)
-  SendsReady es ready (Err fault) old new = (fault ≡ fault_nowhere Io)
-      × ((objects : ℕ → Object) → Describes es (numbers_of ready.plan) objects
-      → AppendsPrefix (contents old) (contents new) (file_of ready objects))
+  abbrev pub SendsPlan : Classed → FilePlan → Answer → (old new : W) → Type 0
+  SendsPlan given plan (Ok done) old new = (objects : ℕ → Object) → AreObjectsOf given plan objects
+      → Appends (contents old) (contents new) (file_of plan objects)
+  SendsPlan given plan (Err fault) old new = (fault ≡ fault_nowhere Io)
+      × ((objects : ℕ → Object) → AreObjectsOf given plan objects
+      → AppendsPrefix (contents old) (contents new) (file_of plan objects))

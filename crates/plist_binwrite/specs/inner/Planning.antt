@@ -1,45 +1,32 @@
 -- What is planned for the events of a tree.
-use Rattle.std.specs.Prelude.{◌≡◌, ◌≤◌, ℕ, List, length}
-use Rattle.plist_binwrite.specs.declared.plan.Plan.{Plan}
-use Rattle.plist_binwrite.specs.declared.plan.Planned.{Planned}
+use Rattle.std.specs.Prelude.{◌≡◌, ◌≤◌, ℕ, List, length, get_or}
 use Rattle.plist_base.specs.Events.{PlainEvent}
 use Rattle.plist_binwrite.specs.Classes.{AreClasses}
-use Rattle.plist_binwrite.specs.EventTable.{plain_events, IsBracketed, AllNumbered, nth_number}
-use Rattle.plist_binwrite.specs.inner.PlansBy.{IsPlan}
+use Rattle.plist_binwrite.specs.EventClasses.{IsListed, class_in, events_in}
+use Rattle.plist_binwrite.specs.EventTable.{IsBracketed, AllNumbered}
+use Rattle.plist_binwrite.specs.declared.classes.Classed.{Classed}
+use Rattle.plist_binwrite.specs.declared.numbering.Numbering.{Numbering}
+use Rattle.plist_binwrite.specs.inner.PlansBy.{IsPlan, number_by}
 
--- for each event, the number of its object; and for each number, the index of the first event of
--- that object
-abbrev pub numbers_of : Plan → List ℕ
-numbers_of plan = plan.numbering.numbers
+-- the events are those of a tree, and its objects have these numbers by their classes
+pub record IsPlanned (es : List PlainEvent) (class : ℕ → ℕ) (by_class firsts : List ℕ) : Type 0
+  where
+    pub whole : IsBracketed es
+    pub classes : AreClasses es class
+    pub numbered : IsPlan es class by_class firsts
+    pub all : AllNumbered es (number_by class by_class) (length firsts)
+    pub root : number_by class by_class 0 ≡ 0
 
-abbrev pub firsts_of : Plan → List ℕ
-firsts_of plan = plan.numbering.firsts
+-- the number of an event's object
+abbrev pub number_in : Classed → Numbering → (index : ℕ) → ℕ
+number_in given numbering = number_by (class_in given) numbering.by_class
 
 -- the number of objects
-abbrev pub count_of : Plan → ℕ
-count_of plan = length (firsts_of plan)
+abbrev pub count_of : Numbering → ℕ
+count_of numbering = length numbering.firsts
 
--- the events are those of a tree, and this is planned for them by some classes
-pub record IsPlanned (es : List PlainEvent) (plan : Plan) : Type 0 where
-  pub whole : IsBracketed es
-  pub class : ℕ → ℕ
-  pub classes : AreClasses es class
-  pub numbered : IsPlan es class (numbers_of plan) (firsts_of plan)
-  pub all : AllNumbered es (numbers_of plan) (count_of plan)
-  pub root : nth_number (numbers_of plan) 0 ≡ 0
-
--- these are the classes that a plan follows
-abbrev pub IsPlanByClass : List PlainEvent → (class : ℕ → ℕ) → Plan → Type 0
-IsPlanByClass es class plan = IsPlan es class (numbers_of plan) (firsts_of plan)
-
--- the events of a planned file, and the numbers of their objects
-abbrev pub events_in : Planned → List PlainEvent
-events_in file = plain_events file.events.now
-
-abbrev pub numbers_by : Planned → ℕ → ℕ
-numbers_by file = nth_number (numbers_of file.plan.now)
-
--- a file that can be put: its numbers are planned, and its references fit their width
-pub record CanPut (file : Planned) : Type 0 where
-  pub planned : IsPlanned (events_in file) file.plan.now
-  pub width : file.width ≤ 8
+-- all objects of a tree's events have numbers
+pub record IsNumberedBy (given : Classed) (numbering : Numbering) : Type 0 where
+  pub listed : IsListed given
+  pub planned : IsPlanned (events_in given) (class_in given) numbering.by_class numbering.firsts
+  pub open planned use *

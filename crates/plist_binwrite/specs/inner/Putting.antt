@@ -1,80 +1,70 @@
 -- Words for what is put and written of a planned file.
-use Rattle.std.specs.Prelude.{ℕ, ◌+◌, Bool, List, map, Option, Result}
+use Rattle.std.specs.Prelude.{ℕ, List, ◌++◌, length, map, Option, Result}
+use Rattle.plist_base.specs.Events.{PlainEvent}
 use Rattle.plist_base.specs.Writing.{answer_of}
 use Rattle.plist_base.specs.declared.error.Error.{Error}
 use Rattle.plist_base.specs.declared.sink.Sink.{Sink}
 use Rattle.plist_base.specs.Sinks.{Puts}
-use Rattle.plist_base.specs.Trees.{Tree, Trees, Members, Array, Dictionary}
+use Rattle.plist_base.specs.Trees.{Tree}
+use Rattle.plist_format.specs.Marker.{high_half}
+use Rattle.plist_format.specs.declared.marker.CountedKind.{CountedKind}
 use Rattle.plist_format.specs.Object.{Object}
-use Rattle.plist_binwrite.specs.Forms.{form, table_form}
-use Rattle.plist_binwrite.specs.EventTable.{plain_events, item_indices, key_or_value_indices, Describes}
+use Rattle.plist_binwrite.specs.Forms.{form, length_form, table_form}
+use Rattle.plist_binwrite.specs.EventClasses.{events_in}
 use Rattle.plist_binwrite.specs.Numberings.{object_of}
-use Rattle.plist_binwrite.specs.Occurrences.{OccursAt, ItemsOccurAt, PairsOccurAt}
+use Rattle.plist_binwrite.specs.Occurrences.{OccursAt}
+use Rattle.plist_binwrite.specs.Children.{children_of}
+use Rattle.plist_binwrite.specs.declared.children.Half.{Half}
+use Rattle.plist_binwrite.specs.declared.children.Half.TheVariants.{Keys, Values}
 use Rattle.plist_binwrite.specs.Written.{object_table}
-use Rattle.plist_binwrite.specs.Classes.{SendsBy}
-use Rattle.plist_binwrite.specs.declared.send_file.Draft.{Draft}
-use Rattle.plist_binwrite.specs.declared.send_file.Ready.{Ready}
-use Rattle.plist_binwrite.specs.declared.event_table.EventTable.{EventTable}
-use Rattle.plist_binwrite.specs.declared.plan.Planned.{Planned}
-use Rattle.plist_binwrite.specs.inner.PlannedFiles.{SendsReady, file_of, numbers_in}
-use Rattle.plist_binwrite.specs.inner.Planning.{IsPlanByClass}
-pub use Rattle.plist_binwrite.specs.inner.Planning.{numbers_of, events_in, numbers_by}
+use Rattle.plist_binwrite.specs.declared.classes.Classed.{Classed}
+use Rattle.plist_binwrite.specs.declared.plan.FilePlan.{FilePlan}
+use Rattle.plist_binwrite.specs.inner.PlannedFiles.{AreObjectsOf, SendsPlan, file_of}
+use Rattle.plist_binwrite.specs.inner.Planning.{number_in}
 
-module _ {W : Type 0} (contents : W → Option (List ℕ)) (old : Sink W) where
-  -- the references to the items of an array are put, from this index on
-  abbrev pub PutsItems : Planned → (from : ℕ) → Result (Unit {0}) Error → (new : Sink W) → Type 0
-  PutsItems file from result new = (ts : Trees) → ItemsOccurAt (events_in file) ts from
-      → Puts contents old
-      (table_form file.width (map (numbers_by file) (item_indices ts from))) result new
+module _ (number : ℕ → ℕ) (width : ℕ) (es : List PlainEvent) where
+  -- the references to a half of the children of the collection that begins at an index
+  abbrev pub references_of : Half → (index : ℕ) → List ℕ
+  references_of half index = table_form width (map number (children_of es half index))
 
-  -- the references to the values of a dictionary, or to its keys, are put
-  abbrev pub PutsKeysOrValues : Planned → (of_values : Bool) → (from : ℕ) → Result (Unit {0}) Error
-      → (new : Sink W) → Type 0
-  PutsKeysOrValues file of_values from result new =
-      (ms : Members) → PairsOccurAt (events_in file) ms from
-      → Puts contents old
-      (table_form file.width (map (numbers_by file) (key_or_value_indices of_values ms from)))
-      result new
+  -- a collection: its length, and the references to its keys and to its items or values
+  abbrev pub collection_of : (high index : ℕ) → List ℕ
+  collection_of high index = length_form high (length (children_of es Values index))
+      ++ (references_of Keys index ++ references_of Values index)
 
-  -- the object of the array, of the dictionary, and of any tree that begins at this index is put
-  abbrev pub PutsArray : Planned → (index : ℕ) → Result (Unit {0}) Error → (new : Sink W) → Type 0
-  PutsArray file index result new = (ts : Trees) → ItemsOccurAt (events_in file) ts
-      (index + 1)
-      → Puts contents old
-      (form file.width (object_of (numbers_by file) (Array ts) index)) result new
+module _ {W : Type 0} (contents : W → Option (List ℕ)) (old : Sink W) (given : Classed)
+    (plan : FilePlan) where
+  abbrev number : ℕ → ℕ
+  number = number_in given plan.numbering
 
-  abbrev pub PutsDictionary : Planned → (index : ℕ) → Result (Unit {0}) Error → (new : Sink W) → Type 0
-  PutsDictionary file index result new =
-      (ms : Members) → PairsOccurAt (events_in file) ms (index + 1)
-      → Puts contents old
-      (form file.width (object_of (numbers_by file) (Dictionary ms) index)) result new
+  -- the references to a half of the children of the collection that begins at this index are put
+  abbrev pub PutsHalf : Half → (index : ℕ) → Result (Unit {0}) Error → (new : Sink W) → Type 0
+  PutsHalf half index result new =
+      Puts contents old (references_of number plan.width (events_in given) half index) result new
 
-  abbrev pub PutsObject : Planned → (index : ℕ) → Result (Unit {0}) Error → (new : Sink W) → Type 0
-  PutsObject file index result new = (t : Tree) → OccursAt (events_in file) t index
-      → Puts contents old
-      (form file.width (object_of (numbers_by file) t index)) result new
+  -- the marker of its length and the references to all of its children are put
+  abbrev pub PutsCollection : CountedKind → (index : ℕ) → Result (Unit {0}) Error → (new : Sink W)
+      → Type 0
+  PutsCollection kind index result new = Puts contents old
+      (collection_of number plan.width (events_in given) (high_half kind) index) result new
 
-  -- the objects are put in this order
-  abbrev pub PutsOrder : Planned → (order : List ℕ) → Result (Unit {0}) Error → (new : Sink W) → Type 0
-  PutsOrder file order result new = (objects : ℕ → Object)
-      → Describes (events_in file) (numbers_of file.plan.now) objects
-      → Puts contents old (object_table file.width objects order) result new
+  -- the object of the tree that begins at this index is put
+  abbrev pub PutsObject : (index : ℕ) → Result (Unit {0}) Error → (new : Sink W) → Type 0
+  PutsObject index result new = (t : Tree) → OccursAt (events_in given) t index
+      → Puts contents old (form plan.width (object_of number t index)) result new
 
-module _ {W : Type 0} (contents : W → Option (List ℕ)) where
+  -- the objects are put in their order
+  abbrev pub PutsObjects : Result (Unit {0}) Error → (new : Sink W) → Type 0
+  PutsObjects result new = (objects : ℕ → Object) → AreObjectsOf given plan objects
+      → Puts contents old (object_table plan.width objects plan.order) result new
+
   -- the whole file is put
-  abbrev pub PutsFile : (old : Sink W) → EventTable → Ready
-      → Result (Unit {0}) Error → (new : Sink W) → Type 0
-  PutsFile old held ready result new = (objects : ℕ → Object)
-      → Describes (plain_events held) (numbers_in ready) objects
-      → Puts contents old (file_of ready objects) result new
+  abbrev pub PutsFile : Result (Unit {0}) Error → (new : Sink W) → Type 0
+  PutsFile result new = (objects : ℕ → Object) → AreObjectsOf given plan objects
+      → Puts contents old (file_of plan objects) result new
 
-  -- the whole file is written
-  abbrev pub SendsPlanned : EventTable → Ready → Result (Unit {0}) Error → (old new : W) → Type 0
-  SendsPlanned held ready result old new =
-      SendsReady contents (plain_events held) ready (answer_of result) old new
-
-  -- the whole file is written, or is too large, for any classes that the plan follows
-  abbrev pub SendsDraft : EventTable → Draft → Result (Unit {0}) Error → (old new : W) → Type 0
-  SendsDraft held draft result old new =
-      (class : ℕ → ℕ) → IsPlanByClass (plain_events held) class draft.plan
-      → SendsBy class contents (plain_events held) (answer_of result) old new
+-- the whole file is written
+abbrev pub SendsPlanned : {W : Type 0} (contents : W → Option (List ℕ)) → Classed → FilePlan
+    → Result (Unit {0}) Error → (old new : W) → Type 0
+SendsPlanned contents given plan result old new =
+    SendsPlan contents given plan (answer_of result) old new

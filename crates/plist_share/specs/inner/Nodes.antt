@@ -4,15 +4,17 @@ use Rattle.plist_base.specs.Events.{PlainEvent}
 use Rattle.plist_base.specs.Trees.{Tree, Leaf, Array, Dictionary}
 use Rattle.std.specs.declared.alloc.Global.{Global}
 use Rattle.std.specs.declared.vec.Vec.{Vec}
+use Rattle.plist_binwrite.specs.Children.{children_of}
 use Rattle.plist_binwrite.specs.Classes.{AreClasses}
+use Rattle.plist_binwrite.specs.declared.children.Half.TheVariants.{Keys, Values}
 use Rattle.plist_binwrite.specs.EventTable.{AllBelow, table_event, keys_in, entry_kind_of, nth_number, plain_events, values_in}
-use Rattle.plist_binwrite.specs.declared.classes.Classes.{Classes}
 use Rattle.plist_binwrite.specs.declared.event_table.EventTable.{EventTable}
 use Rattle.plist_binwrite.specs.declared.kinds.EntryKind.{EntryKind}
 use Rattle.plist_binwrite.specs.declared.kinds.EntryKind.TheVariants as kind
 use Rattle.plist_binwrite.specs.inner.Scalars.{AreIdentities}
 use Rattle.plist_binwrite.specs.Occurrences.{OccursAt}
 use Rattle.plist_share.specs.declared.classes.Collection.{Collection}
+use Rattle.plist_share.specs.declared.classes.TreeClasses.{TreeClasses}
 
 -- a collection: whether it is a dictionary, and the classes of its children
 abbrev pub Node : Type 0
@@ -72,9 +74,9 @@ AddsClasses old classes indices new = new.items ≡ old.items ++ map (nth_number
 
 -- the classes of the children of the collection that begins at an index
 abbrev pub AreClassesWithin : EventTable → (classes : List ℕ) → (index : ℕ) → Vec ℕ Global → Type 0
-AreClassesWithin held classes index found = (t : Tree) → OccursAt (plain_events held) t index
-    → found.items ≡ map (nth_number classes) (keys_in t index)
-    ++ map (nth_number classes) (values_in t index)
+AreClassesWithin held classes index found =
+    found.items ≡ map (nth_number classes) (children_of (plain_events held) Keys index)
+    ++ map (nth_number classes) (children_of (plain_events held) Values index)
 
 -- is it the start of a dictionary?
 abbrev pub is_dictionary : EntryKind → Bool
@@ -98,8 +100,13 @@ AreClassesFrom held base classes seen from =
     (scalar : ℕ → ℕ) × AreIdentities (plain_events held) scalar base
     × HaveTreeClasses (nth_number classes) base scalar (plain_events held) (nodes_seen seen) from
 
+-- two events have one class if and only if they are equal scalars
+abbrev pub AreEventClasses : EventTable → TreeClasses → Type 0
+AreEventClasses held found =
+    AreIdentities (plain_events held) (nth_number found.of) found.count
+
 -- each event has a class below the count, and the classes tell the trees apart that begin there
-pub record SeparatesAll (held : EventTable) (found : Classes) : Type 0 where
+pub record SeparatesAll (held : EventTable) (found : TreeClasses) : Type 0 where
   pub objects : AreClasses (plain_events held) (nth_number found.of)
   pub trees : SeparatesTrees (plain_events held) (nth_number found.of)
   pub long : length found.of ≡ length (plain_events held)

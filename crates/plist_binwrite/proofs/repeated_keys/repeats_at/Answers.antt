@@ -1,66 +1,100 @@
-use Rattle.std.proofs.Common.{rules, ◌+◌, ◌<◌, length, arith, refl, ap, ◌∙◌}
+use Rattle.std.proofs.Common.{rules, ◌≡◌, ◌+◌, ◌<◌, ◌∷◌, length, arith, refl, ap, sym, subst, true, ◌∙◌}
+use Rattle.std.specs.List.{AllByRecursion}
 use Rattle.std.proofs.lemmas.List.{length-set}
 use Rattle.std.proofs.lemmas.Option.{slice_get_within}
-use Rattle.plist_binwrite.specs.EventTable.{scalars_of, entry_kind_of}
-use Rattle.plist_binwrite.proofs.KeyStamps.{walked_start, walked_end, walked_leaf, walked_repeats, walked_next, below_set}
+use Rattle.plist_base.specs.Trees.{Dictionary}
+use Rattle.plist_binwrite.specs.Children.{children_of, indices_left}
+use Rattle.plist_binwrite.specs.EventTable.{plain_events, event_at, scalars_of, entry_kind_of, HasItem}
+use Rattle.plist_binwrite.specs.declared.children.Half.TheVariants.{Keys}
+use Rattle.plist_binwrite.specs.inner.Entries.{is_leaf}
+use Rattle.plist_binwrite.proofs.ChildIndices.{are_items, keys_are_in}
+use Rattle.plist_binwrite.proofs.KeyStamps.{Differ, Tells, below_set, differ_down, differ_up, keys_leaves, tells_end, tells_next, tells_repeats, tells_start}
+use Rattle.plist_binwrite.proofs.Occurring.{occurs_pairs}
 use Rattle.plist_binwrite.proofs.Skipping.{starts_dictionary}
 use Rattle.plist_binwrite.proofs.repeated_keys.repeats_at.Goals as goal
+use Rattle.plist_binwrite.proofs.repeated_keys.repeats_at.Goals.{After-into_iter-key-iterator as Begun, In-Some as Next}
 
-pub walk-init : goal.walk-init
-walk-init c = record {
-  long = c.requires.long;
-  newer = λ i h. omega (arith, c.requires.older i h);
-  walked = walked_start c.args.start refl c.requires.long c.requires.older;
-}
+begun : (c : Begun) → indices_left c.into_iter-key-iterator.result
+    ≡ children_of (plain_events c.args.events.now) Keys c.args.start
+begun c = cc (c.into_iter-key-iterator.ensures.into_iter_gives, c.new-key-items.ensures)
+
+items : (c : Next) → AllByRecursion (HasItem (plain_events c.args.events.now))
+    (c.in-Some.key ∷ indices_left c.next.new.self)
+items c = subst (AllByRecursion (HasItem _)) c.in-Some.ensures.steps c.loop-key.invariant.items
+
+tells : (c : Next) → Tells (scalars_of c.args.events.now) (c.args.start + 1) c.loop-key.stamps.items
+    (plain_events c.args.events.now) (indices_left c.into_iter-key-iterator.result)
+    (c.in-Some.key ∷ indices_left c.next.new.self)
+tells c = subst (Tells _ _ _ _ _) c.in-Some.ensures.steps c.loop-key.invariant.tells
+
+pub loop-key-init : goal.loop-key-init
+loop-key-init c =
+    let is = begun (goal.at.loop-key-init c).After-into_iter-key-iterator in
+    record {
+      long = c.requires.long;
+      newer = λ i h. omega (arith, c.requires.older i h);
+      tells = tells_start c.args.start refl c.requires.long c.requires.older _;
+      items = subst (AllByRecursion (HasItem _)) (sym is) (are_items _ Keys c.args.start);
+      leaves = λ ms s. subst (AllByRecursion _) (sym (is ∙ keys_are_in _ (Dictionary ms) c.args.start s))
+          (keys_leaves ms _ (occurs_pairs s));
+    }
+
+pub scalar_index-requires : goal.scalar_index-requires
+scalar_index-requires c = (items (goal.at.scalar_index-requires c).In-Some).0.0
 
 pub stamp-requires : goal.stamp-requires
 stamp-requires c =
     omega (
       arith,
-      c.walk.invariant.long,
-      slice_get_within (scalars_of c.args.events.now)
-          _ _ c.in-Some.ensures.some,
+      c.loop-key.invariant.long,
+      slice_get_within (scalars_of c.args.events.now) _ _ c.in-Some-scalar_index.ensures.some,
     )
 
 pub returns-in_default-scalar_index-clause-repeats
     : goal.returns-in_default-scalar_index-clause-repeats
 returns-in_default-scalar_index-clause-repeats c = λ ms s.
-    walked_leaf (c.walk.invariant.walked ms s)
-    (c.has_item.ensures.yes c.walk-test.true).1
-    (c.in_default-scalar_index.ensures.none (search rules))
+    let leaves = subst (AllByRecursion (λ k. is_leaf (event_at (plain_events c.args.events.now) k)
+    ≡ true)) c.in-Some.ensures.steps (c.loop-key.invariant.leaves ms s) in
+    cc (leaves.0, c.in_default-scalar_index.ensures.none (search rules))
 
 pub returns-then-stamp-clause-repeats : goal.returns-then-stamp-clause-repeats
-returns-then-stamp-clause-repeats c = λ ms s.
-    walked_repeats (c.walk.invariant.walked ms s) c.in-Some.scalar c.args.events.now.kept.apart
-    c.in-Some.ensures.some (c.has_item.ensures.yes c.walk-test.true).1
-    (c.stamp.ensures.repeated c.if-stamp.true)
+returns-then-stamp-clause-repeats c = λ ms s d.
+    let a = goal.at.returns-then-stamp-clause-repeats c in
+    let is = begun a.After-into_iter-key-iterator ∙ keys_are_in _ (Dictionary ms) c.args.start s in
+    tells_repeats (tells a.In-Some) c.in-Some-scalar_index.scalar c.args.events.now.kept.apart
+    c.in-Some-scalar_index.ensures.some (c.stamp.ensures.repeated c.if-stamp.true)
+    (subst (Differ _) (sym is) (differ_up ms _ (occurs_pairs s) d))
 
-pub walk-preserved : goal.walk-preserved
-walk-preserved c =
-    let within : c.in-Some.scalar < length c.walk.stamps.items = omega (
+pub loop-key-preserved : goal.loop-key-preserved
+loop-key-preserved c =
+    let next = (goal.at.loop-key-preserved c).In-Some in
+    let scalar = c.in-Some-scalar_index.scalar in
+    let i = c.loop-key.invariant in
+    let within : scalar < length c.loop-key.stamps.items = omega (
       arith,
-      c.walk.invariant.long,
-      slice_get_within (scalars_of c.args.events.now) c.in-Some.scalar _
-          c.in-Some.ensures.some,
+      i.long,
+      slice_get_within (scalars_of c.args.events.now) scalar _
+          c.in-Some-scalar_index.ensures.some,
     ) in
     record {
       long = ap length c.stamp.ensures.stamped
-          ∙ length-set c.walk.stamps.items c.in-Some.scalar (c.args.start + 1)
-          ∙ c.walk.invariant.long;
+          ∙ length-set c.loop-key.stamps.items scalar (c.args.start + 1) ∙ i.long;
       newer = rw c.stamp.ensures.stamped
-          (below_set (c.args.start + 2) c.walk.stamps.items c.in-Some.scalar (c.args.start + 1)
-          (omega arith) c.walk.invariant.newer);
-      walked = λ ms s. rw c.stamp.ensures.stamped
-          (walked_next (c.walk.invariant.walked ms s) c.in-Some.scalar c.args.events.now.kept.apart
-          c.in-Some.ensures.some c.index_after_pair-key.result
-          (c.stamp.ensures.other c.if-stamp.false)
-          within
-          (c.has_item.ensures.yes c.walk-test.true).1 c.index_after_pair-key.ensures.ends);
+          (below_set (c.args.start + 2) c.loop-key.stamps.items scalar (c.args.start + 1)
+          (omega arith) i.newer);
+      tells = rw c.stamp.ensures.stamped (tells_next (tells next) scalar c.args.events.now.kept.apart
+          c.in-Some-scalar_index.ensures.some (c.stamp.ensures.other c.if-stamp.false) within);
+      items = (items next).1;
+      leaves = λ ms s. (subst (AllByRecursion (λ k. is_leaf (event_at (plain_events c.args.events.now)
+          k) ≡ true)) c.in-Some.ensures.steps (i.leaves ms s)).1;
     }
 
 pub returns-clause-repeats : goal.returns-clause-repeats
 returns-clause-repeats c = λ ms s.
-    walked_end (c.walk.invariant.walked ms s) (c.has_item.ensures.no c.walk-test.false)
+    let a = goal.at.returns-clause-repeats c in
+    let is = begun a.After-into_iter-key-iterator ∙ keys_are_in _ (Dictionary ms) c.args.start s in
+    differ_down ms _ (occurs_pairs s) (subst (Differ _) is
+    (tells_end (subst (Tells _ _ _ _ _) c.in-None.ensures.steps.0 c.loop-key.invariant.tells)))
 
 pub returns-in_default-clause-repeats : goal.returns-in_default-clause-repeats
 returns-in_default-clause-repeats c = λ ms s.

@@ -1,28 +1,20 @@
-use Rattle.std.proofs.Common.{ap, ◌∙◌}
-use Rattle.plist_binwrite.specs.Widths.{reference_width}
 use Rattle.plist_base.proofs.SinkSteps.{puts_then, puts_refused, puts_as}
 use Rattle.plist_binwrite.proofs.Readied.{file_is}
 use Rattle.plist_binwrite.proofs.send_file.put_file.Goals as goal
 
 pub returns-in_err-put : goal.returns-in_err-put
 returns-in_err-put g c = λ objects d.
-    puts_as (file_is objects _ _ _ _
-    (c.reference_width-width.ensures.value ∙ ap reference_width c.len.ensures)
-    (c.requires.ready.table objects d))
+    puts_as (file_is objects _ _ _ _ (c.requires.plan.table objects d))
     (puts_refused _ _ _ c.from_residual.ensures.1 c.in_err-put.ensures)
 
 pub returns-in_err-put_objects : goal.returns-in_err-put_objects
 returns-in_err-put_objects g c = λ objects d.
-    puts_as (file_is objects _ _ _ _
-    (c.reference_width-width.ensures.value ∙ ap reference_width c.len.ensures)
-    (c.requires.ready.table objects d))
+    puts_as (file_is objects _ _ _ _ (c.requires.plan.table objects d))
     (puts_then c.in_ok-put.ensures (puts_refused _ _ _ c.from_residual-in_err-put_objects.ensures.1
     (c.in_err-put_objects.ensures objects d)))
 
 pub returns : goal.returns
 returns g c = λ objects d.
-    puts_as (file_is objects _ _ _ _
-    (c.reference_width-width.ensures.value ∙ ap reference_width c.len.ensures)
-    (c.requires.ready.table objects d))
+    puts_as (file_is objects _ _ _ _ (c.requires.plan.table objects d))
     (puts_then c.in_ok-put.ensures
     (puts_then (c.in_ok-put_objects.ensures objects d) c.put_table_and_trailer.ensures))

@@ -1,32 +1,44 @@
-use Rattle.std.proofs.Common.{refl}
-use Rattle.plist_binwrite.proofs.TreeObjects.{collection_fits, dictionary_told, of_array, of_dictionary, of_nothing, of_scalar}
-use Rattle.plist_binwrite.proofs.Skipping.{as_items, pairs_as_items}
+use Rattle.std.proofs.Common.{◌∙◌, ap, arith, refl, subst, sym}
+use Rattle.plist_binwrite.specs.EventTable.{IfScalar, entry_kind_of, plain_events, scalars_of}
+use Rattle.plist_binwrite.specs.Forms.{IsWritableScalar}
+use Rattle.plist_binwrite.specs.declared.children.Half.TheVariants.{Values}
+use Rattle.plist_binwrite.specs.inner.Entries.{is_leaf}
+use Rattle.plist_binwrite.proofs.ChildIndices.{few_children}
+use Rattle.plist_binwrite.proofs.HeldEntries.{long_shown}
+use Rattle.plist_binwrite.proofs.TreeObjects.{count_items, count_pairs, dictionary_told, of_array, of_dictionary, of_nothing, of_scalar, scalar_is}
 use Rattle.plist_binwrite.proofs.size.size_of_object.Goals as goal
+
+pub overflow_mul-count : goal.overflow_mul-count
+overflow_mul-count c =
+    let held = c.args.events.now in
+    omega (
+      arith,
+      c.count_children-count-in-Dictionary.ensures,
+      few_children (plain_events held) Values c.args.index,
+      long_shown (scalars_of held) held.entries,
+      held.few,
+    )
 
 pub returns-in-Array-clause-size : goal.returns-in-Array-clause-size
 returns-in-Array-clause-size c =
     of_array c.kind_at.ensures _ c.in-Array.is
-    (λ ts r. rw (← c.count_items-count.ensures.value ts r)
+    (λ ts s. rw (← count_items s, ← c.count_children-count.ensures)
     (c.length_of_collection.ensures.value 0xa))
 
 pub returns-in-Array-clause-writable : goal.returns-in-Array-clause-writable
-returns-in-Array-clause-writable c = λ t s.
-    collection_fits _ _ _ _ c.requires.planned.all c.requires.fits t _ _ s
-    (λ e. cc (c.kind_at.ensures, c.in-Array.is)) c.count_items-count.ensures.small
-    c.count_items-count.ensures.value
+returns-in-Array-clause-writable c = λ x is.
+    cc (c.kind_at.ensures, c.in-Array.is, ap entry_kind_of is)
 
 pub returns-in-Dictionary-clause-size : goal.returns-in-Dictionary-clause-size
 returns-in-Dictionary-clause-size c =
     of_dictionary c.kind_at.ensures _ c.in-Dictionary.is
-    (λ ms r. dictionary_told _ _ _ ms
-    (c.count_items-count-in-Dictionary.ensures.value (as_items ms) (pairs_as_items r))
+    (λ ms s. dictionary_told _ _ _ _
+    (c.count_children-count-in-Dictionary.ensures ∙ count_pairs s)
     (c.length_of_collection-in-Dictionary.ensures.value 0xd))
 
 pub returns-in-Dictionary-clause-writable : goal.returns-in-Dictionary-clause-writable
-returns-in-Dictionary-clause-writable c = λ t s.
-    collection_fits _ _ _ _ c.requires.planned.all c.requires.fits t _ _ s
-    (λ e. cc (c.kind_at.ensures, c.in-Dictionary.is))
-    c.count_items-count-in-Dictionary.ensures.small c.count_items-count-in-Dictionary.ensures.value
+returns-in-Dictionary-clause-writable c = λ x is.
+    cc (c.kind_at.ensures, c.in-Dictionary.is, ap entry_kind_of is)
 
 pub returns-in-Some-clause-size : goal.returns-in-Some-clause-size
 returns-in-Some-clause-size c =
@@ -34,9 +46,9 @@ returns-in-Some-clause-size c =
     _ c.in-Some.ensures.some c.length_of_scalar.ensures.value
 
 pub returns-in-Some-clause-writable : goal.returns-in-Some-clause-writable
-returns-in-Some-clause-writable c =
-    of_scalar c.kind_at.ensures _ c.in-Scalar.is
-    _ c.in-Some.ensures.some c.length_of_scalar.ensures.writable
+returns-in-Some-clause-writable c = λ x is.
+    subst (λ d. IfScalar d IsWritableScalar) (scalar_is _ x (sym c.in-Some.ensures.some ∙ is))
+    c.length_of_scalar.ensures.writable
 
 pub returns-in-None-clause-size : goal.returns-in-None-clause-size
 returns-in-None-clause-size c =
@@ -44,6 +56,4 @@ returns-in-None-clause-size c =
     (c.in-None.ensures.none refl)
 
 pub returns-in-None-clause-writable : goal.returns-in-None-clause-writable
-returns-in-None-clause-writable c =
-    of_nothing c.kind_at.ensures _ c.in-Scalar.is
-    (c.in-None.ensures.none refl)
+returns-in-None-clause-writable c = λ x is. cc (c.in-None.ensures.none refl, ap is_leaf is)

@@ -1,19 +1,28 @@
-use Rattle.std.proofs.Common.{rules}
+use Rattle.std.proofs.Common.{rules, arith}
 use Rattle.std.proofs.lemmas.Result.{err_from_is_err_and}
 use Rattle.plist_base.specs.Writing.{answer_of}
 use Rattle.plist_binwrite.specs.EventTable.{nth_number}
 use Rattle.plist_share.proofs.SharedFile.{sends_shared, sends_nothing}
 use Rattle.plist_share.proofs.completion.EqualTreesSharing.complete.Goals as goal
 
+pub complete_by_class-requires-clause-classed : goal.complete_by_class-requires-clause-classed
+complete_by_class-requires-clause-classed g c =
+    let found = c.in_ok-found.ensures in
+    record {
+      listed = found.long;
+      below = λ p l. found.below p (omega (arith, found.long, l));
+      objects = found.objects;
+    }
+
 pub returns : goal.returns
 returns g c =
     sends_shared g.W.Write.contents c.args.events.now
-    (nth_number c.in_ok-classes.classes.of) c.in_ok-classes.ensures.trees
+    (nth_number c.in_ok-found.found.of) c.in_ok-found.ensures.trees
     (answer_of c.complete_by_class.result) c.args.writer.now c.complete_by_class.new.writer
     c.complete_by_class.ensures
 
-pub returns-in_err-classes : goal.returns-in_err-classes
-returns-in_err-classes g c =
+pub returns-in_err-found : goal.returns-in_err-found
+returns-in_err-found g c =
     let p = err_from_is_err_and c.from_residual.result c.from_residual.ensures.1 in
     rw (p.1, p.2) (sends_nothing _ c.args.events.now _ _ _
-    c.in_err-classes.ensures.memory (search rules))
+    c.in_err-found.ensures.memory (search rules))

@@ -1,0 +1,40 @@
+use Rattle.std.proofs.Common.{◌≡◌, sym, subst}
+use Rattle.std.specs.List.{AllByRecursion}
+use Rattle.plist_binwrite.specs.Children.{children_of, indices_left}
+use Rattle.plist_binwrite.specs.EventClasses.{events_in}
+use Rattle.plist_binwrite.specs.EventTable.{HasItem}
+use Rattle.plist_binwrite.specs.declared.children.Half.TheVariants.{Keys}
+use Rattle.plist_binwrite.proofs.ChildIndices.{are_items}
+use Rattle.plist_binwrite.proofs.layout.FileLayout.put_here.Goals as goal
+use Rattle.plist_binwrite.proofs.layout.FileLayout.put_here.Goals.{After-into_iter-key-iterator as Begun}
+
+begun : (c : Begun) → indices_left c.into_iter-key-iterator.result
+    ≡ children_of (events_in c.args.given.now) Keys c.args.index
+begun c = cc (c.into_iter-key-iterator.ensures.into_iter_gives, c.new-key-items.ensures)
+
+pub loop-key-init : goal.loop-key-init
+loop-key-init c =
+    let one = c.in_ok-put.ensures in
+    record {
+      order = one.order;
+      keeps = λ k n. n;
+      marked = one.marked;
+      items = subst (AllByRecursion (HasItem _))
+          (sym (begun (goal.at.loop-key-init c).After-into_iter-key-iterator))
+          (are_items _ Keys c.args.index);
+    }
+
+pub put-requires-in-loop-key-clause-item : goal.put-requires-in-loop-key-clause-item
+put-requires-in-loop-key-clause-item c =
+    (subst (AllByRecursion (HasItem _)) c.in-Some.ensures.steps c.loop-key.invariant.items).0
+
+pub loop-key-preserved : goal.loop-key-preserved
+loop-key-preserved c =
+    let i = c.loop-key.invariant in
+    let one = c.in_ok-put-2.ensures in
+    record {
+      order = one.order;
+      keeps = λ k n. one.keeps k (i.keeps k n);
+      marked = one.keeps _ i.marked;
+      items = (subst (AllByRecursion (HasItem _)) c.in-Some.ensures.steps i.items).1;
+    }

@@ -1,0 +1,48 @@
+use Rattle.std.proofs.Common.{◌<◌, ◌∙◌, length, ap, arith, below_more, subst}
+use Rattle.std.specs.List.{AllByRecursion}
+use Rattle.plist_binwrite.specs.EventClasses.{events_in}
+use Rattle.plist_binwrite.specs.EventTable.{IsNumbered}
+use Rattle.plist_binwrite.proofs.ChildIndices.{keys_are_in, values_are_in}
+use Rattle.plist_binwrite.proofs.Inside.{positions_all, positions_have}
+use Rattle.plist_binwrite.proofs.Occurring.{occurs_whole}
+use Rattle.plist_binwrite.proofs.PlannedBy.{keeps_then}
+use Rattle.plist_binwrite.proofs.Skipping.{begins, occurs_in}
+use Rattle.plist_binwrite.proofs.Uniques.{all_from}
+use Rattle.plist_binwrite.proofs.numbering.Numbering.number_all.Goals as goal
+
+pub number_one-requires-clause-item : goal.number_one-requires-clause-item
+number_one-requires-clause-item c =
+    let root = occurs_whole c.requires.whole.1 in (occurs_in root, begins _ 0 root)
+
+pub loop-index-preserved : goal.loop-index-preserved
+loop-index-preserved c =
+    let one = c.in_ok-number_children.ensures in (
+      one.so_far,
+      keeps_then c.loop-index.invariant.1 one.keeps,
+      below_more _ _ (λ p lt. let o = c.loop-index.invariant.2 p lt in (
+        all_from _ _ one.keeps.numbered _ o.0,
+        all_from _ _ one.keeps.numbered _ o.1,
+      )) one.numbered,
+    )
+
+pub returns-clause-all : goal.returns-clause-all
+returns-clause-all c =
+    let (t, e) = c.requires.whole in
+    let one = IsNumbered _ _ in
+    positions_all (events_in c.args.given.now) one t e (positions_have (events_in c.args.given.now) one
+    (λ u r s. let o = c.loop-index.invariant.2 r (omega (arith, occurs_in s)) in (
+      subst (AllByRecursion one) (keys_are_in _ u r s) o.0,
+      subst (AllByRecursion one) (values_are_in _ u r s) o.1,
+    ))
+    t 0 (occurs_whole e)
+    (c.loop-index.invariant.1.numbered 0 c.in_ok-number_one.ensures.numbered))
+
+pub returns-clause-root : goal.returns-clause-root
+returns-clause-root c =
+    let one = c.in_ok-number_one.ensures in
+    let some : 0 < length c.number_one.new.self.firsts = omega (arith, one.numbered) in
+    let first = c.loop-index.invariant.1.first some
+    ∙ one.first (omega (arith, ap length c.requires.none)) in
+    let known = c.loop-index.invariant.0.plan.known 0
+    (omega (arith, some, c.loop-index.invariant.1.grows)) in
+    cc (first, known.1)

@@ -1,0 +1,50 @@
+use Rattle.std.proofs.Common.{◌≡◌, sym, subst}
+use Rattle.std.specs.List.{AllByRecursion}
+use Rattle.plist_binwrite.specs.Children.{children_of, indices_left}
+use Rattle.plist_binwrite.specs.EventClasses.{events_in}
+use Rattle.plist_binwrite.specs.EventTable.{HasItem, IsNumbered}
+use Rattle.plist_binwrite.specs.inner.Planning.{number_in}
+use Rattle.plist_binwrite.proofs.ChildIndices.{are_items}
+use Rattle.plist_binwrite.proofs.PlannedBy.{keeps_self, keeps_then}
+use Rattle.plist_binwrite.proofs.numbering.Numbering.number_half.Goals as goal
+use Rattle.plist_binwrite.proofs.numbering.Numbering.number_half.Goals.{After-into_iter-child-iterator as Begun}
+
+begun : (c : Begun) → indices_left c.into_iter-child-iterator.result
+    ≡ children_of (events_in c.args.given.now) c.args.half c.args.index
+begun c = cc (c.into_iter-child-iterator.ensures.into_iter_gives, c.new-child-items.ensures)
+
+pub loop-child-init : goal.loop-child-init
+loop-child-init c = record {
+  so_far = c.requires.so_far;
+  keeps = keeps_self;
+  numbered = λ now more k all. all;
+  items = subst (AllByRecursion (HasItem _))
+      (sym (begun (goal.at.loop-child-init c).After-into_iter-child-iterator))
+      (are_items _ c.args.half c.args.index);
+}
+
+pub number_one-requires-clause-item : goal.number_one-requires-clause-item
+number_one-requires-clause-item c =
+    (subst (AllByRecursion (HasItem _)) c.in-Some.ensures.steps c.loop-child.invariant.items).0
+
+pub loop-child-preserved : goal.loop-child-preserved
+loop-child-preserved c =
+    let i = c.loop-child.invariant in
+    let one = c.in_ok-number_one.ensures in
+    let next = c.in-Some.ensures.steps in
+    record {
+      so_far = one.so_far;
+      keeps = keeps_then i.keeps one.keeps;
+      numbered = λ now more k all. i.numbered now more (keeps_then one.keeps k)
+          (subst (AllByRecursion (IsNumbered now more)) (sym next)
+          (k.numbered _ one.numbered, all));
+      items = (subst (AllByRecursion (HasItem _)) next i.items).1;
+    }
+
+pub returns-clause-numbered : goal.returns-clause-numbered
+returns-clause-numbered c =
+    let found = c.loop-child.self in
+    let Numbers = AllByRecursion (IsNumbered (number_in c.args.given.now found) found.firsts) in
+    subst Numbers (begun (goal.at.returns-clause-numbered c).After-into_iter-child-iterator)
+    (c.loop-child.invariant.numbered _ _ keeps_self
+    (subst Numbers (sym c.in-None.ensures.steps.0) tt))

@@ -1,0 +1,65 @@
+use Rattle.std.proofs.Common.{◌≡◌, ◌∷◌, ℕ, List, arith, map, sym, ap, subst}
+use Rattle.std.specs.List.{AllByRecursion}
+use Rattle.plist_base.proofs.SinkSteps.{puts_as, puts_none, puts_then, puts_refused}
+use Rattle.plist_binwrite.specs.Children.{children_of, indices_left}
+use Rattle.plist_binwrite.specs.EventTable.{HasItem}
+use Rattle.plist_binwrite.specs.Forms.{table_form}
+use Rattle.plist_binwrite.specs.inner.Planning.{number_in}
+use Rattle.plist_binwrite.specs.EventClasses.{events_in}
+use Rattle.plist_binwrite.proofs.ChildIndices.{are_items}
+use Rattle.plist_binwrite.proofs.objects.put_half.Goals as goal
+use Rattle.plist_binwrite.proofs.objects.put_half.Goals.{After-into_iter-child-iterator as Begun, In-Some as Next}
+
+begun : (g : _) (c : Begun g) → indices_left c.into_iter-child-iterator.result
+    ≡ children_of (events_in c.args.given.now) c.args.half c.args.index
+begun g c = cc (c.into_iter-child-iterator.ensures.into_iter_gives, c.new-child-items.ensures)
+
+items : (g : _) (c : Next g) → AllByRecursion (HasItem (events_in c.args.given.now))
+    (c.in-Some.child ∷ indices_left c.next.new.self)
+items g c = subst (AllByRecursion (HasItem _)) c.in-Some.ensures.steps c.loop-child.invariant.items
+
+pub loop-child-init : goal.loop-child-init
+loop-child-init g c = record {
+  put = λ answer d p. p;
+  items = subst (AllByRecursion (HasItem _)) (sym (begun g (goal.at.loop-child-init g c).After-into_iter-child-iterator))
+      (are_items _ c.args.half c.args.index);
+}
+
+pub number-requires-clause-index : goal.number-requires-clause-index
+number-requires-clause-index g c =
+    (items g (goal.at.number-requires-clause-index g c).In-Some).0.0
+
+pub number-requires-clause-class : goal.number-requires-clause-class
+number-requires-clause-class g c =
+    c.requires.plan.numbered.planned.numbered.below _
+    (items g (goal.at.number-requires-clause-class g c).In-Some).0.0
+
+-- the remaining references, with the next one
+abbrev rest : (g : _) (c : Next g) → List ℕ → List ℕ
+rest g c l = table_form c.args.plan.now.width (map (number_in c.args.given.now c.args.plan.now.numbering) l)
+
+pub loop-child-preserved : goal.loop-child-preserved
+loop-child-preserved g c =
+    let n = (goal.at.loop-child-preserved g c).In-Some in
+    record {
+      put = λ answer d p. c.loop-child.invariant.put _ d
+          (puts_as (ap (rest g n) (sym c.in-Some.ensures.steps))
+          (puts_then (rw c.number.ensures at c.in_ok-put_next_number.ensures) p));
+      items = (items g n).1;
+    }
+
+pub returns-in_err-put_next_number : goal.returns-in_err-put_next_number
+returns-in_err-put_next_number g c =
+    let a = goal.at.returns-in_err-put_next_number g c in
+    puts_as (ap (rest g a.In-Some) (begun g a.After-into_iter-child-iterator))
+    (c.loop-child.invariant.put _ _
+    (puts_as (ap (rest g a.In-Some) (sym c.in-Some.ensures.steps))
+    (puts_refused _ _ _ c.from_residual.ensures.1
+    (rw c.number.ensures at c.in_err-put_next_number.ensures))))
+
+pub returns : goal.returns
+returns g c =
+    let all : List ℕ → List ℕ = λ l. table_form c.args.plan.now.width
+    (map (number_in c.args.given.now c.args.plan.now.numbering) l) in
+    puts_as (ap all (begun g (goal.at.returns g c).After-into_iter-child-iterator))
+    (c.loop-child.invariant.put _ _ (puts_as (ap all (sym c.in-None.ensures.steps.0)) puts_none))

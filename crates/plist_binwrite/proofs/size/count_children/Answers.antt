@@ -1,0 +1,16 @@
+use Rattle.std.proofs.Common.{inl, arith, ap, length}
+use Rattle.plist_binwrite.proofs.ChildIndices.{few_children}
+use Rattle.plist_binwrite.proofs.HeldEntries.{long_shown}
+use Rattle.plist_binwrite.specs.EventTable.{plain_events, scalars_of}
+use Rattle.plist_binwrite.proofs.size.count_children.Goals as goal
+
+pub count-requires-clause-fits : goal.count-requires-clause-fits
+count-requires-clause-fits c =
+    let held = c.args.events.now in
+    inl (omega (
+      arith,
+      ap length c.new.ensures,
+      few_children (plain_events held) c.args.half c.args.index,
+      long_shown (scalars_of held) held.entries,
+      held.few,
+    ))

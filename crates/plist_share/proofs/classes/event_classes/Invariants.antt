@@ -1,0 +1,9 @@
+use Rattle.std.proofs.Common.{◌≡◌, ◌<◌, ℕ, length}
+use Rattle.plist_binwrite.specs.EventClasses.{class_of}
+use Rattle.plist_binwrite.specs.EventTable.{nth_number}
+use Rattle.plist_binwrite.specs.declared.classes.Classes.TheVariants.{EqualScalars}
+use Rattle.plist_share.proofs.classes.event_classes.Given as goal
+
+abbrev pub invariant-loop-index : goal.invariant-loop-index
+invariant-loop-index l = (length l.of ≡ l.index)
+    × ((p : ℕ) → p < l.index → nth_number l.of p ≡ class_of EqualScalars l.events p)

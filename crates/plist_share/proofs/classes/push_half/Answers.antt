@@ -1,0 +1,48 @@
+use Rattle.std.proofs.Common.{◌≡◌, ◌++◌, ◌∷◌, [], arith, ap, map, sym, subst, refl, ◌∙◌, append-nil, append_assoc}
+use Rattle.std.specs.List.{AllByRecursion}
+use Rattle.plist_binwrite.specs.Children.{children_of, indices_left}
+use Rattle.plist_binwrite.specs.EventTable.{plain_events, HasItem, nth_number}
+use Rattle.plist_binwrite.proofs.ChildIndices.{are_items}
+use Rattle.plist_share.proofs.classes.push_half.Goals as goal
+use Rattle.plist_share.proofs.classes.push_half.Goals.{After-into_iter-child-iterator as Begun, In-Some as Next}
+
+begun : (c : Begun) → indices_left c.into_iter-child-iterator.result
+    ≡ children_of (plain_events c.args.events.now) c.args.half c.args.index
+begun c = cc (c.into_iter-child-iterator.ensures.into_iter_gives, c.new-child-items.ensures)
+
+items : (c : Next) → AllByRecursion (HasItem (plain_events c.args.events.now))
+    (c.in-Some.child ∷ indices_left c.next.new.self)
+items c = subst (AllByRecursion (HasItem _)) c.in-Some.ensures.steps c.loop-child.invariant.items
+
+pub loop-child-init : goal.loop-child-init
+loop-child-init c = record {
+  pushed = refl;
+  items = subst (AllByRecursion (HasItem _))
+      (sym (begun (goal.at.loop-child-init c).After-into_iter-child-iterator))
+      (are_items _ c.args.half c.args.index);
+}
+
+pub get-requires : goal.get-requires
+get-requires c =
+    omega (arith, (items (goal.at.get-requires c).In-Some).0.0, c.requires.long)
+
+pub loop-child-preserved : goal.loop-child-preserved
+loop-child-preserved c = record {
+  pushed = ap (λ l. l ++ map (nth_number c.args.classes.now) (indices_left c.next.new.self))
+      (c.in_ok-push_index.ensures.pushed
+      ∙ ap (λ n. c.loop-child.found.items ++ n ∷ []) c.get.ensures)
+      ∙ append_assoc c.loop-child.found.items (nth_number c.args.classes.now c.in-Some.child ∷ []) _
+      ∙ ap (λ l. c.loop-child.found.items ++ map (nth_number c.args.classes.now) l)
+      (sym c.in-Some.ensures.steps)
+      ∙ c.loop-child.invariant.pushed;
+  items = (items (goal.at.loop-child-preserved c).In-Some).1;
+}
+
+pub returns-clause-pushed : goal.returns-clause-pushed
+returns-clause-pushed c =
+    let class = nth_number c.args.classes.now in
+    sym (append-nil c.loop-child.found.items)
+    ∙ ap (λ l. c.loop-child.found.items ++ map class l) (sym c.in-None.ensures.steps.0)
+    ∙ c.loop-child.invariant.pushed
+    ∙ ap (λ l. c.args.found.now.items ++ map class l)
+    (begun (goal.at.returns-clause-pushed c).After-into_iter-child-iterator)

@@ -1,0 +1,12 @@
+use Rattle.std.proofs.Common.{◌≡◌, ◌++◌, map}
+use Rattle.std.specs.List.{AllByRecursion}
+use Rattle.plist_binwrite.specs.Children.{indices_left}
+use Rattle.plist_binwrite.specs.EventTable.{plain_events, HasItem, nth_number}
+use Rattle.plist_share.proofs.classes.push_half.Given as goal
+
+abbrev pub invariant-loop-child : goal.invariant-loop-child
+invariant-loop-child l = record {
+  pushed : l.found.items ++ map (nth_number l.classes) (indices_left l.child-iterator)
+      ≡ l.initial.found.items ++ map (nth_number l.classes) (indices_left l.initial.child-iterator);
+  items : AllByRecursion (HasItem (plain_events l.events)) (indices_left l.child-iterator);
+}
