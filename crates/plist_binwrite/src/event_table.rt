@@ -25,11 +25,6 @@ pub struct EventTable<'e> {
     ghost few: { length entries < 2 ^ 63 },
 }
 
-// Returns whether the event is a string or data.
-fn is_content(event: &Event<'_>) -> bool {
-    matches!(event, Event::Data(_) | Event::String(_))
-}
-
 impl<'e> EventTable<'e> {
     ghost use Rattle.std.specs.Prelude.{◌≤◌, [], None, Some, false, slice_get, IfSome, ◌+◌};
     ghost use Rattle.plist_binwrite.specs.EventTable.{plain_event, plain_events, scalars_of, entry_kind_of, event_at, EndsTree, GrowsBy, HasItem, IsScalarAt, LacksItem, table_event, entry_event};
@@ -274,9 +269,7 @@ impl<'e> EventTable<'e> {
 impl EventTable<'static> {
     ghost use Rattle.plist_binwrite.specs.EventTable.{plain_event, plain_events, GrowsBy};
 
-    // Appends a copy of a string or of data, unless an equal one is stored. This and the next
-    // function are separate, since their local variables are zeroed on each call.
-    #[inline(never)]
+    // Appends a copy of a string or of data, unless an equal one is stored.
     fn copy_content(&mut self, alloc: Global, event: Event<'_>) -> Result<(), AllocError>
         requires { is_leaf (event_of event) ≡ true }
         ensures events { OnOk result (GrowsBy self.old (event_of event.entry) self.new) }
@@ -291,39 +284,15 @@ impl EventTable<'static> {
         }
     }
 
-    // Appends a copy of a scalar. A string or data is passed to `copy_content`.
-    #[inline(never)]
-    fn copy_plain(&mut self, alloc: Global, event: Event<'_>) -> Result<(), AllocError>
-        requires { is_leaf (event_of event) ≡ true }
-        ensures events { OnOk result (GrowsBy self.old (event_of event.entry) self.new) }
-        ensures unchanged { OnErr result (plain_events self.new ≡ plain_events self.old) }
-    {
-        match event {
-            Event::Boolean(value) => self.scalar(Event::Boolean(value)),
-            Event::Date(date) => self.scalar(Event::Date(date)),
-            Event::Integer(value) => self.scalar(Event::Integer(value)),
-            Event::Real(bits) => self.scalar(Event::Real(bits)),
-            Event::Uid(uid) => self.scalar(Event::Uid(uid)),
-            content => self.copy_content(alloc, content),
-        }
-    }
-
-    // Appends a copy of a scalar.
+    /// Appends a copy of an event. A string or data that is equal to a stored one isn't copied.
+    ///
+    /// Calls are compiled into their callers, which mostly know the event's kind.
+    ///
+    /// # Errors
+    ///
+    /// `AllocError` if an allocation fails. The events are unchanged then.
     #[inline(always)]
-    fn copy_scalar(&mut self, alloc: Global, event: Event<'_>) -> Result<(), AllocError>
-        requires { is_leaf (event_of event) ≡ true }
-        ensures events { OnOk result (GrowsBy self.old (event_of event.entry) self.new) }
-        ensures unchanged { OnErr result (plain_events self.new ≡ plain_events self.old) }
-    {
-        if is_content(&event) {
-            self.copy_content(alloc, event)
-        } else {
-            self.copy_plain(alloc, event)
-        }
-    }
-
-    // Appends a copy of an event. Like `take`, it doesn't return an `Error`.
-    fn take_copy(&mut self, alloc: Global, event: Event<'_>) -> Result<(), AllocError>
+    pub(crate) fn push_copy(&mut self, alloc: Global, event: Event<'_>) -> Result<(), AllocError>
         ensures events { OnOk result (GrowsBy self.old (plain_event event.entry) self.new) }
         ensures unchanged { OnErr result (plain_events self.new ≡ plain_events self.old) }
     {
@@ -332,22 +301,12 @@ impl EventTable<'static> {
             Event::StartArray(_) => self.start(EventEntry::Array(behind)),
             Event::StartDictionary(_) => self.start(EventEntry::Dictionary(behind)),
             Event::EndCollection => self.end(),
-            scalar => self.copy_scalar(alloc, scalar),
+            Event::Boolean(value) => self.scalar(Event::Boolean(value)),
+            Event::Date(date) => self.scalar(Event::Date(date)),
+            Event::Integer(value) => self.scalar(Event::Integer(value)),
+            Event::Real(bits) => self.scalar(Event::Real(bits)),
+            Event::Uid(uid) => self.scalar(Event::Uid(uid)),
+            content => self.copy_content(alloc, content),
         }
-    }
-
-    /// Appends a copy of an event. A string or data that is equal to a stored one isn't copied.
-    ///
-    /// # Errors
-    ///
-    /// `OutOfMemory`, without an offset. The events are unchanged then.
-    #[inline(always)]
-    pub fn push_copy(&mut self, alloc: Global, event: Event<'_>) -> Result<(), Error>
-        ensures events { OnOk result (GrowsBy self.old (plain_event event.entry) self.new) }
-        ensures memory { OnlyMemory result }
-        ensures unchanged { OnErr result (plain_events self.new ≡ plain_events self.old) }
-    {
-        self.take_copy(alloc, event)?;
-        Ok(())
     }
 }

@@ -18,5 +18,4 @@ returns c =
         tests_next c.args.self.now (event_of c.args.event) c.requires.still c.requires.accepted more
             c.requires.change c.next_expected-self.ensures,
       );
-      memory = tt;
     }
