@@ -9,7 +9,7 @@ use Rattle.plist_binwrite.specs.declared.kinds.EntryKind.TheVariants as kind
 use Rattle.plist_binwrite.specs.Occurrences.{event_count, OccursAt, ItemsOccurAt, PairsOccurAt}
 use Rattle.plist_binwrite.specs.Numberings.{references, pairs, object_of}
 use Rattle.plist_binwrite.specs.Forms.{big_endian, length_form, units_of, is_ascii_text, text_form, table_form, form, key_numbers, value_numbers, IsWritable, AllFit}
-use Rattle.plist_binwrite.specs.EventTable.{IfScalar, is_end, entry_kind_of, event_at, item_indices, key_indices, value_indices, nth_number, AllNumbered, IsBracketed}
+use Rattle.plist_binwrite.specs.EventTable.{is_end, entry_kind_of, event_at, item_indices, key_indices, value_indices, nth_number, AllNumbered, IsBracketed}
 use Rattle.plist_binwrite.specs.Sizes.{IsSizeOrNone, dictionary_size}
 use Rattle.plist_binwrite.specs.inner.Entries.{is_leaf}
 use Rattle.plist_binwrite.proofs.Occurring.{occurs_whole, occurs_items, occurs_pairs, occurs_item, occurs_next, occurs_key, occurs_value, occurs_next_pair}
@@ -66,11 +66,6 @@ module _ (es : List PlainEvent) (numbers : List ℕ) (count w : ℕ)
 
 -- ---- by the kind of the event at an index
 
--- a scalar has no length
-scalar_is : (e : PlainEvent) (x : Scalar) → without_length e ≡ ScalarEvent x → e ≡ ScalarEvent x
-scalar_is (ScalarEvent y) x h = h
-scalar_is e x h = cc
-
 module _ {es : List PlainEvent} {k : EntryKind} {p : ℕ} (at : k ≡ entry_kind_of (event_at es p))
     (P : Tree → Type 0) where
   pub of_array : k ≡ kind.Array → ((ts : Trees) → ItemsOccurAt es ts (p + 1) → P (Array ts))
@@ -95,12 +90,10 @@ module _ {es : List PlainEvent} {k : EntryKind} {p : ℕ} (at : k ≡ entry_kind
     neither h (Array ts) s = absurd ((no_start other).0 (cc (starts_array s)))
     neither h (Dictionary ms) s = absurd ((no_start other).1 (cc (starts_dictionary s)))
 
-    pub of_scalar : (e : PlainEvent) → event_at es p ≡ without_length e
-        → IfScalar e (λ x. P (Leaf x))
+    pub of_scalar : (x : Scalar) → event_at es p ≡ ScalarEvent x → P (Leaf x)
         → (t : Tree) → OccursAt es t p → P t
-    of_scalar e is h =
-        neither (λ x single. subst (λ d. IfScalar d (λ x. P (Leaf x)))
-        (scalar_is e x (cc)) h)
+    of_scalar x is h =
+        neither (λ y single. let same : x ≡ y = cc in subst (λ z. P (Leaf z)) same h)
 
     -- neither a collection nor a scalar is at this index
     pub of_nothing : is_leaf (event_at es p) ≡ false → (t : Tree) → OccursAt es t p → P t

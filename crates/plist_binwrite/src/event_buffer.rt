@@ -42,7 +42,6 @@ pub struct EventBuffer {
     held: EventTable<'static>,
     // `None` if the events are those of a whole property list.
     expects: Option<Expect>,
-    expected: usize,
     ghost wanted: { ExpectsNext (plain_events held) expects } by { Prim.hlevel props },
 }
 
@@ -86,7 +85,6 @@ impl EventBuffer {
         EventBuffer {
             held: EventTable::new(alloc),
             expects: Some(Expect::OneValue),
-            expected: 0,
         }
     }
 
@@ -96,7 +94,7 @@ impl EventBuffer {
         ensures events { buffered_events self.new ≡ buffered_events self.old }
         ensures whole { is_whole self.new ≡ is_whole self.old }
     {
-        self.expected = count;
+        self.held.expect_scalars(count);
     }
 
     // Returns the error for an event of this kind that can't follow the buffered ones.
@@ -120,7 +118,7 @@ impl EventBuffer {
         requires change { change ≡ change_on self.old.expects (event_of event) }
         ensures taken { OnOk result (BuffersNext self.old (event_of event.entry) self.new) }
     {
-        self.held.expect_scalars(self.expected);
+        self.held.make_room();
         self.held.push_copy(alloc, event)?;
         self.expects = next_expected(change, self.expects, &self.held);
         Ok(())
