@@ -12,7 +12,7 @@ use std::borrow::{CowSlice, CowStr};
 use std::hash::{Hash, Hasher};
 
 /// A scalar with its string or data borrowed.
-#[derive(Clone, Copy, PartialEq, Eq)]
+#[derive(Clone, Copy)]
 pub enum ScalarRef<'a> {
     /// A Boolean.
     Boolean(bool),
@@ -28,29 +28,6 @@ pub enum ScalarRef<'a> {
     String(&'a str),
     /// The number of an object in a keyed archive.
     Uid(Uid),
-}
-
-/// Writes what an [`Event`] of the scalar writes.
-impl Hash for ScalarRef<'_> {
-    ghost use Rattle.plist_base.specs.Scalars.{writes_of_scalar};
-    ghost use Rattle.plist_binwrite.specs.inner.StoredEquality.{same_writes_of_refs};
-
-    ghost hash_input = { λ scalar. writes_of_scalar (scalar_of_ref scalar) };
-
-    ghost respects_eq = { same_writes_of_refs };
-
-    fn hash<H: Hasher>(&self, state: &mut H) {
-        match self {
-            ScalarRef::Boolean(value) => state.write_u8(u8::from(*value)),
-            ScalarRef::Data(bytes) => state.write(bytes),
-            ScalarRef::Date(date) => state.write(&date.to_plist_real()),
-            ScalarRef::Integer(value) => Event::Integer(*value).hash(state),
-            ScalarRef::Real(RealBits::Four(bytes)) => state.write(bytes),
-            ScalarRef::Real(RealBits::Eight(bytes)) => state.write(bytes),
-            ScalarRef::String(text) => state.write(text.as_bytes()),
-            ScalarRef::Uid(uid) => state.write_u64(uid.get()),
-        }
-    }
 }
 
 /// A scalar of a table. A short string and short data lie in the value itself, and a long one may
@@ -162,6 +139,48 @@ impl StoredScalar<'static> {
     }
 }
 
+impl StoredScalar<'_> {
+    ghost use Rattle.plist_base.specs.Scalars.{scalar_eq};
+
+    // Returns whether the scalar is this string.
+    fn is_text(&self, text: &str) -> bool
+        ensures { result ≡ scalar_eq (StringScalar text.now) (scalar_of self.now) }
+    {
+        match self {
+            StoredScalar::ShortString(own) => text == own.as_str(),
+            StoredScalar::BorrowedString(own) => text == *own,
+            StoredScalar::OwnedString(own) => text == own.as_str(),
+            StoredScalar::Boolean(_)
+            | StoredScalar::Date(_)
+            | StoredScalar::Integer(_)
+            | StoredScalar::Real(_)
+            | StoredScalar::Uid(_)
+            | StoredScalar::ShortData(_)
+            | StoredScalar::BorrowedData(_)
+            | StoredScalar::OwnedData(_) => false,
+        }
+    }
+
+    // Returns whether the scalar is this data.
+    fn is_data(&self, bytes: &[u8]) -> bool
+        ensures { result ≡ scalar_eq (Data bytes.now) (scalar_of self.now) }
+    {
+        match self {
+            StoredScalar::ShortData(own) => bytes == own.as_slice(),
+            StoredScalar::BorrowedData(own) => bytes == *own,
+            StoredScalar::OwnedData(own) => bytes == own.as_slice(),
+            StoredScalar::Boolean(_)
+            | StoredScalar::Date(_)
+            | StoredScalar::Integer(_)
+            | StoredScalar::Real(_)
+            | StoredScalar::Uid(_)
+            | StoredScalar::ShortString(_)
+            | StoredScalar::BorrowedString(_)
+            | StoredScalar::OwnedString(_) => false,
+        }
+    }
+}
+
 impl PartialEq for StoredScalar<'_> {
     ghost use Rattle.std.specs.Cmp.{on_equiv, partial_equiv_from_equiv};
     ghost use Rattle.plist_base.specs.Scalars.{scalar_eq};
@@ -172,7 +191,19 @@ impl PartialEq for StoredScalar<'_> {
     ghost laws = { partial_equiv_from_equiv (on_equiv scalar_of scalars_equiv) };
 
     fn eq(&self, other: &Self) -> bool {
-        self.get() == other.get()
+        match self {
+            StoredScalar::Boolean(a) => matches!(other, StoredScalar::Boolean(b) if a == b),
+            StoredScalar::Date(a) => matches!(other, StoredScalar::Date(b) if a == b),
+            StoredScalar::Integer(a) => matches!(other, StoredScalar::Integer(b) if a == b),
+            StoredScalar::Real(a) => matches!(other, StoredScalar::Real(b) if a == b),
+            StoredScalar::Uid(a) => matches!(other, StoredScalar::Uid(b) if a == b),
+            StoredScalar::ShortString(text) => other.is_text(text.as_str()),
+            StoredScalar::BorrowedString(text) => other.is_text(text),
+            StoredScalar::OwnedString(text) => other.is_text(text.as_str()),
+            StoredScalar::ShortData(bytes) => other.is_data(bytes.as_slice()),
+            StoredScalar::BorrowedData(bytes) => other.is_data(bytes),
+            StoredScalar::OwnedData(bytes) => other.is_data(bytes.as_slice()),
+        }
     }
 }
 
@@ -183,6 +214,7 @@ impl Eq for StoredScalar<'_> {
     ghost laws = { on_equiv scalar_of scalars_equiv };
 }
 
+/// Writes what an [`Event`] of the scalar writes.
 impl Hash for StoredScalar<'_> {
     ghost use Rattle.plist_base.specs.Scalars.{writes_of_scalar};
     ghost use Rattle.plist_binwrite.specs.inner.StoredEquality.{same_writes};
@@ -192,6 +224,19 @@ impl Hash for StoredScalar<'_> {
     ghost respects_eq = { λ a b. same_writes (scalar_of a) (scalar_of b) };
 
     fn hash<H: Hasher>(&self, state: &mut H) {
-        self.get().hash(state)
+        match self {
+            StoredScalar::Boolean(value) => state.write_u8(u8::from(*value)),
+            StoredScalar::Date(date) => state.write(&date.to_plist_real()),
+            StoredScalar::Integer(value) => Event::Integer(*value).hash(state),
+            StoredScalar::Real(RealBits::Four(bytes)) => state.write(bytes),
+            StoredScalar::Real(RealBits::Eight(bytes)) => state.write(bytes),
+            StoredScalar::Uid(uid) => state.write_u64(uid.get()),
+            StoredScalar::ShortString(text) => state.write(text.as_str().as_bytes()),
+            StoredScalar::BorrowedString(text) => state.write(text.as_bytes()),
+            StoredScalar::OwnedString(text) => state.write(text.as_str().as_bytes()),
+            StoredScalar::ShortData(bytes) => state.write(bytes.as_slice()),
+            StoredScalar::BorrowedData(bytes) => state.write(bytes),
+            StoredScalar::OwnedData(bytes) => state.write(bytes.as_slice()),
+        }
     }
 }

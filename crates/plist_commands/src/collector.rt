@@ -1,6 +1,6 @@
 //! The visitor that buffers the events of a property list until all have come.
 
-ghost use Rattle.std.specs.Prelude.{◌≡◌, Bool, IfErr, List, false, true};
+ghost use Rattle.std.specs.Prelude.{◌≡◌, false, true};
 ghost use Rattle.plist_base.specs.Bracketing.{CanContinue};
 ghost use Rattle.plist_base.specs.Events.{event_of};
 ghost use Rattle.plist_binwrite.specs.EventBuffers.{TestsWhole, buffered_events, is_whole};
