@@ -1,5 +1,5 @@
 -- Keys of a set: equal keys have the same view.
-use Rattle.std.proofs.Common.{◌≡◌, ◌⊎◌, inl, inr, ℕ, zero, suc, ◌+◌, ◌<◌, ◌≤◌, Bool, true, false, if◌then◌else◌, List, [], ◌∷◌, ◌++◌, length, map, take, position, Some, refl, sym, ap, ◌∙◌, arith, rules, append-nil}
+use Rattle.std.proofs.Common.{◌≡◌, ◌⊎◌, inl, inr, ℕ, zero, suc, ◌+◌, ◌<◌, ◌≤◌, Bool, true, false, if◌then◌else◌, List, [], ◌∷◌, ◌++◌, length, map, take, position, Some, refl, sym, ap, ◌∙◌, arith, append-nil}
 use Rattle.std.proofs.Math.Seq.{take-append_seam, take-length}
 use Rattle.std.proofs.lemmas.List.{length-append, map-append}
 use Rattle.std.proofs.lemmas.List.Quantifiers.{position-Some}
@@ -7,19 +7,11 @@ use Rattle.std.specs.Prelude.{slice_get}
 use Rattle.std.specs.List.{AllByRecursion, IsDistinct}
 use Rattle.std.proofs.lemmas.Option.{slice_get-map, slice_get-get_or}
 use Rattle.plist_binwrite.specs.inner.Scalars.{AreDistinct}
-use Rattle.std.specs.Cmp.Rules.{comparing}
-use Rattle.std.proofs.lemmas.Slice.Eq.{bytes_eq-Decides}
-use Rattle.std.specs.Cow.{cow_str_bytes, cow_slice_items}
-use Rattle.plist_base.specs.declared.event.Event.{Event}
-use Rattle.plist_base.specs.declared.event.Event.TheVariants as event
-use Rattle.plist_base.specs.Events.{event_of}
-use Rattle.plist_base.specs.declared.real.RealBits.TheVariants as real
-use Rattle.plist_base.specs.inner.Hashing.{eq_of_events, same_list}
 
-module _ {T P : Type 0} (eq_of_events : T → T → Bool) (view : T → P) where
+module _ {T P : Type 0} (same : T → T → Bool) (view : T → P) where
   -- the key at an index
-  pub key_at : (cs : List T) (i : ℕ) (x y : T) → (eq_of_events x y ≡ true → view x ≡ view y)
-      → slice_get cs i ≡ Some y → eq_of_events x y ≡ true → slice_get (map view cs) i ≡ Some
+  pub key_at : (cs : List T) (i : ℕ) (x y : T) → (same x y ≡ true → view x ≡ view y)
+      → slice_get cs i ≡ Some y → same x y ≡ true → slice_get (map view cs) i ≡ Some
       (view x)
   key_at cs i x y same_key h s =
       cc (slice_get-map view cs i, same_key s)
@@ -77,13 +69,16 @@ module _ {T P : Type 0} (eq_of_events : T → T → Bool) (view : T → P) where
         ]
 
   -- the key that a look-up finds
-  pub key_found : (cs : List T) (i : ℕ) (x : T)
-      → ((y : T) → eq_of_events x y ≡ true → view x ≡ view y) → position (eq_of_events x) cs
-      ≡ Some i
-      → slice_get (map view cs) i ≡ Some (view x)
-  key_found cs i x same_key h =
-      let f = position-Some _ cs i x h in
-      key_at cs i x _ (same_key _) (slice_get-get_or cs i x f.0) f.1
+  pub key_found : (test : T → Bool) (p : P) → ((y : T) → test y ≡ true → p ≡ view y) → (cs : List T)
+      (i : ℕ) → position test cs ≡ Some i → slice_get (map view cs) i ≡ Some p
+  key_found test p same_key [] i h = cc
+  key_found test p same_key (d ∷ cs) i h =
+      let f = position-Some test (d ∷ cs) i d h in
+      cc (
+        slice_get-map view (d ∷ cs) i,
+        slice_get-get_or (d ∷ cs) i d f.0,
+        same_key _ f.1,
+      )
 
   -- the keys after the inserted one is removed
   pub keys_back : (b : Bool) (old new : List T) (x : T) → new ≡ (if b then old else old ++ x ∷ [])
@@ -91,8 +86,8 @@ module _ {T P : Type 0} (eq_of_events : T → T → Bool) (view : T → P) where
   keys_back true old new x e = cc (take-length old)
   keys_back false old new x e = cc (take-append_seam old (x ∷ []))
 
-  module _ (key_same : (x y : T) → view x ≡ view y → eq_of_events x y ≡ true) where
-    no_key : (x : T) (cs : List T) (j : ℕ) → AllByRecursion (λ y. eq_of_events x y ≡ false) cs
+  module _ (key_same : (x y : T) → view x ≡ view y → same x y ≡ true) where
+    no_key : (x : T) (cs : List T) (j : ℕ) → AllByRecursion (λ y. same x y ≡ false) cs
         → slice_get (map view cs) j ≡ Some (view x) → ⊥
     no_key x [] j a h = cc
     no_key x (y ∷ cs) zero a h = let k : view y
@@ -103,23 +98,10 @@ module _ {T P : Type 0} (eq_of_events : T → T → Bool) (view : T → P) where
     no_key x (y ∷ cs) (suc j) a h = no_key x cs j a.1 h
 
     -- different keys have different views
-    pub keys_apart : (cs : List T) → IsDistinct eq_of_events cs → AreDistinct (map view cs)
+    pub keys_apart : (cs : List T) → IsDistinct same cs → AreDistinct (map view cs)
     unfolding IsDistinct
     keys_apart [] d i j k p q = cc
     keys_apart (x ∷ cs) d zero zero k p q = refl
     keys_apart (x ∷ cs) d zero (suc j) k p q = absurd (no_key x cs j d.0 (cc))
     keys_apart (x ∷ cs) d (suc i) zero k p q = absurd (no_key x cs i d.0 (cc))
     keys_apart (x ∷ cs) d (suc i) (suc j) k p q = ap suc (keys_apart cs d.1 i j k p q)
-
--- the derived test of events decides whether they have the same content
-pub event_same : (x y : Event) → event_of x ≡ event_of y → eq_of_events x y ≡ true
-event_same (event.Data a) (event.Data b) h = (same_list _ _).1
-    (let e : cow_slice_items a ≡ cow_slice_items b = cc in e)
-event_same (event.String a) (event.String b) h = (same_list _ _).1
-    (let e : cow_str_bytes a ≡ cow_str_bytes b = cc in e)
-event_same (event.Date a) (event.Date b) h = (same_list a b).1 (let e : a ≡ b = cc in e)
-event_same (event.Real (real.Four a)) (event.Real (real.Four b)) h = (same_list a b).1
-    (let e : a ≡ b = cc in e)
-event_same (event.Real (real.Eight a)) (event.Real (real.Eight b)) h = (same_list a b).1
-    (let e : a ≡ b = cc in e)
-event_same x y h = search (comparing, rules, bytes_eq-Decides, h)

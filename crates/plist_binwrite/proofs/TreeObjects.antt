@@ -97,11 +97,6 @@ module _ (es : List PlainEvent) (number : ℕ → ℕ) (count w : ℕ)
 
 -- ---- by the kind of the event at an index
 
--- a scalar has no length
-pub scalar_is : (e : PlainEvent) (x : Scalar) → without_length e ≡ ScalarEvent x → e ≡ ScalarEvent x
-scalar_is (ScalarEvent y) x h = h
-scalar_is e x h = cc
-
 module _ {es : List PlainEvent} {k : EntryKind} {p : ℕ} (at : k ≡ entry_kind_of (event_at es p))
     (P : Tree → Type 0) where
   pub of_array : k ≡ kind.Array → ((ts : Trees) → OccursAt es (Array ts) p → P (Array ts))
@@ -125,12 +120,10 @@ module _ {es : List PlainEvent} {k : EntryKind} {p : ℕ} (at : k ≡ entry_kind
     neither h (Array ts) s = absurd ((no_start other).0 (cc (starts_array s)))
     neither h (Dictionary ms) s = absurd ((no_start other).1 (cc (starts_dictionary s)))
 
-    pub of_scalar : (e : PlainEvent) → event_at es p ≡ without_length e
-        → IfScalar e (λ x. P (Leaf x))
+    pub of_scalar : (x : Scalar) → event_at es p ≡ ScalarEvent x → P (Leaf x)
         → (t : Tree) → OccursAt es t p → P t
-    of_scalar e is h =
-        neither (λ x single. subst (λ d. IfScalar d (λ x. P (Leaf x)))
-        (scalar_is e x (cc)) h)
+    of_scalar x is h =
+        neither (λ y single. let same : x ≡ y = cc in subst (λ z. P (Leaf z)) same h)
 
     -- neither a collection nor a scalar is at this index
     pub of_nothing : is_leaf (event_at es p) ≡ false → (t : Tree) → OccursAt es t p → P t

@@ -1,13 +1,14 @@
 -- What contracts see of the events of the open property list.
-use Rattle.std.specs.Prelude.{◌≡◌, Bool, List, [], ◌∷◌, ◌++◌, Option, None, IfSome, MatchBool}
+use Rattle.std.specs.Prelude.{◌≡◌, Bool, List, [], ◌∷◌, ◌++◌, MatchBool}
 use Rattle.std.specs.Option.{is_none}
-use Rattle.plist_base.specs.declared.error.Error.{Error}
 use Rattle.plist_base.specs.declared.error.EventKind.{EventKind}
 use Rattle.plist_base.specs.declared.error.EventKind.TheVariants as event_kind
 use Rattle.plist_base.specs.Bracketing.{without_length, AreTreeEvents, AreComplete, CanContinue}
 use Rattle.plist_base.specs.Events.{PlainEvent, kind_of_event}
-use Rattle.plist_base.specs.Faults.{Fault, UnexpectedEventType, fault_nowhere, fault_of}
+use Rattle.plist_base.specs.Faults.{Fault, UnexpectedEventType, fault_nowhere}
 use Rattle.plist_binwrite.specs.declared.event_buffer.EventBuffer.{EventBuffer}
+use Rattle.plist_binwrite.specs.declared.event_buffer.PushError.{PushError}
+use Rattle.plist_binwrite.specs.declared.event_buffer.PushError.TheVariants as push_error
 use Rattle.plist_binwrite.specs.EventTable.{plain_events}
 
 -- the events
@@ -28,6 +29,10 @@ abbrev pub misplaced_fault : List PlainEvent → PlainEvent → Fault
 misplaced_fault held event =
     fault_nowhere (UnexpectedEventType (expected_instead held) (kind_of_event event))
 
+-- the error for an event of this kind that can't follow the buffered ones
+abbrev pub misplaced_error : List PlainEvent → (found : EventKind) → PushError
+misplaced_error held found = push_error.Misplaced (expected_instead held) found
+
 -- a test: are the events those of a tree?
 abbrev pub TestsWhole : Bool → List PlainEvent → Type 0
 TestsWhole answer events = MatchBool answer (AreComplete events) (AreTreeEvents events → ⊥)
@@ -42,19 +47,19 @@ BuffersNext before event after =
 abbrev pub IsMisplaced : (held : List PlainEvent) → PlainEvent → Fault → Type 0
 IsMisplaced held event fault = (CanContinue held event → ⊥) × (fault ≡ misplaced_fault held event)
 
--- an event is rejected only if it can't follow the buffered ones, and nothing changes
-abbrev pub RefusesMisplaced : (before : EventBuffer) → PlainEvent → (after : EventBuffer)
-    → Option Error
-    → Type 0
-RefusesMisplaced before event after refusal = IfSome refusal
-    (λ error. IsMisplaced (buffered_events before) event (fault_of error) × (after ≡ before))
-
--- an event that isn't rejected can follow the buffered ones, and is buffered
-abbrev pub Accepts : (before : EventBuffer) → PlainEvent → (after : EventBuffer) → Option Error
-    → Type 0
-Accepts before event after refusal =
-    refusal ≡ None → CanContinue (buffered_events before) event × BuffersNext before event after
-
 -- the event can follow the buffered ones
 abbrev pub CanTake : EventBuffer → PlainEvent → Type 0
 CanTake pending event = CanContinue (buffered_events pending) event
+
+-- the event can follow the buffered ones, and is buffered
+abbrev pub Accepts : (before : EventBuffer) → PlainEvent → (after : EventBuffer) → Type 0
+Accepts before event after = CanTake before event × BuffersNext before event after
+
+-- An event is misplaced only if it can't follow the buffered ones, and nothing changes. Memory runs
+-- out only for one that can follow them.
+abbrev pub RejectsEvent : (before : EventBuffer) → PlainEvent → (after : EventBuffer) → PushError
+    → Type 0
+RejectsEvent before event after (push_error.Misplaced expected found) =
+    IsMisplaced (buffered_events before) event
+    (fault_nowhere (UnexpectedEventType expected found)) × (after ≡ before)
+RejectsEvent before event after push_error.OutOfMemory = CanTake before event

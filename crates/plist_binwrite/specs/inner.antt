@@ -12,4 +12,5 @@ pub mod Planning
 pub mod PlansBy
 pub mod Putting
 pub mod Scalars
+pub mod StoredEquality
 pub mod Sizing

@@ -7,8 +7,33 @@ ghost use Rattle.plist_binwrite.specs.EventTable.{plain_events};
 ghost use Rattle.plist_binwrite.specs.inner.Expected.{ExpectsNext, change_on, expected_inside, innermost, next_expected};
 
 use crate::event_table::EventTable;
-use plist_base::{Change, Error, ErrorKind, Event, EventKind, Expect};
-use std::alloc::Global;
+use plist_base::{Change, Event, EventKind, Expect};
+use std::alloc::{AllocError, Global};
+
+/// Why an event wasn't buffered. It is small: the memory of a result is zeroed on each call, and an
+/// `Error` has 120 bytes.
+#[derive(Clone, Copy)]
+pub enum PushError {
+    /// The event can't follow the buffered ones.
+    Misplaced {
+        /// What was expected in place of the event.
+        expected: EventKind,
+        /// The kind of the event.
+        found: EventKind,
+    },
+    /// An allocation failed.
+    OutOfMemory,
+}
+
+impl From<AllocError> for PushError {
+    ghost use Rattle.plist_binwrite.specs.declared.event_buffer.PushError.TheVariants.{OutOfMemory};
+
+    ghost from_gives = { λ _ error. error ≡ OutOfMemory };
+
+    fn from(_error: AllocError) -> PushError {
+        PushError::OutOfMemory
+    }
+}
 
 /// The events of the open property list. Once they are those of a whole one, they stay until they
 /// are cleared.
@@ -17,7 +42,6 @@ pub struct EventBuffer {
     held: EventTable<'static>,
     // `None` if the events are those of a whole property list.
     expects: Option<Expect>,
-    expected: usize,
     ghost wanted: { ExpectsNext (plain_events held) expects } by { Prim.hlevel props },
 }
 
@@ -48,11 +72,9 @@ fn next_expected(
 }
 
 impl EventBuffer {
-    ghost use Rattle.std.specs.Prelude.{◌≡◌, [], false, OnOk, IfOk, IfErr};
+    ghost use Rattle.std.specs.Prelude.{◌≡◌, [], false, OnOk, IfErr};
     ghost use Rattle.plist_base.specs.Events.{event_of};
-    ghost use Rattle.plist_base.specs.Faults.{fault_of};
-    ghost use Rattle.plist_base.specs.Outcomes.{OnlyMemory};
-    ghost use Rattle.plist_binwrite.specs.EventBuffers.{buffered_events, is_whole, BuffersNext, misplaced_fault, Accepts, CanTake, RefusesMisplaced};
+    ghost use Rattle.plist_binwrite.specs.EventBuffers.{buffered_events, is_whole, misplaced_error, Accepts, BuffersNext, CanTake, RejectsEvent};
     ghost use Rattle.plist_binwrite.specs.inner.Expected.{change_on};
 
     /// Creates a buffer without events. It allocates no memory.
@@ -63,7 +85,6 @@ impl EventBuffer {
         EventBuffer {
             held: EventTable::new(alloc),
             expects: Some(Expect::OneValue),
-            expected: 0,
         }
     }
 
@@ -73,59 +94,54 @@ impl EventBuffer {
         ensures events { buffered_events self.new ≡ buffered_events self.old }
         ensures whole { is_whole self.new ≡ is_whole self.old }
     {
-        self.expected = count;
+        self.held.expect_scalars(count);
     }
 
-    // Returns the error for an event that can't follow the buffered ones.
-    fn fault_of_event(&self, event: &Event<'_>) -> Error
-        ensures { fault_of result ≡ misplaced_fault (buffered_events self.now)
-            (event_of event.now) }
+    // Returns the error for an event of this kind that can't follow the buffered ones.
+    fn error_of_kind(&self, found: EventKind) -> PushError
+        ensures { result ≡ misplaced_error (buffered_events self.now) found }
     {
         let expected = if self.held.len() == 0 {
             EventKind::ValueOrStartCollection
         } else {
             EventKind::DictionaryKeyOrEndCollection
         };
-        let found = EventKind::of_event(event);
-        ErrorKind::UnexpectedEventType { expected, found }.without_position()
+        PushError::Misplaced { expected, found }
     }
 
     // Buffers an event that can follow the buffered ones, given how it changes what is expected
     // next.
     #[inline(always)]
-    fn hold(&mut self, alloc: Global, event: Event<'_>, change: Change) -> Result<(), Error>
+    fn hold(&mut self, alloc: Global, event: Event<'_>, change: Change) -> Result<(), AllocError>
         requires still { is_whole self.old ≡ false }
         requires accepted { CanTake self.old (event_of event) }
         requires change { change ≡ change_on self.old.expects (event_of event) }
         ensures taken { OnOk result (BuffersNext self.old (event_of event.entry) self.new) }
-        ensures memory { OnlyMemory result }
     {
-        self.held.expect_scalars(self.expected);
+        self.held.make_room();
         self.held.push_copy(alloc, event)?;
         self.expects = next_expected(change, self.expects, &self.held);
         Ok(())
     }
 
-    /// Buffers an event if it can follow the buffered ones. Otherwise it returns `Ok` with the
-    /// error, `UnexpectedEventType` without an offset, and nothing changes.
+    /// Buffers an event if it can follow the buffered ones.
     ///
     /// # Errors
     ///
-    /// `OutOfMemory`, without an offset, for an event that can follow the buffered ones.
+    /// `Misplaced` if the event can't follow the buffered ones; nothing changes then. `OutOfMemory`
+    /// is returned only for an event that can.
     #[inline(always)]
-    pub fn try_push(&mut self, alloc: Global, event: Event<'_>) -> Result<Option<Error>, Error>
+    pub fn try_push(&mut self, alloc: Global, event: Event<'_>) -> Result<(), PushError>
         requires still { is_whole self.old ≡ false }
-        ensures refused { IfOk result (RefusesMisplaced self.old (event_of event.entry) self.new) }
-        ensures taken { IfOk result (Accepts self.old (event_of event.entry) self.new) }
-        ensures accepted { IfErr result (λ _. CanTake self.old (event_of event.entry)) }
-        ensures memory { OnlyMemory result }
+        ensures taken { OnOk result (Accepts self.old (event_of event.entry) self.new) }
+        ensures refused { IfErr result (RejectsEvent self.old (event_of event.entry) self.new) }
     {
         let change = change_on(self.expects, &event);
         match change {
-            Change::Refused => Ok(Some(self.fault_of_event(&event))),
+            Change::Refused => Err(self.error_of_kind(EventKind::of_event(&event))),
             Change::Popped | Change::Kept | Change::Pushed(_) | Change::Replaced(_) => {
                 self.hold(alloc, event, change)?;
-                Ok(None)
+                Ok(())
             }
         }
     }

@@ -2,15 +2,17 @@
 
 ghost use Rattle.std.specs.Prelude.{◌≡◌, ◌^◌, ◌<◌, true, length, OnOk, OnErr, ◌-◌};
 ghost use Rattle.std.proofs.Props.{props};
-ghost use Rattle.plist_base.specs.Events.{EndCollection, event_of};
+ghost use Rattle.plist_base.specs.Events.{EndCollection, ScalarEvent};
 ghost use Rattle.plist_base.specs.Outcomes.{OnlyMemory};
 ghost use Rattle.plist_binwrite.specs.inner.Entries.{is_leaf, AreValidEntries};
 
 use crate::entries::{Entries, EventEntry};
 use crate::kinds::EntryKind;
+use crate::stored_scalar::{ScalarRef, StoredScalar};
 use indexmap::IndexSet;
 use plist_base::{Error, Event, Expect};
 use std::alloc::{AllocError, Global};
+use std::borrow::{CowSlice, CowStr};
 
 /// The events of a property list. Each different scalar is stored once. Lengths of starts are left
 /// out.
@@ -18,19 +20,19 @@ use std::alloc::{AllocError, Global};
 /// The table doesn't check whether the events can follow one another.
 #[derive(Drop)]
 pub struct EventTable<'e> {
-    scalars: IndexSet<Event<'e>>,
+    scalars: IndexSet<StoredScalar<'e>>,
     entries: Entries,
     unclosed: Vec<usize>,
+    // How many different scalars are expected.
+    expected: usize,
+    // With how many different scalars it is tested next whether their table is full.
+    full_at: usize,
     ghost kept: { AreValidEntries scalars.keys entries unclosed.items } by { Prim.hlevel props },
     ghost few: { length entries < 2 ^ 63 },
 }
 
-// Returns whether the event is a string or data.
-fn is_content(event: &Event<'_>) -> bool {
-    matches!(event, Event::Data(_) | Event::String(_))
-}
-
 impl<'e> EventTable<'e> {
+    ghost use Rattle.plist_binwrite.specs.StoredScalars.{scalar_event, scalar_of_ref};
     ghost use Rattle.std.specs.Prelude.{◌≤◌, [], None, Some, false, slice_get, IfSome, ◌+◌};
     ghost use Rattle.plist_binwrite.specs.EventTable.{plain_event, plain_events, scalars_of, entry_kind_of, event_at, GrowsBy, HasItem, IsScalarAt, LacksItem, table_event, entry_event};
     ghost use Rattle.plist_binwrite.specs.inner.Columns.{scalar_named};
@@ -46,21 +48,44 @@ impl<'e> EventTable<'e> {
             scalars: IndexSet::new(alloc),
             entries: Entries::new(alloc),
             unclosed: Vec::new(alloc),
+            expected: 0,
+            full_at: 0,
         }
     }
 
-    /// Reserves memory for this many scalars in all if the table of different scalars is full, but
-    /// for at most sixteen times as many as there are, and a thousand. So a wrong hint costs no
-    /// more than that. If the allocation fails, the table grows as it fills.
-    pub fn expect_scalars(&mut self, expected: usize)
+    /// Sets how many different scalars are expected. This is a hint, by which their table grows in
+    /// larger steps: there may be more scalars, or fewer. The call allocates no memory.
+    pub fn expect_scalars(&mut self, count: usize)
+        ensures events { plain_events self.new ≡ plain_events self.old }
+    {
+        self.expected = count;
+        self.full_at = 0;
+    }
+
+    // Reserves memory for the expected scalars if the table of different scalars is full, but for
+    // at most sixteen times as many as there are, and a thousand. So a wrong hint costs no more
+    // than that. If the allocation fails, the table grows as it fills.
+    #[cold]
+    #[inline(never)]
+    fn reserve_scalars(&mut self)
         ensures events { plain_events self.new ≡ plain_events self.old }
     {
         let held = self.scalars.len();
-        if held < self.scalars.capacity() || held >= expected {
-            return;
+        if held >= self.scalars.capacity() && held < self.expected {
+            let more = held.saturating_mul(15).saturating_add(1000);
+            let _ = self.scalars.reserve(more.min(self.expected - held));
         }
-        let more = held.saturating_mul(15).saturating_add(1000);
-        let _ = self.scalars.reserve(more.min(expected - held));
+        self.full_at = self.scalars.capacity();
+    }
+
+    // Reserves memory for the expected scalars once the table of different scalars is full.
+    #[inline(always)]
+    pub(crate) fn make_room(&mut self)
+        ensures events { plain_events self.new ≡ plain_events self.old }
+    {
+        if self.scalars.len() >= self.full_at {
+            self.reserve_scalars();
+        }
     }
 
     /// Returns the number of events.
@@ -121,13 +146,15 @@ impl<'e> EventTable<'e> {
     }
 
     /// Returns the scalar at this index, or `None` if the event isn't a scalar.
-    pub fn scalar_at(&self, index: usize) -> Option<&Event<'e>>
+    pub fn scalar_at(&self, index: usize) -> Option<ScalarRef<'_>>
         requires { index < length (plain_events self.now) }
-        ensures some { IfSome result (λ event. table_event self.now index ≡ plain_event event.now) }
+        ensures some { IfSome result (λ scalar. table_event self.now index
+            ≡ ScalarEvent (scalar_of_ref scalar)) }
         ensures none { result ≡ None → is_leaf (table_event self.now index) ≡ false }
     {
         let scalar = self.scalar_index(index)?;
-        self.scalars.get_index(scalar)
+        let stored = self.scalars.get_index(scalar)?;
+        Some(stored.get())
     }
 
     // Returns what is expected in the innermost open collection, if one is open.
@@ -179,11 +206,12 @@ impl<'e> EventTable<'e> {
     }
 
     // Returns the index of an equal scalar among the different ones, or `None` if none is equal.
-    fn find(&self, event: &Event<'_>) -> Option<usize>
+    #[inline(always)]
+    fn find(&self, scalar: &StoredScalar<'_>) -> Option<usize>
         ensures { IfSome result (λ index. slice_get (scalars_of self.now) index
-            ≡ Some (event_of event.now)) }
+            ≡ Some (scalar_event scalar.now)) }
     {
-        self.scalars.get_index_of(event)
+        self.scalars.get_index_of(scalar)
     }
 
     // Appends a scalar that is equal to the one with this index among the different ones.
@@ -200,13 +228,12 @@ impl<'e> EventTable<'e> {
 
     // Appends a scalar: the index of an equal one among the different ones, or a new one. A new one
     // is removed again if there is no memory for its entry.
-    fn scalar(&mut self, event: Event<'e>) -> Result<(), AllocError>
-        requires { is_leaf (event_of event) ≡ true }
-        ensures events { OnOk result (GrowsBy self.old (event_of event.entry) self.new) }
+    fn scalar(&mut self, scalar: StoredScalar<'e>) -> Result<(), AllocError>
+        ensures events { OnOk result (GrowsBy self.old (scalar_event scalar.entry) self.new) }
         ensures unchanged { OnErr result (plain_events self.new ≡ plain_events self.old) }
     {
         let before = self.scalars.len();
-        match self.scalars.insert_full(event) {
+        match self.scalars.insert_full(scalar) {
             Ok((index, _)) => {
                 match self.entries.push(EventEntry::Scalar(index)) {
                     Ok(()) => return Ok(()),
@@ -230,7 +257,13 @@ impl<'e> EventTable<'e> {
             Event::StartArray(_) => self.start(EventEntry::Array(behind)),
             Event::StartDictionary(_) => self.start(EventEntry::Dictionary(behind)),
             Event::EndCollection => self.end(),
-            scalar => self.scalar(scalar),
+            Event::Boolean(value) => self.scalar(StoredScalar::Boolean(value)),
+            Event::Data(bytes) => self.scalar(StoredScalar::of_data(bytes)),
+            Event::Date(date) => self.scalar(StoredScalar::Date(date)),
+            Event::Integer(value) => self.scalar(StoredScalar::Integer(value)),
+            Event::Real(bits) => self.scalar(StoredScalar::Real(bits)),
+            Event::String(text) => self.scalar(StoredScalar::of_text(text)),
+            Event::Uid(uid) => self.scalar(StoredScalar::Uid(uid)),
         }
     }
 
@@ -261,58 +294,49 @@ impl<'e> EventTable<'e> {
 }
 
 impl EventTable<'static> {
+    ghost use Rattle.std.specs.Cow.{cow_slice_items, cow_str_bytes};
+    ghost use Rattle.plist_base.specs.Trees.{Data as DataScalar, String as StringScalar};
     ghost use Rattle.plist_binwrite.specs.EventTable.{plain_event, plain_events, GrowsBy};
 
-    // Appends a copy of a string or of data, unless an equal one is stored. This and the next
-    // function are separate, since their local variables are zeroed on each call.
-    #[inline(never)]
-    fn copy_content(&mut self, alloc: Global, event: Event<'_>) -> Result<(), AllocError>
-        requires { is_leaf (event_of event) ≡ true }
-        ensures events { OnOk result (GrowsBy self.old (event_of event.entry) self.new) }
+    // Appends a copy of a string, unless an equal one is stored.
+    fn copy_text(&mut self, alloc: Global, text: CowStr<'_>) -> Result<(), AllocError>
+        ensures events { OnOk result (GrowsBy self.old
+            (ScalarEvent (StringScalar (cow_str_bytes text.entry))) self.new) }
         ensures unchanged { OnErr result (plain_events self.new ≡ plain_events self.old) }
     {
-        if let Some(index) = self.find(&event) {
+        if let Some(index) = self.find(&StoredScalar::BorrowedString(text.as_str())) {
             return self.repeat(index);
         }
-        match event.into_owned(alloc) {
-            Ok(owned) => self.scalar(owned),
-            Err(_) => Err(AllocError),
+        match StoredScalar::copy_of_text(alloc, text) {
+            Ok(copy) => self.scalar(copy),
+            Err(error) => Err(error),
         }
     }
 
-    // Appends a copy of a scalar. A string or data is passed to `copy_content`.
-    #[inline(never)]
-    fn copy_plain(&mut self, alloc: Global, event: Event<'_>) -> Result<(), AllocError>
-        requires { is_leaf (event_of event) ≡ true }
-        ensures events { OnOk result (GrowsBy self.old (event_of event.entry) self.new) }
+    // Appends a copy of data, unless equal data is stored.
+    fn copy_data(&mut self, alloc: Global, bytes: CowSlice<'_, u8>) -> Result<(), AllocError>
+        ensures events { OnOk result (GrowsBy self.old
+            (ScalarEvent (DataScalar (cow_slice_items bytes.entry))) self.new) }
         ensures unchanged { OnErr result (plain_events self.new ≡ plain_events self.old) }
     {
-        match event {
-            Event::Boolean(value) => self.scalar(Event::Boolean(value)),
-            Event::Date(date) => self.scalar(Event::Date(date)),
-            Event::Integer(value) => self.scalar(Event::Integer(value)),
-            Event::Real(bits) => self.scalar(Event::Real(bits)),
-            Event::Uid(uid) => self.scalar(Event::Uid(uid)),
-            content => self.copy_content(alloc, content),
+        if let Some(index) = self.find(&StoredScalar::BorrowedData(bytes.as_slice())) {
+            return self.repeat(index);
+        }
+        match StoredScalar::copy_of_data(alloc, bytes) {
+            Ok(copy) => self.scalar(copy),
+            Err(error) => Err(error),
         }
     }
 
-    // Appends a copy of a scalar.
+    /// Appends a copy of an event. A string or data that is equal to a stored one isn't copied.
+    ///
+    /// Calls are compiled into their callers, which mostly know the event's kind.
+    ///
+    /// # Errors
+    ///
+    /// `AllocError` if an allocation fails. The events are unchanged then.
     #[inline(always)]
-    fn copy_scalar(&mut self, alloc: Global, event: Event<'_>) -> Result<(), AllocError>
-        requires { is_leaf (event_of event) ≡ true }
-        ensures events { OnOk result (GrowsBy self.old (event_of event.entry) self.new) }
-        ensures unchanged { OnErr result (plain_events self.new ≡ plain_events self.old) }
-    {
-        if is_content(&event) {
-            self.copy_content(alloc, event)
-        } else {
-            self.copy_plain(alloc, event)
-        }
-    }
-
-    // Appends a copy of an event. Like `take`, it doesn't return an `Error`.
-    fn take_copy(&mut self, alloc: Global, event: Event<'_>) -> Result<(), AllocError>
+    pub(crate) fn push_copy(&mut self, alloc: Global, event: Event<'_>) -> Result<(), AllocError>
         ensures events { OnOk result (GrowsBy self.old (plain_event event.entry) self.new) }
         ensures unchanged { OnErr result (plain_events self.new ≡ plain_events self.old) }
     {
@@ -321,22 +345,13 @@ impl EventTable<'static> {
             Event::StartArray(_) => self.start(EventEntry::Array(behind)),
             Event::StartDictionary(_) => self.start(EventEntry::Dictionary(behind)),
             Event::EndCollection => self.end(),
-            scalar => self.copy_scalar(alloc, scalar),
+            Event::Boolean(value) => self.scalar(StoredScalar::Boolean(value)),
+            Event::Data(bytes) => self.copy_data(alloc, bytes),
+            Event::Date(date) => self.scalar(StoredScalar::Date(date)),
+            Event::Integer(value) => self.scalar(StoredScalar::Integer(value)),
+            Event::Real(bits) => self.scalar(StoredScalar::Real(bits)),
+            Event::String(text) => self.copy_text(alloc, text),
+            Event::Uid(uid) => self.scalar(StoredScalar::Uid(uid)),
         }
-    }
-
-    /// Appends a copy of an event. A string or data that is equal to a stored one isn't copied.
-    ///
-    /// # Errors
-    ///
-    /// `OutOfMemory`, without an offset. The events are unchanged then.
-    #[inline(always)]
-    pub fn push_copy(&mut self, alloc: Global, event: Event<'_>) -> Result<(), Error>
-        ensures events { OnOk result (GrowsBy self.old (plain_event event.entry) self.new) }
-        ensures memory { OnlyMemory result }
-        ensures unchanged { OnErr result (plain_events self.new ≡ plain_events self.old) }
-    {
-        self.take_copy(alloc, event)?;
-        Ok(())
     }
 }

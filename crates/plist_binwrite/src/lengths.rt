@@ -1,14 +1,14 @@
 //! The number of bytes of each form. A length of 2^64 or more is `None`.
 
 ghost use Rattle.std.specs.Prelude.{◌≡◌, ◌+◌, ◌*◌, ◌≤◌, ◌<◌, ◌^◌, ℕ, length, None};
-ghost use Rattle.plist_base.specs.Events.{event_of};
 ghost use Rattle.plist_binwrite.specs.Forms.{IsDateBytes, IsInteger, IsReal, IsText, IsWritableScalar, unsigned_form, integer_form, uid_form, length_form, date_form, real_form, text_form};
-ghost use Rattle.plist_binwrite.specs.EventTable.{IfScalar};
 ghost use Rattle.plist_binwrite.specs.Sizes.{IsSizeOrNone, marked_size, scalar_size};
+ghost use Rattle.plist_binwrite.specs.StoredScalars.{scalar_of_ref};
 
+use crate::stored_scalar::ScalarRef;
 use crate::text::{count_units, is_ascii_text};
 use crate::widths::least_width;
-use plist_base::{Date, Event, Integer, RealBits, Uid};
+use plist_base::{Date, Integer, RealBits, Uid};
 use plist_format::LowHalf;
 
 /// Returns the sum of two lengths.
@@ -92,20 +92,19 @@ fn length_of_uid(uid: Uid) -> u64
     1 + least_width(uid.get()) as u64
 }
 
-/// Returns the length of a scalar. For a start or an end the result is unspecified.
-pub fn length_of_scalar(event: &Event<'_>) -> Option<u64>
-    ensures value { IfScalar (event_of event.now) (λ x. IsSizeOrNone result (scalar_size x)) }
-    ensures writable { IfScalar (event_of event.now) IsWritableScalar }
+/// Returns the length of a scalar.
+pub fn length_of_scalar(scalar: ScalarRef<'_>) -> Option<u64>
+    ensures value { IsSizeOrNone result (scalar_size (scalar_of_ref scalar.entry)) }
+    ensures writable { IsWritableScalar (scalar_of_ref scalar.entry) }
 {
-    match event {
-        Event::Boolean(_) => Some(1),
-        Event::Data(data) => length_of_bytes(data.as_slice().len() as u64),
-        Event::Date(date) => Some(length_of_date(*date)),
-        Event::Integer(value) => Some(length_of_integer(*value)),
-        Event::Real(bits) => Some(length_of_real(*bits)),
-        Event::String(text) => length_of_text(text.as_str()),
-        Event::Uid(uid) => Some(length_of_uid(*uid)),
-        Event::StartArray(_) | Event::StartDictionary(_) | Event::EndCollection => Some(0),
+    match scalar {
+        ScalarRef::Boolean(_) => Some(1),
+        ScalarRef::Data(bytes) => length_of_bytes(bytes.len() as u64),
+        ScalarRef::Date(date) => Some(length_of_date(date)),
+        ScalarRef::Integer(value) => Some(length_of_integer(value)),
+        ScalarRef::Real(bits) => Some(length_of_real(bits)),
+        ScalarRef::String(text) => length_of_text(text),
+        ScalarRef::Uid(uid) => Some(length_of_uid(uid)),
     }
 }
 

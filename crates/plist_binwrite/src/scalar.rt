@@ -1,24 +1,26 @@
 //! The bytes of any scalar.
 
-ghost use Rattle.plist_binwrite.specs.ScalarForms.{PutsScalar};
+ghost use Rattle.plist_base.specs.Sinks.{Puts};
+ghost use Rattle.plist_binwrite.specs.Forms.{scalar_form};
+ghost use Rattle.plist_binwrite.specs.StoredScalars.{scalar_of_ref};
 
 use crate::forms::{put_boolean, put_data, put_date, put_integer, put_real, put_uid};
+use crate::stored_scalar::ScalarRef;
 use crate::text::put_text;
-use plist_base::{Error, Event, Sink};
+use plist_base::{Error, Sink};
 use std::io::Write;
 
-/// Puts a scalar, and nothing for the start or the end of a collection.
-pub fn put_scalar<W: Write>(sink: &mut Sink<'_, W>, event: &Event<'_>) -> Result<(), Error>
-    ensures { PutsScalar W.contents sink.old event.now result sink.new }
+/// Puts a scalar.
+pub fn put_scalar<W: Write>(sink: &mut Sink<'_, W>, scalar: ScalarRef<'_>) -> Result<(), Error>
+    ensures { Puts W.contents sink.old (scalar_form (scalar_of_ref scalar.entry)) result sink.new }
 {
-    match event {
-        Event::Boolean(value) => put_boolean(sink, *value),
-        Event::Data(data) => put_data(sink, data.as_slice()),
-        Event::Date(date) => put_date(sink, *date),
-        Event::Integer(value) => put_integer(sink, *value),
-        Event::Real(bits) => put_real(sink, *bits),
-        Event::String(text) => put_text(sink, text.as_str()),
-        Event::Uid(uid) => put_uid(sink, *uid),
-        Event::StartArray(_) | Event::StartDictionary(_) | Event::EndCollection => Ok(()),
+    match scalar {
+        ScalarRef::Boolean(value) => put_boolean(sink, value),
+        ScalarRef::Data(bytes) => put_data(sink, bytes),
+        ScalarRef::Date(date) => put_date(sink, date),
+        ScalarRef::Integer(value) => put_integer(sink, value),
+        ScalarRef::Real(bits) => put_real(sink, bits),
+        ScalarRef::String(text) => put_text(sink, text),
+        ScalarRef::Uid(uid) => put_uid(sink, uid),
     }
 }

@@ -4,7 +4,7 @@ ghost use Rattle.std.specs.Prelude.{◌≡◌, false};
 ghost use Rattle.std.proofs.Props.{props};
 ghost use Rattle.plist_binwrite.specs.EventBuffers.{is_whole};
 
-use crate::event_buffer::EventBuffer;
+use crate::event_buffer::{EventBuffer, PushError};
 use crate::sharing::{EqualScalars, Sharing};
 use plist_base::{Error, ErrorKind, Event, Sealed, Writer};
 use std::alloc::Global;
@@ -84,11 +84,14 @@ impl<W: Write, S: Sharing> Writer for FileWriter<W, S> {
             return Err(ErrorKind::WriterFailed.without_position());
         }
         match self.pending.try_push(self.alloc, event) {
-            Ok(None) => {}
-            Ok(Some(refusal)) => return Err(refusal),
-            Err(error) => {
+            Ok(()) => {}
+            Err(PushError::Misplaced { expected, found }) => {
+                let kind = ErrorKind::UnexpectedEventType { expected, found };
+                return Err(kind.without_position());
+            }
+            Err(PushError::OutOfMemory) => {
                 self.has_failed = true;
-                return Err(error);
+                return Err(ErrorKind::OutOfMemory.without_position());
             }
         }
         if self.pending.is_whole() {

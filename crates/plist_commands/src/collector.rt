@@ -1,32 +1,34 @@
 //! The visitor that buffers the events of a property list until all have come.
 
-ghost use Rattle.std.specs.Prelude.{◌≡◌, Bool, IfErr, List, false, true};
+ghost use Rattle.std.specs.Prelude.{◌≡◌, false, true};
 ghost use Rattle.plist_base.specs.Bracketing.{CanContinue};
 ghost use Rattle.plist_base.specs.Events.{event_of};
-ghost use Rattle.plist_base.specs.Outcomes.{OnlyMemory};
 ghost use Rattle.plist_binwrite.specs.EventBuffers.{TestsWhole, buffered_events, is_whole};
 ghost use Rattle.plist_commands.specs.Converting.{IfOkIs};
 ghost use Rattle.plist_commands.specs.Holding.{HoldsMore};
 
 use plist_base::{Error, Event, EventVisitor, Visited};
-use plist_binwrite::event_buffer::EventBuffer;
-use std::alloc::Global;
+use plist_binwrite::event_buffer::{EventBuffer, PushError};
+use std::alloc::{AllocError, Global};
 use std::mem;
 use std::ops::ControlFlow;
 
 // Buffers the next event. If it can't come here, nothing changes.
 #[inline(always)]
-fn take(alloc: Global, pending: &mut EventBuffer, event: Event<'_>) -> Result<bool, Error>
+fn take(alloc: Global, pending: &mut EventBuffer, event: Event<'_>) -> Result<bool, AllocError>
     ensures taken { IfOkIs result true (HoldsMore (is_whole pending.new) (buffered_events pending.old)
         (event_of event.entry) (buffered_events pending.new)) }
     ensures refused { TestsWhole (is_whole pending.old) (buffered_events pending.old)
         → IfOkIs result false (CanContinue (buffered_events pending.old) (event_of event.entry) → ⊥) }
-    ensures memory { OnlyMemory result }
 {
     if pending.is_whole() {
         return Ok(false);
     }
-    Ok(pending.try_push(alloc, event)?.is_none())
+    match pending.try_push(alloc, event) {
+        Ok(()) => Ok(true),
+        Err(PushError::Misplaced { .. }) => Ok(false),
+        Err(PushError::OutOfMemory) => Err(AllocError),
+    }
 }
 
 /// Why a collector wants no more events.
@@ -139,7 +141,7 @@ impl EventVisitor for Collector {
         match take(self.alloc, &mut self.pending, event) {
             Ok(true) => self.go_on(),
             Ok(false) => self.end(StopReason::Misplaced),
-            Err(error) => self.end(StopReason::Failed(error)),
+            Err(error) => self.end(StopReason::Failed(Error::from(error))),
         }
     }
 }

@@ -3,8 +3,9 @@
 use Rattle.std.specs.Prelude.{◌≡◌, ℕ, ◌+◌, ◌<◌, ◌==◌, Bool, true, false, List, [], ◌∷◌, ◌++◌, length, get_or, set, map, reverse, None, Some, slice_get}
 use Rattle.std.specs.List.{list_any}
 use Rattle.plist_base.specs.Bracketing.{without_length}
-use Rattle.plist_base.specs.declared.event.Event.{Event}
-use Rattle.plist_base.specs.Events.{PlainEvent, event_of, StartArray, StartDictionary, EndCollection, ScalarEvent}
+use Rattle.plist_base.specs.Events.{PlainEvent, StartArray, StartDictionary, EndCollection, ScalarEvent}
+use Rattle.plist_binwrite.specs.StoredScalars.{scalar_event}
+use Rattle.plist_binwrite.specs.declared.stored_scalar.StoredScalar.{StoredScalar}
 use Rattle.plist_binwrite.specs.inner.UnclosedStarts.{unclosed_after, skip_after}
 use Rattle.plist_binwrite.specs.declared.entries.EventEntry.{EventEntry}
 use Rattle.plist_binwrite.specs.declared.entries.EventEntry.TheVariants as entry
@@ -90,5 +91,5 @@ pub record IsValidTable (scalars : List PlainEvent) (entries : List EventEntry)
   pub entries_are : AreEntriesOf scalars entries unclosed
 
 -- what is always true, for events that are the different scalars
-abbrev pub AreValidEntries : List Event → List EventEntry → (unclosed : List ℕ) → Type 0
-AreValidEntries scalars entries unclosed = IsValidTable (map event_of scalars) entries unclosed
+abbrev pub AreValidEntries : List StoredScalar → List EventEntry → (unclosed : List ℕ) → Type 0
+AreValidEntries scalars entries unclosed = IsValidTable (map scalar_event scalars) entries unclosed

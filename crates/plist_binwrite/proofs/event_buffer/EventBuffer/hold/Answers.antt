@@ -5,18 +5,17 @@ use Rattle.plist_binwrite.proofs.event_buffer.EventBuffer.hold.Goals as goal
 pub invariant_of-self-2 : goal.invariant_of-self-2
 invariant_of-self-2 c = record {
   wanted = expects_next c.args.self.now (event_of c.args.event) c.requires.still c.requires.accepted
-      (rw c.expect_scalars.ensures.events at c.in_ok-push_copy.ensures.events) c.requires.change
+      (rw c.make_room.ensures.events at c.in_ok-push_copy.ensures.events) c.requires.change
       c.next_expected-self.ensures;
 }
 
 pub returns : goal.returns
 returns c =
-    let more = rw c.expect_scalars.ensures.events at c.in_ok-push_copy.ensures.events in
+    let more = rw c.make_room.ensures.events at c.in_ok-push_copy.ensures.events in
     record {
       taken = (
         more,
         tests_next c.args.self.now (event_of c.args.event) c.requires.still c.requires.accepted more
             c.requires.change c.next_expected-self.ensures,
       );
-      memory = tt;
     }

@@ -1,14 +1,17 @@
-use Rattle.std.proofs.Common.{refl, sym, ◌∙◌}
+use Rattle.std.proofs.Common.{ap, refl, sym, ◌∙◌}
 use Rattle.std.proofs.lemmas.Result.{err_from_is_err_and}
 use Rattle.plist_base.specs.Events.{event_of}
+use Rattle.plist_base.specs.Faults.{UnexpectedEventType, fault_nowhere}
+use Rattle.plist_binwrite.specs.EventBuffers.{buffered_events, expected_instead}
 use Rattle.plist_binwrite.proofs.Buffered.{can_take, cannot_take}
 use Rattle.plist_binwrite.proofs.event_buffer.EventBuffer.try_push.Goals as goal
 
 pub returns-in-Refused-clause-refused : goal.returns-in-Refused-clause-refused
-returns-in-Refused-clause-refused c = (
+returns-in-Refused-clause-refused c = rw c.error_of_kind.ensures (
   (
     cannot_take c.args.self.now _ c.requires.still (sym c.change_on-change.ensures ∙ c.in-Refused.is),
-    c.fault_of_event.ensures,
+    ap (λ found. fault_nowhere (UnexpectedEventType (expected_instead
+        (buffered_events c.args.self.now)) found)) c.of_event.ensures,
   ),
   refl,
 )
@@ -25,21 +28,17 @@ pub returns-in_err-hold-in-Popped : goal.returns-in_err-hold-in-Popped
 returns-in_err-hold-in-Popped c =
     let p = err_from_is_err_and c.from_residual.result c.from_residual.ensures.1 in
     rw (p.1, p.2) (record {
-      refused = tt;
       taken = tt;
-      accepted = can_take c.args.self.now (event_of c.args.event) c.requires.still
+      refused = can_take c.args.self.now (event_of c.args.event) c.requires.still
           (rw (← c.change_on-change.ensures) c.in-Popped.is);
-      memory = c.in_err-hold-in-Popped.ensures.memory;
     })
 
 pub returns-in_ok-hold-in-Popped : goal.returns-in_ok-hold-in-Popped
 returns-in_ok-hold-in-Popped c = record {
-  refused = tt;
-  taken = λ none. (
+  taken = (
     can_take c.args.self.now (event_of c.args.event) c.requires.still
         (rw (← c.change_on-change.ensures) c.in-Popped.is),
     c.in_ok-hold-in-Popped.ensures.taken,
   );
-  accepted = tt;
-  memory = tt;
+  refused = tt;
 }

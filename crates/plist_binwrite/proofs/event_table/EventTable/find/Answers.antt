@@ -1,17 +1,19 @@
 use Rattle.std.proofs.Common.{◌≡◌, ℕ, List, Option, None, Some, map, position, sym}
 use Rattle.std.specs.Prelude.{IfSome, slice_get}
-use Rattle.plist_base.specs.declared.event.Event.{Event}
-use Rattle.plist_base.specs.Events.{event_of}
-use Rattle.plist_base.specs.inner.Hashing.{eq_of_events, same_event}
+use Rattle.plist_binwrite.specs.StoredScalars.{scalar_event}
+use Rattle.plist_binwrite.specs.declared.stored_scalar.StoredScalar.{StoredScalar}
+use Rattle.plist_binwrite.specs.inner.StoredEquality.{stored_eq, stored_same}
 use Rattle.plist_binwrite.proofs.Keyed.{key_found}
 use Rattle.plist_binwrite.proofs.event_table.EventTable.find.Goals as goal
 
-there : (keys : List Event) (x : Event) (r : Option ℕ) → r ≡ position (eq_of_events x) keys
-    → IfSome r (λ index. slice_get (map event_of keys) index ≡ Some (event_of x))
+there : (keys : List StoredScalar) (x : StoredScalar) (r : Option ℕ)
+    → r ≡ position (stored_eq x) keys
+    → IfSome r (λ index. slice_get (map scalar_event keys) index ≡ Some (scalar_event x))
 there keys x None e = tt
-there keys x (Some i) e = key_found eq_of_events event_of keys i x (same_event x) (sym e)
+there keys x (Some i) e =
+    key_found stored_eq scalar_event (stored_eq x) (scalar_event x) (stored_same x) keys i (sym e)
 
 pub returns : goal.returns
 returns c =
-    there c.args.self.now.scalars.keys c.args.event.now c.get_index_of.result
+    there c.args.self.now.scalars.keys c.args.scalar.now c.get_index_of.result
     c.get_index_of.ensures.index

@@ -1,8 +1,8 @@
-use Rattle.std.proofs.Common.{take, ap, ◌∙◌, arith, length}
-use Rattle.plist_base.specs.Events.{event_of}
-use Rattle.plist_base.specs.inner.Hashing.{eq_of_events, same_event}
+use Rattle.std.proofs.Common.{take, ap, ◌∙◌, arith, length, refl}
+use Rattle.plist_binwrite.specs.StoredScalars.{scalar_event}
+use Rattle.plist_binwrite.specs.inner.StoredEquality.{same_stored, stored_eq, stored_same}
 use Rattle.plist_binwrite.proofs.HeldEntries.{kept_scalar, scalar_shown}
-use Rattle.plist_binwrite.proofs.Keyed.{event_same, key_at, key_came, keys_apart, keys_back, keys_more}
+use Rattle.plist_binwrite.proofs.Keyed.{key_at, key_came, keys_apart, keys_back, keys_more}
 use Rattle.plist_binwrite.proofs.event_table.EventTable.scalar.Goals as goal
 
 pub invariant_of-self : goal.invariant_of-self
@@ -13,14 +13,14 @@ invariant_of-self c =
     let h = c.in-Ok.ensures.stored in
     record {
       kept = rw c.in-Ok-push.ensures.pushed
-          (kept_scalar s.kept _ (keys_more eq_of_events event_of _ s.scalars.keys keys c.args.event
+          (kept_scalar s.kept _ (keys_more stored_eq scalar_event _ s.scalars.keys keys c.args.scalar
           more).1
-          _ c.requires
-          (key_at eq_of_events event_of keys c.in-Ok.index c.args.event h.0
-          (same_event c.args.event h.0)
+          _ refl
+          (key_at stored_eq scalar_event keys c.in-Ok.index c.args.scalar h.0
+          (stored_same c.args.scalar h.0)
           h.1 h.2)
-          (keys_apart eq_of_events event_of event_same keys c.in-Ok.ensures.unique)
-          (key_came eq_of_events event_of _ s.scalars.keys keys c.args.event more));
+          (keys_apart stored_eq scalar_event same_stored keys c.in-Ok.ensures.unique)
+          (key_came stored_eq scalar_event _ s.scalars.keys keys c.args.scalar more));
       few = c.in-Ok-push.ensures.small;
     }
 
@@ -30,7 +30,7 @@ invariant_of-self-in-Err-push c =
     let keys = c.insert_full.new.self.keys in
     let back
     = c.truncate.ensures.keys ∙ ap (λ n. take n keys) c.len-before.ensures.len
-    ∙ keys_back eq_of_events event_of _ s.scalars.keys keys c.args.event c.in-Ok.ensures.keys in
+    ∙ keys_back stored_eq scalar_event _ s.scalars.keys keys c.args.scalar c.in-Ok.ensures.keys in
     record {
       kept = rw back (rw c.in-Err-push.ensures.unchanged s.kept);
       few = omega (arith, ap length c.in-Err-push.ensures.unchanged, s.few);
@@ -43,8 +43,8 @@ returns-in-Ok-push-clause-events c =
     let h = c.in-Ok.ensures.stored in
     rw c.in-Ok-push.ensures.pushed
     (scalar_shown s.kept _
-    (keys_more eq_of_events event_of _ s.scalars.keys keys c.args.event c.in-Ok.ensures.keys).1 _
-    c.requires
-    (key_at eq_of_events event_of keys c.in-Ok.index c.args.event h.0
-    (same_event c.args.event h.0) h.1
+    (keys_more stored_eq scalar_event _ s.scalars.keys keys c.args.scalar c.in-Ok.ensures.keys).1 _
+    refl
+    (key_at stored_eq scalar_event keys c.in-Ok.index c.args.scalar h.0
+    (stored_same c.args.scalar h.0) h.1
     h.2))

@@ -6,16 +6,18 @@ use Rattle.plist_binwrite.specs.EventTable.{plain_events}
 use Rattle.plist_binwrite.proofs.Calls.{takes_refused, takes_unsent, takes_whole, same_state}
 use Rattle.plist_binwrite.proofs.writer.FileWriterWriter.write.Goals as goal
 
-pub returns-in-Ok-Some : goal.returns-in-Ok-Some
-returns-in-Ok-Some g c =
-    let r = rw c.in-Ok-Some.field-0-is at c.in-Ok-Some.ensures.refused in
+pub returns-in-Err-Misplaced : goal.returns-in-Err-Misplaced
+returns-in-Err-Misplaced g c =
+    let r = rw c.in-Err-Misplaced.field-0-is at c.in-Err-Misplaced.ensures.refused in
     takes_refused g.S.Sharing.IsFile g.S.Sharing.size g.W.Write.contents
-    c.args.self.now _ (event_of c.args.event) (search rules) (fault_of c.in-Ok-Some.refusal)
-    r.0.0 r.0.1 (same_state c.args.self.now c.try_push.new.self r.1 _)
+    c.args.self.now _ (event_of c.args.event) (search rules)
+    (fault_of c.without_position-in-Err-Misplaced.result) r.0.0
+    (c.without_position-in-Err-Misplaced.ensures.fault ∙ r.0.1)
+    (same_state c.args.self.now c.try_push.new.self r.1 _)
 
 pub returns-in_err-complete : goal.returns-in_err-complete
 returns-in_err-complete g c =
-    let t = c.in-Ok-None.ensures.taken c.in-Ok-None.field-0-is in
+    let t = c.in-Ok.ensures.taken in
     let p = err_from_is_err_and c.from_residual.result c.from_residual.ensures.1 in
     rw (p.1, p.2) (takes_unsent g.S.Sharing.IsFile g.S.Sharing.size g.W.Write.contents
     c.args.self.now _ (event_of c.args.event) (search rules) (plain_events c.events.result.now)
@@ -23,7 +25,7 @@ returns-in_err-complete g c =
 
 pub returns-in_ok-complete : goal.returns-in_ok-complete
 returns-in_ok-complete g c =
-    let t = c.in-Ok-None.ensures.taken c.in-Ok-None.field-0-is in
+    let t = c.in-Ok.ensures.taken in
     takes_whole _ g.S.Sharing.size g.W.Write.contents
     _ _ _ (search rules) _
     t.0 (c.events.ensures ∙ t.1.0) refl c.clear.ensures.events c.in_ok-complete.ensures

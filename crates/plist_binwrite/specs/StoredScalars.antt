@@ -1,0 +1,36 @@
+-- What contracts see of the scalars of a table.
+use Rattle.std.specs.String.{string_bytes}
+use Rattle.plist_base.specs.Events.{PlainEvent, ScalarEvent}
+use Rattle.plist_base.specs.Trees.{Scalar, Boolean, Data, Date, Integer, Real, String, Uid}
+use Rattle.plist_binwrite.specs.declared.stored_scalar.ScalarRef.{ScalarRef}
+use Rattle.plist_binwrite.specs.declared.stored_scalar.ScalarRef.TheVariants as lent
+use Rattle.plist_binwrite.specs.declared.stored_scalar.StoredScalar.{StoredScalar}
+use Rattle.plist_binwrite.specs.declared.stored_scalar.StoredScalar.TheVariants as stored
+
+-- a scalar whose string or data is borrowed
+abbrev pub scalar_of_ref : ScalarRef → Scalar
+scalar_of_ref (lent.Boolean value) = Boolean value
+scalar_of_ref (lent.Data bytes) = Data bytes.now
+scalar_of_ref (lent.Date date) = Date date
+scalar_of_ref (lent.Integer value) = Integer value
+scalar_of_ref (lent.Real bits) = Real bits
+scalar_of_ref (lent.String text) = String text.now
+scalar_of_ref (lent.Uid uid) = Uid uid
+
+-- a stored scalar
+abbrev pub scalar_of : StoredScalar → Scalar
+scalar_of (stored.Boolean value) = Boolean value
+scalar_of (stored.Date date) = Date date
+scalar_of (stored.Integer value) = Integer value
+scalar_of (stored.Real bits) = Real bits
+scalar_of (stored.Uid uid) = Uid uid
+scalar_of (stored.ShortString text) = String text
+scalar_of (stored.BorrowedString text) = String text.now
+scalar_of (stored.OwnedString text) = String (string_bytes text)
+scalar_of (stored.ShortData bytes) = Data bytes
+scalar_of (stored.BorrowedData bytes) = Data bytes.now
+scalar_of (stored.OwnedData bytes) = Data bytes.items
+
+-- its event
+abbrev pub scalar_event : StoredScalar → PlainEvent
+scalar_event scalar = ScalarEvent (scalar_of scalar)

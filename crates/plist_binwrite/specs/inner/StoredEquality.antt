@@ -1,0 +1,38 @@
+-- Equal scalars of a table have the same content, and so they write the same to a hasher.
+use Rattle.std.proofs.Common.{◌≡◌, Bool, true, ap, sym, subst}
+use Rattle.std.specs.Cmp.{IsEquivalence, both_ways}
+use Rattle.plist_base.specs.Events.{ScalarEvent}
+use Rattle.plist_base.specs.Scalars.{scalar_eq, scalar_is, scalar_refl, writes_of_scalar}
+use Rattle.plist_base.specs.Trees.{Scalar}
+use Rattle.plist_binwrite.specs.declared.stored_scalar.StoredScalar.{StoredScalar}
+use Rattle.plist_binwrite.specs.StoredScalars.{scalar_of, scalar_event}
+
+-- ---- scalars
+
+eq_from_is : (a b : Scalar) → a ≡ b → scalar_eq a b ≡ true
+eq_from_is a b e = subst (λ c. scalar_eq a c ≡ true) e (scalar_refl a)
+
+pub scalars_equiv : IsEquivalence scalar_eq
+scalars_equiv = record {
+  refl = scalar_refl;
+  symm = λ a b. both_ways (scalar_eq a b) (scalar_eq b a)
+      (λ h. eq_from_is b a (sym (scalar_is a b h)))
+      (λ h. eq_from_is a b (sym (scalar_is b a h)));
+  congr = λ a b c h. ap (λ d. scalar_eq d c) (scalar_is a b h);
+}
+
+pub same_writes : (a b : Scalar) → scalar_eq a b ≡ true → writes_of_scalar a ≡ writes_of_scalar b
+same_writes a b h = ap writes_of_scalar (scalar_is a b h)
+
+-- ---- stored scalars
+
+abbrev pub stored_eq : StoredScalar → StoredScalar → Bool
+stored_eq a b = scalar_eq (scalar_of a) (scalar_of b)
+
+-- equal ones have the same event
+pub stored_same : (a b : StoredScalar) → stored_eq a b ≡ true → scalar_event a ≡ scalar_event b
+stored_same a b h = ap ScalarEvent (scalar_is (scalar_of a) (scalar_of b) h)
+
+-- and ones with the same event are equal
+pub same_stored : (a b : StoredScalar) → scalar_event a ≡ scalar_event b → stored_eq a b ≡ true
+same_stored a b h = eq_from_is (scalar_of a) (scalar_of b) (cc)
