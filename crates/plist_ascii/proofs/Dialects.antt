@@ -10,7 +10,8 @@ use Rattle.plist_ascii.specs.Ascii.{lead_of, token, token_by, OnlyBareTextsDiffe
 -- the token that c begins doesn't depend on the stops, or is a bare string
 abbrev Alike : Lead → ℕ → List ℕ → Type 0
 Alike l c rest =
-    ((stops : ℕ → Bool) → past_one (token_by stops l c rest) ≡ past_one (token_by lax_stops l c rest))
+    ((stops : ℕ → Bool) → past_one (token_by stops l c rest) ≡ past_one
+    (token_by lax_stops l c rest))
     ⊎ ((stops : ℕ → Bool) → past_one (token_by stops l c rest) ≡ past_one (bare stops c rest))
 
 -- a slash begins a comment, which doesn't depend on the stops, or a bare string

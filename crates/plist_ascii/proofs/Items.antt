@@ -1,11 +1,16 @@
 -- Items, token by token.
 use Rattle.std.proofs.Common.{◌≡◌, ℕ, zero, suc, ◌+◌, ◌-◌, ◌≤◌, Bool, true, false, List, [], ◌∷◌, length, drop, map, Option, None, Some, Result, Ok, Err, refl, sym, ap, subst, ◌∙◌, arith, rules, length-drop}
-use Rattle.std.specs.Prelude.{not}
 use Rattle.std.proofs.lemmas.List.{drop-drop}
-use Rattle.plist_base.specs.Faults.{FaultKind, Fault, fault_at}
+use Rattle.plist_base.specs.Faults.{FaultKind, Fault, MatchFault, fault_at}
+use Rattle.std.specs.Prelude.{IfSome, MatchOption, not}
+use Rattle.std.specs.Option.{option_map}
+use Rattle.plist_ascii.specs.declared.fault.TokenFault.{TokenFault}
+use Rattle.plist_ascii.specs.declared.fault.TokenFault.TheVariants as broken
+use Rattle.plist_ascii.specs.inner.TokenFaults.{kind_in_bytes, fault_after}
 use Rattle.plist_base.specs.Events.{PlainEvent, Item}
 use Rattle.plist_ascii.specs.Taken.{taken, run}
 use Rattle.plist_ascii.specs.Texts.{Token}
+use Rattle.plist_ascii.specs.Unread.{TakesFront}
 use Rattle.plist_ascii.specs.declared.token.Lead.{Lead}
 use Rattle.plist_ascii.specs.declared.token.Lead.TheVariants as lead
 use Rattle.plist_ascii.specs.Ascii.{PlacedItem, placed, begins_nothing, is_blank, item_then, items_in, items_of_ascii, placed_items, token, token_by, lead_of, IsTextToken, BeginsWithText, FirstIsQuoted}
@@ -130,6 +135,30 @@ module _ {stops : ℕ → Bool} {xs : List ℕ} {p : ℕ} {ys : List ℕ} {m c :
     pub going_quoted : {x : PlainEvent} → token_here.gives ≡ Ok (Some x)
         → FirstIsQuoted (placed_items stops xs p) → lead_of c ≡ lead.Quote
     going_quoted g first = subst FirstIsQuoted (going_by _ g) first
+
+  -- an error ends the reader, or is the first item
+  pub going_error : (n q r : ℕ) → r ≡ q → n ≡ m + 1 → (f : TokenFault) (fault : Fault) (E : Type 0)
+      (mid new : Option (List ℕ)) → fault ≡ fault_after f q
+      → IfSome (option_map (λ kind. Err kind) (kind_in_bytes f))
+      (λ g. TakesFront token_here g mid n q cs)
+      → (f ≡ broken.OutOfMemory → IsTextToken token_here.gives)
+      → MatchOption (kind_in_bytes f) (E × (new ≡ Some [])) (λ _. new ≡ mid)
+      → (rest : List ℕ) × (new ≡ Some rest) × MatchFault fault.kind (rest ≡ [])
+      ((rest ≡ []) × BeginsWithText (items_of_ascii stops xs p))
+      (BeginsWithItem stops xs p (Err fault) rest r)
+  going_error n q r same t broken.Io fault E mid new i g w ends = ([], ends.1, rw (same, i) refl)
+  going_error n q r same t broken.OutOfMemory fault E mid new i g w ends =
+      ([], ends.1, rw (same, i) (refl, going_text (w refl)))
+  going_error n q r same t broken.UnclosedString fault E mid new i g w ends =
+      (_, ends ∙ g.1, rw (same, i) (going_fault t g.2 refl g.0))
+  going_error n q r same t broken.IncompleteComment fault E mid new i g w ends =
+      (_, ends ∙ g.1, rw (same, i) (going_fault t g.2 refl g.0))
+  going_error n q r same t broken.InvalidUtf8 fault E mid new i g w ends =
+      (_, ends ∙ g.1, rw (same, i) (going_fault t g.2 refl g.0))
+  going_error n q r same t broken.InvalidOctal fault E mid new i g w ends =
+      (_, ends ∙ g.1, rw (same, i) (going_fault t g.2 refl g.0))
+  going_error n q r same t broken.InvalidUtf16 fault E mid new i g w ends =
+      (_, ends ∙ g.1, rw (same, i) (going_fault t g.2 refl g.0))
 
 -- blanks give nothing
 pub going_blanks : {stops : ℕ → Bool} {xs : List ℕ} {p : ℕ} {ys : List ℕ} {m : ℕ}

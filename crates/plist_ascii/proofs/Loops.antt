@@ -9,7 +9,7 @@ use Rattle.plist_ascii.specs.Unread.{unread, IfKnown, TakesFront}
 use Rattle.std.proofs.lemmas.Bool.{eq-eqb}
 use Rattle.std.proofs.lemmas.List.Folds.{prefix_len-append}
 use Rattle.std.proofs.Math.Seq.{take-append-add, drop-append-add}
-use Rattle.std.specs.Prelude.{◌==◌, not}
+use Rattle.std.specs.Prelude.{◌==◌}
 use Rattle.std.specs.Option.{option_map}
 use Rattle.plist_ascii.specs.Comments.{close_at, begins_with, block_comment, block_comment_to}
 use Rattle.plist_ascii.specs.Texts.{Token}
@@ -103,11 +103,6 @@ module _ {stop : ℕ → Bool} {old more xs : List ℕ} {p : ℕ} {ys : List ℕ
         place = omega (arith, n, s, on.place);
       }
 
-  -- a byte that is no stop was taken
-  pub runs_byte : {c r : ℕ} {zs all : List ℕ} → ys ≡ c ∷ zs → stop c ≡ false
-      → all ≡ more ++ c ∷ [] → r ≡ q + 1 → RunsOn stop old all xs p zs r
-  runs_byte {c} {zs} e h is s = runs_part (c ∷ []) zs e (rw h refl) is s
-
   -- a stop is next, or nothing
   pub runs_end : run stop ys ≡ 0 → (more ≡ old ++ take (run stop xs) xs)
       × (ys ≡ drop (run stop xs) xs) × (q ≡ p + run stop xs)
@@ -185,20 +180,6 @@ stop_next stop (b ∷ bs) c zs e = by_stop (stop b) refl (λ h. stop_next stop b
         let one : 1 + n ≡ suc n = omega arith in
         on (rw (t, one) at e)
 
-not_false : (b : Bool) → not b ≡ false → b ≡ true
-not_false true e = refl
-not_false false e = cc
-
-no_slash : (zs : List ℕ) → run (λ d. not (d == 47)) zs ≡ 0 → begins_with 47 zs ≡ false
-no_slash [] e = refl
-no_slash (d ∷ ds) e = by_test (d == 47) refl
-  where
-    by_test : (b : Bool) → (d == 47) ≡ b → (d == 47) ≡ false
-    by_test false t = t
-    by_test true t =
-        let some : 1 + run (λ d. not (d == 47)) ds ≡ 0 = rw t at e in
-        absurd (let none : ⊥ = omega arith in none)
-
 module _ (xs : List ℕ) {c : ℕ} {zs : List ℕ} (e : drop (run is_star xs) xs ≡ c ∷ zs) where
   star_here : (c == 42) ≡ true
   star_here = stop_next is_star xs c zs e
@@ -209,21 +190,18 @@ module _ (xs : List ℕ) {c : ℕ} {zs : List ℕ} (e : drop (run is_star xs) xs
       ∙ ap (past (run is_star xs)) h
 
   -- a slash after the star closes it
-  pub star_closes : {d : ℕ} {ws : List ℕ} {new : Option (List ℕ)} → zs ≡ d ∷ ws
-      → not (d == 47) ≡ false → new ≡ Some ws
+  pub star_closes : {ws : List ℕ} {new : Option (List ℕ)} → zs ≡ 47 ∷ ws → new ≡ Some ws
       → (block_comment xs ≡ taken (run is_star xs + 2) (Ok None))
       × (new ≡ Some (drop (run is_star xs + 2) xs))
-  star_closes {d} {ws} s f u =
-      let slash : (d == 47) ≡ true = not_false (d == 47) f in
-      let closes : block_comment (c ∷ zs) ≡ taken 2 (Ok None) = rw (s, star_here, slash) refl in
+  star_closes {ws} s u =
+      let closes : block_comment (c ∷ zs) ≡ taken 2 (Ok None) = rw (s, star_here) refl in
       let rest : drop 2 (drop (run is_star xs) xs) ≡ ws = rw (e, s) refl in
       (at_star closes, u ∙ ap Some (sym rest ∙ drop-drop 2 (run is_star xs) xs))
 
   -- all else leaves it open
-  pub star_opens : {new : Option (List ℕ)} → run (λ d. not (d == 47)) zs ≡ 0 → new ≡ Some zs
+  pub star_opens : {new : Option (List ℕ)} → begins_with 47 zs ≡ false → new ≡ Some zs
       → OpenPast xs (run is_star xs + 1) × (new ≡ Some (drop (run is_star xs + 1) xs))
-  star_opens none u =
-      let s : begins_with 47 zs ≡ false = no_slash zs none in
+  star_opens s u =
       let opens : block_comment (c ∷ zs) ≡ past_one (block_comment zs) =
       rw (star_here, s) (after_star c zs false (close_at zs)) in
       let front : drop 1 (drop (run is_star xs) xs) ≡ zs = rw e refl in

@@ -1,18 +1,18 @@
 -- The meaning of strings, which tokens are strings, and what a slash begins.
-use Rattle.std.proofs.Common.{◌≡◌, ℕ, ◌+◌, List, true, false, Option, Some, Ok, Err, refl, ◌<◌, None, ap, sym, subst, ◌∙◌, arith, zero, suc, Bool, cond, [], ◌∷◌, ◌++◌, take, drop, Result, ◌≢◌, vec_items}
-use Rattle.std.specs.declared.alloc.Global.{Global}
-use Rattle.std.specs.declared.vec.Vec.{Vec}
-use Rattle.plist_base.specs.declared.error.Error.{Error}
+use Rattle.std.proofs.Common.{◌≡◌, ℕ, ◌+◌, ◌≤◌, List, true, false, Option, Some, Ok, Err, refl, ◌<◌, None, ap, sym, subst, ◌∙◌, arith, zero, suc, Bool, cond, [], ◌∷◌, ◌++◌, take, drop, Result, ◌≢◌}
 use Rattle.plist_base.specs.declared.event.Event.{Event}
 use Rattle.plist_ascii.specs.inner.Inputs.{IfCame}
+use Rattle.plist_ascii.specs.inner.TokenFaults.{Means, said}
 use Rattle.std.specs.Str.{is_utf8}
-use Rattle.plist_base.specs.declared.error.ErrorKind.{ErrorKind}
-use Rattle.plist_base.specs.Faults.{InvalidUtf8AsciiStream, kind_of, FaultKind, UnclosedString}
+use Rattle.plist_ascii.specs.declared.fault.TokenFault.{TokenFault}
+use Rattle.plist_ascii.specs.declared.fault.TokenFault.TheVariants as fault
+use Rattle.plist_base.specs.Faults.{InvalidUtf8AsciiStream, FaultKind, UnclosedString}
+use Rattle.std.specs.Option.{option_map}
 use Rattle.plist_base.specs.Events.{PlainEvent, StartArray, StartDictionary, EndCollection, ScalarEvent, event_of}
 use Rattle.plist_base.specs.Trees.{Scalar, String}
 use Rattle.std.specs.Prelude.{ℤ, SomeIff, ⊤, ◌==◌, ◌||◌, length, encode_utf8}
 use Rattle.plist_ascii.specs.Texts.{Token, utf8_or_fault, number_or_text, bare, bare_event, quoted_event}
-use Rattle.plist_ascii.specs.Kinds.{IsFaultOfBytes, IsTextEvent, IsAsciiEvent, IfBracket}
+use Rattle.plist_ascii.specs.Kinds.{IsTextEvent, IsAsciiEvent, IfBracket}
 use lib.Utf8.{low_scalar}
 use Rattle.std.specs.Char.{IsScalar, is_digit}
 use Rattle.plist_ascii.specs.Taken.{Taken, taken, past_one, past_outcome, front, front_gives, run}
@@ -29,14 +29,15 @@ pub text_gives : (xs : List ℕ) (e : Scalar) (f : PlainEvent) → is_utf8 xs �
     → IsTextEvent (ScalarEvent e) → (utf8_or_fault xs e ≡ Ok (Some f)) × IsTextEvent f
 text_gives xs e f t h is = rw (t, h) (refl, is)
 
-pub number_is_text : (text : List ℕ) (o : Option ℤ) → IsTextEvent (ScalarEvent (number_or_text text o))
+pub number_is_text : (text : List ℕ) (o : Option ℤ) → IsTextEvent (ScalarEvent
+    (number_or_text text o))
 number_is_text text None = tt
 number_is_text text (Some number) = tt
 
-pub text_fails : (xs : List ℕ) (e : Scalar) (k : ErrorKind) → is_utf8 xs ≡ false
-    → kind_of k ≡ InvalidUtf8AsciiStream → (utf8_or_fault xs e ≡ Err (kind_of k))
-    × IsFaultOfBytes (kind_of k)
-text_fails xs e k t h = rw (t, h) (refl, tt)
+pub text_fails : (xs : List ℕ) (e : Scalar) (f : TokenFault) → is_utf8 xs ≡ false
+    → f ≡ fault.InvalidUtf8 → (f ≡ fault.InvalidUtf8) ×
+    (utf8_or_fault xs e ≡ Err InvalidUtf8AsciiStream)
+text_fails xs e f t h = rw t (h, refl)
 
 pub to_char : (r : Option ℕ) (n : ℕ) → n < 512 → SomeIff r (IsScalar n) n → r ≡ Some n
 to_char None n l h = absurd (h (low_scalar n (omega arith)))
@@ -173,12 +174,12 @@ pub quoted_wants : (quote : ℕ) (xs : List ℕ) → IsTextToken (quoted_token q
 quoted_wants quote xs = outcome_wants (quoted quote xs).gives (quoted_in_text _ _ xs)
 
 -- a bare string begins unless the next byte begins a comment
-pub bare_looked : (stops : ℕ → Bool) (old mid : Option (List ℕ)) (o : Option ℕ) (c : ℕ)
-    → o ≡ Some c → IfKnown old (λ xs. (mid ≡ Some xs) × (o ≡ first xs)) → c ≢ 47 → c ≢ 42
+pub bare_looked : (stops : ℕ → Bool) (old mid : Option (List ℕ)) (c : ℕ)
+    → IfKnown old (λ xs. (mid ≡ Some xs) × (Some c ≡ first xs)) → c ≢ 47 → c ≢ 42
     → IfKnown old (λ xs. (mid ≡ Some xs) × (slash stops xs ≡ bare stops 47 xs))
-bare_looked stops old mid o c is looked a b =
+bare_looked stops old mid c looked a b =
     λ xs e. let h = looked xs e in
-    (h.0, rw (first_splits _ _ xs is h.1, ne_eqb _ _ a, ne_eqb _ _ b) refl)
+    (h.0, rw (first_splits _ xs h.1, ne_eqb _ _ a, ne_eqb _ _ b) refl)
 
 pub slash_wants : (stops : ℕ → Bool) (xs : List ℕ) → slash stops xs ≡ bare stops 47 xs
     → IsTextToken (slash stops xs).gives
@@ -195,13 +196,44 @@ quoted_means quote text g new p q xs m h = (ap quoted_outcome h.0 ∙ m, h.1, h.
 
 -- the faults of a quoted string are those of its bytes
 pub quoted_stops : (quote : ℕ) (old : Option (List ℕ)) (p : ℕ) (new : Option (List ℕ)) (q : ℕ)
-    (f : Error) → GivesFront {X = Vec ℕ Global} vec_items (quoted quote) old p new q (Err f)
-    → GivesFront {X = Event} (λ e. Some (event_of e)) (quoted_token quote) old p new q (Err f)
-quoted_stops quote old p new q f a = (
-  a.0,
-  a.1,
-  λ d xs e. let k = a.2 d xs e in (ap quoted_outcome k.0, k.1, k.2),
+    (k : Option FaultKind) → GivesFront (quoted quote) old p new q (option_map (λ kind. Err kind) k)
+    → GivesFront (quoted_token quote) old p new q (option_map (λ kind. Err kind) k)
+quoted_stops quote old p new q None a = (a.0, tt)
+quoted_stops quote old p new q (Some kind) a =
+    (a.0, λ xs e. let k = a.1 xs e in (ap quoted_outcome k.0, k.1, k.2))
+
+-- a bare string becomes an event or a fault
+pub bare_becomes : (stops : ℕ → Bool) (c : ℕ) (old : Option (List ℕ)) (p : ℕ)
+    (new : Option (List ℕ)) (q : ℕ) (none text : List ℕ) (r : Result Event TokenFault) → p ≤ q
+    → none ≡ [] → IfKnown old (λ xs. (text ≡ (none ++ c ∷ []) ++ take (run stops xs) xs)
+    × (new ≡ Some (drop (run stops xs) xs)) × (q ≡ p + run stops xs)) → Means r (bare_event text)
+    → GivesFront (bare stops c) old p new q (said (λ e. Some (event_of e)) r)
+bare_becomes stops c old p new q none text (Ok event) le e k m = (
+  le,
+  λ xs known.
+      let h = k xs known in
+      let same : text ≡ c ∷ take (run stops xs) xs = rw e at h.0 in
+      (ap bare_event (sym same) ∙ m.0, h.1, h.2),
 )
+bare_becomes stops c old p new q none text (Err f) le e k m =
+    rw m.0 (
+      le,
+      λ xs known.
+          let h = k xs known in
+          let same : text ≡ c ∷ take (run stops xs) xs = rw e at h.0 in
+          (ap bare_event (sym same) ∙ m.1, h.1, h.2),
+    )
+
+-- a quoted string becomes an event or a fault
+pub quoted_becomes : (quote : ℕ) (old : Option (List ℕ)) (p : ℕ) (new : Option (List ℕ)) (q : ℕ)
+    (text : List ℕ) (r : Result Event TokenFault) → GivesFront (quoted quote) old p new q (Some
+    (Ok text))
+    → Means r (quoted_event text)
+    → GivesFront (quoted_token quote) old p new q (said (λ e. Some (event_of e)) r)
+quoted_becomes quote old p new q text (Ok event) h m =
+    (h.0, λ xs e. quoted_means quote text _ new p q xs m.0 (h.1 xs e))
+quoted_becomes quote old p new q text (Err f) h m =
+    rw m.0 (h.0, λ xs e. quoted_means quote text _ new p q xs m.1 (h.1 xs e))
 
 -- ---- which token a byte begins
 
@@ -231,13 +263,13 @@ text_no_bracket (StartDictionary length) behind h = absurd h
 text_no_bracket EndCollection behind h = absurd h
 text_no_bracket (ScalarEvent scalar) behind h = tt
 
-pub text_came : (r : Result (Option Event) Error) → IfCame r (λ e. IsTextEvent (event_of e))
+pub text_came : (r : Result (Option Event) TokenFault) → IfCame r (λ e. IsTextEvent (event_of e))
     → IfCame r (λ e. IsAsciiEvent (event_of e))
 text_came (Ok (Some e)) h = text_is_ascii (event_of e) h
 text_came (Ok None) h = tt
 text_came (Err f) h = tt
 
-pub texts_no_bracket : (r : Result (Option Event) Error) (behind : Type 0)
+pub texts_no_bracket : (r : Result (Option Event) TokenFault) (behind : Type 0)
     → IfCame r (λ e. IsTextEvent (event_of e))
     → IfCame r (λ e. IfBracket (event_of e) behind)
 texts_no_bracket (Ok (Some e)) behind h = text_no_bracket (event_of e) behind h

@@ -1,12 +1,15 @@
--- What looking at a byte and taking it do to the bytes that are left.
-use Rattle.std.proofs.Common.{◌≡◌, ℕ, zero, suc, ◌+◌, ◌-◌, ◌^◌, ◌<◌, ◌≤◌, Bool, true, false, List, [], ◌∷◌, ◌++◌, length, take, drop, Option, None, Some, refl, sym, ap, ◌∙◌, rules, arith}
-use Rattle.std.specs.Prelude.{is_some, IfSome, ◌==◌, slice_index_or}
+-- What looking at bytes and taking them do to the bytes that remain.
+use Rattle.std.proofs.Common.{◌≡◌, ℕ, zero, suc, ◌+◌, ◌-◌, ◌^◌, ◌<◌, ◌≤◌, ◌≢◌, Bool, true, false, List, [], ◌∷◌, ◌++◌, length, take, drop, Option, None, Some, refl, sym, ap, ◌∙◌, rules, arith}
+use Rattle.std.specs.Prelude.{is_some, MatchOption, IfSome, ◌==◌, slice_index_or, nat_eq}
 use Rattle.std.specs.Option.{option_map}
 use Rattle.std.specs.Io.KnownBytes.{Consumes}
-use Rattle.std.proofs.lemmas.List.{length-take-le}
+use Rattle.std.proofs.lemmas.List.{length-take, length-take-le, take-append-le, take-append-drop, take_all, drop_at}
 use Rattle.std.proofs.Math.Seq.{take-append-add, take-nil}
-use Rattle.plist_ascii.specs.Incoming.{GivesByte}
+use Rattle.std.proofs.lemmas.Bool.{ne_eqb, eqb-true, eqb-false}
+use Rattle.plist_ascii.specs.Incoming.{GivesByte, StartsWithHeld}
 use Rattle.plist_ascii.specs.Taken.{run}
+use Rattle.plist_ascii.specs.Comments.{begins_with}
+use Rattle.plist_ascii.specs.inner.Inputs.{hand_of}
 use Rattle.plist_ascii.specs.Unread.{unread_of, first, readable_with, IfKnown, FirstIsTaken, TakesPart}
 
 pub ended_unread : (k : Option (List ℕ)) (e : Bool) (p : Option ℕ) (t : ℕ) (xs : List ℕ) → e ≡ true
@@ -49,82 +52,95 @@ one_unread None now c t xs h g = cc
 one_unread (Some a) None c t xs h g = absurd h
 one_unread (Some a) (Some b) c t xs h g = rw (← h) g
 
--- `peek` and `take`
+-- ---- the bytes at hand
 
-abbrev pub Looks : Option (List ℕ) → Option ℕ → List ℕ → Type 0
-Looks now o xs = (now ≡ Some xs) × (o ≡ first xs)
-
-pub none_looks : (now : Option (List ℕ)) (xs : List ℕ) → xs ≡ [] → now ≡ Some xs → Looks now None xs
-none_looks now xs e h = (h, rw e refl)
-
-pub nothing_unread : (k : Option (List ℕ)) (p : Option ℕ) (t : ℕ) → unread_of k true p t ≡ Some []
+nothing_unread : (k : Option (List ℕ)) (p : Option ℕ) (t : ℕ) → unread_of k true p t ≡ Some []
 unfolding unread_of
 nothing_unread k p t = refl
 
-module _ (k : Option (List ℕ)) (e : Bool) (p : Option ℕ) (t : ℕ) (xs : List ℕ) (h : e ≡ false)
-    (g : unread_of k e p t ≡ Some xs) where
-  pub held_looks : (c : ℕ) → p ≡ Some c → t < 2 ^ 64 - 1 → Looks (unread_of k e p t) (Some c) xs
-  held_looks c q l =
-      let known : unread_of k false (Some c) t ≡ Some xs = rw (← h, ← q) g in
-      (g, sym (ap first (held_unread k c t xs l known).1))
+-- the first of two parts, both cut
+cut_front : (m : ℕ) (xs ys : List ℕ) → (zs : List ℕ) × (take m (xs ++ ys) ≡ take m xs ++ zs)
+cut_front zero xs ys = ([], refl)
+cut_front (suc m) [] ys = (take (suc m) ys, refl)
+cut_front (suc m) (c ∷ xs) ys = let h = cut_front m xs ys in (h.0, ap (λ z. c ∷ z) h.1)
 
-  pub end_looks : (now : Option (List ℕ)) → p ≡ None → GivesByte k None now
-      → Looks (unread_of now true p t) None xs
-  end_looks now q r =
-      let known : unread_of k false None t ≡ Some xs = rw (← h, ← q) g in
-      let none = end_unread k _ t xs r known in
-      none_looks _ xs none (nothing_unread _ p t ∙ ap Some (sym none))
+pub ended_hand : (held : List ℕ) (e : Bool) (p : Option ℕ) (t : ℕ) → e ≡ true
+    → [] ≡ hand_of held e p t
+unfolding hand_of
+ended_hand held e p t h = rw h refl
 
--- the first of the buffered bytes was read
-pub one_consumed : (k now : Option (List ℕ)) (hand held : List ℕ) → hand ≡ held
-    → (length hand == 0) ≡ false → Consumes k now (take 1 held)
-    → GivesByte k (Some (slice_index_or hand 0 0)) now
-one_consumed k now [] held e some h = cc
-one_consumed k now (c ∷ cs) held e some h = rw (← e) at h
+pub full_hand : (held : List ℕ) (e : Bool) (p : Option ℕ) (t : ℕ) → 2 ^ 64 - 1 - t ≡ 0
+    → [] ≡ hand_of held e p t
+unfolding hand_of
+full_hand held true p t h = refl
+full_hand held false None t h = rw h refl
+full_hand held false (Some b) t h = rw h refl
 
-pub one_looks : (k now : Option (List ℕ)) (e : Bool) (p : Option ℕ) (c t : ℕ) (xs : List ℕ)
-    → e ≡ false → p ≡ None → t < 2 ^ 64 - 1 → GivesByte k (Some c) now
-    → unread_of k e p t ≡ Some xs → Looks (unread_of now e (Some c) t) (Some c) xs
-one_looks k now e p c t xs h q room r g =
-    let known : unread_of k false None t ≡ Some xs = rw (← h, ← q) g in
-    let read : unread_of now false (Some c) t ≡ Some xs = one_unread k _ c t xs r known in
-    held_looks _ e _ t xs h (rw h read) c refl room
+-- the byte that was looked at is at hand
+pub looked_hand : (held : List ℕ) (e : Bool) (p : Option ℕ) (t b : ℕ) (bytes : List ℕ) → e ≡ false
+    → p ≡ Some b → (2 ^ 64 - 1 - t ≡ 0 → ⊥) → MatchOption p (bytes ≡ []) (λ x. bytes ≡ x ∷ [])
+    → bytes ≡ hand_of held e p t
+unfolding hand_of
+looked_hand held true p t b bytes h q some is = cc
+looked_hand held false None t b bytes h q some is = cc
+looked_hand held false (Some d) t b bytes h q some is =
+    let left : 2 ^ 64 - 1 - t ≡ suc (2 ^ 64 - 1 - (t + 1)) = omega (arith, some) in
+    rw left (is ∙ ap (λ z. d ∷ z) (sym (take-nil _)))
 
-pub taken_next : (k : Option (List ℕ)) (e : Bool) (p : Option ℕ) (t : ℕ) (xs : List ℕ) → e ≡ false
-    → is_some p ≡ true → t < 2 ^ 64 - 1 → unread_of k e p t ≡ Some xs
-    → unread_of k e None (t + 1) ≡ Some (drop 1 xs)
-taken_next k e None t xs h q l g = cc
-taken_next k e (Some c) t xs h q l g =
-    let known : unread_of k false (Some c) t ≡ Some xs = rw (← h) g in
-    let split = held_unread k c t xs l known in
-    rw (h, split.1) split.2
+-- the buffered bytes are at hand, as many as may be taken
+pub cut_hand : (held : List ℕ) (e : Bool) (p : Option ℕ) (t : ℕ) (bytes : List ℕ) → e ≡ false
+    → p ≡ None → bytes ≡ held → take (2 ^ 64 - 1 - t) bytes ≡ hand_of held e p t
+unfolding hand_of
+cut_hand held e p t bytes h q is = rw (h, q, is) refl
 
--- runs
+pub whole_hand : (held : List ℕ) (e : Bool) (p : Option ℕ) (t : ℕ) (bytes : List ℕ) → e ≡ false
+    → p ≡ None → bytes ≡ held → length bytes ≤ 2 ^ 64 - 1 - t → bytes ≡ hand_of held e p t
+whole_hand held e p t bytes h q is le =
+    sym (take_all _ bytes le) ∙ cut_hand held e p t bytes h q is
 
-pub first_splits : (o : Option ℕ) (b : ℕ) (xs : List ℕ) → o ≡ Some b → o ≡ first xs
-    → xs ≡ b ∷ drop 1 xs
-first_splits o b xs e h = search rules
+-- the bytes that remain begin with those at hand
+pub hand_first : (k : Option (List ℕ)) (held : List ℕ) (e : Bool) (p : Option ℕ) (t : ℕ)
+    (xs : List ℕ)
+    → is_some p ≡ false → StartsWithHeld held k → unread_of k e p t ≡ Some xs
+    → (rest : List ℕ) × (xs ≡ hand_of held e p t ++ rest)
+unfolding unread_of hand_of
+hand_first k held e (Some b) t xs q h g = cc
+hand_first k held true None t xs q h g = (xs, refl)
+hand_first None held false None t xs q h g = cc
+hand_first (Some a) held false None t xs q h g =
+    let c = cut_front (2 ^ 64 - 1 - t) held h.0 in
+    let all : take (2 ^ 64 - 1 - t) a ≡ take (2 ^ 64 - 1 - t) held ++ c.0 = rw h.1 c.1 in
+    (c.0, cc)
 
-pub first_none : (o : Option ℕ) (xs : List ℕ) → o ≡ None → o ≡ first xs → xs ≡ []
-first_none o [] e h = refl
-first_none o (c ∷ xs) e h = cc
+pub hand_first_none : (hand xs : List ℕ) → [] ≡ hand → (rest : List ℕ) × (xs ≡ hand ++ rest)
+hand_first_none hand xs h = (xs, ap (λ z. z ++ xs) h)
 
--- a byte that was looked at is taken
-pub takes_looked : (old mid new : Option (List ℕ)) (o : Option ℕ) (b : ℕ) → o ≡ Some b
-    → IfKnown old (λ xs. (mid ≡ Some xs) × (o ≡ first xs))
-    → IfKnown mid (λ xs. new ≡ Some (drop 1 xs)) → FirstIsTaken old b new
-takes_looked old mid new o b is looked taken =
-    λ xs e. let h = looked xs e in (_, first_splits _ _ xs is h.1, taken xs h.0)
+-- the bytes that remain begin with the one that was looked at
+pub hand_first_looked : (k : Option (List ℕ)) (held : List ℕ) (e : Bool) (p : Option ℕ) (t : ℕ)
+    (xs : List ℕ) → is_some p ≡ true → unread_of k e p t ≡ Some xs
+    → (rest : List ℕ) × (xs ≡ hand_of held e p t ++ rest)
+unfolding unread_of hand_of
+hand_first_looked k held e None t xs q g = cc
+hand_first_looked k held true (Some b) t xs q g = (xs, refl)
+hand_first_looked None held false (Some b) t xs q g = cc
+hand_first_looked (Some a) held false (Some b) t xs q g =
+    let c = cut_front (2 ^ 64 - 1 - t) (b ∷ []) a in (c.0, cc)
 
-pub run_none : (stop : ℕ → Bool) (o : Option ℕ) (xs : List ℕ) → o ≡ None → o ≡ first xs
-    → run stop xs ≡ 0
-run_none stop o xs e h = rw (first_none o xs e h) refl
+-- no more than 2^64 - 1 bytes are taken
+pub hand_fits : (held : List ℕ) (e : Bool) (p : Option ℕ) (t n : ℕ) → t < 2 ^ 64
+    → n ≤ length (hand_of held e p t) → t + n < 2 ^ 64
+unfolding hand_of
+hand_fits held true p t n l h = omega arith
+hand_fits held false None t n l h = omega (arith, length-take (2 ^ 64 - 1 - t) held)
+hand_fits held false (Some b) t n l h = omega (arith, length-take (2 ^ 64 - 1 - t) (b ∷ []))
 
-pub run_stop : (stop : ℕ → Bool) (o : Option ℕ) (b : ℕ) (xs : List ℕ) → o ≡ Some b → o ≡ first xs
-    → stop b ≡ true → run stop xs ≡ 0
-run_stop stop o b xs e h t = rw (first_splits o b xs e h, t) refl
-
--- several bytes at once
+-- the reader has those bytes at hand that weren't looked at
+pub hand_held : (held : List ℕ) (e : Bool) (p : Option ℕ) (t n : ℕ) → is_some p ≡ false
+    → n ≤ length (hand_of held e p t) → n ≤ length held
+unfolding hand_of
+hand_held held e (Some b) t n q h = cc
+hand_held held true None t n q h = omega arith
+hand_held held false None t n q h = omega (arith, length-take (2 ^ 64 - 1 - t) held)
 
 known_behind : (k now : Option (List ℕ)) (t n : ℕ) (part xs : List ℕ) → length part ≡ n
     → t + n ≤ 2 ^ 64 - 1 → Consumes k now part → unread_of k false None t ≡ Some xs
@@ -139,40 +155,200 @@ known_behind (Some a) (Some b) t n part xs l room c g =
     let same : readable_with None t a ≡ xs = cc in
     (readable_with None _ b, sym same ∙ e, refl)
 
-pub part_unread : (k now : Option (List ℕ)) (e : Bool) (p : Option ℕ) (t n : ℕ) (part xs : List ℕ)
-    → e ≡ false → is_some p ≡ false → length part ≡ n → t + n ≤ 2 ^ 64 - 1 → Consumes k now part
-    → unread_of k e p t ≡ Some xs → (ys : List ℕ) × (xs ≡ part ++ ys)
-    × (unread_of now e p (t + n) ≡ Some ys)
-part_unread k now e (Some b) t n part xs h q l room c g = cc
-part_unread k now true None t n part xs h q l room c g = cc
-part_unread k now false None t n part xs h q l room c g = known_behind k _ t n _ xs l room c g
+-- the first n bytes at hand are taken from the reader
+pub held_taken : (k now : Option (List ℕ)) (held : List ℕ) (e : Bool) (p : Option ℕ) (t n : ℕ)
+    (xs : List ℕ) → is_some p ≡ false → t < 2 ^ 64 → n ≤ length (hand_of held e p t)
+    → Consumes k now (take n held) → unread_of k e p t ≡ Some xs
+    → unread_of now e p (t + n) ≡ Some (drop n xs)
+unfolding hand_of
+held_taken k now held e (Some b) t n xs q l h c g = cc
+held_taken k now held true None t n xs q l h c g =
+    let none : n ≡ 0 = omega arith in
+    let nothing = nothing_unread k None t in
+    rw none (nothing_unread now None (t + 0) ∙ sym nothing ∙ g)
+held_taken k now held false None t n xs q l h c g =
+    let le = hand_held held false None t n q h in
+    let len = length-take-le n held le in
+    let fits = hand_fits held false None t n l h in
+    let b = known_behind k now t n (take n held) xs len (omega arith) c g in
+    let left : drop n xs ≡ b.0 = ap (drop n) b.1 ∙ drop_at (take n held) b.0 n len in
+    b.2 ∙ ap Some (sym left)
 
-none_unread : (k now : Option (List ℕ)) (e : Bool) (p : Option ℕ) (t : ℕ) (xs : List ℕ)
-    → Consumes k now [] → unread_of k e p t ≡ Some xs → unread_of now e p t ≡ Some xs
-unfolding unread_of
-none_unread k now true p t xs c g = g
-none_unread None now false p t xs c g = cc
-none_unread (Some a) None false p t xs c g = absurd c
-none_unread (Some a) (Some b) false p t xs c g = rw c at g
+-- the byte that was looked at is taken
+pub peeked_taken : (k : Option (List ℕ)) (held : List ℕ) (e : Bool) (p : Option ℕ) (t n : ℕ)
+    (xs : List ℕ) → is_some p ≡ true → 0 < n → n ≤ length (hand_of held e p t)
+    → unread_of k e p t ≡ Some xs → unread_of k e None (t + n) ≡ Some (drop n xs)
+unfolding hand_of
+peeked_taken k held e None t n xs q l h g = cc
+peeked_taken k held true (Some b) t n xs q l h g = absurd (let none : ⊥ = omega arith in none)
+peeked_taken k held false (Some b) t n xs q l h g =
+    let most = length-take (2 ^ 64 - 1 - t) (b ∷ []) in
+    let one : n ≡ 1 = omega (arith, most) in
+    let split = held_unread k b t xs (omega (arith, most)) g in
+    rw (one, split.1) split.2
 
--- bytes at hand were taken, and stand after the text
-pub part_taken : (stop : ℕ → Bool) (hand : List ℕ) (k now : Option (List ℕ)) (e : Bool)
-    (p : Option ℕ) (t n : ℕ) (text longer xs : List ℕ)
-    → (0 < n → (e ≡ false) × (is_some p ≡ false)) → n ≤ length hand → t + n ≤ 2 ^ 64 - 1
-    → run stop (take n hand) ≡ n → Consumes k now (take n hand) → longer ≡ text ++ take n hand
-    → unread_of k e p t ≡ Some xs
-    → TakesPart stop t text (unread_of now e p (t + n)) (t + n) longer xs
-part_taken stop hand k now e p t zero text longer xs going most room runs c is g =
-    let none : t + 0 ≡ t = omega arith in
-    ([], xs, refl, refl, is, rw none (none_unread k now e p t xs c g), omega arith)
-part_taken stop hand k now e p t (suc m) text longer xs going most room runs c is g =
-    let n = suc m in
-    let both = going (omega arith) in
-    let h = both.0 in
-    let q = both.1 in
-    let len = length-take-le n _ most in
-    let left = part_unread k _ e p t n _ xs h q len room c g in
-    (take n _, left.0, left.1, cc, is, left.2, omega arith)
+-- with no byte at hand none was looked at, if one more may be taken
+pub none_peeked : (held : List ℕ) (e : Bool) (p : Option ℕ) (t : ℕ) → e ≡ false → t < 2 ^ 64 - 1
+    → hand_of held e p t ≡ [] → p ≡ None
+unfolding hand_of
+none_peeked held true p t e l h = cc
+none_peeked held false None t e l h = refl
+none_peeked held false (Some b) t e l h =
+    let left : 2 ^ 64 - 1 - t ≡ suc (2 ^ 64 - 1 - (t + 1)) = omega arith in
+    let one : length (take (2 ^ 64 - 1 - t) (b ∷ [])) ≡ 0 = ap length h in
+    let wrong : suc (length (take (2 ^ 64 - 1 - (t + 1)) [])) ≡ 0 = rw left at one in
+    absurd (let none : ⊥ = omega arith in none)
+
+-- a byte that was looked at is at hand
+pub peeked_hand : (held : List ℕ) (e : Bool) (b t : ℕ) → e ≡ false → t < 2 ^ 64 - 1
+    → 0 < length (hand_of held e (Some b) t)
+unfolding hand_of
+peeked_hand held true b t e l = cc
+peeked_hand held false b t e l =
+    omega (arith, length-take (2 ^ 64 - 1 - t) (b ∷ []))
+
+-- ---- looking at a byte
+
+abbrev pub LooksAt : Option (List ℕ) → Option ℕ → List ℕ → Type 0
+LooksAt now o xs = (now ≡ Some xs) × (o ≡ first xs)
+
+pub none_looks : (now : Option (List ℕ)) (xs : List ℕ) → xs ≡ [] → now ≡ Some xs
+    → LooksAt now None xs
+none_looks now xs e h = (h, rw e refl)
+
+module _ (k now : Option (List ℕ)) (e : Bool) (p : Option ℕ) (t : ℕ) (xs : List ℕ) (h : e ≡ false)
+    (q : p ≡ None) (g : unread_of k e p t ≡ Some xs) where
+  pub end_looks : GivesByte k None now → LooksAt (unread_of now true p t) None xs
+  end_looks r =
+      let known : unread_of k false None t ≡ Some xs = rw (← h, ← q) g in
+      let none = end_unread k _ t xs r known in
+      none_looks _ xs none (nothing_unread _ p t ∙ ap Some (sym none))
+
+  pub one_looks : (c : ℕ) → t < 2 ^ 64 - 1 → GivesByte k (Some c) now
+      → LooksAt (unread_of now e (Some c) t) (Some c) xs
+  one_looks c room r =
+      let known : unread_of k false None t ≡ Some xs = rw (← h, ← q) g in
+      let read : unread_of now false (Some c) t ≡ Some xs = one_unread k _ c t xs r known in
+      (rw h read, sym (ap first (held_unread now c t xs room read).1))
+
+-- the first of the bytes at hand is the first that remains
+pub hand_looks : (hand bytes rest xs : List ℕ) → bytes ≡ hand → (length bytes == 0) ≡ false
+    → xs ≡ hand ++ rest → Some (slice_index_or bytes 0 0) ≡ first xs
+hand_looks hand [] rest xs same some e = cc
+hand_looks hand (c ∷ cs) rest xs same some e =
+    let all : xs ≡ (c ∷ cs) ++ rest = rw (← same) at e in rw all refl
+
+pub empty_hand : (hand bytes : List ℕ) → bytes ≡ hand → (length bytes == 0) ≡ true → hand ≡ []
+empty_hand hand [] same none = sym same
+empty_hand hand (c ∷ cs) same none = absurd
+    (let wrong = eqb-true _ _ none in let no : ⊥ = omega arith in no)
+
+pub some_hand : (hand bytes : List ℕ) → bytes ≡ hand → (length bytes == 0) ≡ false → 0 < length hand
+some_hand hand [] same some = cc
+some_hand hand (c ∷ cs) same some = rw (sym same) (omega arith)
+
+-- all bytes at hand were taken
+pub all_taken : (hand bytes : List ℕ) (n p q : ℕ) → bytes ≡ hand → q ≡ p + n
+    → nat_eq n (length bytes) ≡ true → q ≡ p + length hand
+all_taken hand bytes n p q same place all =
+    let n-is = eqb-true n (length bytes) all in omega (arith, place, n-is, ap length same)
+
+-- what is so of the bytes that remain is so of those that are known to
+pub drops_known : (now : Option (List ℕ)) (stop : ℕ → Bool) (zs ys : List ℕ) → now ≡ Some zs
+    → now ≡ Some ys → run stop zs ≡ 0 → run stop ys ≡ 0
+drops_known now stop zs ys a b h = let same : zs ≡ ys = cc in rw (sym same) h
+
+pub first_splits : (b : ℕ) (xs : List ℕ) → Some b ≡ first xs → xs ≡ b ∷ drop 1 xs
+first_splits b [] h = cc
+first_splits b (c ∷ xs) h = let same : b ≡ c = cc in ap (λ d. d ∷ xs) (sym same)
+
+pub first_none : (xs : List ℕ) → None ≡ first xs → xs ≡ []
+first_none [] h = refl
+first_none (c ∷ xs) h = cc
+
+pub begins_none : (b : ℕ) (xs : List ℕ) → None ≡ first xs → begins_with b xs ≡ false
+begins_none b [] h = refl
+begins_none b (c ∷ xs) h = cc
+
+pub begins_other : (b c : ℕ) (xs : List ℕ) → c ≢ b → Some c ≡ first xs → begins_with b xs ≡ false
+begins_other b c [] n h = cc
+begins_other b c (d ∷ xs) n h =
+    let same : c ≡ d = cc in rw (sym same) (ne_eqb c b n)
+
+-- a byte that was looked at is taken
+pub takes_looked : (old mid new : Option (List ℕ)) (b : ℕ)
+    → IfKnown old (λ xs. (mid ≡ Some xs) × (Some b ≡ first xs))
+    → IfKnown mid (λ xs. new ≡ Some (drop 1 xs)) → FirstIsTaken old b new
+takes_looked old mid new b looked taken =
+    λ xs e. let h = looked xs e in (_, first_splits _ xs h.1, taken xs h.0)
+
+-- ---- runs
+
+pub none_stops : (stop : ℕ → Bool) (xs : List ℕ) → None ≡ first xs → run stop xs ≡ 0
+none_stops stop xs h = rw (first_none xs h) refl
+
+-- a stop that is at hand ends the run
+pub hand_stops : (stop : ℕ → Bool) (hand rest : List ℕ) → run stop hand < length hand
+    → run stop (drop (run stop hand) (hand ++ rest)) ≡ 0
+hand_stops stop [] rest h = absurd (let none : ⊥ = omega arith in none)
+hand_stops stop (c ∷ hand) rest h = by_stop (stop c) refl (λ l. hand_stops stop hand rest l)
+  where
+    n : ℕ
+    n = run stop hand
+
+    by_stop : (b : Bool) → stop c ≡ b → (n < length hand → run stop (drop n (hand ++ rest)) ≡ 0)
+        → run stop (drop (run stop (c ∷ hand)) (c ∷ (hand ++ rest))) ≡ 0
+    by_stop true e on = rw (e, e) refl
+    by_stop false e on =
+        let one : 1 + n ≡ suc n = omega arith in
+        let less : suc n < suc (length hand) = rw (e, one) at h in
+        rw (e, one) (on (omega arith))
+
+pub stop_at_hand : (stop : ℕ → Bool) (hand bytes rest xs : List ℕ) (n : ℕ) → bytes ≡ hand
+    → n ≡ run stop bytes → n ≤ length bytes → xs ≡ hand ++ rest → nat_eq n (length bytes) ≡ false
+    → run stop (drop n xs) ≡ 0
+stop_at_hand stop hand bytes rest xs n same is le e other =
+    let less : run stop hand < length hand = omega (
+      arith,
+      ne-from n
+          (length bytes) other,
+      is,
+      ap length same,
+      ap (run stop) same,
+    ) in
+    rw (is, same, e) (hand_stops stop hand rest less)
+  where
+    ne-from : (a b : ℕ) → nat_eq a b ≡ false → a ≢ b
+    ne-from a b e = eqb-false a b e
+
+-- a run has no stop
+plain_part : (stop : ℕ → Bool) (xs : List ℕ) → run stop (take (run stop xs) xs) ≡ run stop xs
+plain_part stop [] = refl
+plain_part stop (c ∷ xs) = by_stop (stop c) refl (plain_part stop xs)
+  where
+    n : ℕ
+    n = run stop xs
+
+    by_stop : (b : Bool) → stop c ≡ b → run stop (take n xs) ≡ n
+        → run stop (take (run stop (c ∷ xs)) (c ∷ xs)) ≡ run stop (c ∷ xs)
+    by_stop true e h = rw e refl
+    by_stop false e h =
+        let one : 1 + n ≡ suc n = omega arith in rw (e, one, e) (ap (λ m. 1 + m) h ∙ one)
+
+-- the bytes at hand up to a stop are taken
+pub part_taken : (stop : ℕ → Bool) (hand bytes rest : List ℕ) (n : ℕ) (new : Option (List ℕ))
+    (p q : ℕ) (text longer xs : List ℕ) → bytes ≡ hand → n ≡ run stop bytes → n ≤ length bytes
+    → xs ≡ hand ++ rest → new ≡ Some (drop n xs) → q ≡ p + n → longer ≡ text ++ take n bytes
+    → TakesPart stop p text new q longer xs
+part_taken stop hand bytes rest n new p q text longer xs same is le e taken place grown =
+    let part = take n bytes in
+    let len : length part ≡ n = length-take-le n bytes le in
+    let all : xs ≡ bytes ++ rest = rw (← same) at e in
+    let front : take n xs ≡ part = rw all (take-append-le n bytes rest le) in
+    let whole : xs ≡ part ++ drop n xs = sym (take-append-drop n xs) ∙ ap
+    (λ z. z ++ drop n xs) front in
+    let plain : run stop part ≡ length part = rw is (plain_part stop bytes ∙ sym (rw is at len)) in
+    (part, drop n xs, whole, plain, grown, taken, place ∙ ap (λ z. p + z) (sym len))
 
 -- what is left to a reader before its first byte
 pub new_unread : {R : Type 0} (known : R → Option (List ℕ)) (r inner : R) (e : Bool) (p : Option ℕ)
@@ -186,6 +362,3 @@ pub going_unread : (k : Option (List ℕ)) (e : Bool) (p : Option ℕ) (t : ℕ)
     → IfSome k (λ xs. unread_of k e p t ≡ Some (readable_with p t xs))
 unfolding unread_of
 going_unread k e p t h = search rules
-
--- what looking at a byte finds
-pub ruleset looks = (none_looks, ended_unread, full_unread, held_looks)

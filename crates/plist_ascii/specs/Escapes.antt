@@ -3,7 +3,7 @@
 --     letter                        its byte in `letters`
 --     octal octal octal             the character of that number
 --     U unit                        the unit's character, unless it is a surrogate
---     U unit \ U unit               the character of a surrogate pair, whose second `U` may be small
+--     U unit \ U unit               the character of a surrogate pair; the second `U` may be small
 --
 -- A unit is four hexadecimal digits. Digits are taken before they are judged.
 use Rattle.std.specs.Prelude.{ℕ, ◌-◌, Bool, cond, ◌&&◌, ◌||◌, ◌==◌, nat_lt, nat_le, List, [], ◌∷◌, slice_index, Option, None, Some, Result, Ok, Err, encode_utf8}
@@ -127,7 +127,8 @@ unicode rest = followed rest (unit rest) first_unit
 -- what an escape with the first byte c stands for
 abbrev pub escape_by : ℕ → List ℕ → Taken (List ℕ)
 escape_by c rest =
-    cond (c == capital_u) (unicode rest) (cond (is_digit c 8) (octal c rest) (simple (simple_escape c)))
+    cond (c == capital_u) (unicode rest)
+    (cond (is_digit c 8) (octal c rest) (simple (simple_escape c)))
 
 -- the bytes that an escape stands for
 unfoldable pub escape : List ℕ → Taken (List ℕ)

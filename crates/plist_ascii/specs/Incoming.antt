@@ -1,5 +1,5 @@
 -- What is left after a read of a byte, and how the count of failures changes.
-use Rattle.std.specs.Prelude.{◌≡◌, ℕ, List, [], ◌∷◌, take, Option, None, Some, Result, MatchOption, MatchResult, ⊤}
+use Rattle.std.specs.Prelude.{◌≡◌, ℕ, List, [], ◌∷◌, ◌++◌, take, Option, None, Some, Result, IfSome, MatchOption, MatchResult, ⊤}
 use Rattle.std.specs.Io.KnownBytes.{Consumes, IsAtEnd}
 use Rattle.plist_base.specs.declared.error.Error.{Error}
 use Rattle.plist_base.specs.Faults.{MatchFault, kind_of, error_kind_of}
@@ -13,6 +13,10 @@ GivesByte old (Some byte) new = Consumes old new (byte ∷ [])
 -- the known bytes lose the first `count` of the buffered ones
 abbrev pub LosesFirst : (count : ℕ) → (held : List ℕ) → Option (List ℕ) → Option (List ℕ) → Type 0
 LosesFirst count held old new = Consumes old new (take count held)
+
+-- the known bytes begin with the buffered ones
+abbrev pub StartsWithHeld : (held : List ℕ) → Option (List ℕ) → Type 0
+StartsWithHeld held known = IfSome known (λ bytes. (rest : List ℕ) × (bytes ≡ held ++ rest))
 
 -- if failures are counted, their count rose or is at its maximum
 abbrev pub RisesIfCounted : Option ℕ → Option ℕ → Type 0

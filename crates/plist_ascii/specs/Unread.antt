@@ -1,16 +1,12 @@
 -- The bytes that are still to be taken, and what taking a part of a token makes of them.
-use Rattle.std.specs.Prelude.{◌≡◌, ℕ, ◌+◌, ◌-◌, ◌^◌, ◌≤◌, Bool, true, false, not, ◌==◌, List, [], ◌∷◌, ◌++◌, length, take, drop, Option, None, Some, Result, Ok, Err, MatchResult, slice_get}
+use Rattle.std.specs.Prelude.{◌≡◌, ℕ, ◌+◌, ◌-◌, ◌^◌, ◌≤◌, Bool, true, false, not, ◌==◌, List, [], ◌∷◌, ◌++◌, length, take, drop, Option, None, Some, Result, IfSome, slice_get}
 use Rattle.std.specs.List.{cons_option}
 use Rattle.std.specs.Option.{option_map}
-use Rattle.plist_base.specs.declared.error.Error.{Error}
-use Rattle.plist_base.specs.declared.error.ErrorKind.{ErrorKind}
-use Rattle.plist_base.specs.declared.event.Event.{Event}
-use Rattle.plist_base.specs.Events.{PlainEvent, event_of}
-use Rattle.plist_base.specs.Faults.{Fault, FaultKind, Io, OutOfMemory, MatchFault, fault_of, kind_of, error_kind_of}
-use Rattle.plist_ascii.specs.Kinds.{IsFaultOfBytes, IsTextEvent}
+use Rattle.plist_base.specs.Faults.{Fault, FaultKind, MatchFault}
+use Rattle.plist_ascii.specs.Kinds.{IsFaultOfBytes}
 use Rattle.plist_ascii.specs.declared.input.Input.{Input}
-use Rattle.plist_ascii.specs.declared.input.Stop.{Stop}
-use Rattle.plist_ascii.specs.declared.input.Stop.TheVariants as stop
+use Rattle.plist_ascii.specs.declared.stop.Stop.{Stop}
+use Rattle.plist_ascii.specs.declared.stop.Stop.TheVariants as stop
 use Rattle.plist_ascii.specs.Taken.{Taken, run}
 use Rattle.plist_ascii.specs.Texts.{ends_bare}
 use Rattle.plist_ascii.specs.Ascii.{is_blank}
@@ -44,14 +40,7 @@ stops stop.Lead c = not (is_blank c)
 stops (stop.Bare dialect) c = ends_bare dialect c
 stops stop.LineEnd c = c == 10
 stops stop.Star c = c == 42
-stops stop.NoSlash c = not (c == 47)
 stops (stop.Quoted quote) c = ends_run quote c
-
--- `Io` or `OutOfMemory`, which say nothing of the bytes
-abbrev pub is_io_or_memory : FaultKind → Bool
-is_io_or_memory Io = true
-is_io_or_memory OutOfMemory = true
-is_io_or_memory kind = false
 
 -- the offset of `Io` and of a fault in the bytes is the number of bytes taken; `OutOfMemory` has
 -- none
@@ -79,19 +68,10 @@ abbrev pub TakesFront : {A : Type 0} → Taken A → Result A FaultKind → (new
 TakesFront t outcome new p q bytes =
     (t.gives ≡ outcome) × (new ≡ Some (drop t.bytes bytes)) × (q ≡ p + t.bytes)
 
--- From offset p to offset q, what is at the front of the old bytes was taken, and its meaning or
--- fault is the result, seen by view. `Io` and `OutOfMemory` say nothing of the bytes.
-abbrev pub GivesFront : {X A : Type 0} → (view : X → A) → (front : List ℕ → Taken A)
-    → (old : Option (List ℕ)) → (p : ℕ) → (new : Option (List ℕ)) → (q : ℕ) → Result X Error
-    → Type 0
-GivesFront view front old p new q answer = MatchResult answer
-    (λ x. (p ≤ q) × IfKnown old (λ bytes. TakesFront (front bytes) (Ok (view x)) new p q bytes))
-    (λ e. IsFaultAt (fault_of e) q × (p ≤ q) × (is_io_or_memory (kind_of (error_kind_of e)) ≡ false
-    → IfKnown old (λ bytes.
-    TakesFront (front bytes) (Err (kind_of (error_kind_of e))) new p q bytes)))
-
--- the meaning of a string, as an event or the kind of a fault
-abbrev pub Means : Result Event ErrorKind → Result (Option PlainEvent) FaultKind → Type 0
-Means answer outcome = MatchResult answer
-    (λ event. (outcome ≡ Ok (Some (event_of event))) × IsTextEvent (event_of event))
-    (λ kind. (outcome ≡ Err (kind_of kind)) × IsFaultOfBytes (kind_of kind))
+-- From offset p to offset q, what is at the front of the old bytes was taken, with this meaning or
+-- fault; nothing is said without one.
+abbrev pub GivesFront : {A : Type 0} → (front : List ℕ → Taken A) → (old : Option (List ℕ))
+    → (p : ℕ) → (new : Option (List ℕ)) → (q : ℕ) → Option (Result A FaultKind) → Type 0
+GivesFront front old p new q said =
+    (p ≤ q) × IfSome said (λ outcome. IfKnown old (λ bytes.
+    TakesFront (front bytes) outcome new p q bytes))

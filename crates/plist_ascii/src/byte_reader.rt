@@ -1,7 +1,7 @@
 //! The readers from which bytes are taken.
 
 ghost use Rattle.std.specs.Prelude.{◌≡◌, ◌≤◌, ℕ, List, [], length, Option, None, IfOk};
-ghost use Rattle.plist_ascii.specs.Incoming.{GivesByte, CountsFailureIfCounted, LosesFirst};
+ghost use Rattle.plist_ascii.specs.Incoming.{GivesByte, CountsFailureIfCounted, LosesFirst, StartsWithHeld};
 
 use std::io;
 use std::io::Read;
@@ -30,7 +30,8 @@ pub trait ByteReader {
 
     /// Returns the buffered bytes. They are the next ones, and taking them needs no read.
     fn buffered(&self) -> &[u8]
-        ensures { result.now ≡ held self.now };
+        ensures held { result.now ≡ held self.now }
+        ensures next { StartsWithHeld (held self.now) (remaining self.now) };
 
     /// Takes the first `count` of the buffered bytes.
     fn consume(&mut self, count: usize)

@@ -1,101 +1,19 @@
-//! The bytes of a reader, taken one by one with one byte of lookahead, or several together if they
-//! are buffered.
+//! The bytes of a reader, which are taken in turn.
 
-ghost use Rattle.std.specs.Prelude.{◌≡◌, ◌+◌, ◌-◌, ◌^◌, ◌<◌, ◌≤◌, [], length, take, None, Some, true, false, IfOk, IfErr, OnOk, IsSome};
-ghost use Rattle.plist_base.specs.Faults.{Io, UnclosedString, fault_of, fault_at, kind_of};
-ghost use Rattle.plist_ascii.specs.Taken.{run};
-ghost use Rattle.plist_ascii.specs.Texts.{ends_bare};
-ghost use Rattle.plist_ascii.specs.Ascii.{is_blank};
-ghost use Rattle.plist_ascii.specs.Unread.{unread, stops};
-ghost use Rattle.plist_ascii.specs.inner.Inputs.{CountsFailed, CountsNext, IfByte, IfLooked, IfEnd, Peeks, CanTakeByte, TakesNoMore, DropsOne, TakesByte, HasNothingLeft, StopsRun, TakesPlain, TakesOneMore, CountsByte, IsUnclosedText, CanTakeRun, SkipsSome, AddsTo, BeginsRun};
+ghost use Rattle.std.specs.Prelude.{◌≡◌, ◌+◌, ◌^◌, ◌<◌, ◌≤◌, [], length, None, Some, true, false, IfOk, IfErr, IfSome, OnOk};
+ghost use Rattle.plist_ascii.specs.Unread.{unread};
+ghost use Rattle.plist_base.specs.Faults.{fault_of};
+ghost use Rattle.plist_ascii.specs.inner.TokenFaults.{fault_after};
+ghost use Rattle.plist_ascii.specs.inner.Inputs.{AddsPart, CountsByte, CountsFailed, CountsRead, DropsFirst, EndsInput, HasFailed, HasHand, IsAtStop, IsUnclosedText, Looks, SkipsPart, StartsWithHand, TakesHand, TakesIf, TakesNext, TakesOneMore, hand};
 
 use crate::byte_reader::ByteReader;
-use crate::dialect::Dialect;
-use crate::text::push_byte;
-use crate::token::is_blank;
+use crate::fault::TokenFault;
+use crate::stop::{Stop, run_length};
 use plist_base::{Error, ErrorKind};
 use std::alloc::AllocError;
 use std::io;
 
-/// Which bytes end a run of bytes.
-#[derive(Clone, Copy)]
-pub enum Stop {
-    /// Any byte but white space and separators.
-    Lead,
-    /// What ends a bare text of this dialect.
-    Bare(Dialect),
-    /// LF.
-    LineEnd,
-    /// A star.
-    Star,
-    /// Any byte but a slash.
-    NoSlash,
-    /// This quote, or a backslash.
-    Quoted(u8),
-}
-
-// Does this byte end a bare text?
-#[inline(always)]
-fn ends_bare(dialect: Dialect, byte: u8) -> bool
-    ensures { result ≡ ends_bare dialect byte }
-{
-    match dialect {
-        Dialect::Lax => matches!(byte, b' ' | b')' | b'\r' | b'\t' | b';' | b','),
-        Dialect::Tight => {
-            matches!(
-                byte,
-                b' ' | b')' | b'\r' | b'\t' | b';' | b',' | b'\n' | b'}' | b'='
-            )
-        }
-    }
-}
-
-/// Does this byte end the run?
-#[inline(always)]
-pub fn is_stop(stop: Stop, byte: u8) -> bool
-    ensures { result ≡ stops stop byte }
-{
-    match stop {
-        Stop::Lead => !is_blank(byte),
-        Stop::Bare(dialect) => ends_bare(dialect, byte),
-        Stop::LineEnd => byte == b'\n',
-        Stop::Star => byte == b'*',
-        Stop::NoSlash => byte != b'/',
-        Stop::Quoted(quote) => byte == quote || byte == b'\\',
-    }
-}
-
-// How many of the first `most` bytes stand before the first that ends the run.
-#[inline(always)]
-fn run_length(stop: Stop, bytes: &[u8], most: u64) -> usize
-    ensures within { result ≤ length bytes.now }
-    ensures most { result ≤ most }
-    ensures run { run (stops stop) (take result bytes.now) ≡ result }
-{
-    let end = most.min(bytes.len() as u64) as usize;
-    let mut count = 0;
-    'bytes: while count < end {
-        if is_stop(stop, bytes[count]) {
-            return count;
-        }
-        count += 1;
-    }
-    count
-}
-
-/// What stands next among the bytes. It is small, as an `Error` isn't: memory for what a function
-/// may return is cleared at each call.
-#[derive(Clone, Copy)]
-pub enum Next {
-    /// This byte.
-    Byte(u8),
-    /// Nothing: the bytes are at their end.
-    End,
-    /// A read failed. Its error waits in the input.
-    Failed,
-}
-
-/// The bytes of a reader, which are taken in turn. At most one more has been read.
+/// The bytes of a reader, which are taken in turn. At most 2^64 - 1 of them are taken.
 #[derive(Drop)]
 pub struct Input<R> {
     inner: R,
@@ -110,7 +28,7 @@ pub struct Input<R> {
 }
 
 impl<R> Input<R> {
-    /// Makes an input from a reader.
+    /// Creates an input over a reader.
     pub fn new(inner: R) -> Self
         ensures inner { result.inner ≡ inner }
         ensures fresh { (result.peeked ≡ None) × (result.taken ≡ 0) × (result.ended ≡ false) }
@@ -124,7 +42,7 @@ impl<R> Input<R> {
         }
     }
 
-    /// Returns the reader, which lacks the byte that was looked at.
+    /// Returns the reader, which lacks the byte that was read but not taken.
     pub fn into_inner(self) -> R
         ensures { result ≡ self.inner }
     {
@@ -137,243 +55,206 @@ impl<R> Input<R> {
     {
         self.ended
     }
-
-    /// Makes an error whose offset is the number of bytes taken.
-    pub fn fault(&self, kind: ErrorKind) -> Error
-        ensures { fault_of result ≡ fault_at (kind_of kind) self.now.taken }
-    {
-        kind.with_byte_offset(self.taken)
-    }
-
-    /// The error of the read that failed, at the end of the bytes taken.
-    #[inline(never)]
-    pub fn read_error(&mut self) -> Error
-        requires { IsSome self.old.failure }
-        ensures fault { fault_of result ≡ fault_at Io self.new.taken }
-        ensures inner { self.new.inner ≡ self.old.inner }
-        ensures place { self.new.taken ≡ self.old.taken }
-    {
-        let failure = self.failure.take().unwrap();
-        self.fault(ErrorKind::Io(failure))
-    }
 }
 
 impl<R: ByteReader> Input<R> {
-    // Reads one byte ahead, where none is buffered.
-    #[inline(never)]
-    fn read_ahead(&mut self) -> Next
-        requires going { self.old.ended ≡ false }
-        requires countable { self.old.taken < 2 ^ 64 - 1 }
-        requires none { self.old.peeked ≡ None }
-        ensures next { IfLooked result (λ byte. Peeks R.remaining self.old byte self.new) }
-        ensures held { IfByte result (CanTakeByte self.new) }
-        ensures end { IfEnd result (self.new.ended ≡ true) }
-        ensures place { self.new.taken ≡ self.old.taken }
-        ensures failures { CountsNext R.failures self.old result self.new }
+    /// Returns the bytes that can be taken without a read.
+    #[inline(always)]
+    pub fn at_hand(&self) -> &[u8]
+        ensures hand { result.now ≡ hand R.held self.now }
+        ensures next { StartsWithHand R.remaining R.held self.now }
     {
+        if self.ended {
+            return &[];
+        }
+        let most = u64::MAX - self.taken;
+        if most == 0 {
+            return &[];
+        }
+        match self.peeked {
+            Some(_) => self.peeked.as_slice(),
+            None => {
+                let bytes = self.inner.buffered();
+                if most < bytes.len() as u64 {
+                    return &bytes[..most as usize];
+                }
+                bytes
+            }
+        }
+    }
+
+    /// Takes the first `count` of the bytes at hand.
+    #[inline(always)]
+    pub fn take_first(&mut self, count: usize)
+        requires within { count ≤ length (hand R.held self.old) }
+        // Result.
+        ensures bytes { DropsFirst R.remaining count self.old self.new }
+        // State afterwards.
+        ensures place { self.new.taken ≡ self.old.taken + count }
+        ensures fits { self.new.taken < 2 ^ 64 }
+        ensures peeked { 0 < count → self.new.peeked ≡ None }
+        ensures failures { R.failures self.new.inner ≡ R.failures self.old.inner }
+    {
+        self.taken += count as u64;
+        if self.peeked.is_none() {
+            self.inner.consume(count);
+            return;
+        }
+        if count > 0 {
+            self.peeked = None;
+        }
+    }
+
+    // Reads one byte, unless the input has ended.
+    #[inline(never)]
+    fn read_ahead(&mut self) -> Result<Option<u8>, TokenFault>
+        requires { hand R.held self.old ≡ [] }
+        // Result.
+        ensures next { IfOk result (λ byte. Looks R.remaining self.old byte self.new) }
+        // State afterwards.
+        ensures hand { IfOk result (λ byte. IfSome byte (λ _. HasHand R.held self.new)) }
+        ensures place { self.new.taken ≡ self.old.taken }
+        ensures failures { CountsRead R.failures self.old result self.new }
+    {
+        if self.ended {
+            return Ok(None);
+        }
+        if self.taken == u64::MAX {
+            return Ok(None);
+        }
         match self.inner.next_byte() {
             Ok(Some(byte)) => {
                 self.peeked = Some(byte);
-                Next::Byte(byte)
+                Ok(Some(byte))
             }
             Ok(None) => {
                 self.ended = true;
-                Next::End
+                Ok(None)
             }
             Err(failure) => {
                 self.failure = Some(failure);
-                Next::Failed
+                Err(TokenFault::Io)
             }
         }
     }
 
-    // Looks one byte ahead.
+    /// Returns the next byte, which isn't taken, or `None` at the end. Only if no byte is at hand,
+    /// one is read.
     #[inline(always)]
-    fn fetch(&mut self) -> Next
-        requires going { self.old.ended ≡ false }
-        requires countable { self.old.taken < 2 ^ 64 - 1 }
-        requires none { self.old.peeked ≡ None }
-        ensures next { IfLooked result (λ byte. Peeks R.remaining self.old byte self.new) }
-        ensures held { IfByte result (CanTakeByte self.new) }
-        ensures end { IfEnd result (self.new.ended ≡ true) }
+    pub fn peek(&mut self) -> Result<Option<u8>, TokenFault>
+        // Result.
+        ensures next { IfOk result (λ byte. Looks R.remaining self.old byte self.new) }
+        // State afterwards.
+        ensures hand { IfOk result (λ byte. IfSome byte (λ _. HasHand R.held self.new)) }
         ensures place { self.new.taken ≡ self.old.taken }
-        ensures failures { CountsNext R.failures self.old result self.new }
+        ensures failures { CountsRead R.failures self.old result self.new }
     {
-        let bytes = self.inner.buffered();
+        let bytes = self.at_hand();
         if bytes.is_empty() {
             return self.read_ahead();
         }
-        let byte = bytes[0];
-        self.inner.consume(1);
-        self.peeked = Some(byte);
-        Next::Byte(byte)
+        Ok(Some(bytes[0]))
     }
 
-    /// The next byte, which isn't taken.
+    /// Takes the next byte, or returns `None` at the end.
     #[inline(always)]
-    #[tactic(auto, using(crate::proofs::Unread::looks))]
-    pub fn peek(&mut self) -> Next
-        // The answer.
-        ensures next { IfLooked result (λ byte. Peeks R.remaining self.old byte self.new) }
-        // The state after it.
-        ensures held { IfByte result (CanTakeByte self.new) }
-        ensures end { IfEnd result (TakesNoMore self.new) }
-        ensures place { self.new.taken ≡ self.old.taken }
-        ensures failures { CountsNext R.failures self.old result self.new }
-    {
-        if self.ended {
-            return Next::End;
-        }
-        if self.taken == u64::MAX {
-            return Next::End;
-        }
-        match self.peeked {
-            Some(byte) => Next::Byte(byte),
-            None => self.fetch(),
-        }
-    }
-
-    /// Takes the byte that was looked at.
-    #[inline(always)]
-    #[tactic(auto, using(crate::proofs::Unread::taken_next))]
-    pub fn advance(&mut self)
-        requires some { IsSome self.old.peeked }
-        requires going { self.old.ended ≡ false }
-        requires countable { self.old.taken < 2 ^ 64 - 1 }
-        ensures next { DropsOne R.remaining self.old self.new }
-        ensures peeked { self.new.peeked ≡ None }
-        ensures place { self.new.taken ≡ self.old.taken + 1 }
-        ensures inner { self.new.inner ≡ self.old.inner }
-    {
-        self.peeked = None;
-        self.taken += 1;
-    }
-
-    /// Takes the next byte, unless it ends the run.
-    #[inline(always)]
-    pub fn take_unless(&mut self, stop: Stop) -> Next
-        // The answer.
-        ensures some { IfByte result (λ c. TakesPlain R.remaining stop self.old c self.new) }
-        ensures none { IfEnd result (StopsRun R.remaining stop self.old self.new) }
-        // The state after it.
-        ensures peeked { IfByte result (λ _. self.new.peeked ≡ None) }
+    pub fn take(&mut self) -> Result<Option<u8>, TokenFault>
+        // Result.
+        ensures next { IfOk result (λ byte. TakesNext R.remaining self.old byte self.new) }
+        // State afterwards.
+        ensures peeked { IfOk result (λ byte. IfSome byte (λ _. self.new.peeked ≡ None)) }
         ensures place { CountsByte self.old result self.new }
-        ensures failures { CountsNext R.failures self.old result self.new }
+        ensures failures { CountsRead R.failures self.old result self.new }
     {
-        match self.peek() {
-            Next::Byte(byte) => {
-                if is_stop(stop, byte) {
-                    return Next::End;
+        match self.peek()? {
+            Some(byte) => {
+                self.take_first(1);
+                Ok(Some(byte))
+            }
+            None => Ok(None),
+        }
+    }
+
+    /// Takes the next byte if it is this one, and returns whether it is.
+    #[inline(always)]
+    pub fn take_if(&mut self, wanted: u8) -> Result<bool, TokenFault>
+        // Result.
+        ensures next { IfOk result (λ is. TakesIf R.remaining wanted self.old is self.new) }
+        // State afterwards.
+        ensures peeked { IfOk result (λ is. is ≡ true → self.new.peeked ≡ None) }
+        ensures rises { IfOk result (λ is. is ≡ true → TakesOneMore self.old self.new) }
+        ensures same { IfOk result (λ is. is ≡ false → self.new.taken ≡ self.old.taken) }
+        ensures unmoved { IfErr result (λ _. self.new.taken ≡ self.old.taken) }
+        ensures failures { CountsRead R.failures self.old result self.new }
+    {
+        match self.peek()? {
+            Some(byte) => {
+                if byte == wanted {
+                    self.take_first(1);
+                    return Ok(true);
                 }
-                self.advance();
-                Next::Byte(byte)
+                Ok(false)
             }
-            Next::End => Next::End,
-            Next::Failed => Next::Failed,
-        }
-    }
-
-    // Returns how many of the buffered bytes precede a stop, which is 0 if a byte was peeked at or
-    // the input has ended.
-    #[inline(always)]
-    fn run_at_hand(&self, stop: Stop) -> usize
-        ensures within { result ≤ length (R.held self.now.inner) }
-        ensures countable { self.now.taken + result ≤ 2 ^ 64 - 1 }
-        ensures run { run (stops stop) (take result (R.held self.now.inner)) ≡ result }
-        ensures going { 0 < result → CanTakeRun self.now }
-    {
-        let most = u64::MAX - self.taken;
-        if self.ended {
-            return 0;
-        }
-        if self.peeked.is_some() {
-            return 0;
-        }
-        run_length(stop, self.inner.buffered(), most)
-    }
-
-    /// Takes buffered bytes, up to a stop.
-    #[inline(always)]
-    pub fn skip_buffered(&mut self, stop: Stop)
-        ensures bytes { SkipsSome R.remaining stop self.old self.new }
-        ensures place { self.old.taken ≤ self.new.taken }
-        ensures failures { R.failures self.new.inner ≡ R.failures self.old.inner }
-    {
-        let count = self.run_at_hand(stop);
-        self.inner.consume(count);
-        self.taken += count as u64;
-    }
-
-    /// Takes buffered bytes, up to a stop, and appends them.
-    #[inline(always)]
-    pub fn take_buffered(&mut self, stop: Stop, text: &mut Vec<u8>) -> Result<(), AllocError>
-        ensures value { OnOk result (AddsTo R.remaining stop self.old text.old self.new text.new) }
-        ensures place { self.old.taken ≤ self.new.taken }
-        ensures failures { R.failures self.new.inner ≡ R.failures self.old.inner }
-    {
-        let count = self.run_at_hand(stop);
-        text.extend_from_slice(&self.inner.buffered()[..count])?;
-        self.inner.consume(count);
-        self.taken += count as u64;
-        Ok(())
-    }
-
-    /// Appends a byte, and takes buffered bytes up to a stop and appends them. Room is made for no
-    /// more, since most texts end there.
-    #[inline(always)]
-    pub fn begin_run(&mut self, stop: Stop, first: u8, text: &mut Vec<u8>) -> Result<(), AllocError>
-        ensures value { OnOk result (BeginsRun R.remaining stop self.old first text.old self.new
-            text.new) }
-        ensures place { self.old.taken ≤ self.new.taken }
-        ensures failures { R.failures self.new.inner ≡ R.failures self.old.inner }
-    {
-        let count = self.run_at_hand(stop);
-        text.reserve_exact(count.saturating_add(1))?;
-        push_byte(text, first)?;
-        text.extend_from_slice(&self.inner.buffered()[..count])?;
-        self.inner.consume(count);
-        self.taken += count as u64;
-        Ok(())
-    }
-
-    /// Takes the next byte.
-    #[inline(always)]
-    pub fn take(&mut self) -> Next
-        // The answer.
-        ensures some { IfByte result (λ c. TakesByte R.remaining self.old c self.new) }
-        ensures none { IfEnd result (HasNothingLeft R.remaining self.old self.new) }
-        // The state after it.
-        ensures peeked { IfByte result (λ _. self.new.peeked ≡ None) }
-        ensures place { CountsByte self.old result self.new }
-        ensures failures { CountsNext R.failures self.old result self.new }
-    {
-        match self.peek() {
-            Next::Byte(byte) => {
-                self.advance();
-                Next::Byte(byte)
-            }
-            Next::End => Next::End,
-            Next::Failed => Next::Failed,
+            None => Ok(false),
         }
     }
 
     /// Takes the next byte of a quoted string. Its absence is an error.
-    pub fn expect_byte(&mut self) -> Result<u8, Error>
-        // The answer.
-        ensures value { IfOk result (λ c. TakesByte R.remaining self.old c self.new) }
-        // A refusal.
+    pub fn expect_byte(&mut self) -> Result<u8, TokenFault>
+        // Result.
+        ensures value { IfOk result (λ c. TakesNext R.remaining self.old (Some c) self.new) }
+        // Errors.
         ensures fault { IfErr result (IsUnclosedText R.remaining self.old self.new) }
-        // The state after it.
+        // State afterwards.
         ensures peeked { IfOk result (λ _. self.new.peeked ≡ None) }
         ensures place { OnOk result (TakesOneMore self.old self.new) }
         ensures unchanged { IfErr result (λ _. self.new.taken ≡ self.old.taken) }
         ensures failures { CountsFailed R.failures self.old result self.new }
     {
-        match self.take() {
-            Next::Byte(byte) => Ok(byte),
-            Next::End => Err(self.fault(ErrorKind::UnclosedString)),
-            Next::Failed => Err(self.read_error()),
+        match self.take()? {
+            Some(byte) => Ok(byte),
+            None => Err(TokenFault::UnclosedString),
         }
+    }
+
+    /// Takes the bytes at hand up to a stop. Returns whether the run may go on after them.
+    #[inline(always)]
+    pub fn skip_part(&mut self, stop: Stop) -> bool
+        // Result.
+        ensures bytes { SkipsPart R.remaining stop self.old self.new }
+        ensures end { result ≡ false → IsAtStop R.remaining stop self.old self.new }
+        // State afterwards.
+        ensures whole { result ≡ true → TakesHand R.held self.old self.new }
+        ensures place { self.old.taken ≤ self.new.taken }
+        ensures failures { R.failures self.new.inner ≡ R.failures self.old.inner }
+    {
+        let bytes = self.at_hand();
+        let count = run_length(stop, bytes);
+        let goes_on = count == bytes.len();
+        self.take_first(count);
+        goes_on
+    }
+
+    /// Takes the bytes at hand up to a stop, and appends them to a text. Returns whether the run
+    /// may go on after them.
+    #[inline(always)]
+    pub fn take_part(&mut self, stop: Stop, text: &mut Vec<u8>) -> Result<bool, AllocError>
+        // Result.
+        ensures bytes { OnOk result (AddsPart R.remaining stop self.old text.old.items self.new
+            text.new) }
+        ensures end { IfOk result (λ more. more ≡ false
+            → IsAtStop R.remaining stop self.old self.new) }
+        // State afterwards.
+        ensures whole { IfOk result (λ more. more ≡ true → TakesHand R.held self.old self.new) }
+        ensures place { self.old.taken ≤ self.new.taken }
+        ensures failures { R.failures self.new.inner ≡ R.failures self.old.inner }
+    {
+        let bytes = self.at_hand();
+        let count = run_length(stop, bytes);
+        let goes_on = count == bytes.len();
+        text.extend_from_slice(&bytes[..count])?;
+        self.take_first(count);
+        Ok(goes_on)
     }
 
     /// Ends the input, so that nothing more is read.
@@ -386,5 +267,37 @@ impl<R: ByteReader> Input<R> {
     {
         self.peeked = None;
         self.ended = true;
+    }
+
+    /// Returns the error for a token that can't be taken. After a failed read and after a failed
+    /// allocation the input has ended.
+    #[cold]
+    #[inline(never)]
+    pub fn error(&mut self, fault: TokenFault) -> Error
+        requires failed { HasFailed fault self.old }
+        // Result.
+        ensures error { fault_of result ≡ fault_after fault self.old.taken }
+        // State afterwards.
+        ensures ends { EndsInput R.remaining fault self.old self.new }
+        ensures place { self.new.taken ≡ self.old.taken }
+        ensures inner { self.new.inner ≡ self.old.inner }
+    {
+        let place = self.taken;
+        match fault {
+            TokenFault::Io => {
+                let failure = self.failure.take().unwrap();
+                self.end();
+                ErrorKind::Io(failure).with_byte_offset(place)
+            }
+            TokenFault::OutOfMemory => {
+                self.end();
+                ErrorKind::OutOfMemory.without_position()
+            }
+            TokenFault::UnclosedString => ErrorKind::UnclosedString.with_byte_offset(place),
+            TokenFault::IncompleteComment => ErrorKind::IncompleteComment.with_byte_offset(place),
+            TokenFault::InvalidUtf8 => ErrorKind::InvalidUtf8AsciiStream.with_byte_offset(place),
+            TokenFault::InvalidOctal => ErrorKind::InvalidOctalString.with_byte_offset(place),
+            TokenFault::InvalidUtf16 => ErrorKind::InvalidUtf16String.with_byte_offset(place),
+        }
     }
 }

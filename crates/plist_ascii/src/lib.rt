@@ -7,9 +7,11 @@
 mod byte_reader;
 mod comment;
 mod dialect;
+mod fault;
 mod input;
 mod quoted;
 mod reader;
+mod stop;
 mod text;
 mod token;
 mod unescape;

@@ -1,6 +1,6 @@
 //! Quoted strings.
 
-ghost use Rattle.std.specs.Prelude.{◌≡◌, ◌+◌, ◌<◌, ◌++◌, None, Some, Ok, Err, true, false, IfOk, IfErr, OnOk};
+ghost use Rattle.std.specs.Prelude.{◌≡◌, ◌+◌, ◌<◌, ◌++◌, None, Some, Ok, true, false, IfOk, IfErr, OnOk};
 ghost use Rattle.plist_base.specs.Events.{event_of};
 ghost use Rattle.plist_ascii.specs.Quoted.{quoted, quoted_token};
 ghost use Rattle.plist_ascii.specs.inner.Parts.{escaped_bytes, PartFails, EndFails};
@@ -8,10 +8,12 @@ ghost use Rattle.plist_ascii.specs.Kinds.{IsTextEvent};
 ghost use Rattle.plist_ascii.specs.inner.Inputs.{CountsFailed, TakesSomeMore, TakesEnd, Quotes, FailsAfter, GivesOne, GivesText};
 
 use crate::byte_reader::ByteReader;
-use crate::input::{Input, Stop};
-use crate::text::{RunTaken, push_byte, quoted_event};
+use crate::fault::TokenFault;
+use crate::input::Input;
+use crate::stop::Stop;
+use crate::text::{push_byte, quoted_event};
 use crate::unescape::Escaped;
-use plist_base::{Error, ErrorKind, OwnedEvent};
+use plist_base::OwnedEvent;
 use std::alloc::{AllocError, Global};
 
 // Appends what an escape stands for.
@@ -31,12 +33,12 @@ fn push_escaped(text: &mut Vec<u8>, piece: Escaped) -> Result<(), AllocError>
 
 impl<R: ByteReader> Input<R> {
     // Takes what follows a run of plain bytes: the closing quote, or an escape.
-    fn run_end(&mut self, quote: u8) -> Result<Option<Escaped>, Error>
-        // The answer.
+    fn run_end(&mut self, quote: u8) -> Result<Option<Escaped>, TokenFault>
+        // Result.
         ensures value { IfOk result (TakesEnd R.remaining quote self.old self.new) }
-        // A refusal.
+        // Errors.
         ensures fault { IfErr result (FailsAfter R.remaining (EndFails quote) self.old self.new) }
-        // The state after it.
+        // State afterwards.
         ensures rises { OnOk result (TakesSomeMore self.old self.new) }
         ensures peeked { IfOk result (λ piece. piece ≡ None → self.new.peeked ≡ None) }
         ensures failures { CountsFailed R.failures self.old result self.new }
@@ -49,31 +51,28 @@ impl<R: ByteReader> Input<R> {
     }
 
     // Takes a run of plain bytes and what follows it. Returns whether the string is closed.
-    fn part(&mut self, quote: u8, text: &mut Vec<u8>) -> Result<bool, Error>
-        // The answer.
+    fn part(&mut self, quote: u8, text: &mut Vec<u8>) -> Result<bool, TokenFault>
+        // Result.
         ensures value { IfOk result (Quotes R.remaining quote self.old text.old self.new text.new) }
-        // A refusal.
+        // Errors.
         ensures fault { IfErr result (FailsAfter R.remaining (PartFails quote) self.old self.new) }
-        // The state after it.
+        // State afterwards.
         ensures rises { OnOk result (TakesSomeMore self.old self.new) }
         ensures peeked { IfOk result (λ closed. closed ≡ true → self.new.peeked ≡ None) }
         ensures failures { CountsFailed R.failures self.old result self.new }
     {
-        match self.take_run(Stop::Quoted(quote), text) {
-            RunTaken::Whole => match self.run_end(quote)? {
-                Some(piece) => {
-                    push_escaped(text, piece)?;
-                    Ok(false)
-                }
-                None => Ok(true),
-            },
-            RunTaken::Failed => Err(self.read_error()),
-            RunTaken::OutOfMemory => Err(ErrorKind::OutOfMemory.without_position()),
+        self.take_run(Stop::Quoted(quote), text)?;
+        match self.run_end(quote)? {
+            Some(piece) => {
+                push_escaped(text, piece)?;
+                Ok(false)
+            }
+            None => Ok(true),
         }
     }
 
     // Takes the bytes of a string up to and including its closing quote.
-    fn quoted(&mut self, alloc: Global, quote: u8) -> Result<Vec<u8>, Error>
+    fn quoted(&mut self, alloc: Global, quote: u8) -> Result<Vec<u8>, TokenFault>
         ensures answers { GivesText R.remaining (quoted quote) self.old result self.new }
         ensures peeked { IfOk result (λ _. self.new.peeked ≡ None) }
         ensures failures { CountsFailed R.failures self.old result self.new }
@@ -87,16 +86,13 @@ impl<R: ByteReader> Input<R> {
     }
 
     /// Takes a quoted string. Its opening quote has been taken, and no byte after it is looked at.
-    pub fn quoted_text(&mut self, alloc: Global, quote: u8) -> Result<OwnedEvent, Error>
+    pub fn quoted_text(&mut self, alloc: Global, quote: u8) -> Result<OwnedEvent, TokenFault>
         ensures answers { GivesOne R.remaining (quoted_token quote) self.old result self.new }
         ensures kinds { IfOk result (λ event. IsTextEvent (event_of event)) }
         ensures peeked { IfOk result (λ _. self.new.peeked ≡ None) }
         ensures failures { CountsFailed R.failures self.old result self.new }
     {
         let text = self.quoted(alloc, quote)?;
-        match quoted_event(text) {
-            Ok(event) => Ok(event),
-            Err(kind) => Err(self.fault(kind)),
-        }
+        quoted_event(text)
     }
 }

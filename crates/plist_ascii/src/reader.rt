@@ -1,36 +1,28 @@
 //! The reader of ASCII property lists.
 
-ghost use Rattle.std.specs.Prelude.{◌≡◌, ◌-◌, ◌<◌, take, None, Some, true, IfSome};
-ghost use Rattle.plist_base.specs.Faults.{kind_of, error_kind_of};
+ghost use Rattle.std.specs.Prelude.{◌≡◌, ◌-◌, ◌<◌, None, Some, true, IfSome};
 ghost use Rattle.plist_ascii.specs.Kinds.{IsAsciiItem, IfBracketItem};
-ghost use Rattle.plist_ascii.specs.Unread.{is_io_or_memory};
 ghost use Rattle.plist_ascii.specs.AsciiReader.{TakesBytes, FaultIsAt, EndsAfterIoOrMemory, readable, HoldsLeft};
 ghost use Rattle.plist_ascii.specs.inner.Inputs.{ItemCountsFailed, GivesToStop, StopsAtQuote, input_steps};
 
 use crate::byte_reader::ByteReader;
 use crate::dialect::Dialect;
-use crate::input::{Input, Next, Stop};
-use plist_base::{Error, ErrorKind, OwnedEvent};
+use crate::input::Input;
+use crate::stop::Stop;
+use plist_base::{Error, OwnedEvent};
 use std::alloc::Global;
-
-// Returns whether the error is `Io` or `OutOfMemory`.
-fn is_io_or_memory(error: &Error) -> bool
-    ensures { result ≡ is_io_or_memory (kind_of (error_kind_of error.now)) }
-{
-    matches!(error.kind(), ErrorKind::Io(_) | ErrorKind::OutOfMemory)
-}
 
 impl<R: ByteReader> Input<R> {
     // Takes tokens up to the first that is an item.
     fn item(&mut self, alloc: Global, stop: Stop) -> Option<Result<OwnedEvent, Error>>
-        // The answer.
+        // Result.
         ensures items { GivesToStop R.remaining stop self.old result self.new }
         ensures kinds { IsAsciiItem result }
         ensures brackets { IfBracketItem result (self.new.peeked ≡ None) }
         ensures quotes { StopsAtQuote R.remaining stop self.old result self.new }
-        // A refusal.
+        // Errors.
         ensures offset { FaultIsAt result self.new.taken }
-        // The state after it.
+        // State afterwards.
         ensures rises { TakesBytes result self.old.taken self.new.taken }
         ensures ended { self.old.ended ≡ true → result ≡ None }
         ensures unasked { self.old.ended ≡ true → self.new.inner ≡ self.old.inner }
@@ -43,25 +35,16 @@ impl<R: ByteReader> Input<R> {
         }
         'tokens: loop {
             match self.take_past(Stop::Lead) {
-                Next::Byte(byte) => match self.token_by(alloc, stop, byte) {
+                Ok(Some(byte)) => match self.token_by(alloc, stop, byte) {
                     Ok(Some(event)) => return Some(Ok(event)),
                     Ok(None) => {}
-                    Err(error) => {
-                        if is_io_or_memory(&error) {
-                            self.end();
-                        }
-                        return Some(Err(error));
-                    }
+                    Err(fault) => return Some(Err(self.error(fault))),
                 },
-                Next::End => {
+                Ok(None) => {
                     self.end();
                     return None;
                 }
-                Next::Failed => {
-                    let error = self.read_error();
-                    self.end();
-                    return Some(Err(error));
-                }
+                Err(fault) => return Some(Err(self.error(fault))),
             }
         }
     }
@@ -93,17 +76,17 @@ pub struct AsciiReader<R> {
 }
 
 impl<R: ByteReader> AsciiReader<R> {
-    ghost use Rattle.std.specs.Prelude.{◌≡◌, ◌-◌, take, None, IfSome, Some};
+    ghost use Rattle.std.specs.Prelude.{◌≡◌, ◌-◌, None, IfSome, Some};
     ghost use Rattle.plist_ascii.specs.Ascii.{OnlyBareTextsDiffer};
     ghost use Rattle.plist_ascii.specs.AsciiReader.{untaken_bytes, dialect_of, device_of, peeked_byte, place_of, HasEndedAscii};
 
     /// Creates a lax reader. Nothing is read before the first call of `next`.
     pub fn new(alloc: Global, inner: R) -> Self
-        // The answer.
+        // Result.
         ensures bytes { untaken_bytes R.remaining result ≡ readable (R.remaining inner) }
         ensures inner { device_of result ≡ inner }
         ensures dialect { dialect_of result ≡ Dialect.Lax }
-        // The state after it.
+        // State afterwards.
         ensures place { place_of result ≡ 0 }
         ensures peeked_byte { peeked_byte result ≡ None }
     {
@@ -115,14 +98,14 @@ impl<R: ByteReader> AsciiReader<R> {
     /// In the tight dialect `{a=b}` yields the start of a dictionary, `a`, `b` and an end.
     #[tactic(auto, using(crate::proofs::Unread::new_unread))]
     pub fn with_dialect(alloc: Global, inner: R, dialect: Dialect) -> Self
-        // The answer.
+        // Result.
         ensures bytes { untaken_bytes R.remaining result ≡ readable (R.remaining inner) }
         ensures inner { device_of result ≡ inner }
         ensures dialect { dialect_of result ≡ dialect }
-        // The state after it.
+        // State afterwards.
         ensures place { place_of result ≡ 0 }
         ensures peeked_byte { peeked_byte result ≡ None }
-        // The law.
+        // Law.
         ensures alike { OnlyBareTextsDiffer }
     {
         AsciiReader {

@@ -9,8 +9,10 @@ ghost use Rattle.plist_ascii.specs.Unread.{stops};
 ghost use Rattle.plist_ascii.specs.inner.Inputs.{CountsFailed, IfCame, token_until, GivesToken, AllocatesForText, StopsAtBracket};
 
 use crate::byte_reader::ByteReader;
-use crate::input::{Input, Next, Stop};
-use plist_base::{Error, ErrorKind, Event, OwnedEvent};
+use crate::fault::TokenFault;
+use crate::input::Input;
+use crate::stop::Stop;
+use plist_base::{Event, OwnedEvent};
 use std::alloc::Global;
 
 /// What the first byte of a token begins.
@@ -33,6 +35,7 @@ pub enum Lead {
 }
 
 // Returns what this byte begins.
+#[inline(always)]
 fn lead_of(byte: u8) -> Lead
     ensures { result ≡ lead_of byte }
 {
@@ -47,14 +50,15 @@ fn lead_of(byte: u8) -> Lead
     }
 }
 
-// Does this begin nothing?
+// Returns whether this begins no token.
+#[inline(always)]
 fn begins_nothing(lead: Lead) -> bool
     ensures { result ≡ begins_nothing lead }
 {
     matches!(lead, Lead::Blank)
 }
 
-/// Is this byte a separator or white space?
+/// Returns whether this byte is a separator or white space.
 #[inline(always)]
 pub fn is_blank(byte: u8) -> bool
     ensures { result ≡ is_blank byte }
@@ -64,27 +68,31 @@ pub fn is_blank(byte: u8) -> bool
 
 impl<R: ByteReader> Input<R> {
     // Takes the token that a slash begins.
-    fn slash(&mut self, alloc: Global, stop: Stop) -> Result<Option<OwnedEvent>, Error>
+    fn slash(&mut self, alloc: Global, stop: Stop) -> Result<Option<OwnedEvent>, TokenFault>
+        // Result.
         ensures answers { GivesToken R.remaining (slash (stops stop)) self.old result self.new }
-        ensures memory { IfErr result (AllocatesForText R.remaining (slash (stops stop)) self.old) }
         ensures kinds { IfCame result (λ event. IsTextEvent (event_of event)) }
+        // Errors.
+        ensures memory { IfErr result (AllocatesForText R.remaining (slash (stops stop)) self.old) }
+        // State afterwards.
         ensures failures { CountsFailed R.failures self.old result self.new }
     {
-        match self.peek() {
-            Next::Byte(b'/') => {
-                self.advance();
-                self.line_comment()
+        match self.peek()? {
+            Some(b'/') => {
+                self.take_first(1);
+                self.line_comment()?;
+                Ok(None)
             }
-            Next::Byte(b'*') => {
-                self.advance();
-                self.block_comment()
+            Some(b'*') => {
+                self.take_first(1);
+                self.block_comment()?;
+                Ok(None)
             }
-            Next::Byte(_byte) => {
+            Some(_byte) => {
                 let event = self.bare(alloc, stop, b'/')?;
                 Ok(Some(event))
             }
-            Next::End => Err(self.fault(ErrorKind::IncompleteComment)),
-            Next::Failed => Err(self.read_error()),
+            None => Err(TokenFault::IncompleteComment),
         }
     }
 
@@ -95,14 +103,14 @@ impl<R: ByteReader> Input<R> {
         alloc: Global,
         stop: Stop,
         byte: u8,
-    ) -> Result<Option<OwnedEvent>, Error>
-        // The answer.
+    ) -> Result<Option<OwnedEvent>, TokenFault>
+        // Result.
         ensures answers { GivesToken R.remaining (token_until stop byte) self.old result self.new }
         ensures kinds { IfCame result (λ event. IsAsciiEvent (event_of event)) }
-        // A refusal.
+        // Errors.
         ensures memory { IfErr result (AllocatesForText R.remaining (token_until stop byte)
             self.old) }
-        // The state after it.
+        // State afterwards.
         ensures brackets { self.old.peeked ≡ None → IfCame result (StopsAtBracket self.new) }
         ensures quotes { lead_of byte ≡ Lead.Quote → IfOk result (λ _. self.new.peeked ≡ None) }
         ensures failures { CountsFailed R.failures self.old result self.new }

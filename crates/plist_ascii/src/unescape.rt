@@ -10,8 +10,8 @@ ghost use Rattle.plist_ascii.specs.inner.Inputs.{CountsFailed, GivesEscaped, Giv
 ghost use Rattle.plist_ascii.specs.inner.Parts.{IsDigitOf, IsCharOfUnit, IsCharOr};
 
 use crate::byte_reader::ByteReader;
-use crate::input::{Input, Next};
-use plist_base::{Error, ErrorKind};
+use crate::fault::TokenFault;
+use crate::input::Input;
 
 /// What an escape stands for.
 #[derive(Clone, Copy)]
@@ -150,7 +150,7 @@ fn pair_char(high: u16, low: Option<u16>) -> Option<char>
 
 impl<R: ByteReader> Input<R> {
     /// Takes an escape. Its backslash has been taken.
-    pub fn escape(&mut self) -> Result<Escaped, Error>
+    pub fn escape(&mut self) -> Result<Escaped, TokenFault>
         ensures answers { GivesEscaped R.remaining escape self.old result self.new }
         ensures failures { CountsFailed R.failures self.old result self.new }
     {
@@ -159,7 +159,7 @@ impl<R: ByteReader> Input<R> {
     }
 
     // Takes the rest of an escape. Its first byte has been taken.
-    fn escape_by(&mut self, byte: u8) -> Result<Escaped, Error>
+    fn escape_by(&mut self, byte: u8) -> Result<Escaped, TokenFault>
         ensures answers { GivesEscaped R.remaining (escape_by byte) self.old result self.new }
         ensures failures { CountsFailed R.failures self.old result self.new }
     {
@@ -171,12 +171,12 @@ impl<R: ByteReader> Input<R> {
         }
         match simple_of(byte) {
             Some(other) => Ok(Escaped::Byte(other)),
-            None => Err(self.fault(ErrorKind::InvalidUtf8AsciiStream)),
+            None => Err(TokenFault::InvalidUtf8),
         }
     }
 
     // Takes the second and the third byte of an octal escape.
-    fn octal(&mut self, first: u8) -> Result<Escaped, Error>
+    fn octal(&mut self, first: u8) -> Result<Escaped, TokenFault>
         ensures answers { GivesEscaped R.remaining (octal first) self.old result self.new }
         ensures failures { CountsFailed R.failures self.old result self.new }
     {
@@ -184,12 +184,12 @@ impl<R: ByteReader> Input<R> {
         let third = self.expect_byte()?;
         match octal_of(first, second, third) {
             Some(c) => Ok(Escaped::Char(c)),
-            None => Err(self.fault(ErrorKind::InvalidOctalString)),
+            None => Err(TokenFault::InvalidOctal),
         }
     }
 
     // Takes the four digits of a unit.
-    fn unit(&mut self) -> Result<Option<u16>, Error>
+    fn unit(&mut self) -> Result<Option<u16>, TokenFault>
         ensures answers { GivesUnit R.remaining unit self.old result self.new }
         ensures failures { CountsFailed R.failures self.old result self.new }
     {
@@ -201,7 +201,7 @@ impl<R: ByteReader> Input<R> {
     }
 
     // Takes what follows `\U`.
-    fn unicode(&mut self) -> Result<Escaped, Error>
+    fn unicode(&mut self) -> Result<Escaped, TokenFault>
         ensures answers { GivesEscaped R.remaining unicode self.old result self.new }
         ensures failures { CountsFailed R.failures self.old result self.new }
     {
@@ -210,12 +210,12 @@ impl<R: ByteReader> Input<R> {
     }
 
     // Takes what follows the digits of the first unit.
-    fn first_unit(&mut self, unit: Option<u16>) -> Result<Escaped, Error>
+    fn first_unit(&mut self, unit: Option<u16>) -> Result<Escaped, TokenFault>
         ensures answers { GivesEscaped R.remaining (first_unit unit) self.old result self.new }
         ensures failures { CountsFailed R.failures self.old result self.new }
     {
         let Some(unit) = unit else {
-            return Err(self.fault(ErrorKind::InvalidUtf16String));
+            return Err(TokenFault::InvalidUtf16);
         };
         match lone_char(unit) {
             Some(c) => Ok(Escaped::Char(c)),
@@ -224,43 +224,42 @@ impl<R: ByteReader> Input<R> {
     }
 
     // Takes the backslash of the second unit, and what follows it.
-    fn second_unit(&mut self, high: u16) -> Result<Escaped, Error>
+    fn second_unit(&mut self, high: u16) -> Result<Escaped, TokenFault>
         ensures answers { GivesEscaped R.remaining (second_unit high) self.old result self.new }
         ensures failures { CountsFailed R.failures self.old result self.new }
     {
         if self.expect_byte()? == b'\\' {
             return self.second_letter(high);
         }
-        Err(self.fault(ErrorKind::InvalidUtf16String))
+        Err(TokenFault::InvalidUtf16)
     }
 
     // Takes the letter of the second unit, if it is next, and what follows it.
-    fn second_letter(&mut self, high: u16) -> Result<Escaped, Error>
+    fn second_letter(&mut self, high: u16) -> Result<Escaped, TokenFault>
         ensures answers { GivesEscaped R.remaining (second_letter high) self.old result self.new }
         ensures failures { CountsFailed R.failures self.old result self.new }
     {
-        match self.peek() {
-            Next::Byte(byte) => {
+        match self.peek()? {
+            Some(byte) => {
                 if is_unit_letter(byte) {
-                    self.advance();
+                    self.take_first(1);
                     return self.second_digits(high);
                 }
-                Err(self.fault(ErrorKind::InvalidUtf16String))
+                Err(TokenFault::InvalidUtf16)
             }
-            Next::End => Err(self.fault(ErrorKind::InvalidUtf16String)),
-            Next::Failed => Err(self.read_error()),
+            None => Err(TokenFault::InvalidUtf16),
         }
     }
 
     // Takes the digits of the second unit.
-    fn second_digits(&mut self, high: u16) -> Result<Escaped, Error>
+    fn second_digits(&mut self, high: u16) -> Result<Escaped, TokenFault>
         ensures answers { GivesEscaped R.remaining (second_digits high) self.old result self.new }
         ensures failures { CountsFailed R.failures self.old result self.new }
     {
         let low = self.unit()?;
         match pair_char(high, low) {
             Some(c) => Ok(Escaped::Char(c)),
-            None => Err(self.fault(ErrorKind::InvalidUtf16String)),
+            None => Err(TokenFault::InvalidUtf16),
         }
     }
 }

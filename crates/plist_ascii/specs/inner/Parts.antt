@@ -4,8 +4,9 @@ use Rattle.std.specs.Char.{is_digit, digit_value}
 use Rattle.std.specs.Str.{is_utf8}
 use Rattle.std.specs.declared.alloc.Global.{Global}
 use Rattle.std.specs.declared.string.String.{String}
-use Rattle.plist_base.specs.declared.error.ErrorKind.{ErrorKind}
-use Rattle.plist_base.specs.Faults.{FaultKind, InvalidUtf8AsciiStream, kind_of}
+use Rattle.plist_base.specs.Faults.{FaultKind}
+use Rattle.plist_ascii.specs.declared.fault.TokenFault.{TokenFault}
+use Rattle.plist_ascii.specs.declared.fault.TokenFault.TheVariants as fault
 use Rattle.plist_ascii.specs.Escapes.{is_surrogate}
 use Rattle.plist_ascii.specs.declared.unescape.Escaped.{Escaped}
 use Rattle.plist_ascii.specs.declared.unescape.Escaped.TheVariants as piece
@@ -21,9 +22,9 @@ escaped_bytes (piece.Char c) = encode_utf8 c
 abbrev pub IsTextOf : List ℕ → String Global → Type 0
 IsTextOf bytes text = (is_utf8 bytes ≡ true) × (string_bytes text ≡ bytes)
 
--- these bytes aren't UTF-8, and the error says so
-abbrev pub IsNoText : List ℕ → ErrorKind → Type 0
-IsNoText bytes kind = (is_utf8 bytes ≡ false) × (kind_of kind ≡ InvalidUtf8AsciiStream)
+-- these bytes aren't UTF-8, and the fault says so
+abbrev pub IsNoText : List ℕ → TokenFault → Type 0
+IsNoText bytes f = (is_utf8 bytes ≡ false) × (f ≡ fault.InvalidUtf8)
 
 -- the byte is a digit with this value
 abbrev pub IsDigitOf : (byte radix value : ℕ) → Type 0

@@ -1,5 +1,8 @@
 use Rattle.std.proofs.Common.{arith, ap, sym, refl, Ok}
-use Rattle.std.proofs.lemmas.Result.{err_from_is_err_and}
+use Rattle.plist_ascii.specs.Quoted.{quoted}
+use Rattle.plist_ascii.specs.inner.TokenFaults.{kind_in_bytes}
+use Rattle.std.specs.Prelude.{vec_items, Err}
+use Rattle.plist_ascii.proofs.Answering.{gives_passed, some_by}
 use Rattle.plist_ascii.proofs.Loops.{since_start, since_on}
 use Rattle.plist_ascii.proofs.Quotes.{quoting_start, quoting_more, quoting_ends}
 use Rattle.plist_ascii.proofs.input.Input.quoted.Goals as goal
@@ -26,13 +29,11 @@ parts-preserved g c =
 
 pub returns-in_err-part-clause-answers : goal.returns-in_err-part-clause-answers
 returns-in_err-part-clause-answers g c =
-    let f = err_from_is_err_and c.from_residual.result c.from_residual.ensures.1 in
     let b = c.in_err-part.ensures.fault in
-    rw (f.1, f.2) (
-      b.0,
-      omega (arith, c.parts.invariant.rises, b.1),
-      λ d xs e.
+    gives_passed vec_items (quoted c.args.quote) _ _ _ _ _ _ c.from_residual.ensures.1 (
+      omega (arith, c.parts.invariant.rises, b.0),
+      some_by (kind_in_bytes c.in_err-part.field-0.0) _ (λ kind. Err kind) _ (λ kind k xs e.
           let i = c.parts.invariant.goes xs e in
-          let t = b.2 d i.0 i.1 in
-          quoting_ends _ _ i.2 t.0 t.3 t.1 refl t.2,
+          let t = k i.0 i.1 in
+          quoting_ends _ _ i.2 t.0 t.3 t.1 refl t.2) b.1,
     )

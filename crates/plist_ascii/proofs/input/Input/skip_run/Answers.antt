@@ -1,23 +1,46 @@
 use Rattle.std.proofs.Common.{Some, ap, ◌∙◌, arith, refl}
-use Rattle.plist_ascii.proofs.Loops.{since_on, runs_part, runs_byte, runs_end}
+use Rattle.plist_ascii.proofs.Unread.{none_stops}
+use Rattle.plist_ascii.proofs.Loops.{since_on, runs_part, runs_end}
 use Rattle.plist_ascii.proofs.input.Input.skip_run.Goals as goal
+
+pub run-smaller : goal.run-smaller
+run-smaller g c =
+    let some = rw c.in-Some.is at c.in_ok-_byte.ensures.hand in
+    let all = c.skip_part.ensures.whole c.if-not-skip_part.false in
+    omega (arith, some, all.0, all.1, c.in_ok-_byte.ensures.place)
 
 pub run-preserved : goal.run-preserved
 run-preserved g c =
-    let place = c.in-Byte.ensures.place in
-    since_on c.run.invariant (c.in-Byte.ensures.failures ∙ c.skip_buffered.ensures.failures)
-    (omega (arith, place.0, c.skip_buffered.ensures.place)) (λ xs ys i u.
-    let k = (c.skip_buffered.ensures.bytes ys u).1 in
-    let t = c.in-Byte.ensures.some k.1 k.5 in (
-      t.0,
-      t.2,
-      (_, runs_byte (runs_part i.1 k.0 k.1 k.2 k.3 refl k.6) t.1 t.3 refl place.0),
+    let took = c.skip_part.ensures in
+    since_on c.run.invariant (took.failures ∙ c.in_ok-_byte.ensures.failures)
+    (omega (arith, c.in_ok-_byte.ensures.place, took.place)) (λ xs ys i u.
+    let looked = c.in_ok-_byte.ensures.next ys u in
+    let k = (took.bytes ys looked.0).1 in (
+      k.1,
+      k.5,
+      (
+        _,
+        runs_part i.1 k.0 k.1 k.2 k.3 refl (omega
+            (arith, k.6, c.in_ok-_byte.ensures.place)),
+      ),
     ))
 
-pub returns-in-End-clause-value : goal.returns-in-End-clause-value
-returns-in-End-clause-value g c = λ xs e.
+pub returns-then-not-skip_part-clause-value : goal.returns-then-not-skip_part-clause-value
+returns-then-not-skip_part-clause-value g c = λ xs e.
+    let took = c.skip_part.ensures in
     let i = c.run.invariant.goes xs e in
-    let k = (c.skip_buffered.ensures.bytes i.0 i.1).1 in
-    let s = c.in-End.ensures.none k.1 k.5 in
-    let end = runs_end (runs_part i.2.1 k.0 k.1 k.2 k.3 refl k.6) s.1 in
-    (s.0 ∙ ap Some end.1, c.in-End.ensures.place ∙ end.2)
+    let looked = c.in_ok-_byte.ensures.next i.0 i.1 in
+    let k = (took.bytes i.0 looked.0).1 in
+    let stop = took.end c.if-not-skip_part.true i.0 looked.0 k.1 k.5 in
+    let on = runs_part i.2.1 k.0 k.1 k.2 k.3 refl (omega
+    (arith, k.6, c.in_ok-_byte.ensures.place)) in
+    let end = runs_end on stop in
+    (k.5 ∙ ap Some end.1, end.2)
+
+pub returns-in-None-clause-value : goal.returns-in-None-clause-value
+returns-in-None-clause-value g c = λ xs e.
+    let i = c.run.invariant.goes xs e in
+    let next = rw c.in-None.is at c.in_ok-_byte.ensures.next in
+    let looked = next i.0 i.1 in
+    let end = runs_end i.2.1 (none_stops _ _ looked.1) in
+    (looked.0 ∙ ap Some end.1, c.in_ok-_byte.ensures.place ∙ end.2)

@@ -1,31 +1,38 @@
-use Rattle.std.proofs.Common.{Some, ap, sym, ◌∙◌, arith}
-use Rattle.plist_ascii.proofs.Answering.{on_ok}
-use Rattle.plist_ascii.proofs.Loops.{since_on, runs_part, runs_byte, runs_end}
+use Rattle.std.proofs.Common.{Some, ap, ◌∙◌, arith}
+use Rattle.plist_ascii.proofs.Unread.{none_stops}
+use Rattle.plist_ascii.proofs.Loops.{since_on, runs_part, runs_end}
 use Rattle.plist_ascii.proofs.input.Input.take_run.Goals as goal
+
+pub run-smaller : goal.run-smaller
+run-smaller g c =
+    let some = rw c.in-Some.is at c.in_ok-_byte.ensures.hand in
+    let all = c.in_ok-take_part-in-Some.ensures.whole c.if-not-branch.false in
+    omega (arith, some, all.0, all.1, c.in_ok-_byte.ensures.place)
 
 pub run-preserved : goal.run-preserved
 run-preserved g c =
-    let place = c.in-Byte.ensures.place in
-    let adds = on_ok _ _ (sym c.is_err.ensures.value ∙ c.if-is_err.false)
-    c.take_buffered.ensures.value in
-    let pushed = on_ok _ _ (sym c.is_err-in-Byte.ensures.value ∙ c.if-is_err-2.false)
-    c.push_byte.ensures.value in
-    since_on c.run.invariant (c.in-Byte.ensures.failures ∙ c.take_buffered.ensures.failures)
-    (omega (arith, place.0, c.take_buffered.ensures.place)) (λ xs ys on u.
-    let k = adds ys u in
-    let t = c.in-Byte.ensures.some k.1 k.5 in (
-      t.0,
-      t.2,
-      runs_byte (runs_part on k.0 k.1 k.2 k.3 k.4 k.6) t.1 t.3 pushed place.0,
-    ))
+    let took = c.in_ok-take_part-in-Some.ensures in
+    since_on c.run.invariant (took.failures ∙ c.in_ok-_byte.ensures.failures)
+    (omega (arith, c.in_ok-_byte.ensures.place, took.place)) (λ xs ys on u.
+    let looked = c.in_ok-_byte.ensures.next ys u in
+    let k = took.bytes ys looked.0 in
+    (k.1, k.5, runs_part on k.0 k.1 k.2 k.3 k.4 (omega (arith, k.6, c.in_ok-_byte.ensures.place))))
 
-pub returns-in-End-clause-value : goal.returns-in-End-clause-value
-returns-in-End-clause-value g c =
-    let adds = on_ok _ _ (sym c.is_err.ensures.value ∙ c.if-is_err.false)
-    c.take_buffered.ensures.value in
-    λ xs e.
+pub returns-then-not-branch-clause-value : goal.returns-then-not-branch-clause-value
+returns-then-not-branch-clause-value g c = λ xs e.
+    let took = c.in_ok-take_part-in-Some.ensures in
     let i = c.run.invariant.goes xs e in
-    let k = adds i.0 i.1 in
-    let s = c.in-End.ensures.none k.1 k.5 in
-    let end = runs_end (runs_part i.2 k.0 k.1 k.2 k.3 k.4 k.6) s.1 in
-    (end.0, s.0 ∙ ap Some end.1, c.in-End.ensures.place ∙ end.2)
+    let looked = c.in_ok-_byte.ensures.next i.0 i.1 in
+    let k = took.bytes i.0 looked.0 in
+    let stop = took.end c.if-not-branch.true i.0 looked.0 k.1 k.5 in
+    let on = runs_part i.2 k.0 k.1 k.2 k.3 k.4 (omega (arith, k.6, c.in_ok-_byte.ensures.place)) in
+    let end = runs_end on stop in
+    (end.0, k.5 ∙ ap Some end.1, end.2)
+
+pub returns-in-None-clause-value : goal.returns-in-None-clause-value
+returns-in-None-clause-value g c = λ xs e.
+    let i = c.run.invariant.goes xs e in
+    let next = rw c.in-None.is at c.in_ok-_byte.ensures.next in
+    let looked = next i.0 i.1 in
+    let end = runs_end i.2 (none_stops _ _ looked.1) in
+    (end.0, looked.0 ∙ ap Some end.1, c.in_ok-_byte.ensures.place ∙ end.2)

@@ -1,13 +1,12 @@
-use Rattle.std.proofs.Common.{length, ◌-◌, ◌≡◌, ◌≤◌, take}
+use Rattle.std.proofs.Common.{length, ◌-◌, ◌+◌, ◌≡◌, ◌≤◌, drop}
 use Rattle.plist_ascii.specs.Taken.{run}
 use Rattle.plist_ascii.specs.Unread.{stops}
-use Rattle.plist_ascii.proofs.input.run_length.Given as goal
+use Rattle.plist_ascii.proofs.stop.run_length.Given as goal
 
 abbrev pub invariant-bytes : goal.invariant-bytes
 invariant-bytes l = record {
   within : l.count ≤ length l.bytes;
-  most : l.count ≤ l.most;
-  run : run (stops l.stop) (take l.count l.bytes) ≡ l.count;
+  run : l.count + run (stops l.stop) (drop l.count l.bytes) ≡ run (stops l.stop) l.bytes;
 }
 
 abbrev pub decreases-bytes : goal.decreases-bytes

@@ -1,0 +1,41 @@
+-- Which errors the faults of tokens become.
+use Rattle.std.specs.Prelude.{◌≡◌, ℕ, Option, None, Some, Result, Ok, Err, MatchResult}
+use Rattle.std.specs.Option.{option_map}
+use Rattle.plist_base.specs.declared.event.Event.{Event}
+use Rattle.plist_base.specs.Events.{PlainEvent, event_of}
+use Rattle.plist_base.specs.Faults.{Fault, FaultKind, Io, OutOfMemory, UnclosedString, IncompleteComment, InvalidUtf8AsciiStream, InvalidOctalString, InvalidUtf16String, fault_at, fault_nowhere}
+use Rattle.plist_ascii.specs.Kinds.{IsTextEvent}
+use Rattle.plist_ascii.specs.declared.fault.TokenFault.{TokenFault}
+use Rattle.plist_ascii.specs.declared.fault.TokenFault.TheVariants as fault
+
+-- the kind of a fault in the bytes; a failed read and a failed allocation are none
+abbrev pub kind_in_bytes : TokenFault → Option FaultKind
+kind_in_bytes fault.Io = None
+kind_in_bytes fault.OutOfMemory = None
+kind_in_bytes fault.UnclosedString = Some UnclosedString
+kind_in_bytes fault.IncompleteComment = Some IncompleteComment
+kind_in_bytes fault.InvalidUtf8 = Some InvalidUtf8AsciiStream
+kind_in_bytes fault.InvalidOctal = Some InvalidOctalString
+kind_in_bytes fault.InvalidUtf16 = Some InvalidUtf16String
+
+-- the error that a fault becomes after this number of bytes
+abbrev pub fault_after : TokenFault → ℕ → Fault
+fault_after fault.Io place = fault_at Io place
+fault_after fault.OutOfMemory place = fault_nowhere OutOfMemory
+fault_after fault.UnclosedString place = fault_at UnclosedString place
+fault_after fault.IncompleteComment place = fault_at IncompleteComment place
+fault_after fault.InvalidUtf8 place = fault_at InvalidUtf8AsciiStream place
+fault_after fault.InvalidOctal place = fault_at InvalidOctalString place
+fault_after fault.InvalidUtf16 place = fault_at InvalidUtf16String place
+
+-- what a result says of the bytes, seen by view: their meaning or their fault, if it says any
+abbrev pub said : {X A : Type 0} → (view : X → A) → Result X TokenFault
+    → Option (Result A FaultKind)
+said view (Ok x) = Some (Ok (view x))
+said view (Err f) = option_map (λ kind. Err kind) (kind_in_bytes f)
+
+-- the meaning of a string, as an event or as the fault that it isn't UTF-8
+abbrev pub Means : Result Event TokenFault → Result (Option PlainEvent) FaultKind → Type 0
+Means answer outcome = MatchResult answer
+    (λ event. (outcome ≡ Ok (Some (event_of event))) × IsTextEvent (event_of event))
+    (λ f. (f ≡ fault.InvalidUtf8) × (outcome ≡ Err InvalidUtf8AsciiStream))

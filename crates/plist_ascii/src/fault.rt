@@ -1,0 +1,36 @@
+//! Why a token can't be taken.
+
+ghost use Rattle.std.specs.Prelude.{◌≡◌};
+ghost use Rattle.plist_ascii.specs.declared.fault.TokenFault.TheVariants as fault;
+
+use std::alloc::AllocError;
+
+/// Why a token can't be taken.
+///
+/// Kept small because a return slot is zeroed on every call: an `Error` has 120 bytes, and is made
+/// once, where the reader returns it.
+#[derive(Clone, Copy)]
+pub enum TokenFault {
+    /// A read failed. Its error is stored in the input.
+    Io,
+    /// An allocation failed.
+    OutOfMemory,
+    /// A quoted string has no closing quote.
+    UnclosedString,
+    /// A comment has no end, or the input ends after a slash.
+    IncompleteComment,
+    /// A string isn't UTF-8, or an escape isn't defined.
+    InvalidUtf8,
+    /// An octal escape contains a byte other than `0` to `7`.
+    InvalidOctal,
+    /// An escape isn't UTF-16.
+    InvalidUtf16,
+}
+
+impl From<AllocError> for TokenFault {
+    ghost from_gives = { λ _ f. f ≡ fault.OutOfMemory };
+
+    fn from(_error: AllocError) -> TokenFault {
+        TokenFault::OutOfMemory
+    }
+}
