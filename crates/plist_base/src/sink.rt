@@ -1,4 +1,4 @@
-//! A sink: bytes on their way to a writer through a buffer of fixed size.
+//! A sink, which writes bytes to a writer through a buffer of fixed size.
 
 ghost use Rattle.std.specs.Prelude.{◌≡◌, ◌++◌, [], Ok, true, false, IfOk, OnOk, vec_capacity};
 ghost use Rattle.std.specs.Io.KnownBytes.{Appends};
@@ -11,7 +11,7 @@ use crate::send::{send, send_and_flush};
 use std::alloc::Global;
 use std::io::Write;
 
-/// How many bytes a [`Sink`] buffers at most.
+/// The greatest number of bytes that a [`Sink`] buffers.
 pub const SINK_CAPACITY: usize = 1 << 16;
 
 /// Writes bytes to a writer through a buffer of [`SINK_CAPACITY`] bytes.
@@ -29,7 +29,7 @@ pub const SINK_CAPACITY: usize = 1 << 16;
 ///
 /// # Errors
 ///
-/// Each call returns `Io`, without an offset, if a write fails or takes no byte. A failed write
+/// Each call returns `Io`, without an offset, if a write fails or accepts no byte. A failed write
 /// isn't tried again, not even after `Interrupted`. A prefix of all the bytes that were put is
 /// written then, and the sink is of no further use.
 #[derive(Drop)]
@@ -114,7 +114,7 @@ impl<'s, W: Write> Sink<'s, W> {
         self.write_through(bytes)
     }
 
-    // Puts bytes and then others if all of them fit into the buffer.
+    // Puts two slices if both fit into the buffer, and returns whether they do.
     fn try_put_both(&mut self, first: &[u8], second: &[u8]) -> bool
         ensures put { result ≡ true → PutsBytes W.contents self.old (first.now ++ second.now)
             (Ok tt) self.new }
@@ -137,6 +137,7 @@ impl<'s, W: Write> Sink<'s, W> {
         false
     }
 
+    // Puts two slices that don't both fit into the buffer.
     #[cold]
     #[inline(never)]
     fn put_apart(&mut self, first: &[u8], second: &[u8]) -> Result<(), Error>
@@ -146,7 +147,7 @@ impl<'s, W: Write> Sink<'s, W> {
         self.put(second)
     }
 
-    /// Puts bytes and then others.
+    /// Puts two slices, one after the other.
     pub fn put_both(&mut self, first: &[u8], second: &[u8]) -> Result<(), Error>
         ensures { Puts W.contents self.old (first.now ++ second.now) result self.new }
     {
@@ -160,8 +161,8 @@ impl<'s, W: Write> Sink<'s, W> {
     ///
     /// # Errors
     ///
-    /// `Io`, without an offset, if a write fails or takes no byte, and a prefix of what is pending
-    /// is written; or if the flush fails, and all of it is.
+    /// `Io`, without an offset, if a write fails or accepts no byte, after a prefix of what is
+    /// pending was written; or if the flush fails, after all of it was.
     pub fn finish(&mut self) -> Result<(), Error>
         ensures sent { OnOk result (Appends (written W.contents self.old)
             (written W.contents self.new) (pending self.old)) }

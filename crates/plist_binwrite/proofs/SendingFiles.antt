@@ -3,7 +3,7 @@ use Rattle.std.proofs.Common.{◌≡◌, ℕ, ◌^◌, ◌<◌, List, Option, Ok
 use Rattle.plist_binwrite.specs.declared.event_table.EventTable.{EventTable}
 use Rattle.plist_base.specs.Bracketing.{bracketing, lengthless, AreAlike, AreTreeEvents, AreComplete}
 use Rattle.plist_base.specs.Events.{PlainEvent}
-use Rattle.plist_base.specs.Faults.{FaultKind, Fault, Io, OutOfMemory, PlistTooLarge, fault_nowhere}
+use Rattle.plist_base.specs.Faults.{FaultKind, Fault, Io, OutOfMemory, PlistTooLarge, fault_without_offset}
 use Rattle.plist_base.specs.Trees.{Tree}
 use Rattle.plist_base.specs.Writing.{Answer}
 use Rattle.plist_base.proofs.Grammar.{complete_of_whole, whole_alike}
@@ -53,14 +53,14 @@ module _ (One Other : Tree → List ℕ → Type 0) (size other : Tree → ℕ) 
 -- if an allocation fails, nothing is written
 pub sends_nothing : {W : Type 0} (contents : W → Option (List ℕ)) (class : ℕ
     → ℕ) (events : EventTable)
-    (fault : Fault) (old new : W) → fault ≡ fault_nowhere OutOfMemory → new ≡ old
+    (fault : Fault) (old new : W) → fault ≡ fault_without_offset OutOfMemory → new ≡ old
     → SendsBy class contents (plain_events events) (Err fault) old new
 sends_nothing contents class events fault old new is same = rw is (refl, same)
 
 -- a file that is too large isn't written
 pub sends_too_large : {W : Type 0} (contents : W → Option (List ℕ)) (class : ℕ
     → ℕ) (events : EventTable)
-    (fault : Fault) (old new : W) → fault ≡ fault_nowhere PlistTooLarge
+    (fault : Fault) (old new : W) → fault ≡ fault_without_offset PlistTooLarge
     → AreTreeEvents (plain_events events) → IsOversized class (plain_events events) → new ≡ old
     → SendsBy class contents (plain_events events) (Err fault) old new
 sends_too_large contents class events fault old new is whole large same = rw is (

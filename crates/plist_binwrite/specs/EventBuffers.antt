@@ -6,7 +6,7 @@ use Rattle.plist_base.specs.declared.error.EventKind.{EventKind}
 use Rattle.plist_base.specs.declared.error.EventKind.TheVariants as event_kind
 use Rattle.plist_base.specs.Bracketing.{without_length, AreTreeEvents, AreComplete, CanContinue}
 use Rattle.plist_base.specs.Events.{PlainEvent, kind_of_event}
-use Rattle.plist_base.specs.Faults.{Fault, UnexpectedEventType, fault_nowhere, fault_of}
+use Rattle.plist_base.specs.Faults.{Fault, UnexpectedEventType, fault_without_offset, fault_of}
 use Rattle.plist_binwrite.specs.declared.event_buffer.EventBuffer.{EventBuffer}
 use Rattle.plist_binwrite.specs.EventTable.{plain_events}
 
@@ -26,7 +26,7 @@ expected_instead (event ∷ events) = event_kind.DictionaryKeyOrEndCollection
 -- the fault of an event that can't follow the buffered ones
 abbrev pub misplaced_fault : List PlainEvent → PlainEvent → Fault
 misplaced_fault held event =
-    fault_nowhere (UnexpectedEventType (expected_instead held) (kind_of_event event))
+    fault_without_offset (UnexpectedEventType (expected_instead held) (kind_of_event event))
 
 -- a test: are the events those of a tree?
 abbrev pub TestsWhole : Bool → List PlainEvent → Type 0

@@ -6,7 +6,7 @@ use Rattle.plist_base.specs.declared.visitor.Visited.TheVariants.{Ended, Stopped
 use Rattle.plist_base.specs.Events.{PlainEvent}
 use Rattle.plist_base.specs.Prefixes.{AppendsPrefix}
 use Rattle.plist_base.specs.Visits.{Flow, HandsOverAll, PlainItem, Visits}
-use Rattle.plist_base.proofs.Visiting.{kept_all}
+use Rattle.plist_base.proofs.Visits.{kept_all}
 use Rattle.plist_commands.specs.declared.print.Printer.{Printer}
 use Rattle.plist_commands.specs.EscapedLines.{line_of}
 use Rattle.plist_commands.specs.Printers.{EndsUnprinted, IsSamePrinter, PrintsLine, pending_lines, printed}

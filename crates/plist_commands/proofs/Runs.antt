@@ -11,12 +11,12 @@ use Rattle.plist_commands.specs.declared.convert.Streamed.TheVariants.{NeedsValu
 use Rattle.plist_commands.specs.Converting.{IfOkIs}
 use Rattle.plist_base.specs.declared.error.Error.{Error}
 use Rattle.plist_base.specs.Events.{PlainEvent}
-use Rattle.plist_base.specs.Faults.{Fault, FaultKind, Io, IsIo, IsIoOrMemory, MatchFault, OutOfMemory, error_kind_of, fault_nowhere, fault_of, kind_of, offset_of}
+use Rattle.plist_base.specs.Faults.{Fault, FaultKind, Io, IsIo, IsIoOrMemory, MatchFault, OutOfMemory, error_kind_of, fault_without_offset, fault_of, kind_of, offset_of}
 use Rattle.plist_base.specs.Prefixes.{AppendsPrefix}
-use Rattle.plist_base.specs.Visits.{GivesAll, PlainItem}
-use Rattle.plist_base.proofs.Fronts.{Appends-at}
-use Rattle.plist_base.proofs.Visiting.{given_more}
-use Rattle.plist_commands.specs.HeldLines.{PassesOn}
+use Rattle.plist_base.specs.Visits.{YieldsAll, PlainItem}
+use Rattle.plist_base.proofs.WriterBytes.{Appends-at}
+use Rattle.plist_base.proofs.Visits.{given_more}
+use Rattle.plist_base.specs.Sinks.{WritesBut}
 use Rattle.plist_commands.specs.EscapedLines.{line_of, lines_of_events}
 use Rattle.plist_commands.specs.Printing.{IsWriterFault, IsWriterError}
 use Rattle.plist_commands.specs.ReaderRuns.{ComesOfReading, HoldsRun, PrintsRun, StopsPrinting}
@@ -29,13 +29,13 @@ lines_more (first ∷ events) event =
     ∙ sym (append_assoc (line_of first) (lines_of_events events) (line_of event))
 
 -- all that was held back went out
-all_sent : (old now after : Option (List ℕ)) (lines held : List ℕ) → PassesOn old now lines held
+all_sent : (old now after : Option (List ℕ)) (lines held : List ℕ) → WritesBut old now lines held
     → Appends now after held → Appends old after lines
 all_sent old now after lines held (sent, appended, is) more =
     Appends-at old after _ _ (sym is) (Appends-trans old now after sent held appended more)
 
 -- a beginning of it did
-front_sent : (old now after : Option (List ℕ)) (lines held : List ℕ) → PassesOn old now lines held
+front_sent : (old now after : Option (List ℕ)) (lines held : List ℕ) → WritesBut old now lines held
     → AppendsPrefix now after held → AppendsPrefix old after lines
 front_sent old now after lines held (sent, appended, is) (part, rest, more, split) = (
   sent ++ part,
@@ -59,12 +59,12 @@ front_kept old now after bytes (sent, rest, appended, is) kept =
 
 -- the writer failed, or memory ran out
 own_fault : (fault : Fault) → IsWriterFault fault
-    → (fault ≡ fault_nowhere Io) ⊎ (fault ≡ fault_nowhere OutOfMemory)
+    → (fault ≡ fault_without_offset Io) ⊎ (fault ≡ fault_without_offset OutOfMemory)
 own_fault fault (none, own) = by fault.kind fault.offset none own
   where
     by : (kind : FaultKind) (offset : Option ℕ) → offset ≡ None → IsIoOrMemory kind
-        → (◌≡◌ {A = Fault} (record { kind = kind; offset = offset }) (fault_nowhere Io))
-        ⊎ (◌≡◌ {A = Fault} (record { kind = kind; offset = offset }) (fault_nowhere OutOfMemory))
+        → (◌≡◌ {A = Fault} (record { kind = kind; offset = offset }) (fault_without_offset Io))
+        ⊎ (◌≡◌ {A = Fault} (record { kind = kind; offset = offset }) (fault_without_offset OutOfMemory))
     by Io offset none own = inl (rw none refl)
     by OutOfMemory offset none own = inr (rw none refl)
     by kind offset none own = absurd own
@@ -73,13 +73,13 @@ own_fault fault (none, own) = by fault.kind fault.offset none own
 abbrev pub HasRun : {I : Type 0} (gives : I → PlainItem → I → Type 0) (old now : I)
     → (before after : Option (List ℕ)) → (held : List ℕ) → Type 0
 HasRun gives old now before after held =
-    (events : List PlainEvent) × GivesAll gives old events now
-    × PassesOn before after (lines_of_events events) held
+    (events : List PlainEvent) × YieldsAll gives old events now
+    × WritesBut before after (lines_of_events events) held
 
 -- with one line more
 line_held : (events : List PlainEvent) (event : PlainEvent) (before now : Option (List ℕ))
-    (held : List ℕ) → PassesOn before now (lines_of_events events) held
-    → PassesOn before now (lines_of_events (events ++ event ∷ [])) (held ++ line_of event)
+    (held : List ℕ) → WritesBut before now (lines_of_events events) held
+    → WritesBut before now (lines_of_events (events ++ event ∷ [])) (held ++ line_of event)
 line_held events event before now held (sent, appended, is) = (
   sent,
   appended,
@@ -88,8 +88,8 @@ line_held events event before now held (sent, appended, is) = (
 )
 
 passed_further : (before now after : Option (List ℕ)) (lines held kept : List ℕ)
-    → PassesOn before now lines held → PassesOn now after held kept
-    → PassesOn before after lines kept
+    → WritesBut before now lines held → WritesBut now after held kept
+    → WritesBut before after lines kept
 passed_further before now after lines held kept (sent, appended, is) (part, more, split) = (
   sent ++ part,
   Appends-trans before now after sent part appended more,
@@ -104,7 +104,7 @@ module _ {I : Type 0} (gives : I → PlainItem → I → Type 0) where
   -- one event more
   pub run_more : (old now new : I) (event : PlainEvent) (before here after : Option (List ℕ))
       (held kept : List ℕ) → HasRun gives old now before here held
-      → gives now (Some (Ok event)) new → PassesOn here after (held ++ line_of event) kept
+      → gives now (Some (Ok event)) new → WritesBut here after (held ++ line_of event) kept
       → HasRun gives old new before after kept
   run_more old now new event before here after held kept (events, through, passed) step line = (
     events ++ event ∷ [],
@@ -129,7 +129,7 @@ module _ {I : Type 0} (gives : I → PlainItem → I → Type 0) where
         ),
       )
     where
-      stops : (fault_of error ≡ fault_nowhere Io) ⊎ (fault_of error ≡ fault_nowhere OutOfMemory)
+      stops : (fault_of error ≡ fault_without_offset Io) ⊎ (fault_of error ≡ fault_without_offset OutOfMemory)
           → StopsPrinting gives error new new
       stops (inl io) = inl (io, inl refl)
       stops (inr memory) = inr (memory, refl)
@@ -138,7 +138,7 @@ module _ {I : Type 0} (gives : I → PlainItem → I → Type 0) where
   pub run_faulted : (old now new : I) (before here after : Option (List ℕ)) (held : List ℕ)
       (error answer : Error) → HasRun gives old now before here held
       → gives now (Some (Err error)) new
-      → ((answer ≡ error) × Appends here after held) ⊎ (fault_of answer ≡ fault_nowhere Io)
+      → ((answer ≡ error) × Appends here after held) ⊎ (fault_of answer ≡ fault_without_offset Io)
       → AppendsPrefix here after held → PrintsRun gives old (Err answer) new before after
   run_faulted old now new before here after held error answer (events, through, passed) step
       (inl (same, sent)) front = (
@@ -165,7 +165,7 @@ module _ {I : Type 0} (gives : I → PlainItem → I → Type 0) where
   pub run_ended : (old now new : I) (before here after : Option (List ℕ)) (held : List ℕ)
       (answer : Result (Unit {0}) Error) → HasRun gives old now before here held
       → gives now None new → OnOk answer (Appends here after held)
-      → IfErr answer (λ error. fault_of error ≡ fault_nowhere Io)
+      → IfErr answer (λ error. fault_of error ≡ fault_without_offset Io)
       → AppendsPrefix here after held → PrintsRun gives old answer new before after
   run_ended old now new before here after held (Ok done) (events, through, passed) step sent own
       front = (events, now, through, (step, all_sent before here after _ _ passed sent))
@@ -179,7 +179,7 @@ module _ {I : Type 0} (gives : I → PlainItem → I → Type 0) where
 
   -- no memory for the lines
   pub run_unbegun : (old : I) (before : Option (List ℕ)) (answer : Result (Unit {0}) Error)
-      → IsErrAnd answer (λ error. fault_of error ≡ fault_nowhere OutOfMemory)
+      → IsErrAnd answer (λ error. fault_of error ≡ fault_without_offset OutOfMemory)
       → PrintsRun gives old answer old before before
   run_unbegun old before (Ok done) none = absurd none
   run_unbegun old before (Err error) none =
@@ -210,7 +210,7 @@ module _ {I : Type 0} (gives : I → PlainItem → I → Type 0) where
 abbrev pub HasHeld : {I : Type 0} (gives : I → PlainItem → I → Type 0) (old now : I)
     → (held : List PlainEvent) → Type 0
 HasHeld gives old now held =
-    (events : List PlainEvent) × GivesAll gives old events now
+    (events : List PlainEvent) × YieldsAll gives old events now
     × (held ≡ map without_length events)
 
 module _ {I : Type 0} (gives : I → PlainItem → I → Type 0) where
@@ -245,7 +245,7 @@ module _ {I : Type 0} (gives : I → PlainItem → I → Type 0) where
   -- memory was wanted for it
   pub held_stopped : (old now new : I) (event : PlainEvent) (held final : List PlainEvent)
       (error : Error) → HasHeld gives old now held → gives now (Some (Ok event)) new
-      → fault_of error ≡ fault_nowhere OutOfMemory → HoldsRun gives old (Err error) new final
+      → fault_of error ≡ fault_without_offset OutOfMemory → HoldsRun gives old (Err error) new final
   held_stopped old now new event held final error (events, through, is) step memory = (
     events ++ event ∷ [],
     new,
@@ -273,8 +273,8 @@ io_rises error old new io counts = by (kind_of (error_kind_of error)) io counts
 pub ends_sent : (sent : Type 0) (whole : Bool) (answer : Result Streamed Error) → whole ≡ true
     → IfOkIs answer Sent sent → IfErr answer (λ error. offset_of error ≡ None)
     → ComesOfReading sent (Ok whole) answer
-ends_sent sent whole (Ok found) is wrote nowhere = rw is wrote
-ends_sent sent whole (Err error) is wrote nowhere = rw is nowhere
+ends_sent sent whole (Ok found) is wrote without_offset = rw is wrote
+ends_sent sent whole (Err error) is wrote without_offset = rw is without_offset
 
 pub ends_left : (sent : Type 0) (whole : Bool) → whole ≡ false
     → ComesOfReading sent (Ok whole) (Ok NeedsValue)

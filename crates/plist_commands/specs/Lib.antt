@@ -1,6 +1,6 @@
 pub mod EscapedLines
 pub mod Examples
-pub mod HeldLines
+pub mod PendingLines
 pub mod Printing
 pub mod Printers
 pub mod ReaderRuns

@@ -10,16 +10,16 @@ use itoa::{Buffer, write_digits};
 use plist_base::{Date, Event, Integer, RealBits, Uid};
 use std::alloc::AllocError;
 
-/// How bytes are printed.
+/// The notation in which bytes are printed.
 #[derive(Clone, Copy)]
 pub enum Notation {
-    /// As those of a string, between its quotes.
+    /// The bytes of a string, between its quotes.
     Text,
-    /// As those of data, after its word.
+    /// The bytes of data, in hexadecimal.
     Hexadecimal,
 }
 
-/// An event without a string or data, whose line is frequent.
+/// An event without a string or data whose line is often printed.
 #[derive(Clone, Copy)]
 pub enum ShortLine {
     /// The start of an array.
@@ -52,12 +52,13 @@ impl ShortLine {
     }
 }
 
-/// No line has more bytes than this and those of a string or data in it.
-pub const MOST_OF_SHORT: usize = 64;
+/// A line has at most this many bytes, not counting those of its string or data.
+pub const MAX_FIXED_LINE: usize = 64;
 
-// No number has more digits. The end of the line follows them.
-const MOST_BEHIND: usize = 21;
+// The greatest number of digits of a number, and the LF after them.
+const MAX_DIGITS_AND_LF: usize = 21;
 
+// Returns the hexadecimal digit of a number.
 #[inline(always)]
 fn hexadecimal_digit_of(value: u8) -> u8
     requires { value < 16 }
@@ -100,7 +101,7 @@ const PLAIN: [bool; 256] = [
     false, false, false, false, false, false,
 ];
 
-// Returns whether a byte of a string is printed as it is, by a table, which is faster for one byte.
+// Returns whether a byte of a string is printed as it is. For a single byte a table is faster.
 #[tactic(auto, using(crate::proofs::PlainBytes::is_marked))]
 fn is_marked_plain(byte: u8) -> bool
     ensures { result ≡ stands_for_itself byte }
@@ -108,8 +109,8 @@ fn is_marked_plain(byte: u8) -> bool
     PLAIN[byte as usize]
 }
 
-// Returns whether all bytes are printed as they are. It looks at every byte, so that many are
-// tested at once.
+// Returns whether all bytes are printed as they are. It tests every byte, so the compiler can test
+// many at once.
 #[inline(always)]
 fn are_many_plain(bytes: &[u8]) -> bool
     ensures { result ≡ true → escaped_text bytes.now ≡ bytes.now }
@@ -134,8 +135,8 @@ fn are_few_plain(bytes: &[u8]) -> bool
     true
 }
 
-// Returns whether all bytes of a string are printed as they are. Its last bytes are too few to be
-// tested at once.
+// Returns whether all bytes of a string are printed as they are. Whole chunks of eight bytes are
+// tested together, and the remainder byte by byte.
 fn are_plain(text: &[u8]) -> bool
     ensures { result ≡ true → escaped_text text.now ≡ text.now }
 {
@@ -178,7 +179,7 @@ fn push_text(line: &mut Vec<u8>, text: &[u8]) -> Result<(), AllocError>
     push_escaped(line, text)
 }
 
-// Appends two hexadecimal digits for each of a few bytes.
+// Appends two hexadecimal digits for each byte, one byte at a time.
 fn push_digits(line: &mut Vec<u8>, bytes: &[u8]) -> Result<(), AllocError>
     ensures { OnOk result (line.new.items ≡ line.old.items ++ hexadecimal bytes.now) }
 {
@@ -203,7 +204,7 @@ fn digits_of_block(bytes: &[u8; 64]) -> [u8; 128]
     digits
 }
 
-// Appends the hexadecimal digits of a block of eight bytes.
+// Returns the hexadecimal digits of eight bytes.
 #[inline(always)]
 fn digits_of_eight(bytes: &[u8; 8]) -> [u8; 16]
     ensures { result ≡ hexadecimal bytes.now }
@@ -216,7 +217,7 @@ fn digits_of_eight(bytes: &[u8; 8]) -> [u8; 16]
     digits
 }
 
-// Appends two hexadecimal digits for each byte, for eight bytes at a time.
+// Appends two hexadecimal digits for each byte, eight bytes at a time.
 fn push_by_eights(line: &mut Vec<u8>, bytes: &[u8]) -> Result<(), AllocError>
     ensures { OnOk result (line.new.items ≡ line.old.items ++ hexadecimal bytes.now) }
 {
@@ -266,6 +267,7 @@ fn push_data(line: &mut Vec<u8>, bytes: &[u8]) -> Result<(), AllocError>
     line.extend_from_slice(b"\n")
 }
 
+// Appends the second of a date and, if it has a fraction, its bytes.
 fn push_date(line: &mut Vec<u8>, date: Date) -> Result<(), AllocError>
     ensures { OnOk result (line.new.items ≡ line.old.items ++ text_of_date date) }
 {
@@ -278,7 +280,7 @@ fn push_date(line: &mut Vec<u8>, date: Date) -> Result<(), AllocError>
 }
 
 // Appends the line of a date.
-fn push_dated(line: &mut Vec<u8>, date: Date) -> Result<(), AllocError>
+fn push_date_line(line: &mut Vec<u8>, date: Date) -> Result<(), AllocError>
     ensures { OnOk result (line.new.items
         ≡ line.old.items ++ codes "Date " ++ text_of_date date ++ codes "\n") }
 {
@@ -300,8 +302,8 @@ fn push_real(line: &mut Vec<u8>, real: RealBits) -> Result<(), AllocError>
     line.extend_from_slice(b"\n")
 }
 
-// Returns how many digits a number with more than six has.
-#[tactic(auto, using(crate::proofs::Printed::digits))]
+// Returns the number of digits of a number that has more than six.
+#[tactic(auto, using(crate::proofs::ScalarLines::digits))]
 fn digits_of_large(number: u64) -> usize
     requires { 1000000 ≤ number }
     ensures { result ≡ length (decimal number) }
@@ -324,9 +326,9 @@ fn digits_of_large(number: u64) -> usize
     }
 }
 
-// Returns how many digits a number has. Small numbers are the most frequent.
+// Returns the number of digits of a number. Small numbers are the most frequent.
 #[inline(always)]
-#[tactic(auto, using(crate::proofs::Printed::digits))]
+#[tactic(auto, using(crate::proofs::ScalarLines::digits))]
 fn digits_of(number: u64) -> usize
     ensures { result ≡ length (decimal number) }
 {
@@ -342,10 +344,11 @@ fn digits_of(number: u64) -> usize
     digits_of_large(number)
 }
 
-// Appends the line of a number to a pattern: its word, and space for its digits and the LF.
+// Appends the line of a number. The pattern has the line's word, and then placeholders for the
+// digits and the LF.
 //
-// The digits are written where they stay. A copy of bytes that were just stored has to wait for
-// them, which took an eighth of the time for a list of integers.
+// The digits are written directly into the buffer. Copying bytes that were just stored has to wait
+// for the store, which took an eighth of the time for a list of integers.
 #[inline(always)]
 fn push_number(line: &mut Vec<u8>, pattern: &[u8], number: u64) -> Result<(), AllocError>
     requires { 21 ≤ length pattern.now }
@@ -353,7 +356,7 @@ fn push_number(line: &mut Vec<u8>, pattern: &[u8], number: u64) -> Result<(), Al
         ++ take (length pattern.now - 21) pattern.now ++ decimal number ++ codes "\n") }
 {
     line.extend_from_slice(pattern)?;
-    let end = line.len() - (MOST_BEHIND - digits_of(number));
+    let end = line.len() - (MAX_DIGITS_AND_LF - digits_of(number));
     let bytes = line.as_mut_slice();
     write_digits(number, bytes, end);
     bytes[end] = b'\n';
@@ -361,7 +364,7 @@ fn push_number(line: &mut Vec<u8>, pattern: &[u8], number: u64) -> Result<(), Al
     Ok(())
 }
 
-// Appends the line of a number below ten by a pattern: its word, its digit and the LF.
+// Appends the line of a number below ten. The pattern is the line with another digit.
 #[inline(always)]
 fn push_digit<const N: usize>(
     line: &mut Vec<u8>,
@@ -369,15 +372,16 @@ fn push_digit<const N: usize>(
     digit: u64,
 ) -> Result<(), AllocError>
     requires { (2 ≤ N) × (digit < 10) }
-    ensures { OnOk result (line.new.items ≡ line.old.items ++ set pattern.now (N - 2) (48 + digit)) }
+    ensures { OnOk result (line.new.items ≡ line.old.items ++ set pattern.now (N - 2)
+        (48 + digit)) }
 {
     let mut text = *pattern;
     text[N - 2] = b'0' + digit as u8;
     line.extend_from_slice(&text)
 }
 
-// If there is known to be space, a copy of a local array of bytes makes no test. A copy of a string
-// behind a reference first tests whether it overlaps the buffer.
+// The functions below copy from local arrays: copying from a borrowed slice would first test
+// whether it overlaps the buffer.
 
 /// Appends the line of an integer that isn't negative.
 ///
@@ -508,11 +512,11 @@ fn push_string(line: &mut Vec<u8>, text: &str) -> Result<(), AllocError>
     line.extend_from_slice(b"\"\n")
 }
 
-// Returns whether a line with so many bytes of a string or data has at most `most` bytes, whatever
-// the bytes are.
+// Returns whether a line has at most `most` bytes if its string or data has `content` bytes,
+// whatever these are.
 #[inline(always)]
 fn may_fit(content: usize, most: usize) -> bool {
-    most >= MOST_OF_SHORT && content <= (most - MOST_OF_SHORT) / 4
+    most >= MAX_FIXED_LINE && content <= (most - MAX_FIXED_LINE) / 4
 }
 
 /// Appends a short line.
@@ -549,7 +553,7 @@ pub fn push_line(line: &mut Vec<u8>, event: &Event<'_>) -> Result<(), AllocError
         Event::EndCollection => push_end(line),
         Event::Boolean(value) => push_boolean(line, *value),
         Event::Data(bytes) => push_data(line, bytes.as_slice()),
-        Event::Date(date) => push_dated(line, *date),
+        Event::Date(date) => push_date_line(line, *date),
         Event::Integer(integer) => push_integer(line, *integer),
         Event::Real(real) => push_real(line, *real),
         Event::String(text) => push_string(line, text.as_str()),

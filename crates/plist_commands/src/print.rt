@@ -6,12 +6,12 @@ ghost use Rattle.plist_base.specs.Trees.{Data, String};
 ghost use Rattle.plist_binread.specs.BinaryReader.{binary_source};
 ghost use Rattle.plist_commands.specs.Converting.{items_left};
 ghost use Rattle.plist_commands.specs.EscapedLines.{event_of_short, line_of, in_notation};
-ghost use Rattle.plist_commands.specs.HeldLines.{EndsAfterAll, MakesRoom, PassesBytes, PassesLine, SendsBytesInPart, SendsPrefix, SendsLineInPart};
+ghost use Rattle.plist_commands.specs.PendingLines.{EndsAfterAll, MakesRoom, AppendsBytes, AppendsLine, SendsBytesInPart, SendsPrefix, SendsLineInPart};
 ghost use Rattle.plist_commands.specs.Printing.{CountsReadsOf, PrintsFileUntil, PrintsItemsUntil, IsWriterError, PrintsFile, PrintsItems, PrintsValue, SendsPrefixOfFile, SendsPrefixOfItems, SendsPrefixOfValue};
 ghost use Rattle.plist_commands.specs.ReaderRuns.{PrintsReader, PrintsRun, PrintsSource};
 
 use crate::escaped_lines::{
-    MOST_OF_SHORT, Notation, ShortLine, push_bytes, push_line, push_short, push_short_line,
+    MAX_FIXED_LINE, Notation, ShortLine, push_bytes, push_line, push_short, push_short_line,
     push_short_text,
 };
 use plist::Value;
@@ -26,19 +26,19 @@ use std::io::Write;
 use std::mem;
 use std::ops::ControlFlow;
 
-// Lines are pending until the next one may not fit after them into this many bytes.
-const FULL: usize = 65536;
+// The buffer is written before a line that may not fit into the rest of these bytes.
+const BUFFER_SIZE: usize = 65536;
 
-// A string or data that may not fit is printed in blocks of this many bytes.
+// A string or data that may not fit into the buffer is printed in blocks of this many bytes.
 const BLOCK: usize = 4096;
 
-// A block is printed as at most this many bytes, with what ends its line.
-const MOST_OF_BLOCK: usize = 4 * BLOCK + 64;
+// A printed block and the end of its line have at most this many bytes.
+const MAX_BLOCK_LINE: usize = 4 * BLOCK + 64;
 
 // Writes what is pending. It is a function of its own, since most lines fit.
 #[cold]
 #[inline(never)]
-fn send_waiting<W: Write>(writer: &mut W, lines: &mut Vec<u8>) -> Result<(), Error>
+fn write_pending<W: Write>(writer: &mut W, lines: &mut Vec<u8>) -> Result<(), Error>
     ensures passed { OnOk result (MakesRoom W.contents writer.old lines.old writer.new lines.new) }
     ensures fault { IfErr result IsWriterError }
     ensures prefix { OnErr result (SendsPrefix W.contents writer.old lines.old.items writer.new) }
@@ -55,39 +55,39 @@ fn make_room<W: Write>(writer: &mut W, lines: &mut Vec<u8>, size: usize) -> Resu
     ensures fault { IfErr result IsWriterError }
     ensures prefix { OnErr result (SendsPrefix W.contents writer.old lines.old.items writer.new) }
 {
-    if size <= FULL.saturating_sub(lines.len()) {
+    if size <= BUFFER_SIZE.saturating_sub(lines.len()) {
         return Ok(());
     }
-    send_waiting(writer, lines)
+    write_pending(writer, lines)
 }
 
-// Appends a block to what is pending, which is written first if the block may not fit after it.
-fn pass_block<W: Write>(
+// Appends a block to what is pending. If it may not fit, what is pending is written first.
+fn append_block<W: Write>(
     out: &mut W,
     lines: &mut Vec<u8>,
     block: &[u8],
     notation: Notation,
 ) -> Result<(), Error>
-    ensures passed { PassesBytes W.contents result out.old lines.old
+    ensures passed { AppendsBytes W.contents result out.old lines.old
         (in_notation notation block.now)
         out.new lines.new }
     ensures fault { IfErr result IsWriterError }
     ensures prefix { OnErr result (SendsBytesInPart W.contents out.old lines.old
         (in_notation notation block.now) out.new) }
 {
-    make_room(out, lines, MOST_OF_BLOCK)?;
+    make_room(out, lines, MAX_BLOCK_LINE)?;
     push_bytes(lines, block, notation)?;
     Ok(())
 }
 
 // Appends any number of bytes to what is pending, block by block.
-fn pass_bytes<W: Write>(
+fn append_bytes<W: Write>(
     out: &mut W,
     lines: &mut Vec<u8>,
     bytes: &[u8],
     notation: Notation,
 ) -> Result<(), Error>
-    ensures passed { PassesBytes W.contents result out.old lines.old
+    ensures passed { AppendsBytes W.contents result out.old lines.old
         (in_notation notation bytes.now)
         out.new lines.new }
     ensures fault { IfErr result IsWriterError }
@@ -96,86 +96,119 @@ fn pass_bytes<W: Write>(
 {
     let (blocks, rest) = bytes.as_chunks::<BLOCK>();
     for block in blocks {
-        pass_block(out, lines, block, notation)?;
+        append_block(out, lines, block, notation)?;
     }
-    pass_block(out, lines, rest, notation)
+    append_block(out, lines, rest, notation)
 }
 
-// Appends a line to what is pending: its word, its bytes in blocks, and its end.
-fn pass_parts<W: Write>(
+// The parts of a line: a word, bytes in a notation, and what ends the line.
+#[derive(Clone, Copy)]
+struct LineParts<'a> {
+    word: &'a [u8],
+    bytes: &'a [u8],
+    notation: Notation,
+    end: &'a [u8],
+}
+
+// Appends a line to what is pending. Its bytes are appended in blocks.
+fn append_parts<W: Write>(
     out: &mut W,
     lines: &mut Vec<u8>,
-    word: &[u8],
-    bytes: &[u8],
-    notation: Notation,
-    end: &[u8],
+    line: LineParts<'_>,
 ) -> Result<(), Error>
-    ensures passed { PassesBytes W.contents result out.old lines.old
-        (word.now ++ in_notation notation bytes.now ++ end.now) out.new lines.new }
+    ensures passed { AppendsBytes W.contents result out.old lines.old
+        (line.entry.word.now ++ in_notation line.entry.notation line.entry.bytes.now
+        ++ line.entry.end.now)
+        out.new lines.new }
     ensures fault { IfErr result IsWriterError }
     ensures prefix { OnErr result (SendsBytesInPart W.contents out.old lines.old
-        (word.now ++ in_notation notation bytes.now ++ end.now) out.new) }
+        (line.entry.word.now ++ in_notation line.entry.notation line.entry.bytes.now
+        ++ line.entry.end.now) out.new) }
 {
-    lines.extend_from_slice(word)?;
-    pass_bytes(out, lines, bytes, notation)?;
-    lines.extend_from_slice(end)?;
+    lines.extend_from_slice(line.word)?;
+    append_bytes(out, lines, line.bytes, line.notation)?;
+    lines.extend_from_slice(line.end)?;
     Ok(())
 }
 
 // Appends the line of a string to what is pending.
-fn pass_text<W: Write>(out: &mut W, lines: &mut Vec<u8>, text: &str) -> Result<(), Error>
-    ensures passed { PassesBytes W.contents result out.old lines.old
+fn append_text<W: Write>(out: &mut W, lines: &mut Vec<u8>, text: &str) -> Result<(), Error>
+    ensures passed { AppendsBytes W.contents result out.old lines.old
         (line_of (ScalarEvent (String text.now))) out.new lines.new }
     ensures fault { IfErr result IsWriterError }
     ensures prefix { OnErr result (SendsBytesInPart W.contents out.old lines.old
         (line_of (ScalarEvent (String text.now))) out.new) }
 {
     let bytes = text.as_bytes();
-    pass_parts(out, lines, b"String \"", bytes, Notation::Text, b"\"\n")
+    let line = LineParts {
+        word: b"String \"",
+        bytes,
+        notation: Notation::Text,
+        end: b"\"\n",
+    };
+    append_parts(out, lines, line)
 }
 
-// Appends the line of data to what is pending. Without bytes the line is its word alone.
-fn pass_data<W: Write>(out: &mut W, lines: &mut Vec<u8>, bytes: &[u8]) -> Result<(), Error>
-    ensures passed { PassesBytes W.contents result out.old lines.old
+// Appends the line of data to what is pending. If there are no bytes, the line is its word alone.
+fn append_data<W: Write>(out: &mut W, lines: &mut Vec<u8>, bytes: &[u8]) -> Result<(), Error>
+    ensures passed { AppendsBytes W.contents result out.old lines.old
         (line_of (ScalarEvent (Data bytes.now))) out.new lines.new }
     ensures fault { IfErr result IsWriterError }
     ensures prefix { OnErr result (SendsBytesInPart W.contents out.old lines.old
         (line_of (ScalarEvent (Data bytes.now))) out.new) }
 {
+    let notation = Notation::Hexadecimal;
+    let end = b"\n";
     if bytes.is_empty() {
-        return pass_parts(out, lines, b"Data", bytes, Notation::Hexadecimal, b"\n");
+        let line = LineParts {
+            word: b"Data",
+            bytes,
+            notation,
+            end,
+        };
+        return append_parts(out, lines, line);
     }
-    pass_parts(out, lines, b"Data ", bytes, Notation::Hexadecimal, b"\n")
+    let line = LineParts {
+        word: b"Data ",
+        bytes,
+        notation,
+        end,
+    };
+    append_parts(out, lines, line)
 }
 
 // Appends a line to what is pending. That of a string or data is appended in blocks.
-fn pass_long<W: Write>(out: &mut W, lines: &mut Vec<u8>, event: &Event<'_>) -> Result<(), Error>
-    ensures passed { PassesLine W.contents result out.old lines.old event.now out.new lines.new }
+fn append_line<W: Write>(out: &mut W, lines: &mut Vec<u8>, event: &Event<'_>) -> Result<(), Error>
+    ensures passed { AppendsLine W.contents result out.old lines.old event.now out.new lines.new }
     ensures fault { IfErr result IsWriterError }
     ensures prefix { OnErr result (SendsLineInPart W.contents out.old lines.old event.now out.new) }
 {
     if let Event::String(text) = event {
-        return pass_text(out, lines, text.as_str());
+        return append_text(out, lines, text.as_str());
     }
     if let Event::Data(bytes) = event {
-        return pass_data(out, lines, bytes.as_slice());
+        return append_data(out, lines, bytes.as_slice());
     }
     push_line(lines, event)?;
     Ok(())
 }
 
-// Writes what is pending, and appends the line of an event.
-fn pass_anew<W: Write>(out: &mut W, lines: &mut Vec<u8>, event: &Event<'_>) -> Result<(), Error>
-    ensures passed { PassesLine W.contents result out.old lines.old event.now out.new lines.new }
+// Writes what is pending, and then appends the line of an event.
+fn flush_and_append<W: Write>(
+    out: &mut W,
+    lines: &mut Vec<u8>,
+    event: &Event<'_>,
+) -> Result<(), Error>
+    ensures passed { AppendsLine W.contents result out.old lines.old event.now out.new lines.new }
     ensures fault { IfErr result IsWriterError }
     ensures prefix { OnErr result (SendsLineInPart W.contents out.old lines.old event.now out.new) }
 {
-    send_waiting(out, lines)?;
-    pass_long(out, lines, event)
+    write_pending(out, lines)?;
+    append_line(out, lines, event)
 }
 
-// Writes the pending lines before an error, and returns that error, or the one of the write.
-fn fault_behind<W: Write>(writer: &mut W, lines: &[u8], fault: Error) -> Error
+// Writes the pending lines, and returns this error, or that of the write if it fails.
+fn write_then_fail<W: Write>(writer: &mut W, lines: &[u8], fault: Error) -> Error
     ensures sent { EndsAfterAll W.contents lines.now fault writer.old writer.new result }
     ensures prefix { SendsPrefix W.contents writer.old lines.now writer.new }
 {
@@ -187,13 +220,12 @@ fn fault_behind<W: Write>(writer: &mut W, lines: &[u8], fault: Error) -> Error
 
 /// Prints the events that it takes, each on a line of its own.
 ///
-/// Lines are pending in the buffer until the next one may not fit. Then they are written first, so
-/// that the buffer never grows.
+/// It flushes its buffer before any line that may not fit, so the buffer never grows.
 #[derive(Drop)]
 pub(crate) struct Printer<'p, W> {
     writer: &'p mut W,
     lines: &'p mut Vec<u8>,
-    // Why the printer wants no more events: the writer failed, or memory ran out.
+    // The error for which the printer wants no more events.
     failure: Error,
 }
 
@@ -214,13 +246,13 @@ impl<'p, W: Write> Printer<'p, W> {
         }
     }
 
-    // How many bytes fit into the buffer.
+    // Returns how many more bytes fit into the buffer.
     #[inline(always)]
     fn room(&self) -> usize {
         self.lines.capacity() - self.lines.len()
     }
 
-    // Keeps a failure.
+    // Stores an error, and wants no more events.
     #[cold]
     fn stop(&mut self, failure: Error) -> ControlFlow<()>
         requires { IsWriterError failure }
@@ -230,22 +262,22 @@ impl<'p, W: Write> Printer<'p, W> {
         ControlFlow::Break(())
     }
 
-    // Keeps the failure that an allocation for a line failed.
+    // Stores that an allocation for a line failed, and wants no more events.
     #[cold]
     #[inline(never)]
-    fn stop_for_memory(&mut self) -> ControlFlow<()>
+    fn stop_out_of_memory(&mut self) -> ControlFlow<()>
         ensures { EndsUnprinted self.old result self.new }
     {
         self.stop(ErrorKind::OutOfMemory.without_position())
     }
 
-    // Prints an event whose line may not fit into the buffer.
+    // Prints an event whose line may not fit into the buffer, which is written first.
     #[cold]
     #[inline(never)]
-    fn print_anew(&mut self, event: &Event<'_>) -> ControlFlow<()>
+    fn print_flushed(&mut self, event: &Event<'_>) -> ControlFlow<()>
         ensures { PrintsLine W.contents self.old (event_of event.now) result self.new }
     {
-        match pass_anew(self.writer, self.lines, event) {
+        match flush_and_append(self.writer, self.lines, event) {
             Ok(()) => ControlFlow::Continue(()),
             Err(error) => self.stop(error),
         }
@@ -259,8 +291,8 @@ impl<'p, W: Write> Printer<'p, W> {
         let room = self.room();
         match push_short_line(self.lines, event, room) {
             Ok(true) => ControlFlow::Continue(()),
-            Ok(false) => self.print_anew(event),
-            Err(_) => self.stop_for_memory(),
+            Ok(false) => self.print_flushed(event),
+            Err(_) => self.stop_out_of_memory(),
         }
     }
 
@@ -272,8 +304,8 @@ impl<'p, W: Write> Printer<'p, W> {
         let room = self.room();
         match push_short_text(self.lines, text, room) {
             Ok(true) => ControlFlow::Continue(()),
-            Ok(false) => self.print_anew(&Event::String(CowStr::Borrowed(text))),
-            Err(_) => self.stop_for_memory(),
+            Ok(false) => self.print_flushed(&Event::String(CowStr::Borrowed(text))),
+            Err(_) => self.stop_out_of_memory(),
         }
     }
 
@@ -282,16 +314,16 @@ impl<'p, W: Write> Printer<'p, W> {
     fn print_short(&mut self, line: ShortLine) -> ControlFlow<()>
         ensures { PrintsLine W.contents self.old (event_of_short line) result self.new }
     {
-        if self.room() < MOST_OF_SHORT {
-            return self.print_anew(&line.event());
+        if self.room() < MAX_FIXED_LINE {
+            return self.print_flushed(&line.event());
         }
         match push_short(self.lines, line) {
             Ok(()) => ControlFlow::Continue(()),
-            Err(_) => self.stop_for_memory(),
+            Err(_) => self.stop_out_of_memory(),
         }
     }
 
-    // Returns the failure for which the printer stopped.
+    // Returns the error for which the printer stopped.
     fn take_failure(&mut self) -> Error
         ensures failure { result ≡ self.old.failure }
         ensures same { IsSamePrinter self.old self.new }
@@ -300,17 +332,17 @@ impl<'p, W: Write> Printer<'p, W> {
         mem::replace(&mut self.failure, ErrorKind::OutOfMemory.without_position())
     }
 
-    // Prints the events that remain of a source, and writes the lines that are pending.
+    // Prints the remaining events of a source, and then writes the lines that are pending.
     fn print_all<I: EventSource>(&mut self, source: &mut I) -> Result<(), Error>
         requires empty { pending_lines self.old ≡ [] }
-        ensures ran { PrintsRun I.gives source.old result source.new
+        ensures ran { PrintsRun I.yields source.old result source.new
             (printed W.contents self.old) (printed W.contents self.new) }
         ensures same { IsSamePrinter self.old self.new }
     {
         match source.visit(self) {
             Ok(Visited::Ended) => send(self.writer, self.lines.as_slice()),
             Ok(Visited::Stopped) => Err(self.take_failure()),
-            Err(error) => Err(fault_behind(self.writer, self.lines.as_slice(), error)),
+            Err(error) => Err(write_then_fail(self.writer, self.lines.as_slice(), error)),
         }
     }
 }
@@ -361,27 +393,27 @@ impl<'p, W: Write> EventVisitor for Printer<'p, W> {
     }
 }
 
-// Prints the events that remain of a source, without a flush.
+// Prints the remaining events of a source, without a flush.
 fn print_unflushed<I: EventSource, W: Write>(
     alloc: Global,
     source: &mut I,
     writer: &mut W,
 ) -> Result<(), Error>
-    ensures { PrintsRun I.gives source.old result source.new (W.contents writer.old)
+    ensures { PrintsRun I.yields source.old result source.new (W.contents writer.old)
         (W.contents writer.new) }
 {
-    let mut lines = Vec::with_capacity(alloc, FULL)?;
+    let mut lines = Vec::with_capacity(alloc, BUFFER_SIZE)?;
     Printer::new(&mut lines, writer).print_all(source)
 }
 
-// Prints the events that remain of a source, and then flushes the writer. A failed flush is an
-// error only if nothing failed before it.
+// Prints the remaining events of a source, and then flushes the writer. A failed flush is an error
+// only if nothing failed before it.
 pub(crate) fn print_source<I: EventSource, W: Write>(
     alloc: Global,
     source: &mut I,
     writer: &mut W,
 ) -> Result<(), Error>
-    ensures { PrintsRun I.gives source.old result source.new (W.contents writer.old)
+    ensures { PrintsRun I.yields source.old result source.new (W.contents writer.old)
         (W.contents writer.new) }
 {
     let sent = print_unflushed(alloc, source, writer);
@@ -390,7 +422,7 @@ pub(crate) fn print_source<I: EventSource, W: Write>(
     flushed
 }
 
-/// Prints the events that remain of a reader, as [`print_events`] prints those of a source.
+/// Prints the remaining events of a reader, as [`print_events`] prints those of a source.
 ///
 /// # Errors
 ///
@@ -400,15 +432,15 @@ pub fn print_reader<S: Source, W: Write>(
     reader: &mut BinaryReader<S>,
     writer: &mut W,
 ) -> Result<(), Error>
-    // The answer.
+    // Result.
     ensures printed { OnOk result
         (PrintsItems W.contents (items_left S.known reader.old) writer.old writer.new) }
     ensures answers { PrintsReader S.known S.failures reader.old result reader.new
         (W.contents writer.old) (W.contents writer.new) }
-    // A refusal.
+    // Errors.
     ensures refused { IfErr result
         (PrintsItemsUntil W.contents (items_left S.known reader.old) writer.old writer.new) }
-    // The state after it.
+    // State afterwards.
     ensures prefix { SendsPrefixOfItems W.contents (items_left S.known reader.old)
         writer.old writer.new }
     ensures unchanged { S.known (binary_source reader.new) ≡ S.known (binary_source reader.old) }
@@ -422,10 +454,10 @@ pub fn print_reader<S: Source, W: Write>(
 ///
 /// # Errors
 ///
-/// The first error of the source, after the lines of the events before it. If the writer fails, the
-/// error is `Io` without an offset, and if an allocation for a line fails, it is `OutOfMemory`: a
-/// beginning of the lines is written then. A failed flush is an error only if nothing failed before
-/// it.
+/// The first error of the source, after the lines of the events before it were written. If a write
+/// fails, the error is `Io` without an offset, and if an allocation for a line fails, it is
+/// `OutOfMemory`; a prefix of the lines is written then. A failed flush is an error only if nothing
+/// failed before it.
 pub fn print_events<S: Source, W: Write>(
     alloc: Global,
     source: S,
@@ -446,7 +478,7 @@ pub fn print_events<S: Source, W: Write>(
 ///
 /// # Errors
 ///
-/// `Io` if the writer fails, and `OutOfMemory`, both without an offset: a beginning of the lines is
+/// `Io` if a write fails, and `OutOfMemory`, both without an offset. A prefix of the lines is
 /// written then. A failed flush is an error only if nothing failed before it.
 pub fn print_value<W: Write>(alloc: Global, value: &Value, writer: &mut W) -> Result<(), Error>
     ensures printed { OnOk result (PrintsValue W.contents value.now writer.old writer.new) }

@@ -1,7 +1,7 @@
 -- A planned file, and what writing it does.
 use Rattle.std.specs.Prelude.{◌≡◌, ℕ, List, length, Option, Some, Ok, Err, IfSome, ⊤}
 use Rattle.std.specs.Io.KnownBytes.{Appends}
-use Rattle.plist_base.specs.Faults.{Fault, Io, MatchFault, fault_nowhere}
+use Rattle.plist_base.specs.Faults.{Fault, Io, MatchFault, fault_without_offset}
 use Rattle.plist_base.specs.Writing.{Answer}
 use Rattle.plist_format.specs.Object.{Object}
 use Rattle.plist_binwrite.specs.declared.classes.Classes.{Classes}
@@ -77,6 +77,6 @@ module _ {W : Type 0} (contents : W → Option (List ℕ)) where
   SendsReady es ready (Ok done) old new = (objects : ℕ → Object)
       → Describes es (numbers_of ready.plan) objects
       → Appends (contents old) (contents new) (file_of ready objects)
-  SendsReady es ready (Err fault) old new = (fault ≡ fault_nowhere Io)
+  SendsReady es ready (Err fault) old new = (fault ≡ fault_without_offset Io)
       × ((objects : ℕ → Object) → Describes es (numbers_of ready.plan) objects
       → AppendsPrefix (contents old) (contents new) (file_of ready objects))

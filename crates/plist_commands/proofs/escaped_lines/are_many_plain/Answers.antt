@@ -1,4 +1,4 @@
-use Rattle.plist_commands.proofs.Printed.{plain_more}
+use Rattle.plist_commands.proofs.ScalarLines.{plain_more}
 use Rattle.plist_commands.proofs.escaped_lines.are_many_plain.Goals as goal
 
 pub loop-byte-preserved : goal.loop-byte-preserved

@@ -1,6 +1,6 @@
 use Rattle.std.proofs.Common.{rules, ◌≡◌, Some, codes, refl}
 use Rattle.std.proofs.lemmas.Result.{on_ok_weaker}
-use Rattle.plist_commands.proofs.Printed.{start_with_digit, start_with_length}
+use Rattle.plist_commands.proofs.ScalarLines.{start_with_digit, start_with_length}
 use Rattle.plist_commands.proofs.escaped_lines.push_array.Goals as goal
 
 pub returns-in-Some : goal.returns-in-Some

@@ -1,6 +1,6 @@
 use Rattle.std.proofs.Common.{rules, ◌∙◌, sym}
 use Rattle.std.proofs.lemmas.Result.{on_ok_weaker}
-use Rattle.plist_commands.proofs.Printed.{fraction_sent}
+use Rattle.plist_commands.proofs.ScalarLines.{fraction_sent}
 use Rattle.plist_commands.proofs.escaped_lines.push_date.Goals as goal
 
 pub returns : goal.returns

@@ -1,7 +1,7 @@
 use Rattle.std.proofs.Common.{rules, ◌+◌, ◌-◌, ◌≤◌, ◌∙◌, ap, length, set, take, arith}
 use Rattle.std.proofs.lemmas.List.{take-take, take-append-le}
 use Rattle.std.specs.Fmt.{decimal}
-use Rattle.plist_commands.proofs.Printed.{at_most_twenty, number_in_pattern}
+use Rattle.plist_commands.proofs.ScalarLines.{at_most_twenty, number_in_pattern}
 use Rattle.plist_commands.proofs.escaped_lines.push_number.Goals as goal
 
 pub overflow_sub-end : goal.overflow_sub-end

@@ -1,8 +1,0 @@
-use Rattle.plist_commands.proofs.HeldBack.{on_err_of}
-use Rattle.plist_commands.proofs.Passing.{front_none}
-use Rattle.plist_commands.proofs.print.pass_long.Goals as goal
-
-pub returns-in_err-push_line-clause-prefix :
-    goal.returns-in_err-push_line-clause-prefix
-returns-in_err-push_line-clause-prefix g c =
-    on_err_of c.from_residual.result (front_none _ _)
