@@ -1,7 +1,8 @@
-//! The idioms of `docs/PORTING.md` on the Rust crate `plist`, each run once, on `settings.plist`
-//! where it wants a file. It prints the lines of `crates/plist_settings/stdout` that have bars, in
-//! another order, but for limits, dialects, formats and ASCII, which this version hasn't, and for a
-//! missing file, of which it tells more. `crates/plist_settings/src/idioms.rt` is its port.
+//! The idioms of `docs/PORTING.md` on the Rust crate `plist`, each run once, on `settings.plist` if
+//! it needs a file. The program prints the lines of `crates/plist_settings/stdout` that have bars, in
+//! another order. It lacks those about limits, dialects, formats and ASCII, which this version of the
+//! crate doesn't have, and prints more about a missing file. Its port is
+//! `crates/plist_settings/src/idioms.rt`.
 //!
 //! Built with version 1.3.1 and its feature
 //! `enable_unstable_features_that_may_break_with_minor_version_bumps`.
@@ -147,9 +148,9 @@ fn change() {
 
 fn build() -> Option<()> {
     let text: Value = "text".into();
-    say("build | a text", text.as_string()?);
+    say("build | a string", text.as_string()?);
     say("build | a number", Value::from(7_i64).as_signed_integer()?);
-    say("build | a truth value", Value::Boolean(true).as_boolean()?);
+    say("build | a Boolean", Value::Boolean(true).as_boolean()?);
     say("build | a real", Value::Real(0.1).as_real()?);
     let data = Value::Data(vec![0, 255]);
     say("build | data", format!("{} bytes", data.as_data()?.len()));

@@ -1,6 +1,6 @@
-//! Checks launchd jobs over the Rust crate `plist`: its words are files, and it prints a line for
-//! each thing that is wrong with one. The status is 0 if nothing is, 1 if there are warnings alone,
-//! and otherwise 2. `crates/plist_launchd` is its port.
+//! Checks launchd jobs, by the Rust crate `plist`. Its arguments are files, and it prints a line for
+//! each error and each warning. The status is 0 if there are none, 1 if there are only warnings, and
+//! otherwise 2. Its port is `crates/plist_launchd`.
 
 use plist::{Dictionary, Error, Value};
 use std::env;
@@ -8,7 +8,7 @@ use std::fmt;
 use std::io::{self, Write};
 use std::process::ExitCode;
 
-/// What the value of a key has to be.
+/// The shape that a key requires of its value.
 #[derive(Clone, Copy, Debug, PartialEq, Eq)]
 enum Shape {
     Boolean,
@@ -25,7 +25,7 @@ enum Shape {
 }
 
 impl Shape {
-    /// Whether a value has this shape. The items of an array are not looked at.
+    /// Returns whether a value has this shape. The items of an array aren't checked.
     fn admits(self, value: &Value) -> bool {
         match value {
             Value::Boolean(_) => matches!(self, Shape::Boolean | Shape::BooleanOrDictionary),
@@ -63,7 +63,7 @@ impl fmt::Display for Shape {
     }
 }
 
-// Keys that launchd.plist(5) describes.
+// The keys that launchd.plist(5) describes.
 const KEYS: [(&str, Shape); 48] = [
     ("AbandonProcessGroup", Shape::Boolean),
     ("Debug", Shape::Boolean),
@@ -115,7 +115,7 @@ const KEYS: [(&str, Shape); 48] = [
     ("WorkingDirectory", Shape::Path),
 ];
 
-// The keys that are deprecated, and what to do instead.
+// The deprecated keys, and what to use instead.
 const DEPRECATED: [(&str, &str); 4] = [
     ("HopefullyExitsFirst", "remove it"),
     ("HopefullyExitsLast", "remove it"),
@@ -123,36 +123,36 @@ const DEPRECATED: [(&str, &str); 4] = [
     ("ServiceIPC", "remove it"),
 ];
 
-// What a key has to be; of an unknown one nothing.
+// Returns the shape that a key requires, or `None` if the key is unknown.
 fn shape_of(key: &str) -> Option<Shape> {
     let (_name, shape) = KEYS.iter().find(|(name, _shape)| *name == key)?;
     Some(*shape)
 }
 
-// What to do in place of a key, if it is deprecated.
+// Returns what to use instead of a key, if it is deprecated.
 fn advice_for(key: &str) -> Option<&'static str> {
     let (_name, advice) = DEPRECATED.iter().find(|(name, _advice)| *name == key)?;
     Some(advice)
 }
 
-/// One thing that is wrong with a job.
+/// An error or a warning.
 #[derive(Debug)]
 enum Finding<'a> {
     /// A key that every job needs is missing.
     Missing(&'static str),
-    /// A value has another type.
+    /// A value has the wrong type.
     WrongType {
         key: &'a str,
         wanted: Shape,
         found: &'static str,
     },
-    /// An item of an array of strings has another type.
+    /// An item of an array of strings has the wrong type.
     WrongItem {
         key: &'a str,
         index: usize,
         found: &'static str,
     },
-    /// A key is not known.
+    /// A key is unknown.
     Unknown(&'a str),
     /// A key is deprecated.
     Deprecated { key: &'a str, advice: &'static str },
@@ -161,7 +161,7 @@ enum Finding<'a> {
 }
 
 impl Finding<'_> {
-    /// Whether it is an error, and not a warning.
+    /// Returns whether this is an error, and not a warning.
     fn is_error(&self) -> bool {
         matches!(
             self,
@@ -194,7 +194,7 @@ impl fmt::Display for Finding<'_> {
     }
 }
 
-// The type of a value, in words.
+// Returns the type of a value, in words.
 fn type_of(value: &Value) -> &'static str {
     match value {
         Value::Array(_) => "an array",
@@ -210,17 +210,17 @@ fn type_of(value: &Value) -> &'static str {
     }
 }
 
-// What is found in a job so far.
+// The findings so far.
 type Findings<'a> = Vec<Finding<'a>>;
 
-// Looks at a path.
+// Checks a path.
 fn check_path<'a>(key: &'a str, path: &'a str, to: &mut Findings<'a>) {
     if !path.starts_with('/') {
         to.push(Finding::Relative { key, path });
     }
 }
 
-// Looks at an item of an array of strings.
+// Checks an item of an array of strings.
 fn check_item<'a>(
     key: &'a str,
     index: usize,
@@ -238,7 +238,7 @@ fn check_item<'a>(
     }
 }
 
-// Looks at a value that has the shape of its key.
+// Checks a value that has the shape that its key requires.
 fn check_content<'a>(key: &'a str, value: &'a Value, shape: Shape, to: &mut Findings<'a>) {
     match (shape, value) {
         (Shape::Path, Value::String(path)) => check_path(key, path, to),
@@ -251,7 +251,7 @@ fn check_content<'a>(key: &'a str, value: &'a Value, shape: Shape, to: &mut Find
     }
 }
 
-// Looks at a key and its value.
+// Checks a key and its value.
 fn check_pair<'a>(key: &'a str, value: &'a Value, to: &mut Findings<'a>) {
     let Some(wanted) = shape_of(key) else {
         to.push(Finding::Unknown(key));
@@ -268,7 +268,7 @@ fn check_pair<'a>(key: &'a str, value: &'a Value, to: &mut Findings<'a>) {
     }
 }
 
-// Looks for what has to be started: a program, or else the first of the arguments.
+// Checks that there is something to start: a program, or else the first of the arguments.
 fn check_program<'a>(job: &'a Dictionary, to: &mut Findings<'a>) {
     if job.contains_key("Program") {
         return;
@@ -284,7 +284,7 @@ fn check_program<'a>(job: &'a Dictionary, to: &mut Findings<'a>) {
     }
 }
 
-// What is wrong with a job: first what is missing, then what its keys have, in their order.
+// Checks a job. The findings are first about missing keys, and then about its keys in their order.
 fn check(job: &Dictionary) -> Findings<'_> {
     let mut findings = Vec::new();
     if !job.contains_key("Label") {
@@ -297,7 +297,7 @@ fn check(job: &Dictionary) -> Findings<'_> {
     findings
 }
 
-/// How bad the worst is that was found.
+/// The worst finding.
 #[derive(Clone, Copy, Debug, PartialEq, Eq, PartialOrd, Ord)]
 enum Worst {
     Nothing,
@@ -306,7 +306,7 @@ enum Worst {
 }
 
 impl Worst {
-    // The status of the program.
+    // Returns the exit status of the program.
     fn status(self) -> u8 {
         match self {
             Worst::Nothing => 0,
@@ -316,7 +316,7 @@ impl Worst {
     }
 }
 
-// Prints what is wrong with a job.
+// Prints the findings for a job.
 fn check_job<W: Write>(out: &mut W, path: &str, job: &Dictionary) -> io::Result<Worst> {
     let mut worst = Worst::Nothing;
     for finding in &check(job) {
@@ -330,12 +330,12 @@ fn check_job<W: Write>(out: &mut W, path: &str, job: &Dictionary) -> io::Result<
     Ok(worst)
 }
 
-// The value of a file.
+// Reads the value of a file.
 fn read(path: &str) -> Result<Value, Error> {
     Value::from_file(path)
 }
 
-// Prints what is wrong with a file.
+// Prints the findings for a file.
 fn check_file<W: Write>(out: &mut W, path: &str) -> io::Result<Worst> {
     match read(path) {
         Ok(Value::Dictionary(job)) => check_job(out, path, &job),

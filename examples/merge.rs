@@ -1,5 +1,5 @@
-//! Merges property lists over the Rust crate `plist`, and prints what differs. Its words are done in
-//! turn: `diff=OLD,NEW` and `merge=BASE,OVER,OUT`. `crates/plist_merge` is its port.
+//! Merges property lists, by the Rust crate `plist`, and prints their differences. It executes its
+//! arguments in turn: `diff=OLD,NEW` and `merge=BASE,OVER,OUT`. Its port is `crates/plist_merge`.
 
 use plist::{Dictionary, Error, Value};
 use std::env;
@@ -7,16 +7,16 @@ use std::fmt;
 use std::io::{self, Write};
 use std::process::ExitCode;
 
-/// Why a word isn't done.
+/// The error of executing an argument.
 #[derive(Debug)]
 enum Failure {
     /// A file can't be read or written.
     Plist(Error),
     /// A line can't be printed.
     Output(io::Error),
-    /// The file is not a dictionary.
+    /// The root of the file isn't a dictionary.
     NoDictionary,
-    /// The word is no command.
+    /// The argument isn't a command.
     Usage,
 }
 
@@ -43,8 +43,8 @@ impl fmt::Display for Failure {
     }
 }
 
-// Merges a dictionary into another one: where both have a dictionary at a key, these are merged;
-// any other value replaces the one of its key.
+// Merges a dictionary into another one. If both have a dictionary at a key, these are merged; any
+// other value replaces the one at its key.
 fn merge(base: &mut Dictionary, over: Dictionary) {
     for (key, value) in over {
         match value {
@@ -61,7 +61,7 @@ fn merge(base: &mut Dictionary, over: Dictionary) {
     }
 }
 
-// The text of a value: of an array with its items, of a dictionary with its keys.
+// Returns the text of a value. The text of an array has its items, and that of a dictionary its keys.
 fn text_of(value: &Value) -> String {
     match value {
         Value::Array(items) => {
@@ -103,7 +103,7 @@ fn diff_value<W: Write>(
     }
 }
 
-// Prints the keys of a dictionary that another one hasn't.
+// Prints the keys of a dictionary that another one doesn't have.
 fn print_added<W: Write>(
     out: &mut W,
     old: &Dictionary,
@@ -118,8 +118,8 @@ fn print_added<W: Write>(
     Ok(())
 }
 
-// Prints a line for each key that was removed, changed or added, in dictionaries within dictionaries
-// too; `path` is what comes before the keys.
+// Prints a line for each key that was removed, changed or added, also in nested dictionaries. Each key
+// is printed after `path`.
 fn diff<W: Write>(
     out: &mut W,
     old: &Dictionary,
@@ -136,7 +136,7 @@ fn diff<W: Write>(
     print_added(out, old, new, path)
 }
 
-// The dictionary of a file.
+// Reads the dictionary in a file.
 fn open(path: &str) -> Result<Dictionary, Failure> {
     match Value::from_file(path)? {
         Value::Dictionary(pairs) => Ok(pairs),
@@ -168,7 +168,7 @@ fn merge_files<W: Write>(out: &mut W, names: &str) -> Result<(), Failure> {
     Ok(())
 }
 
-// Does what a word says.
+// Executes an argument.
 fn perform<W: Write>(out: &mut W, word: &str) -> Result<(), Failure> {
     let (verb, names) = word.split_once('=').unwrap_or((word, ""));
     match verb {

@@ -1,6 +1,6 @@
-//! A settings tool over the Rust crate `plist`. Its words are done in turn: `open=FILE`, `list`,
-//! `get=PATH`, `set=PATH=TEXT`, `delete=PATH` and `save=FILE`. A path is keys with dots between.
-//! `crates/plist_settings` is its port.
+//! A settings tool that uses the Rust crate `plist`. It executes its arguments in turn: `open=FILE`,
+//! `list`, `get=PATH`, `set=PATH=TEXT`, `delete=PATH` and `save=FILE`. A path consists of keys,
+//! separated by dots. Its port is `crates/plist_settings`.
 
 use plist::{Dictionary, Error, Value};
 use std::env;
@@ -8,18 +8,18 @@ use std::fmt;
 use std::io::{self, Write};
 use std::process::ExitCode;
 
-/// Why a word isn't done.
+/// The error of executing an argument.
 #[derive(Debug)]
 enum Failure {
     /// A file can't be read or written.
     Plist(Error),
     /// A line can't be printed.
     Output(io::Error),
-    /// The file holds no dictionary.
+    /// The root of the file isn't a dictionary.
     NoDictionary,
-    /// There is no such setting, and no place for one.
+    /// There is no such setting, or it can't be added.
     NoSetting,
-    /// The word is no command.
+    /// The argument isn't a command.
     Usage,
 }
 
@@ -40,14 +40,14 @@ impl fmt::Display for Failure {
         match self {
             Failure::Plist(error) => write!(f, "{error}"),
             Failure::Output(error) => write!(f, "{error}"),
-            Failure::NoDictionary => f.write_str("the file holds no dictionary"),
+            Failure::NoDictionary => f.write_str("the root isn't a dictionary"),
             Failure::NoSetting => f.write_str("no such setting"),
             Failure::Usage => f.write_str("open=FILE list get=PATH set=PATH=TEXT delete=PATH save=FILE"),
         }
     }
 }
 
-// The setting at a path.
+// Returns the setting at a path.
 fn get<'a>(place: &'a Dictionary, path: &str) -> Option<&'a Value> {
     match path.split_once('.') {
         None => place.get(path),
@@ -55,7 +55,7 @@ fn get<'a>(place: &'a Dictionary, path: &str) -> Option<&'a Value> {
     }
 }
 
-// Sets the setting at a path, in dictionaries that are made where they are missing.
+// Sets the setting at a path, and returns whether it could be set. Missing dictionaries are added.
 fn set(place: &mut Dictionary, path: &str, setting: Value) -> Result<(), Failure> {
     match path.split_once('.') {
         None => {
@@ -74,7 +74,7 @@ fn set(place: &mut Dictionary, path: &str, setting: Value) -> Result<(), Failure
     }
 }
 
-// Takes the setting at a path out.
+// Removes the setting at a path, and returns it.
 fn delete(place: &mut Dictionary, path: &str) -> Option<Value> {
     match path.split_once('.') {
         None => place.remove(path),
@@ -82,7 +82,7 @@ fn delete(place: &mut Dictionary, path: &str) -> Option<Value> {
     }
 }
 
-// The setting of a text: a number, a truth value or the text.
+// Converts a string to a setting: an integer, a Boolean, or the string itself.
 fn setting_of(text: &str) -> Value {
     if let Ok(number) = text.parse::<i64>() {
         return Value::from(number);
@@ -94,7 +94,7 @@ fn setting_of(text: &str) -> Value {
     }
 }
 
-// What a line says of a setting.
+// Returns the text that is printed for a setting.
 fn text_of(value: &Value) -> String {
     match value {
         Value::Array(items) => format!("{} items", items.len()),
@@ -121,7 +121,7 @@ fn list<W: Write>(out: &mut W, place: &Dictionary, before: &str) -> Result<(), F
     Ok(())
 }
 
-// The dictionary of a file.
+// Reads the dictionary in a file.
 fn open(path: &str) -> Result<Dictionary, Failure> {
     match Value::from_file(path)? {
         Value::Dictionary(settings) => Ok(settings),
@@ -129,7 +129,7 @@ fn open(path: &str) -> Result<Dictionary, Failure> {
     }
 }
 
-// Does what a word says.
+// Executes an argument.
 fn perform<W: Write>(settings: &mut Dictionary, word: &str, out: &mut W) -> Result<(), Failure> {
     let (verb, what) = word.split_once('=').unwrap_or((word, ""));
     match verb {

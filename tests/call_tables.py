@@ -1,6 +1,6 @@
-"""What the calls of `refused_calls.py` answer with ample memory, and what with too little.
+"""What the calls of `refused_calls.py` return with enough memory, and with too little.
 
-Everything here is worked out by hand, or by Python's `plistlib` and dictionaries.
+Everything here was computed by hand, or by Python's `plistlib` and dictionaries.
 """
 import datetime
 import itertools
@@ -15,7 +15,7 @@ WANT, FAILED = "OutOfMemory", "WriterFailed"
 # ---- values as words
 
 def words_of(value):
-    """The events of a value."""
+    """Returns the events of a value as words."""
     if value is True or value is False:
         return ["true" if value else "false"]
     if isinstance(value, int):
@@ -42,7 +42,7 @@ def joined(value):
 
 
 def cuts(items, may_want):
-    """Want of memory in the place of each item where it may come, behind the items before."""
+    """Returns, for each item that `OutOfMemory` may replace, the items before it and that error."""
     return {" ".join([*items[:i], WANT]) for i, item in enumerate(items) if may_want(i, item)}
 
 
@@ -51,7 +51,7 @@ def in_binary(i, item):
 
 
 def in_visit(i, item):
-    """Strings and data are lent, but for one in UTF-16."""
+    """Strings and data are borrowed, except strings in UTF-16."""
     return i == 0 or item[0] in "[{" or not item.isascii()
 
 
@@ -60,7 +60,7 @@ def in_ascii(_, item):
 
 
 def file_of(body, count, table, root=0, widths=b"\1\1"):
-    """A file whose objects and table these are."""
+    """Returns a file with these objects and this table."""
     numbers = b"".join(number.to_bytes(8, "big") for number in (count, root, table))
     return b"bplist00" + bytes.fromhex(body) + bytes(6) + widths + numbers
 
@@ -143,7 +143,7 @@ def visits(calls):
 
 
 def failures(count):
-    """The answers to so many events, of which each in turn finds no memory."""
+    """Returns the results of this many events, if the allocation for each of them fails in turn."""
     for i in range(count):
         yield "; ".join(["ok"] * i + [WANT] + [FAILED] * (count - i - 1)) + "; "
 
@@ -276,7 +276,7 @@ def uses(calls):
 # ---- files that lie
 
 def lying_files():
-    """The files of the table `hostile` that lie about themselves, and their items."""
+    """Returns the files of the table `hostile` whose fields are wrong, and their items."""
     for line in (TABLES / "hostile").read_text().splitlines():
         check, *fields = [field.strip() for field in line.split(" | ")]
         if check == "binary" and fields[1].startswith("file "):

@@ -2,7 +2,7 @@
 """Each word of specs, and each type that more than one file sees, is defined in one place.
 
 Usage: tests/one_meaning.py [TOP]      status 1, and a line for each word that is defined twice.
-A word of specs may be that of a function: it says what this answers.
+A word of specs may have the name of a function: it says what that function returns.
 """
 import collections, pathlib, re, sys
 
@@ -23,7 +23,7 @@ TYPE = re.compile(r"\s*pub(?:\(crate\))?\s+(?:struct|enum|trait|type)\s+(\w+)")
 
 
 def words(path):
-    """(is it a type?, name) for each public word of a file of specs; a record's fields aren't."""
+    """Returns (is it a type, name) for each public word of a file of specs, except fields of records."""
     inside = None
     for line in path.read_text("utf8").splitlines():
         found = WORD.match(line)
@@ -38,7 +38,7 @@ def words(path):
 
 
 def types(path):
-    """The same for the types of a file of code."""
+    """Returns (is it a type, name) for each type of a source file."""
     return ((True, found[1]) for found in map(TYPE.match, path.read_text("utf8").splitlines()) if found)
 
 

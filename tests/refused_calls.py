@@ -1,17 +1,16 @@
 #!/usr/bin/env python3
-"""Refuses each request for memory of the libraries' public calls in turn, until a run meets none.
+"""Lets each allocation of the libraries' public calls fail in turn.
 
-The program of `tests/calls` makes one call, or a few of one kind, between two marks. There requests
-for memory are refused: one alone, then all from one on. The answer and what stands behind it then
-have to be those of ample memory, or want of memory in the form and with the state that is promised;
-both stand in `call_tables.py`. Calls that promise to take no memory run with every request refused,
-and must make none. Files that lie about themselves may take no more memory than a hundred times
-their size.
+The program of `tests/calls` makes one call, or a few calls of one kind, between two marks. Between
+them allocations fail: first a single one, and then all from that one on. The result and the state
+afterwards have to be those of a run with enough memory, or `OutOfMemory` with the promised state;
+`call_tables.py` has both. Calls that promise to allocate nothing run with every allocation failing,
+and must not try one. Files whose sizes are false may take at most a hundred times their own size.
 
 Usage: refused_calls.py
 
-The kit runs the program unproved, with its checks of each access, in a copy of the crates. Needs a
-C compiler. Ends with its counts, and status 1 where a run does otherwise.
+The kit runs the program unproved, with its checks of each access, in a copy of the crates. The script
+needs a C compiler. It prints counts at the end, and has status 1 if a run does anything else.
 """
 import collections
 import os
@@ -21,7 +20,7 @@ import subprocess
 import sys
 import tempfile
 
-# no file of bytecode stays behind
+# writes no bytecode
 sys.dont_write_bytecode = True
 import call_tables
 
@@ -33,7 +32,7 @@ STANDS_ON = ("plist_base plist_binread plist_binwrite plist_share plist_ascii "
 
 
 def below(lines, names):
-    """These crates and all below them, of those that `crates.txt` has lines for."""
+    """Returns these crates and all that they use, if `crates.txt` has lines for them."""
     found = {}
     for name in names:
         if name in lines:
@@ -43,7 +42,7 @@ def below(lines, names):
 
 
 def output_of(folder, given):
-    """What the program writes for these lines, run unproved in a repository of its own."""
+    """Returns what the unproved program prints for these lines. It runs in a repository of its own."""
     every = (CRATES.parent / "crates.txt").read_text().splitlines()
     lines = dict(line.split(":", 1) for line in every if ":" in line and line[0] != "#")
     crates = below(lines, STANDS_ON.split())
@@ -70,7 +69,7 @@ def output_of(folder, given):
 
 
 def runs_of(output):
-    """The runs of each call: what was told, how many requests there were, for how many bytes."""
+    """Returns the runs of each call: what was printed, and the numbers of allocations and bytes."""
     calls, told = [], []
     for line in output.splitlines():
         if line == ">":
@@ -85,7 +84,7 @@ def runs_of(output):
 
 
 class Calls:
-    """Calls, what has to come of them, and what came."""
+    """The calls, the expected results, and the actual ones."""
 
     def __init__(self):
         self.lines, self.tests, self.names = [], [], set()
@@ -102,9 +101,9 @@ class Calls:
         print(text)
 
     def sweep(self, name, given, ample, wants, stops=False):
-        """Each request refused alone, and with all behind it; `wants` are wants of memory.
+        """Lets each allocation fail alone, and then with all later ones; `wants` are results without memory.
 
-        What stops makes no other request after one that was refused and told.
+        A call that stops at such an error makes no other allocation after it.
         """
         self.add("sweep", name, given,
                  lambda call, runs: self.test_sweep(call, runs, ample, wants, stops))
@@ -127,7 +126,7 @@ class Calls:
                     self.bad(f"{call}, request {number} of {requests}: {found!r}")
 
     def still(self, name, given, ample):
-        """Every request refused, of which none is made."""
+        """Lets all allocations fail. The call must make none."""
         self.add("still", name, given, lambda call, runs: self.test_still(call, runs, ample))
 
     def test_still(self, call, runs, ample):
@@ -137,7 +136,7 @@ class Calls:
         self.all["calls that take no memory"] += 1
 
     def bounded(self, name, file, ample):
-        """All requests together are for at most a hundred times as many bytes as the file has."""
+        """All allocations together must have at most a hundred times as many bytes as the file."""
         self.add("once", name, file, lambda call, runs: self.test_bounded(call, runs, file, ample))
 
     def test_bounded(self, call, runs, file, ample):
@@ -148,7 +147,7 @@ class Calls:
         self.all["files that lie"] += 1
 
     def within(self, name, given, ample, most):
-        """All requests together are for at most so many bytes."""
+        """All allocations together must have at most this many bytes."""
         self.add("once", name, given, lambda call, runs: self.test_within(call, runs, ample, most))
 
     def test_within(self, call, runs, ample, most):

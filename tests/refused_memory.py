@@ -1,11 +1,12 @@
 #!/usr/bin/env python3
-"""Refuses each request for memory of `plist_tool` in turn, until a run meets no refusal.
+"""Lets each allocation of `plist_tool` fail in turn.
 
-The n-th call of malloc, realloc or aligned_alloc answers none. Then a command has to give the answer that
-it gives with ample memory, or to tell want of memory, with status 1, behind a beginning of its lines;
-`convert` leaves OUT as it was, whole or not there. Wrong words print nothing, with the usage and status 2.
+The n-th call of malloc, realloc or aligned_alloc returns a null pointer. Then a command has to do what it
+does with enough memory, or to print a prefix of its lines, report `OutOfMemory` and end with status 1;
+`convert` leaves OUT unchanged, or writes all of it. With wrong arguments nothing is printed, the usage is
+reported, and the status is 2.
 
-Usage: refused_memory.py      Needs a C compiler. Ends with its counts, and status 1 where a run does otherwise.
+Usage: refused_memory.py      Needs a C compiler. Prints counts at the end, and has status 1 if a run does anything else.
 """
 import collections
 import os
@@ -59,7 +60,7 @@ __attribute__((destructor)) static void tell(void) {
 
 
 class Driver:
-    """Runs the program with one request refused."""
+    """Runs the program while one allocation fails."""
 
     def __init__(self, folder):
         self.folder, self.shim, self.count = folder, folder / "shim.so", folder / "count"
@@ -68,7 +69,7 @@ class Driver:
         subprocess.run(["cc", "-shared", "-fPIC", "-o", self.shim, source, "-ldl"], check=True)
 
     def run(self, refused, words):
-        """What came, and how many requests there were."""
+        """Returns the result, and the number of allocations."""
         environment = {**os.environ, "LD_PRELOAD": str(self.shim), "REFUSE": str(refused), "COUNT": str(self.count)}
         done = subprocess.run([PROGRAM, *words], env=environment, capture_output=True, timeout=60)
         return (done.returncode, done.stdout, done.stderr), int(self.count.read_text())
@@ -80,7 +81,7 @@ def is_want_of_memory(found, ample):
 
 
 def is_usage(driver, words, output):
-    """Whether these words are told to be wrong, with nothing printed and the file as it was."""
+    """Whether these arguments are rejected, nothing is printed, and the file is unchanged."""
     output.write_bytes(b"an older file")
     found, _ = driver.run(0, words)
     if found == (2, b"", USAGE) and output.read_bytes() == b"an older file":
@@ -90,7 +91,7 @@ def is_usage(driver, words, output):
 
 
 def sweep(driver, name, words, output=None):
-    """Each request of a command refused in turn; `output` is the file that it makes."""
+    """Lets each allocation of a command fail in turn; `output` is the file that it writes."""
     counts = collections.Counter()
 
     def made():

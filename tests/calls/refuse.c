@@ -1,7 +1,7 @@
-/* Refuses requests for memory between two marks.
+/* Lets allocations fail between two marks.
 
-   `rt try` links the address sanitizer, by which `malloc` and its like call what stands under these
-   names, which may call the sanitizer's own, of three underscores. */
+   `rt try` links the address sanitizer, whose `malloc` calls the function `__interceptor_malloc` if a
+   program defines it. That can call the sanitizer's own one, whose name has three underscores. */
 #include <errno.h>
 #include <stddef.h>
 #include <stdint.h>
@@ -9,7 +9,7 @@
 static uint64_t first, last, count, asked;
 static int marked;
 
-/* The requests from one to another are refused, counted from the next mark on. */
+/* The allocations with the numbers `from` to `to` fail, counted from the next mark on. */
 void calls_refuse(uint64_t from, uint64_t to) { first = from, last = to, count = asked = 0; }
 void calls_begin(void) { marked = 1; }
 void calls_end(void) { marked = 0; }

@@ -1,7 +1,7 @@
-"""Runs programs under a bound on their memory, and tells how they ended and what they held at most.
+"""Runs programs with limited memory, and returns how they ended and their peak memory.
 
-A small program in C starts them, so that nothing of this one's memory counts for them: the peak that
-the system tells of a child begins with what its parent holds.
+A small program in C starts them. If this one did, its own memory would count: the peak that the
+system reports for a child includes what its parent had when it was started.
 """
 import collections
 import subprocess
@@ -66,13 +66,13 @@ class Starter:
         self.child = subprocess.Popen([program], stdin=subprocess.PIPE, stdout=subprocess.PIPE, text=True)
 
     def run(self, words, room=0, seconds=0, out="/dev/null", err="/dev/null"):
-        """Runs a program to its end, with so many KiB of address space and so much processor time.
+        """Runs a program to its end, with limits of its address space (in KiB) and its processor time.
 
-        A bound of 0 is none. What it prints goes to `out` and `err`."""
+        A limit of 0 is none. The output is written to `out` and `err`."""
         return self.run_all([(words, room, seconds, out, err)])[0]
 
     def run_all(self, runs):
-        """The same for some hundred programs, one behind the other, which spares waiting for each."""
+        """Runs some hundred programs one after the other, without waiting for each here."""
         for words, room, seconds, out, err in runs:
             line = "\t".join(str(word) for word in [room, seconds, out, err, *words])
             self.child.stdin.write(line + "\n")

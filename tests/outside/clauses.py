@@ -19,7 +19,7 @@ import tarfile
 
 TOP = pathlib.Path(__file__).resolve().parents[2]
 # The crates of tests and examples, which aren't compared.
-LEFT_OUT = set("""plist_vectors plist_upper_vectors plist_examples plist_support plist_uses
+LEFT_OUT = set("""plist_vectors plist_program_tests plist_examples plist_support plist_uses
 plist_settings plist_merge plist_launchd plist_surface plist_callers""".split())
 QUOTED = r"""b?"(?:\\.|[^"\\])*"|b?'(?:\\.|[^'\\])'"""
 WORD = re.compile(QUOTED + r"|\w+|\S")
@@ -35,7 +35,7 @@ Clause = collections.namedtuple("Clause", "kind label body text")
 
 
 def owner_of(head):
-    """What an impl is of, or a trait's or type's name, and whether what stands there is public."""
+    """Returns the type of an impl, or the name of a trait or type, and whether its items are public."""
     head = " ".join(head.split()).replace("->", "→").split(" where")[0]
     if head.startswith("impl"):
         return re.sub(r"^impl(<(?:[^<>]|<(?:[^<>]|<[^<>]*>)*>)*>)? ?", "", head), " for " in head
@@ -43,7 +43,7 @@ def owner_of(head):
 
 
 def functions_of(text):
-    """The functions of a file, by owner and name; an owner's ghost items have no name."""
+    """Returns the functions of a file, by owner and name. The ghost items of an owner have no name."""
     text = re.sub(f"({QUOTED})|//[^\n]*", lambda it: it[1] or "", text)
     found, owner, public, inside = {}, "", False, ""
     for it in SEEN.finditer(text):
@@ -60,7 +60,7 @@ def functions_of(text):
 
 
 def functions(files):
-    """All functions, by crate, then by module, owner and name."""
+    """Returns all functions, by crate, and then by module, owner and name."""
     found = collections.defaultdict(dict)
     for path, text in files.items():
         it = re.fullmatch(r"(?:.*/)?crates/(\w+)/src/(.*)\.rt", path)
@@ -77,7 +77,7 @@ def files_of(revision):
 
 
 def differences(old, new):
-    """How many clauses are the same, and what is printed about the others."""
+    """Returns how many clauses are equal, and what is printed about the others."""
     count, lines, met = 0, [], []
     for a in old.clauses:
         them = [b for b in new.clauses if b.kind == a.kind]
@@ -95,7 +95,7 @@ def differences(old, new):
 
 
 def compare(key, was, now):
-    """The differences between a function and the one of that name now which is most like it."""
+    """Returns how a function differs from the most similar one that has its name now."""
     found = [(place[0] != key[0], differences(was[key], new))
              for place, new in now.items()
              if place[1:] == key[1:] and (place == key or place not in was)]

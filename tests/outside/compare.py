@@ -1,29 +1,29 @@
 #!/usr/bin/env python3
 """Compares what `plist_tool` prints and writes with what other programs read.
 
-Makes binary property lists with Python's plistlib, with plistutil (libplist), with plser (GNUstep)
-and by hand, and ASCII ones with plser and by hand. The other programs read each file, and what they
-read is turned into lines. `plist_tool print` of a binary file has to print these lines, and of the
-file that `plist_tool convert` makes of either kind the other programs have to read them again. A
-file that is named on the command line is compared too; where it isn't binary, plser makes a binary
-one of it first.
+Binary property lists are made with Python's plistlib, with plistutil (libplist), with plser
+(GNUstep) and by hand, and ASCII ones with plser and by hand. The other programs read each file, and
+what they read is turned into lines. `plist_tool print` must print the same lines for a binary file.
+The files that `plist_tool convert` writes for both formats are read by the other programs, with the
+same result. Files that are named on the command line are compared, too. If one isn't binary, plser
+makes a binary one of it first.
 
-What another program can't say is left out:
-- plistutil drops a zero's sign and a date's fraction, and writes a year before 1000 without its
-  zeros; it says no Uid of more than 32 bits and makes none of XML.
-- plser reads no integer of 16 bytes, no Uid of more than two bytes and no length in eight bytes,
-  drops a date's fraction, rounds reals of four bytes, and escapes characters past U+FFFF; it also
-  orders dictionaries anew, so pairs are compared in the order of their keys.
-- XML has no control characters but tab and line ends, of which CR is lost, and no U+FFFE.
+What another program doesn't support isn't compared with it:
+- plistutil drops the sign of a zero and the fraction of a date, writes a year before 1000 without its
+  leading zeros, prints no Uid of more than 32 bits, and makes no Uid from XML.
+- plser doesn't read integers of 16 bytes, Uids of more than two bytes, or lengths in eight bytes. It
+  drops the fraction of a date, rounds reals of four bytes, and escapes characters past U+FFFF. It
+  changes the order of dictionaries, so pairs are compared in the order of their keys.
+- XML has no control characters except tabs and line ends, loses CR, and has no U+FFFE.
 
-Faults aren't compared: where this program finds one, the others differ among themselves. Tried were
-null and fill objects, sets, URLs, a lone surrogate, integers of 16 bytes that don't fit, and dates
-that are no number or out of range. A text of bytes above 127 is UTF-8 for this program, plistutil and
-plser, and plistlib refuses it.
+Faults aren't compared, because the other programs disagree about them. These were tried: null and
+fill objects, sets, URLs, a lone surrogate, integers of 16 bytes that don't fit, and dates that are
+not a number or out of range. For this program, plistutil and plser, an ASCII file with bytes above
+127 is UTF-8; plistlib rejects it.
 
-Usage: compare.py [--trees N] [FILE ..]      150 trees by chance of each kind where no number is told.
+Usage: compare.py [--trees N] [FILE ..]      N random trees of each kind, 150 by default
 
-Ends with status 1 where a line differs or a program fails.
+The status is 1 if a line differs or a program fails.
 
 Needs Python 3.8 or later, plistutil and plser.
 """
@@ -87,7 +87,7 @@ def lines_of(value):
 
 
 def with_long_real(line):
-    """No other program tells a real of four bytes from one of eight."""
+    """Replaces reals of four bytes by those of eight, since no other program distinguishes them."""
     word, _, digits = line.partition(" ")
     if word == "Real" and len(digits) == 8:
         return LINE_OF[float](*struct.unpack(">f", bytes.fromhex(digits)))
@@ -106,7 +106,7 @@ def converted(path):
 
 
 def sorted_by_key(lines):
-    """The same lines, with each dictionary's pairs in the order of their keys."""
+    """Returns the lines, with the pairs of each dictionary in the order of their keys."""
     rest = iter(lines)
 
     def take():
@@ -198,7 +198,7 @@ BY_HAND = [
 
 
 def container(objects):
-    """A file of an array of these objects."""
+    """Returns a file with an array of these objects."""
     count = len(objects)
     objects = [b"\xaf\x10" + bytes([count, *range(1, count + 1)]), *objects]
     places = list(itertools.accumulate(map(len, objects), initial=8))
@@ -218,7 +218,7 @@ def tree(rng, scalars, depth):
 
 
 def values_of(rng, scalars, trees):
-    """All the scalars, long collections, and trees by chance."""
+    """Returns all the scalars, long collections, and random trees."""
     yield scalars
     for length in (255, 256, 65_536):
         yield list(range(length))
@@ -229,7 +229,7 @@ def values_of(rng, scalars, trees):
 
 
 def files_of(names, folder, trees):
-    """For each file its writer, its path, and which programs are to read it."""
+    """Yields the writer and the path of each file, and which programs can read it."""
     rng, scalars = random.Random(1), []
     for readers, more in SCALARS:
         scalars += more
@@ -262,7 +262,7 @@ ESCAPES = {'"': r"\"", "\\": r"\\", "\n": r"\n", "\t": r"\t"}
 
 
 def ascii_of(rng, value):
-    """An ASCII property list, with comments and blanks by chance."""
+    """Returns an ASCII property list with random comments and blanks."""
     gap = rng.choice(("", " ", "\n", " // to the line's end\n", " /* a comment */ "))
     if isinstance(value, list):
         return gap + "(" + "".join(ascii_of(rng, item) + gap + "," for item in value) + gap + ")"
@@ -273,7 +273,7 @@ def ascii_of(rng, value):
 
 
 def ascii_files_of(folder, trees):
-    """For each ASCII file its writer, its bytes, and the value that it says."""
+    """Yields the writer, the bytes and the value of each ASCII file."""
     rng = random.Random(2)
     for _ in range(trees):
         value = [text_tree(rng, 4) for _ in range(3)]

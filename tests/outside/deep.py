@@ -1,18 +1,18 @@
 #!/usr/bin/env python3
 """Runs calls and commands on property lists of a million levels, under the usual call stack.
 
-The program of `tests/outside/deep` makes one call of the libraries a run, and `plist_tool` reads,
-prints and converts files that are made here. Each run has 8 MiB of call stack, whatever the shell
-allows. What is printed is compared with what these files hold by their making; how long each run
-took is told beside it.
+The program in `tests/outside/deep` makes one call of the libraries per run, and `plist_tool` reads,
+prints and converts files that this script makes. Each run has 8 MiB of call stack, whatever the
+shell allows. The output is compared with what the files contain, and the time of each run is
+printed.
 
-Then the same calls and commands run on a few levels, and it is measured how small their call stack
-may be: none may take more than 250 KiB.
+Then the same calls and commands run on a few levels, and the script measures how small their call
+stack may be. None may need more than 250 KiB.
 
-Usage: deep.py [LEVELS [PROGRAM]]      1000000 levels where none are named, a multiple of 4.
+Usage: deep.py [LEVELS [PROGRAM]]      LEVELS is a multiple of 4, 1000000 by default
 
-Without the built program of `tests/outside/deep` it is proved and built first, by the kit's `rt` in
-a copy of the crates. Needs the built `plist_tool`. Ends with status 1 where a run does otherwise.
+If PROGRAM isn't named, `tests/outside/deep` is proved and built first, by the kit's `rt` in a copy of
+the crates. Needs the built `plist_tool`. The status is 1 if a run fails.
 """
 import pathlib
 import resource
@@ -34,10 +34,10 @@ ROOM = 2 << 30
 
 
 def program(folder):
-    """The program, proved and built in a repository of its own."""
+    """Proves and builds the program in a repository of its own, and returns its path."""
     every = (CRATES.parent / "crates.txt").read_text().splitlines()
     above = ("plist_callers", "plist_uses", "plist_commands", "plist_tool", "plist_vectors",
-             "plist_examples", "plist_upper_vectors", "#")
+             "plist_examples", "plist_program_tests", "#")
     lines = [line for line in every if line.strip() and not line.startswith(above)]
     root = folder / "repository"
     for name in [line.split(":")[0].split()[0] for line in lines]:
@@ -53,7 +53,7 @@ def program(folder):
 
 
 def binary(levels):
-    """A file of one array in another, the innermost empty."""
+    """Returns a file of nested arrays, of which the innermost is empty."""
     objects = b"".join(b"\xa1" + (i + 1).to_bytes(4, "big") for i in range(levels - 1)) + b"\xa0"
     table = b"".join((8 + 5 * i).to_bytes(4, "big") for i in range(levels))
     end = 8 + len(objects)
@@ -62,7 +62,7 @@ def binary(levels):
 
 
 def run(*words, room=resource.RLIM_INFINITY, stack=STACK, wanted=0):
-    """What a command printed, and the seconds that it took; nothing where it failed."""
+    """Returns what a command printed and its time, or None and its status if that isn't the expected one."""
     def bound():
         resource.setrlimit(resource.RLIMIT_STACK, (stack, stack))
         resource.setrlimit(resource.RLIMIT_AS, (room, room))
@@ -76,7 +76,7 @@ def run(*words, room=resource.RLIM_INFINITY, stack=STACK, wanted=0):
 
 
 def least_stack(*words, wanted=0):
-    """How many KiB of call stack a command needs at least."""
+    """Returns the least call stack, in KiB, with which a command succeeds."""
     fails, works = 0, STACK >> 10
     while works - fails > 1:
         middle = (fails + works) // 2
@@ -86,12 +86,12 @@ def least_stack(*words, wanted=0):
 
 
 def nested_events(levels):
-    """How many events the program's value has: starts, ends, keys and what stands beside."""
+    """Returns how many events the program's value has: starts, ends, keys and other items."""
     return 2 * levels + levels // 4 + 3 * (levels // 4) + 1
 
 
 def answers(levels):
-    """What the program prints after each call, on so many levels."""
+    """Returns what the program must print for each call on this many levels."""
     calls = ("make", "clone", "equal", "write", "share")
     events = {call: nested_events(levels) for call in calls}
     events["text"] = 2 * levels + 1
@@ -102,7 +102,7 @@ def answers(levels):
 
 
 def files(folder, levels):
-    """A binary file and one in ASCII of so many levels, and what `print` gives of both."""
+    """Returns a binary and an ASCII file of this many levels, and what `print` prints for them."""
     deep, flat = folder / "binary", folder / "ASCII"
     deep.write_bytes(binary(levels))
     flat.write_bytes(b"(" * levels + b")" * levels)
@@ -111,7 +111,7 @@ def files(folder, levels):
 
 
 def few_levels(folder, built):
-    """The words of each call and command on a few levels, with the status that it ends with."""
+    """Yields the arguments of each call and command on a few levels, and the expected status."""
     deep, flat, _ = files(folder, LEVELS)
     for call in answers(LEVELS):
         yield call, (built, LEVELS, call), 0

@@ -3,8 +3,8 @@
 
     tests/outside/documents.py
 
-Prints a line for each document: its lines and its name, and one for all together. Ends with status 1
-where a library's README has fewer than 30 lines or more than 130.
+Prints the number of lines and the name of each document, and the total. The status is 1 if the README
+of a library has fewer than 30 lines or more than 130.
 """
 import pathlib
 import sys

@@ -1,15 +1,17 @@
 #!/usr/bin/env python3
 """Compares `plist_tool` with a second reader and writer (`second.py`) on mutated and random files.
 
-Files that Python's plistlib, and where they are there plistutil (libplist) and plser (GNUstep) wrote
-are mutated, and ASCII texts are made of pieces at random. `print` and `convert` run on each; what they
-print, their status, and the file that `convert` makes have to be what the second reader and writer say.
+Files written by Python's plistlib, and by plistutil (libplist) and plser (GNUstep) if they are
+installed, are mutated, and ASCII texts are put together from random pieces. `print` and `convert` run
+on each file. Their output, their status, and the file that `convert` writes must be what the second
+reader and writer return.
 
-Where files are stored on a disk, waiting for it takes most of the time: `TMPDIR=/dev/shm` spares that.
+If files are stored on a disk, most of the time is spent waiting for it; set `TMPDIR=/dev/shm`.
 
 Usage: fuzz.py [CASES [SEED [WORKERS]]]
 
-Needs the built `plist_tool` and a C compiler. Ends with its counts, and status 1 where anything differs.
+Needs the built `plist_tool` and a C compiler. Prints its counts at the end. The status is 1 if
+anything differs.
 """
 import collections
 import multiprocessing
@@ -48,7 +50,7 @@ def to_convert(data):
 
 
 class Case:
-    """Bytes, what has to come of them, and where the commands read and write."""
+    """The bytes of a file, the expected results, and the paths for the commands."""
 
     def __init__(self, folder, data):
         self.data, self.printed, self.converted = data, to_print(data), to_convert(data)
@@ -58,18 +60,18 @@ class Case:
         folder.mkdir(exist_ok=True)
 
     def begin(self):
-        """Writes the file, and says what is to be run."""
+        """Writes the file, and returns the runs."""
         self.source.write_bytes(self.data)
         self.made.unlink(missing_ok=True)
         return [([PROGRAM, command, self.source, *output], 0, SECONDS, *self.told[command])
                 for command, output in (("print", []), ("convert", [self.made]))]
 
     def found(self, command, ended):
-        """The status, or a signal below 0, and what was written to standard output and standard error."""
+        """Returns the status (negative for a signal), the standard output and the standard error."""
         return -ended.signal or ended.status, *(path.read_bytes() for path in self.told[command])
 
     def differences(self, first, second_one):
-        """What differs, by how the two commands ended."""
+        """Returns what differs from the expected results of the two commands."""
         if (found := self.found("print", first)) != self.printed:
             yield "print", found, self.printed
         status, silent, error = self.found("convert", second_one)
@@ -79,7 +81,7 @@ class Case:
 
 
 def some_cases(chance, folder, pool, count, counts):
-    """So many cases; those of too many items are only counted."""
+    """Returns this many cases. Those with too many items are only counted."""
     for number in range(count):
         try:
             yield Case(folder / str(number), mutations.some_file(chance, pool))

@@ -1,24 +1,25 @@
 #!/usr/bin/env python3
-"""Runs `plist_tool` on mutated files under a small bound on its address space, as `ulimit -v` sets it.
+"""Runs `plist_tool` on mutated files under a small limit of its address space, as `ulimit -v` sets it.
 
-`print`, `convert` and `keyed` run on each file. The bound is the smallest one under which each of the
-files before mutation does in all three as with ample memory: one for files of some hundred bytes,
-which is little more than what the program needs to start with its call stack, and one for files of
-some 200 kB. Both are looked for first. Half of the larger files run under less, down to the first
-bound, so that memory is refused here and there. Each run has to end with status 0, 1 or 2, and never
-by a signal:
+`print`, `convert` and `keyed` run on each file. The limit is the smallest one under which all three
+do the same with each unmutated file as they do with enough memory. There are two limits: one for
+files of some hundred bytes, little more than the program needs to start with its call stack, and one
+for files of some 200 kB. The script finds both first. Half of the larger files run under a lower
+limit, down to the first one, so that allocations fail at different points. Each run must end with
+status 0, 1 or 2, and never by a signal:
 
-- status 0 says nothing on standard error, 1 tells a fault on it, in one line;
-- OUT of `convert` is as it was before, or, with status 0, a whole binary property list, its table of
-  offsets right before its trailer. In a tenth of the cases IN is OUT;
-- what went out before memory was refused is a beginning of what goes out with ample memory.
+- With status 0 nothing is printed on standard error; with status 1 one line is, which says what the
+  fault is.
+- OUT of `convert` is unchanged, or, with status 0, a complete binary property list whose table of
+  offsets is right before its trailer. In a tenth of the cases IN is OUT.
+- What was printed before an allocation failed is a prefix of what is printed with enough memory.
 
-Where OUT is stored on a disk, waiting for it takes most of the time: `TMPDIR=/dev/shm` spares that.
+If OUT is stored on a disk, most of the time is spent waiting for it; set `TMPDIR=/dev/shm`.
 
-Usage: fuzz_memory.py [CASES [SEED [WORKERS [KIB]]]]      10,000 cases where none are told; KIB is the bound.
+Usage: fuzz_memory.py [CASES [SEED [WORKERS [KIB]]]]      CASES is 10,000 by default; KIB is the limit
 
-Needs the built `plist_tool` and a C compiler. Ends with its counts, and status 1 where a run does
-otherwise.
+Needs the built `plist_tool` and a C compiler. Prints its counts at the end. The status is 1 if a run
+breaks one of these rules.
 """
 import collections
 import multiprocessing
@@ -51,7 +52,7 @@ LARGE = 0.02
 # ---- files to begin with
 
 def archive(chance):
-    """A keyed archive whose objects refer to later ones, and sometimes to others, also in rounds."""
+    """Returns a keyed archive whose objects refer to later ones, and some to others, even in cycles."""
     count, objects = chance.randrange(3, 9), ["$null"]
 
     def uid():
@@ -77,7 +78,7 @@ def small_files(chance, folder):
 
 
 def large_files():
-    """Files of some 200 kB, as the shapes that are measured have them."""
+    """Files of some 200 kB, with the shapes that `speed.py` measures."""
     for shape in (speed.integers, speed.distinct_texts, speed.repeated_texts, speed.settings, speed.blobs,
                   speed.settings_by_plistlib):
         yield shape(200_000)
@@ -89,7 +90,7 @@ def large_files():
 # ---- runs
 
 class Case:
-    """A file, what it is run under, and where its commands read and write."""
+    """A file, the limit for its runs, and the paths for its commands."""
 
     def __init__(self, folder, data, room, in_place=False):
         self.data, self.room, self.in_place = data, room, in_place
@@ -102,7 +103,7 @@ class Case:
         return [command, self.source, *{"keyed": ["root"], "convert": [output]}.get(command, [])]
 
     def begin(self):
-        """Writes the files, and says what is to be run."""
+        """Writes the files, and returns the runs."""
         self.source.write_bytes(self.data)
         self.target.write_bytes(OLDER)
         return [([speed.PROGRAM, *self.words(command)], self.room, SECONDS, *self.told[command])
@@ -112,7 +113,7 @@ class Case:
         return [path.read_bytes() for path in self.told[command]]
 
     def output(self):
-        """What OUT of `convert` has now, and had before."""
+        """Returns the contents of OUT of `convert` now and before."""
         path = self.source if self.in_place else self.target
         return path.read_bytes(), self.data if self.in_place else OLDER
 
@@ -125,13 +126,13 @@ class Cases:
         self.folder, self.seconds = folder, 0.0
 
     def answers(self, data, room):
-        """How each command ends on these bytes, and what it shows, tells and writes."""
+        """Returns how each command ends on these bytes, and what it prints and writes."""
         case = Case(self.folder / "looked", data, room)
         ended = self.starter.run_all(case.begin())
         return [(one.status, case.what_was_told(command)) for one, command in zip(ended, COMMANDS)], case.output()
 
     def least_room(self, pool, low):
-        """The smallest bound, in KiB, under which the commands do on these files as with ample memory."""
+        """Returns the smallest limit, in KiB, under which the results are those with enough memory."""
         for data in pool:
             ample = self.answers(data, AMPLE)
             if self.answers(data, low) == ample:
@@ -168,7 +169,7 @@ class Cases:
             print(f"{command} under {case.room} KiB: {why}: {ended}, of {size} bytes, {front}", flush=True)
 
     def is_front(self, case, command, shown):
-        """Whether ample memory shows the same and more; what takes too much isn't compared."""
+        """Whether the output is a prefix of that with ample memory. If that isn't enough, returns true."""
         path, _ = case.told[command]
         whole, error = path.with_suffix(".whole"), path.with_suffix(".fault")
         ended = self.starter.run([speed.PROGRAM, *case.words(command)], AMPLE, SECONDS, whole, error)
@@ -179,7 +180,7 @@ class Cases:
 
 
 def fault_of_run(ended, error):
-    """What is wrong with how a run ended and what it told."""
+    """Returns what is wrong with the end of a run and with its message."""
     if ended.signal or ended.status not in (0, 1, 2):
         yield "it didn't end by itself"
     elif ended.status == 2:
@@ -189,7 +190,7 @@ def fault_of_run(ended, error):
 
 
 def fault_of_output(ended, after, before):
-    """What is wrong with the file that `convert` had to write, or to leave as it was."""
+    """Returns what is wrong with the file that `convert` had to write, or to leave unchanged."""
     if ended.status == 0 and not ended.signal:
         if not is_whole(after):
             yield f"OUT is no whole file, of {len(after)} bytes"
@@ -198,7 +199,7 @@ def fault_of_output(ended, after, before):
 
 
 def is_whole(data):
-    """Whether these bytes are a binary property list to its end."""
+    """Whether these bytes are a complete binary property list."""
     try:
         container = second.Container(data)
     except second.Fault:
@@ -208,7 +209,7 @@ def is_whole(data):
 
 
 def bounds(cases, small, large, room):
-    """The bounds under which these files work, in KiB."""
+    """Returns the limits, in KiB, under which the commands succeed on these files."""
     least = room or cases.least_room(small, 1)
     most = room or cases.least_room(large, least)
     print(f"files of at most {max(map(len, small)):,} bytes work under {least} KiB, "
@@ -225,7 +226,7 @@ def some_case(chance, folder, small, large, least, most):
 
 
 def run_cases(words):
-    """Runs so many cases, by a seed, under these bounds."""
+    """Runs this many cases of a seed under these limits."""
     count, seed, room = words
     chance, large = random.Random(seed), list(large_files())
     with tempfile.TemporaryDirectory() as name:

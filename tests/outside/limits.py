@@ -1,16 +1,17 @@
 #!/usr/bin/env python3
-"""Peak memory of `Value::from_reader_within` on files that would make values of far more.
+"""Measures the peak memory of `Value::from_reader_within` on small files whose values are much larger.
 
-An array refers to one string again and again: 99,998 times to one of 1 MiB, 100 times to one of 100,000
-bytes, and to a wide string and data. Under limits of 64 collections and 100,000 items and within so many
-bytes each has to end in `OutOfMemory`, and to take at most 2 MiB beyond these bytes, the longest string
-or data of the file, and what an empty array takes. Within the budget it has a value. A wide string is
-read as its units, and then has its bytes in UTF-8 beside them.
+An array refers to one string many times: 99,998 times to one of 1 MiB, 100 times to one of 100,000
+bytes; others do so with a UTF-16 string and with data. The limits are 64 collections, 100,000 items
+and a number of bytes. If the value is larger, the call must return `OutOfMemory`, and its peak memory
+may exceed this number of bytes by at most 2 MiB, the longest string or data of the file, and what an
+empty array needs. Otherwise it must return the value. While a UTF-16 string is read, both its units
+and its UTF-8 bytes are in memory.
 
 Usage: limits.py [PROGRAM]
 
-The program is `tests/outside/limits`, proved and built in a copy of the crates where it isn't named.
-Needs a C compiler. Ends with status 1 where a run does otherwise.
+If PROGRAM isn't named, `tests/outside/limits` is proved and built in a copy of the crates. Needs a C
+compiler. The status is 1 if a call does otherwise.
 """
 import pathlib
 import sys
@@ -36,12 +37,12 @@ def data(count):
 
 
 def shared(content, times):
-    """An array of so many references of one byte to one object."""
+    """Returns a file with an array of `times` references of one byte to one object."""
     return peak_memory.container([with_length(10, times) + b"\1" * times, content], reference=1)
 
 
 def runs():
-    """A name, a file, its longest string or data, how many bytes are allowed, and what has to be printed."""
+    """Yields a name, a file, its longest string or data, the limit of bytes, and the expected output."""
     text, wide = peak_memory.text, peak_memory.wide_text
     most, mebibyte = 16 << 20, 1 << 20
     yield "99,998 references to a string of 1 MiB", shared(text(mebibyte), 99_998), mebibyte, most, REACHED

@@ -1,6 +1,6 @@
-"""Property lists to try programs on: some that other programs made, mutations of them, and ASCII texts.
+"""Property lists for tests: files that other programs made, mutations of them, and ASCII texts.
 
-Each choice is made by a `random.Random`, so a seed names the files.
+Each choice is made by a `random.Random`, so the same seed gives the same files.
 """
 import datetime
 import plistlib
@@ -37,7 +37,7 @@ def some_value(chance, depth=0):
 
 
 def some_tree(chance):
-    """A value, most often a collection."""
+    """Returns a random value, in most cases a collection."""
     if chance.random() < 0.2:
         return some_value(chance)
     below = [some_value(chance, 1) for _ in range(chance.randrange(1, 6))]
@@ -45,7 +45,7 @@ def some_tree(chance):
 
 
 def without_uids(value):
-    """The same with Uids as XML has them."""
+    """Returns the value with its Uids in the form that XML has for them."""
     if isinstance(value, plistlib.UID):
         return {"CF$UID": value.data}
     if isinstance(value, list):
@@ -54,14 +54,14 @@ def without_uids(value):
 
 
 def others_of(xml):
-    """The words of each program that makes a property list of an XML one, and writes it to standard output."""
+    """Returns the command of each program that converts an XML property list to standard output."""
     yield ["plistutil", "-i", xml, "-f", "bin"]
     for form in ("NSPropertyListBinaryFormat_v1_0", "NSPropertyListOpenStepFormat"):
         yield ["plser", "-Format", form, xml]
 
 
 def from_others(chance, folder):
-    """Files that other programs make of a value, as far as they are there."""
+    """Yields the files that the other programs that are installed write for a value."""
     value = some_tree(chance)
     yield plistlib.dumps(value, fmt=plistlib.FMT_BINARY, sort_keys=False)
     xml = folder / "value.xml"
@@ -74,7 +74,7 @@ def from_others(chance, folder):
 
 
 def archive_of(objects, root):
-    """A keyed archive of these objects, with the Uid of its root."""
+    """Returns a keyed archive of these objects, with the Uid of its root."""
     top = {"$archiver": "NSKeyedArchiver", "$version": 100000, "$objects": objects,
            "$top": {"root": plistlib.UID(root)}}
     return plistlib.dumps(top, fmt=plistlib.FMT_BINARY, sort_keys=False)

@@ -1,8 +1,8 @@
 #!/usr/bin/env python3
-"""Tells whether each public type that a signature of `plist` names can be named through `plist`.
+"""Checks that each public type that a signature of `plist` names can be named through `plist`.
 
-The signatures are those of the calls, fields, variants and impls of all that `plist` passes on,
-whichever crate has them. Ends with status 1 where a name is missing.
+The signatures are those of the functions, fields, variants and impls of everything that `plist`
+exports, in whichever crate it is defined. The status is 1 if a name is missing.
 """
 import pathlib
 import re
@@ -20,7 +20,7 @@ NAME = re.compile(r"\b[A-Z]\w*\b")
 
 
 def code_of(path):
-    """A file without its comments and its ghost lines."""
+    """Returns a file without its comments and its ghost lines."""
     text = re.sub(r"//[^\n]*", "", path.read_text())
     return re.sub(r"(?ms)^\s*ghost [^;]*;\n", "", text)
 
@@ -39,7 +39,7 @@ def crates_below(name):
 
 
 def imported(text, kit):
-    """The names that a file's lines `use` bring in: of the kit's library, or of other crates."""
+    """Returns the names that a file imports from the kit's library, or from other crates."""
     names = set()
     for whole in re.findall(r"(?ms)^\s*(?:pub )?use ([^;]+);", text):
         if (whole.split("::")[0] in ("std", "core")) == kit:
@@ -48,7 +48,7 @@ def imported(text, kit):
 
 
 def passed_on(sources):
-    """The names that can be reached through `plist`, and the files that are passed on whole."""
+    """Returns the names that `plist` exports, and the files of which it exports everything."""
     names, whole_files = set(), set()
     for module in ("lib", "dictionary", "stream", "value", "stream/builder", "stream/events", "stream/reading", "stream/writing", "callers"):
         text = sources[f"plist/{module}"]
@@ -65,13 +65,13 @@ def passed_on(sources):
 
 
 def blocks(text):
-    """Each item at the margin: its head, and what stands in its braces."""
+    """Yields the head and the body of each top-level item."""
     for it in re.finditer(r"(?ms)^((?:pub )?(?:impl|struct|enum|trait|type|fn)\b[^{;]*)(\{.*?^\}|;|\{[^\n]*\})", text):
         yield it[1], it[2]
 
 
 def signatures(text, names, is_whole):
-    """The signatures of what a file has of these names, and of all its functions where it is whole."""
+    """Returns the signatures of the items of these names, or of all functions of a whole file."""
     for head, body in blocks(text):
         head = re.split(r"\b(?:ensures|requires)\b", head)[0]
         made = re.match(r"pub (struct|enum|trait|type|fn) (\w+)", head)
@@ -88,7 +88,7 @@ def signatures(text, names, is_whole):
 
 
 def parameters(head):
-    """The names that a head or a signature brings in as its own."""
+    """Returns the names of the parameters that a head or a signature declares."""
     return set(re.findall(r"[<,] *(?:const )?([A-Z]\w*)(?= *[:,>=])", head)) | {"Item", "IntoIter", "Output", "Err", "Target"}
 
 

@@ -1,20 +1,20 @@
 #!/usr/bin/env python3
-"""Peak memory of `plist_tool` on files that are made to take much.
+"""Measures the peak memory of `plist_tool` on files that are made to need much.
 
-The first table is of `print`: what it holds at most, beyond what it holds for a file of one empty
-array, and how much of that is beyond 12 bytes for each object that the file has room for and 2 MiB.
-Beside it stand `BinaryReader` alone over the same bytes in memory, without these (the program of
-`tests/outside/items`, which is proved and built in a copy of its crates where it isn't named).
+The first table is for `print`. It has the peak memory beyond that for a file with one empty array,
+and the part of it that exceeds 2 MiB and 12 bytes for each object for which the file has room. Beside
+it is the same for `BinaryReader` alone, which reads the same bytes from memory (the bytes themselves
+don't count). The program for this is `tests/outside/items`, which is proved and built in a copy of its
+crates unless ITEMS names it.
 
-The second table is of `convert` and `keyed`, which have no limits: what the dearest files take of
-memory for each event and for each byte. Each that takes more than 4 MiB runs again under `ulimit -v` of
-4 MiB and half its peak:
-then it has to tell want of memory with status 1, and OUT of `convert` stays as it was. So do files that
-unfold to 2^42 events, under 256 MiB.
+The second table is for `convert` and `keyed`, which have no limits: the most memory that a file takes
+for each event and for each byte. If a file takes more than 4 MiB, the command runs again under
+`ulimit -v` of 4 MiB and half its peak. It must then report `OutOfMemory` with status 1, and OUT of
+`convert` must be unchanged. The same is tried under 256 MiB with files that unfold to 2^42 events.
 
 Usage: peak_memory.py [ITEMS]
 
-Needs the built `plist_tool` and a C compiler. Ends with status 1 where a run does otherwise.
+Needs the built `plist_tool` and a C compiler. The status is 1 if a run does otherwise.
 """
 import itertools
 import pathlib
@@ -41,7 +41,7 @@ MOST_ROOM = 4 << 20
 # ---- the files
 
 def container(objects, root=0, width=4, reference=4, places=None):
-    """A file of these objects; `places` are the offsets, where they aren't those of the objects."""
+    """Returns a file of these objects; `places` are the offsets, if they aren't those of the objects."""
     starts = list(itertools.accumulate(map(len, objects), initial=8))
     places = starts[:-1] if places is None else places
     table = b"".join(place.to_bytes(width, "big") for place in places)
@@ -70,12 +70,12 @@ def wide_text(units):
 
 
 def shared(content, times):
-    """An array of so many references of one byte to one object."""
+    """Returns a file with an array of this many references of one byte to one object."""
     return container([with_length(10, times) + b"\1" * times, content], reference=1)
 
 
 def doubling_pairs(depth):
-    """Dictionaries of two pairs with one key, whose values are the next dictionary."""
+    """Returns dictionaries of two pairs with the same key, whose values are the next dictionary."""
     file = speed.File()
     key, inner = file.text("k"), file.array([])
     for _ in range(depth):
@@ -92,22 +92,22 @@ def levels_of_pairs(count):
 
 
 def one_place(count):
-    """A table of offsets of one byte, all of one object."""
+    """Returns a file whose offsets have one byte and are all of one object."""
     return container([b"\x10\5"], width=1, places=[8] * count)
 
 
 def one_place_each(count):
-    """The same, each referred to once."""
+    """Returns a file whose offsets are all of one object, with one reference to each number."""
     return container([array(range(1, count)), b"\x10\5"], places=[8] + [8 + 6 + 4 * (count - 1)] * (count - 1))
 
 
 def huge_count(count):
-    """A short file whose trailer tells many objects."""
+    """Returns a short file whose trailer claims many objects."""
     return b"bplist00" + b"\xa0" + b"\x08" + trailer(count, 0, 9, 1, 1)
 
 
 def far_apart(count, rounds):
-    """Texts of some 8 KiB from each other, referred to in random order."""
+    """Returns a file of strings some 8 KiB apart, to which references are in random order."""
     rng = random.Random(1)
     objects, places, place = [], [], 8
     for number in range(count):
@@ -188,7 +188,7 @@ UNFOLDING = {
 # ---- the tables
 
 class Tables:
-    """Runs the programs, and prints what they held."""
+    """Runs the programs, and prints their peak memory."""
 
     def __init__(self, folder, items):
         self.starter, self.items, self.bad = bounded.Starter(folder), items, 0
@@ -221,7 +221,7 @@ class Tables:
               f"| {alone} | {ended.seconds:.2f} | {told} |", flush=True)
 
     def ends_short(self, words, room):
-        """Whether a command tells want of memory under a bound, and leaves OUT as it was."""
+        """Whether a command reports `OutOfMemory` under a limit, and leaves OUT unchanged."""
         self.target.write_bytes(OLDER)
         ended = self.run(words, room)
         told, left = self.error.read_bytes(), self.target.read_bytes()

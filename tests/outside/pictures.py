@@ -5,9 +5,9 @@
 
 docs/speed.svg shows the first table of docs/SPEED.md: for each shape of file the time and the memory
 of `plist_tool`, divided by those of a program over the crate. docs/crates.svg shows crates.txt: each
-library and the program, and what each stands on. Each picture carries a checksum of what it was drawn
-from. With `check` nothing is drawn, and the script ends with status 1 where a picture is older than
-its table: where its checksum is another one.
+library and the program, and which crates each uses. Each picture contains a checksum of its table.
+With `check` nothing is drawn. The status is then 1 if the checksum of a picture isn't that of its
+table any more.
 """
 import hashlib
 import pathlib
@@ -50,7 +50,7 @@ def picture(width, height, title, described, source, body):
 
 
 def speed_table():
-    """The lines of the first table of docs/SPEED.md."""
+    """Returns the lines of the first table of docs/SPEED.md."""
     lines = (TOP / "docs/SPEED.md").read_text(encoding="utf-8").splitlines()
     first = next(i for i, line in enumerate(lines) if line.startswith("| shape"))
     end = next(i for i in range(first, len(lines)) if not lines[i].startswith("|"))
@@ -58,7 +58,7 @@ def speed_table():
 
 
 def ratios(lines):
-    """Each shape with its three ratios, those of files of 10 MB; None where there is none."""
+    """Returns each shape with its three ratios, for files of 10 MB, or None for a missing one."""
     for line in lines[2:]:
         cells = [cell.strip() for cell in line.strip("|").split("|")]
         pair = re.fullmatch(r"([\d.]+), ([\d.]+)", cells[4])
@@ -100,7 +100,7 @@ def speed():
 
 
 def crates():
-    """The libraries and the program of crates.txt, each with those that it stands on."""
+    """Returns the libraries and the program of crates.txt, each with those that it uses."""
     source = (TOP / "crates.txt").read_text(encoding="utf-8")
     lines = [line.partition("#")[0].strip() for line in source.splitlines()]
     named = {line.partition(":")[0].split()[0]: line.partition(":")[2].split() for line in lines if ":" in line}
@@ -117,7 +117,7 @@ def reached(below, name):
 
 
 def direct(below, name):
-    """Those that a crate stands on, without the ones that another of them stands on."""
+    """Returns the crates that a crate uses, except those that another of them uses."""
     beneath = set()
     for it in below[name]:
         beneath |= reached(below, it) - {it}

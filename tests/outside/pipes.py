@@ -1,8 +1,10 @@
 #!/usr/bin/env python3
-"""pipes.py [PROGRAM]: `plist_tool convert` to a pipe, to a named one, to /dev/null and to /dev/full.
+"""Runs `plist_tool convert` to a pipe, to a named pipe, to /dev/null and to /dev/full.
 
-All bytes have to come through a pipe, with status 0: it has no store that could be synced. A device
-that is full gives status 1.
+    tests/outside/pipes.py [PROGRAM]
+
+All bytes must come through a pipe, with status 0, although a pipe can't be synced. For a device that
+is full the status must be 1.
 """
 import os
 import pathlib
@@ -20,7 +22,7 @@ def convert(source, target, **options):
 
 
 def through_named_pipe(source, folder):
-    """The status, and what came out of a named pipe."""
+    """Returns the status, and the bytes that came out of a named pipe."""
     pipe = folder / "pipe"
     os.mkfifo(pipe)
     found = []

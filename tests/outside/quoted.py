@@ -1,8 +1,8 @@
 #!/usr/bin/env python3
-"""Tells whether the programs that README.md quotes are those of the repository.
+"""Checks that the programs that README.md quotes are those of the repository.
 
-The first block of Rust in README.md has to be examples/first.rt.in, whole, and the second a function
-of crates/plist_uses/src/untrusted_file.rt. Ends with status 1 where one isn't, or one is missing.
+The first block of Rust in README.md must be the whole of examples/first.rt.in, and the second one a
+function of crates/plist_uses/src/untrusted_file.rt. The status is 1 if one differs or is missing.
 """
 import pathlib
 import re

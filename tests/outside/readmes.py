@@ -3,9 +3,9 @@
 
     tests/outside/readmes.py [FOLDER]
 
-Each block of Rust in crates/*/README.md, with its imports, becomes a module of a program over all
-libraries, in a copy of this repository in FOLDER (a new one, if none is named), and `rt try` runs
-that program, which does nothing. Ends with status 1 where it doesn't compile.
+Each block of Rust in crates/*/README.md, with its imports, becomes a module of a program that uses all
+libraries, in a copy of this repository in FOLDER (by default a new one). `rt try` compiles and runs the
+program, whose `main` does nothing. The status is 1 if it doesn't compile.
 """
 import pathlib
 import re
@@ -27,7 +27,7 @@ fn main(_rt: HostRuntime) -> ExitCode {{
 
 
 def blocks():
-    """The blocks, by the names of their modules."""
+    """Returns the blocks, by the names of their modules."""
     found = {}
     for readme in sorted(TOP.glob("crates/*/README.md")):
         crate = readme.parent.name

@@ -1,7 +1,7 @@
-"""A second reader and writer of property lists, made of docs/FORMAT.md alone.
+"""A second reader and writer of property lists, written from docs/FORMAT.md alone.
 
-It is slow and plain: a file is a `bytes`, its items are a list of events and at most one fault at
-the end of a binary one. An event is a tuple of its name and what it holds; a text is its UTF-8.
+It is slow and simple. A file is a `bytes`. Its items are a list of events, with at most one fault at
+the end if it is binary. An event is a tuple of its name and its content. A text is its UTF-8 bytes.
 """
 import math
 import struct
@@ -11,7 +11,7 @@ FIRST_SECOND, LAST_SECOND = -378683424000, 252423993599
 
 
 class Fault(Exception):
-    """Why something was refused, and where, if it has a place."""
+    """Why the input was rejected, and the offset, if there is one."""
 
     def __init__(self, name, offset=None):
         super().__init__(name)
@@ -19,13 +19,13 @@ class Fault(Exception):
 
 
 class TooMany(Exception):
-    """More items than were asked for."""
+    """There are more items than the limit."""
 
 
 # ---- binary property lists
 
 class Container:
-    """The trailer's fields and the places of the objects."""
+    """The trailer's fields and the offsets of the objects."""
 
     def __init__(self, data):
         size = len(data)
@@ -62,7 +62,7 @@ COUNTED = {0x4: 1, 0x5: 1, 0x6: 2}
 
 
 def object_at(container, place):
-    """An event, or a collection's start with the numbers of its children in order."""
+    """Returns an event, or the start of a collection with the numbers of its children in order."""
     data = container.data[place:container.end]
     if not data:
         raise Fault("ObjectOffsetTooLarge", place)
@@ -133,7 +133,7 @@ def counted(kind, content):
 
 
 def binary_items(data, most):
-    """The events up to the first fault, and the fault or None."""
+    """Returns the events up to the first fault, and the fault or None."""
     events = []
     try:
         container = Container(data)
@@ -144,7 +144,7 @@ def binary_items(data, most):
 
 
 def walk(container, events, most):
-    """Depth first from the root: an open collection is its number and its children left."""
+    """Walks depth first from the root. An open collection is its number and its remaining children."""
     open_ones = [(None, iter([container.root]))]
     while open_ones:
         holder, children = open_ones[-1]
@@ -184,13 +184,13 @@ HEXADECIMAL = set(b"0123456789abcdefABCDEF")
 
 
 class Ascii:
-    """The bytes of an ASCII property list, and how many of them are taken."""
+    """The bytes of an ASCII property list, and how many of them have been read."""
 
     def __init__(self, data):
         self.data, self.place = data, 0
 
     def items(self):
-        """Each event or fault, in order; a fault doesn't end them."""
+        """Yields each event or fault in order. A fault doesn't end them."""
         while self.place < len(self.data):
             try:
                 event = self.token()
@@ -297,7 +297,7 @@ def utf8(text):
 
 
 def integer_of_text(text):
-    """The integer that a text spells, or None."""
+    """Returns the integer of a text, or None."""
     if text.startswith(b"0x"):
         while text.startswith(b"0x"):
             text = text[2:]
@@ -314,7 +314,7 @@ def integer_of_text(text):
 # ---- the format, and values
 
 def items_of_input(data, most):
-    """The items of some bytes by their format, faults among them."""
+    """Returns the items of a file in its format, including faults."""
     if data.startswith(MAGIC):
         events, fault = binary_items(data, most)
         return events + ([fault] if fault else [])
@@ -326,7 +326,7 @@ def items_of_input(data, most):
 
 
 class Open:
-    """A collection that isn't complete: its items, or its pairs and the key that waits."""
+    """A collection that isn't complete: its items, or its pairs and the key without a value."""
 
     def __init__(self, is_array):
         self.value = [] if is_array else {}
@@ -344,7 +344,7 @@ class Open:
 
 
 def value_of(items):
-    """The value of these items: a list, a dict, or a scalar's event."""
+    """Returns the value of these items: a list, a dict, or the event of a scalar."""
     root, open_ones = None, []
     for item in items:
         if isinstance(item, Fault):
@@ -390,7 +390,7 @@ def with_length(high, count, content):
 
 
 def form_of(event):
-    """The bytes of a scalar."""
+    """Returns the bytes of a scalar."""
     name, value = event
     if name == "Boolean":
         return b"\x09" if value else b"\x08"
@@ -414,14 +414,14 @@ def form_of(event):
 
 
 class Writing:
-    """Numbers for the objects of a value, and what each of them is."""
+    """The numbers of the objects of a value, and their contents."""
 
     def __init__(self, value):
         self.numbers, self.count, self.order = {}, 1, []
         self.place(value, 0)
 
     def number_for(self, child):
-        """The number of a child of the collection whose turn it is."""
+        """Returns the number of the next child of the current collection."""
         if isinstance(child, tuple) and child in self.numbers:
             return self.numbers[child]
         self.count += 1
@@ -430,7 +430,7 @@ class Writing:
         return self.count - 1
 
     def place(self, root, number_of_root):
-        """The objects in the order of the file; a scalar stands where it comes first."""
+        """Puts the objects in the order of the file. A scalar is placed where it first occurs."""
         placed, waiting = set(), [(root, number_of_root)]
         while waiting:
             child, number_of_child = waiting.pop()
@@ -448,7 +448,7 @@ class Writing:
 
 
 def file_of(value):
-    """The binary property list of a value."""
+    """Returns the binary property list of a value."""
     plan = Writing(value)
     width = least_width(plan.count - 1)
     places, file = [0] * plan.count, MAGIC

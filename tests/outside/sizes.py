@@ -1,17 +1,17 @@
 #!/usr/bin/env python3
-"""Sizes of the files that `BinaryWriter` and `SharingWriter` write of what other programs made.
+"""Measures the sizes of files of other programs, as `BinaryWriter` and `SharingWriter` write them.
 
-- settings: those that gnustep-base-common has for each language (`Languages`), read by GNUstep, and
-  written by it as one property list, with a dictionary for each language;
-- generated data: what clang's static analyzer reports of the example programs of zlib1g-dev, turned
-  from XML to binary by `plistutil`, one report behind the other in an array;
-- keyed archives: what GNUstep's `NSKeyedArchiver` writes of each of these, and the one that the tests
-  of the Rust crate have.
+- Settings: those that gnustep-base-common has for each language (`Languages`), which GNUstep reads
+  and writes as one property list, with a dictionary for each language.
+- Generated data: what clang's static analyzer reports for the example programs of zlib1g-dev. The
+  reports are converted from XML by `plistutil`, as one array.
+- Keyed archives: what GNUstep's `NSKeyedArchiver` writes for each of these, and the archive that is
+  among the tests of the Rust crate.
 
-The program of `tests/outside/sharing` reads each and writes it by both writers; Python's `plistlib` has
-to read the same of both files as of the input. Needs the kit, and of Debian libgnustep-base1.28,
-gnustep-base-common, gnustep-base-runtime (`plser`), clang, zlib1g-dev, libplist-utils and
-librust-plist-dev.
+The program in `tests/outside/sharing` reads each file and writes it with both writers. Python's
+`plistlib` must read the same value from both outputs as from the input. Needs the kit, and Debian's
+libgnustep-base1.28, gnustep-base-common, gnustep-base-runtime (`plser`), clang, zlib1g-dev,
+libplist-utils and librust-plist-dev.
 
 Usage: sizes.py [PROGRAM]
 """
@@ -55,7 +55,7 @@ class Gnustep:
         return self.send(self.kind("NSString"), "stringWithUTF8String:", str(text).encode())
 
     def read(self, path, kind="NSDictionary"):
-        """The dictionary or array that a file holds, if it holds one."""
+        """Returns the dictionary or array of a file, if it has one."""
         return self.send(self.kind(kind), f"{kind[2:].lower()}WithContentsOfFile:", self.text(path))
 
     def archive(self, value, path):
@@ -64,7 +64,7 @@ class Gnustep:
 
 
 def settings_of_languages(gnustep):
-    """A dictionary of the settings of each language, as far as GNUstep can read them."""
+    """Returns a dictionary of the settings of each language that GNUstep can read."""
     every = gnustep.send(gnustep.kind("NSMutableDictionary"), "dictionary")
     for path in sorted(LANGUAGES.glob("Versions/*/Resources/Languages/*")):
         settings = gnustep.read(path)

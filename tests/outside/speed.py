@@ -1,20 +1,20 @@
 #!/usr/bin/env python3
-"""Measures `plist_tool print` beside other programs, on files that it makes.
+"""Compares the speed of `plist_tool print` with other programs, on files that it makes.
 
-Each shape of file is made at some sizes. The programs run in turn, and of each the run with the
-least processor time (user and system) counts; its peak memory is shown beside it. The peers are the
-Rust crate `plist` as Debian packages it (librust-plist-dev, built by cargo from tests/outside/peer;
-it reads the file into memory first), Python's plistlib, and plistutil (libplist), which turns the
-file to XML. A peer that is missing is left out, and so is one that fails on a shape. A program whose
-first run is short is run more often, so that a few milliseconds are told apart, and one whose first
-run takes long is run once.
+Each shape of file is made in some sizes. The programs run in turn. The run of each with the least
+processor time (user and system) counts, and its peak memory is printed, too. The other programs are a
+program over the Rust crate `plist` as Debian packages it (librust-plist-dev, built by cargo from
+tests/outside/peer; it reads the whole file into memory first), Python's plistlib, and plistutil
+(libplist), which converts the file to XML. Programs that aren't installed are left out, and so are
+those that fail on a shape. If the first run of a program is short, there are more runs, so that a
+difference of a few milliseconds can be seen. If it is long, there is no second run.
 
-A second table is of reading from memory into events with texts of their own: `BinaryReader` over a
-slice (tests/outside/items, which is proved and built in a copy of its crates by the kit's `rt`)
-beside the crate's. It is of one pass: what a run of many passes takes more than a run of one, shared
-out among them. Between the tables system calls are counted, by `strace` where it is there.
+A second table compares how fast `BinaryReader` (tests/outside/items, which is proved and built in a
+copy of its crates by the kit's `rt`) and the crate read a slice into events that own their strings. It
+is for one pass: the time of a run of many passes minus that of a run of one, divided by the number of
+additional passes. Between the tables are the numbers of system calls, if `strace` is installed.
 
-Usage: speed.py [MEGABYTES ..]      1, 10 and 50 where none are named
+Usage: speed.py [MEGABYTES ..]      1, 10 and 50 by default
 """
 import datetime
 import itertools
@@ -137,7 +137,7 @@ def levels(count):
 
 
 def doubling(depth):
-    """Few objects, and an unfolding of twice as many events with each one more."""
+    """Returns a file of few objects. Each additional one doubles the number of events."""
     file = File()
     inner = file.array([])
     for _ in range(depth):
@@ -154,7 +154,7 @@ def texts_beyond_ascii(size):
 
 
 def some_settings(count):
-    """Settings as Python's values, with 5,000 texts that they share."""
+    """Returns settings as Python values, which share 5,000 texts."""
     rng, start = random.Random(1), datetime.datetime(2001, 1, 1)
     shared = [f"value {n}" for n in range(5000)]
     return [{
@@ -165,18 +165,18 @@ def some_settings(count):
 
 
 def settings_by_plistlib(size):
-    """Settings as plistlib lays them out."""
+    """Returns settings in the layout of plistlib."""
     return plistlib.dumps(some_settings(size // 185), fmt=plistlib.FMT_BINARY, sort_keys=False)
 
 
 def settings_by_plistutil(size):
-    """Settings as libplist lays them out."""
+    """Returns settings in the layout of libplist."""
     xml = plistlib.dumps(some_settings(size // 185), sort_keys=False)
     return subprocess.run(["plistutil", "-f", "bin"], input=xml, capture_output=True, check=True).stdout
 
 
 def references_of(content, width):
-    """Where the references of an object begin and how many there are, none of a scalar."""
+    """Returns where the references of an object begin, and how many it has (a scalar has none)."""
     kind, count, start = content[0] >> 4, content[0] & 15, 1
     if kind not in (10, 13):
         return 0, 0
@@ -187,7 +187,7 @@ def references_of(content, width):
 
 
 def renumbered(data, are_moved):
-    """The same property list with numbers for its objects at random; if they are moved, they stand in that order."""
+    """Returns the file with random numbers for its objects, which are in that order if they are moved."""
     rng, (width, reference) = random.Random(1), data[-26:-24]
     count, root, table = (int.from_bytes(data[i:i + 8], "big") for i in range(len(data) - 24, len(data), 8))
     places = [int.from_bytes(data[i:i + width], "big") for i in range(table, table + count * width, width)]
@@ -232,7 +232,7 @@ OTHERS = {**LEVELS, **SHARING}
 
 
 def make(path, shape, *size):
-    """Makes a file in a process of its own: what this one holds would count for the programs."""
+    """Makes a file in a process of its own, since this one's memory would count for the programs."""
     words = [sys.executable, __file__, "--make", path, shape, *size]
     subprocess.run([str(word) for word in words], check=True)
 
@@ -245,7 +245,7 @@ def made(path, shape, *size):
 
 
 def peer(folder):
-    """The program over the crate, built where cargo and the crate are there."""
+    """Builds the program over the crate, if cargo and the crate are installed."""
     if shutil.which("cargo") is None:
         return None
     source = shutil.copytree(HERE / "peer", folder / "peer")
@@ -256,9 +256,9 @@ def peer(folder):
 
 
 def built(folder, name, crates, uses, words):
-    """A program of this folder, proved and built in a repository of its own, where the kit is there.
+    """Proves and builds a program of this folder in a repository of its own, if the kit is installed.
 
-    `crates` are those that it stands on, `uses` those that it names; it is run once on the words."""
+    `crates` are all that it uses, `uses` those that it names. It is run once with these arguments."""
     if shutil.which("rt") is None:
         return None
     top, root = HERE.parents[1], folder / name
@@ -276,7 +276,7 @@ def built(folder, name, crates, uses, words):
 
 
 def items_program(folder):
-    """The program over `BinaryReader`."""
+    """Builds the program over `BinaryReader`."""
     return built(folder, "items", ("plist_base", "plist_format", "plist_binread"),
                  "plist_base plist_binread", ["no_such_file"])
 
@@ -293,7 +293,7 @@ def programs(crate):
 
 
 def peak_of(pid, before):
-    """The most memory that a process has held so far, in bytes, where that can be seen."""
+    """Returns the peak memory of a running process in bytes, or `before` if it can't be read."""
     try:
         with open(f"/proc/{pid}/status") as status:
             return max([before, *(int(line.split()[1]) * 1024 for line in status if line.startswith("VmHWM"))])
@@ -302,9 +302,9 @@ def peak_of(pid, before):
 
 
 def measure(words):
-    """Processor seconds and peak memory in bytes, or None where it fails or takes too long.
+    """Returns processor seconds and peak memory in bytes, or None if it fails or takes too long.
 
-    The memory that the system tells of a child counts what its parent held, so it is looked up while
+    The memory that the system reports for a child includes that of its parent, so it is read while
     the child runs, and is 0 where the child was too fast."""
     start, peak = time.monotonic(), 0
     with open(os.devnull, "wb") as sink:
@@ -325,12 +325,12 @@ def measure(words):
 
 
 def best(runs):
-    """The least time, and the most memory."""
+    """Returns the least time and the greatest memory."""
     return None if None in runs else (min(time for time, _ in runs), max(peak for _, peak in runs))
 
 
 def runs_wanted(taken):
-    """How often a program is to be run in all, after these runs."""
+    """Returns how many runs a program needs in all, given these runs."""
     if None in taken:
         return 0
     if not taken:
@@ -340,7 +340,7 @@ def runs_wanted(taken):
 
 
 def measured(path, known, *more):
-    """The best runs of each program on a file, in turn; further words may follow the file's name."""
+    """Runs each program on a file in turn, with `more` arguments, and returns the best runs."""
     runs = {program: [] for program in known}
     for _ in range(SHORT_RUNS):
         for program, words in known.items():
@@ -363,7 +363,7 @@ def cells_of(found):
 
 
 def objects_of(path):
-    """How many objects a file tells."""
+    """Returns the number of objects in the trailer of a file."""
     return int.from_bytes(path.read_bytes()[-24:-16], "big")
 
 
@@ -412,7 +412,7 @@ def print_table(path, sizes, known):
 
 
 def one_pass(once, often):
-    """The time of a pass, from runs of one and of more, and the memory of a run of one."""
+    """Returns the time of a pass, from runs of one and of more, and the memory of a run of one."""
     return None if once is None or often is None else ((often[0] - once[0]) / PASSES, once[1])
 
 
@@ -433,7 +433,7 @@ def print_items(path, size, known):
 
 
 def calls_of(words, path):
-    """How often a program made each system call."""
+    """Returns how often a program made each system call."""
     counts = path.with_name("calls")
     subprocess.run(["strace", "-f", "-c", "-o", counts, *words, path], stdout=subprocess.DEVNULL, check=True)
     lines = [line.split() for line in counts.read_text().splitlines()[2:]]
@@ -441,7 +441,7 @@ def calls_of(words, path):
 
 
 def print_calls(path, size, words):
-    """The system calls of `print` where reads cost most: objects that refer to each other all over the file."""
+    """Prints how many system calls `print` makes on each shape of settings."""
     if shutil.which("strace") is None:
         return
     print("\nSystem calls of `plist_tool print`:\n")

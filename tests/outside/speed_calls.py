@@ -1,12 +1,12 @@
 #!/usr/bin/env python3
-"""Measures calls on large dictionaries, and the texts of data, at a count and at twice the count.
+"""Measures calls on large dictionaries, and the base64 text of data, for a size and for twice the size.
 
-It builds tests/outside/bulk with the kit in a copy of the crates, and prints the processor time (user
-and system) of the best of five runs. Each call stands on others (the dictionaries are made first, the
-bytes filled), so what these take is taken off. Beside the texts of data stands Python's `base64`,
-which is C, on as many bytes.
+Builds tests/outside/bulk with the kit in a copy of the crates, and prints the processor time (user
+and system) of the best of five runs. The preparation, such as making the dictionaries, is measured
+apart and subtracted. The base64 texts are compared with Python's `base64`, which is written in C, on
+as many bytes.
 
-Usage: speed_calls.py [PROGRAM]     the built program, where it is there already
+Usage: speed_calls.py [PROGRAM]     PROGRAM is the built program; if it isn't named, it is built
 """
 import base64
 import os
@@ -26,7 +26,7 @@ BYTES = 10_000_000
 
 
 def program(folder):
-    """The program over the crates, in a repository of its own."""
+    """Builds the program over the crates in a repository of its own."""
     root = folder / "bulk"
     for crate in CRATES:
         shutil.copytree(HERE.parents[1] / "crates" / crate, root / "crates" / crate)
@@ -40,7 +40,7 @@ def program(folder):
 
 
 def seconds(words):
-    """The processor time of the best run."""
+    """Returns the processor time of the best run."""
     times = []
     for _ in range(RUNS):
         child = subprocess.Popen([str(word) for word in words], stdout=subprocess.DEVNULL)
@@ -52,7 +52,7 @@ def seconds(words):
 
 
 def row(built, call, beneath, count):
-    """A call's time at a count and at twice the count, without what it stands on."""
+    """Returns a row: a call's time for a count and for twice the count, without its preparation."""
     times = []
     for n in (count, 2 * count):
         taken = seconds([built, n, call])
@@ -61,7 +61,7 @@ def row(built, call, beneath, count):
 
 
 def by_python(call):
-    """The best time of Python's own call."""
+    """Returns the best time of Python's own call."""
     content = bytes(n % 251 for n in range(BYTES))
     text = base64.b64encode(content)
     times = []

@@ -1,14 +1,14 @@
 #!/usr/bin/env python3
-"""Measures `SharingWriter` beside `BinaryWriter` on the same events.
+"""Compares the speed of `SharingWriter` with that of `BinaryWriter` on the same events.
 
-The program of `tests/outside/sharing` reads a file from memory and hands its events to a writer over
-memory. It is proved and built by the kit's `rt` in a copy of the crates. Three runs of it take turns:
-one that only reads, one with each writer; of each the one with the least processor time (user and
-system) counts. What reading alone takes is taken off the other two, so the columns are the writers'
-own. The files on the disk are in the shared form, so that reading costs little; the sizes of the rows
-are those of the files that `BinaryWriter` writes.
+The program in `tests/outside/sharing` reads a file from memory and passes its events to a writer over
+memory. It is proved and built by the kit's `rt` in a copy of the crates. It runs in turn without a
+writer and with each of the two; the run of each kind with the least processor time (user and system)
+counts. The time of reading alone is subtracted, so the columns are the times of the writers alone.
+The input files share equal collections, so reading takes little time. The sizes of the rows are those
+of the files that `BinaryWriter` writes.
 
-Usage: speed_sharing.py [--program PROGRAM] [MEGABYTES ..]      1, 10 and 50 where none are named.
+Usage: speed_sharing.py [--program PROGRAM] [MEGABYTES ..]      1, 10 and 50 by default
 """
 import math
 import pathlib
@@ -27,14 +27,14 @@ RUNS = 5
 
 
 def program(folder):
-    """The program over the crates, in a repository of its own."""
+    """Builds the program over the crates in a repository of its own."""
     return speed.built(folder, "sharing", CRATES, USES, ["none", "no_such_file"])
 
 
 # ---- the files
 
 def repeated_subtrees(size):
-    """Records of a thousand kinds, each with a list and a dictionary, over and over."""
+    """Returns many records of a thousand kinds, each with a list and a dictionary."""
     file, rng = speed.File(), random.Random(1)
     keys = [file.text(key) for key in ("name", "price", "tags", "maker", "sizes")]
     records = []
@@ -54,7 +54,7 @@ LEVELS = {"10^5 levels": 10**5, "10^6 levels": 10**6}
 
 
 def make(path, shape, *size):
-    """Makes a file in a process of its own: what this one holds would count for the programs."""
+    """Makes a file in a process of its own, since this one's memory would count for the programs."""
     words = [sys.executable, __file__, "--make", path, shape, *size]
     subprocess.run([str(word) for word in words], check=True)
 
@@ -67,12 +67,12 @@ def made(path, shape, *size):
 # ---- the table
 
 def length_of(built, writer, path):
-    """How many bytes a writer writes."""
+    """Returns how many bytes a writer writes."""
     return int(subprocess.run([built, writer, path], capture_output=True, check=True).stdout)
 
 
 def row(name, built, path):
-    """Prints a line of the table; the least seconds of the sharing writer."""
+    """Prints a line of the table, and returns the least seconds of `SharingWriter`."""
     runs = {writer: [] for writer in ("none", "plain", "sharing")}
     for _ in range(RUNS):
         for writer, taken in runs.items():

@@ -1,17 +1,17 @@
 #!/usr/bin/env python3
-"""Measures `plist_tool convert` beside other programs: a value is read and written again.
+"""Compares the speed of `plist_tool convert` with other programs, which read a value and write it.
 
-The files and the programs are those of speed.py, which run in turn, as often as there; of each the
-least processor time (user and system) and the largest peak memory count. Besides the shapes of
-speed.py there are wide ones (empty arrays, a dictionary of many keys, an array of equal texts) and
-project files in ASCII, which neither the crate (1.3.1) nor `plistlib` reads. `plistlib` loads and
-dumps. `plistutil` isn't among them: it copies a file that is binary already.
+The files and the programs are those of speed.py, with as many runs. For each program the least
+processor time (user and system) and the greatest peak memory count. There are more shapes: many empty
+arrays, a dictionary of many keys, an array of equal texts, and ASCII project files, which neither the
+crate (1.3.1) nor `plistlib` reads. `plistlib` loads and dumps the value. `plistutil` is left out,
+because it copies a file that is binary already.
 
-A second table is of events that are handed to a writer over memory as they are read from memory: to
-`BinaryWriter` by the program of `tests/outside/sharing`, which is proved and built by the kit's `rt`
-in a copy of the crates, and to the crate's.
+A second table compares the writers alone, on events that are read from memory and written to memory:
+`BinaryWriter`, in the program of `tests/outside/sharing`, which is proved and built by the kit's `rt`
+in a copy of the crates, and the crate's writer.
 
-Usage: speed_writing.py [--program PROGRAM] [MEGABYTES ..]      1 and 10 where none are named.
+Usage: speed_writing.py [--program PROGRAM] [MEGABYTES ..]      1 and 10 by default
 """
 import math
 import pathlib
@@ -41,7 +41,7 @@ def equal_texts(file):
 
 
 def project(size):
-    """A project in ASCII: objects by their identifiers, with references, lists and settings."""
+    """Returns an ASCII project file: objects by identifier, with references, lists and settings."""
     rng, names, lines = random.Random(5), [], ["// !$*UTF8*$!", "{", "archiveVersion = 1;", "objects = {"]
     length = 0
     while length < size - 200:
@@ -72,7 +72,7 @@ def programs(folder):
 
 
 def row(name, source, known, first="plist_tool", written=True):
-    """Prints a line of the table; the least processor seconds of the first program."""
+    """Prints a line of the table, and returns the least processor seconds of the first program."""
     target = [source.with_name("written.plist")] if written else []
     found = speed.measured(source, dict(known), *target)
     ours, cells = found[first], []
@@ -88,7 +88,7 @@ def row(name, source, known, first="plist_tool", written=True):
 
 
 def print_events(sizes, path, known):
-    """Prints the table of events that are handed to a writer."""
+    """Prints the table for events that are passed to a writer."""
     print("\nEvents handed to a writer, from memory to memory:\n")
     print("| shape | bytes | " + " | ".join(program for program, _ in known) + " |")
     print("|" + "---|" * (2 + len(known)))

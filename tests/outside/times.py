@@ -1,19 +1,19 @@
 #!/usr/bin/env python3
-"""Measures what proving costs whoever tries, changes or checks this repository.
+"""Measures how long it takes to build, change and check this repository.
 
     tests/outside/times.py [first] [function] [user] [gate]
 
-Each word is a measurement, in a fresh clone of HEAD; without words all but the gate are made:
-first     ./plist_tool print of an example, from nothing: to its first line, which isn't proved yet,
-          and to its end, with the proved program
-function  one changed function of some crates, checked again over what a check of these kept
-user      the first program of the README, checked as a crate of its own over the built libraries
-gate      .ci/run, from nothing
+Each word is a measurement, in a fresh clone of HEAD. Without words all but the gate are made:
+first     ./plist_tool print of an example, if nothing was proved before: until the first line, which
+          is printed by the unproved program, and until the end, when the program is proved
+function  a check of some crates after one function was changed
+user      a check of the README's first program, as a crate of its own over the built libraries
+gate      .ci/run, if nothing was proved before
 
-A line has seconds of wall clock, and seconds of processor time (user and system) of all processes.
-Where much of a machine's time is given to others, only the second tells something; the share that
-was is in the last column. `rt` takes over what runs in other checkouts kept on the same machine:
-`RT_KEPT` names the folder where it keeps that, which is moved away for what is measured from nothing.
+Each line has the wall time in seconds, and the processor time (user and system) of all processes. If
+much of the machine's time is taken by others, only the second is of use; the last column has their
+share. `rt` reuses what other checkouts on the same machine have proved. It keeps this in the folder
+that `RT_KEPT` names, which is moved away for the measurements from nothing.
 """
 import os
 import pathlib
@@ -37,7 +37,7 @@ CHANGES = {
 
 
 def jiffies():
-    """Processor time of the machine that was given to others, and all of it."""
+    """Returns the processor time of the machine that others were given, and all of it."""
     numbers = [int(it) for it in open("/proc/stat", encoding="utf-8").readline().split()[1:9]]
     return numbers[7], sum(numbers)
 
@@ -68,7 +68,7 @@ def run(words, folder, **how):
 
 
 def first(clone):
-    """To the first line, and to the end of the call."""
+    """Measures the time until the first line, and until the end of the call."""
     with Measured("the program is proved and has run"):
         began = time.time()
         words = ["./plist_tool", "print", "examples/settings.plist"]

@@ -5,8 +5,8 @@ use Rattle.std.specs.Iterator.{Yields}
 use Rattle.plist_base.specs.declared.error.Error.{Error}
 use Rattle.plist_base.specs.declared.event.Event.{Event}
 use Rattle.plist_base.specs.declared.byte_budget.ByteBudget.{ByteBudget}
-use Rattle.plist_base.specs.declared.limited.Limited.{Limited}
-use Rattle.plist_base.specs.declared.limits.Limiter.{Limiter}
+use Rattle.plist_base.specs.declared.limited_items.LimitedItems.{LimitedItems}
+use Rattle.plist_base.specs.declared.limits.LimitCounter.{LimitCounter}
 use Rattle.plist_base.specs.declared.source.Source.{Ghosts}
 use Rattle.plist_base.specs.declared.expects.Change.{Change}
 use Rattle.plist_base.specs.declared.expects.Change.TheVariants.{Refused}
@@ -102,7 +102,7 @@ module _ {I A : Type 0} (lets : A → List Item → List Item) (may_reach : Faul
     (reaches : (fault : Fault) → may_reach fault → IsReadingFault limited fault)
     (inner : (old : I) (error : Error) (new : I) → inner_gives old (Some (Err error)) new
     → IsReadingFault limited (fault_of error)) where
-  passed : (old : Limited I A) (error : Error) (new : Limited I A)
+  passed : (old : LimitedItems I A) (error : Error) (new : LimitedItems I A)
       → GivesAllowed lets may_reach inner_gives old (Some (Err error)) new
       → IsReadingFault limited (fault_of error)
   passed old error new gives = by old.ended gives
@@ -139,8 +139,8 @@ module _ {R : Type 0} {g : Ghosts R} (known : R → Option (List ℕ)) (failed :
       ))
       reader answer none collects
 
-  limit-tells : (old : Limited (Reader R g) Limiter) (error : Error)
-      (new : Limited (Reader R g) Limiter)
+  limit-tells : (old : LimitedItems (Reader R g) LimitCounter) (error : Error)
+      (new : LimitedItems (Reader R g) LimitCounter)
       → GivesLimited (Gives known failed) old (Some (Err error)) new
       → IsReadingFault true (fault_of error)
   limit-tells =
@@ -151,8 +151,8 @@ module _ {R : Type 0} {g : Ghosts R} (known : R → Option (List ℕ)) (failed :
         gave.offset,
       ))
 
-  budget-tells : (old : Limited (Limited (Reader R g) Limiter) ByteBudget) (error : Error)
-      (new : Limited (Limited (Reader R g) Limiter) ByteBudget)
+  budget-tells : (old : LimitedItems (LimitedItems (Reader R g) LimitCounter) ByteBudget) (error : Error)
+      (new : LimitedItems (LimitedItems (Reader R g) LimitCounter) ByteBudget)
       → GivesWithinBudget (GivesLimited (Gives known failed)) old (Some (Err error)) new
       → IsReadingFault true (fault_of error)
   budget-tells =
@@ -160,7 +160,7 @@ module _ {R : Type 0} {g : Ghosts R} (known : R → Option (List ℕ)) (failed :
       (λ fault reached. subst (IsReadingFault true) (sym reached) (inl (tt, refl))) limit-tells
 
   -- a reader under limits
-  pub limited-tells : (limited : Limited (Reader R g) Limiter) (answer : Result Value Error)
+  pub limited-tells : (limited : LimitedItems (Reader R g) LimitCounter) (answer : Result Value Error)
       → Collects event_of (GivesLimited (Gives known failed)) limited (built_tree answer)
       → IfErr answer (λ error. IsReadingFault true (fault_of error))
   limited-tells limited answer collects =
@@ -169,7 +169,7 @@ module _ {R : Type 0} {g : Ghosts R} (known : R → Option (List ℕ)) (failed :
       limited answer tt collects
 
   -- a reader under limits and within a budget of bytes
-  pub budgeted-tells : (budgeted : Limited (Limited (Reader R g) Limiter) ByteBudget)
+  pub budgeted-tells : (budgeted : LimitedItems (LimitedItems (Reader R g) LimitCounter) ByteBudget)
       (answer : Result Value Error)
       → Collects event_of (GivesWithinBudget (GivesLimited (Gives known failed))) budgeted
       (built_tree answer)

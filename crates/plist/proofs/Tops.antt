@@ -12,9 +12,9 @@ use Rattle.plist.specs.Dictionaries.{pairs_of}
 use Rattle.plist.specs.Building.{InDictionary, Within}
 use Rattle.plist.specs.LastWins.{with_pair, last_values}
 use Rattle.plist.specs.UnfinishedValues.{open_of, held_in}
-use Rattle.plist.specs.inner.Steps.{and_tree}
+use Rattle.plist.specs.inner.BuilderSteps.{and_tree}
 use Rattle.plist.specs.ValueTrees.{tree_of, tree_pairs}
-use Rattle.plist_pairs.proofs.Keeping.{EachOnce, last-values-once, once-earlier, values-insert}
+use Rattle.plist_pairs.proofs.DistinctKeys.{EachOnce, last-values-once, once-earlier, values-insert}
 
 -- the innermost collection is first
 pub innermost : (outer : List UnclosedCollection) (inner : UnclosedCollection)

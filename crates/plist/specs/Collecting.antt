@@ -3,13 +3,13 @@ use Rattle.std.specs.Prelude.{◌≡◌, ◌⊎◌, false, List, [], ◌∷◌, 
 use Rattle.std.specs.Iterator.{Yields}
 use Rattle.plist_base.specs.declared.error.Error.{Error}
 use Rattle.plist_base.specs.Events.{PlainEvent, Item}
-use Rattle.plist_base.specs.Faults.{FaultKind, Fault, fault_of, fault_nowhere, OutOfMemory, UnexpectedEndOfEventStream}
+use Rattle.plist_base.specs.Faults.{FaultKind, Fault, fault_of, fault_without_offset, OutOfMemory, UnexpectedEndOfEventStream}
 use Rattle.plist_base.specs.Trees.{Tree}
 use Rattle.plist_base.specs.Bracketing.{bracketing, AreAlike}
 use Rattle.plist.specs.declared.value.Value.{Value}
 use Rattle.plist.specs.Building.{Unfinished, IsNested, Built, events_so_far, refusal_at}
 use Rattle.plist.specs.LastWins.{with_pair, last_wins}
-use Rattle.plist.specs.inner.Steps.{and_event}
+use Rattle.plist.specs.inner.BuilderSteps.{and_event}
 use Rattle.plist.specs.ValueTrees.{tree_of}
 
 -- what contracts see of an item, given what they see of its event
@@ -24,8 +24,8 @@ built_tree (Err error) = Err (fault_of error)
 
 -- the fault of an event that can't come next, and `OutOfMemory` for one that can
 abbrev pub IsRefusal : (refusal : Option FaultKind) → Fault → Type 0
-IsRefusal None fault = fault ≡ fault_nowhere OutOfMemory
-IsRefusal (Some kind) fault = fault ≡ fault_nowhere kind
+IsRefusal None fault = fault ≡ fault_without_offset OutOfMemory
+IsRefusal (Some kind) fault = fault ≡ fault_without_offset kind
 
 -- an item is an error, which is the result
 abbrev pub EndsInError : (stops : Type 0) → (events : List PlainEvent) → List Item → Fault → Type 0
@@ -42,7 +42,7 @@ EndsInRefusal stops held events items fault =
 abbrev pub EndsUnfinished : (ends : Type 0) → (events : List PlainEvent) → List Item → Fault
     → Type 0
 EndsUnfinished ends events items fault =
-    (items ≡ map Ok events) × ends × (fault ≡ fault_nowhere UnexpectedEndOfEventStream)
+    (items ≡ map Ok events) × ends × (fault ≡ fault_without_offset UnexpectedEndOfEventStream)
     × ((tree : Tree) → AreAlike events (bracketing tree) → ⊥)
 
 -- What the items that were taken are collected to: the tree whose events they are up to lengths,

@@ -1,5 +1,5 @@
--- The words in the contracts of a dictionary's entries. They apply to both kinds of entries, too,
--- as in `with_value (Occupied o)`.
+-- The words in the contracts of a dictionary's entries. They can also be applied to one kind of
+-- entry, as in `with_value (Occupied o)`.
 pub use Rattle.plist.specs.declared.dictionary.entry.Entry.TheVariants.{Occupied, Vacant}
 use Rattle.std.specs.Prelude.{◌≡◌, ℕ, ◌<◌, List, [], ◌∷◌, ◌++◌, length, Option, None, Some, Result, cond, is_some, slice_get, string_bytes, bytes_eq, String}
 use Rattle.std.specs.Borrow.{Fml, MutBor, follows, follows_if, name_if_ok}
@@ -92,7 +92,7 @@ pub still_within : (o : OccupiedEntry) (v : Value) → o.at < length (with_value
 still_within o v =
     subst (λ n. o.at < n) (sym (length-set_value_at (pairs_of o.pairs.now) o.at v)) o.within
 
--- o, after v becomes its value
+-- the occupied entry o after v becomes its value
 abbrev pub with_entry_value : OccupiedEntry → Value → OccupiedEntry
 with_entry_value o v = record {
   pairs = record o.pairs { now = dictionary_with (Occupied o) v };
@@ -112,8 +112,8 @@ entry_lends_ok e r =
     follows_if the_row value.the_row (entry_ref e).ghost_name (name_if_ok (λ x. x.ghost_name) r)
     (dictionary_with e) (entry_ref e).now
 
--- after the borrow r ends, the entry behind o has the last value written through r; its lifetime is
--- the second one in the signature
+-- after the borrow r ends, the entry to which o refers has the last value written through r; its
+-- lifetime is the second one in the signature
 abbrev pub occupied_lends : MutBor OccupiedEntry → MutBor Value → Fml
 occupied_lends o r =
     follows (occupied.the_row (record { mir = named 1; lft = [] })) value.the_row o.ghost_name

@@ -25,8 +25,8 @@ has_keys (MemberAnd key tree members) others =
     is_some (first_value key others) && has_keys members others
 
 abbrev mutual
-  -- trees of one kind: arrays are compared index by index, and dictionaries have the same keys with
-  -- the same values
+  -- two trees of one kind are the same: arrays index by index, and dictionaries if they have the
+  -- same keys with the same values
   pub same : Tree → Tree → Bool
   same (Leaf a) (Leaf b) = scalar_eq a b
   same (Array items) (Array others) = same_items items others

@@ -7,7 +7,7 @@ use Rattle.plist_base.specs.declared.event.Event.TheVariants as event
 use Rattle.std.specs.declared.borrow.CowStr.TheVariants as text
 use Rattle.std.specs.declared.borrow.CowSlice.TheVariants as slice
 use Rattle.plist_base.specs.Events.{PlainEvent, StartArray, StartDictionary, EndCollection, ScalarEvent, event_of}
-use Rattle.plist_base.specs.Faults.{fault_of, fault_nowhere, OutOfMemory}
+use Rattle.plist_base.specs.Faults.{fault_of, fault_without_offset, OutOfMemory}
 use Rattle.plist_base.specs.Trees.{Tree, String, trees_of, members_of}
 use Rattle.plist_base.specs.Bracketing.{bracketing, bracketing_of_items, bracketing_of_pairs}
 use Rattle.plist.specs.declared.value.Value.{Value}
@@ -57,7 +57,7 @@ GivesEvent before None after = (remaining_events before ≡ []) × (remaining_ev
 GivesEvent before (Some (Ok given)) after =
     (remaining_events before ≡ event_of given ∷ remaining_events after) × IsBorrowed given
 GivesEvent before (Some (Err error)) after =
-    (fault_of error ≡ fault_nowhere OutOfMemory) × BeginsWithStart (remaining_events before)
+    (fault_of error ≡ fault_without_offset OutOfMemory) × BeginsWithStart (remaining_events before)
     × (remaining_events after ≡ [])
 
 -- what is next, and what remains after it
@@ -77,7 +77,7 @@ BeginsValue tree before (Ok given) after =
     (bracketing tree ++ remaining_events before ≡ event_of given ∷ remaining_events after)
     × IsBorrowed given
 BeginsValue tree before (Err error) after =
-    (fault_of error ≡ fault_nowhere OutOfMemory)
+    (fault_of error ≡ fault_without_offset OutOfMemory)
     × BeginsWithStart (bracketing tree ++ remaining_events before) × (remaining_events after ≡ [])
 
 -- a level's events and its end precede those that remained

@@ -1,15 +1,15 @@
--- The value of a source or of a file, which is read completely, item by item; and why there is
+-- The value of a source or of a file, which is read completely, item by item; and why there may be
 -- none.
 use Rattle.std.specs.Prelude.{◌≡◌, ℕ, ◌⊎◌, Bool, List, Option, None, Some, Result, Err, ⊤}
 use Rattle.plist_base.specs.Events.{Item, event_of}
-use Rattle.plist_base.specs.Faults.{Fault, FaultKind, ExpectedEndOfEventStream, Io, UnexpectedEndOfEventStream, UnexpectedEventType, fault_nowhere}
+use Rattle.plist_base.specs.Faults.{Fault, FaultKind, ExpectedEndOfEventStream, Io, UnexpectedEndOfEventStream, UnexpectedEventType, fault_without_offset}
 use Rattle.plist_base.specs.Allowances.{iterator_of as inner_of_limited}
 use Rattle.plist_base.specs.Budgets.{GivesWithinBudget, items_within_budget, within_bytes}
 use Rattle.plist_base.specs.Limits.{GivesLimited, items_admitted, limited_items}
 use Rattle.plist_base.specs.Seeking.{failures_of}
 use Rattle.plist_base.specs.declared.byte_budget.ByteBudget.{ByteBudget}
-use Rattle.plist_base.specs.declared.limited.Limited.{Limited}
-use Rattle.plist_base.specs.declared.limits.Limiter.{Limiter}
+use Rattle.plist_base.specs.declared.limited_items.LimitedItems.{LimitedItems}
+use Rattle.plist_base.specs.declared.limits.LimitCounter.{LimitCounter}
 use Rattle.plist_base.specs.declared.limits.Limits.{Limits}
 use Rattle.plist_base.specs.declared.seeking.Seeking.{Seeking}
 use Rattle.plist_base.specs.Trees.{Tree}
@@ -24,14 +24,14 @@ use Rattle.plist_reader.specs.declared.reader.Reader.{Reader}
 use Rattle.plist_reader.specs.Reader.{Gives, FaultHasOffset, IsReaderFault, IsNewReader, IsUnread, limited_input}
 use Rattle.plist.specs.Collecting.{Collects}
 
--- the result is that of a run of a new reader of this source, which reads ASCII in this dialect
+-- the result is collected from a new reader of this source, which reads ASCII in this dialect
 abbrev pub IsReadInDialect : {R : Type 0} → Dialect → (known : R → Option (List ℕ))
     (failed : R → ℕ) (source : R) → Result Tree Fault → Type 0
 IsReadInDialect {R} dialect known failed source answer =
     (reader : Reader R (record { known = known; failures = failed }))
     × IsUnread reader source None dialect × Collects event_of (Gives known failed) reader answer
 
--- the result is that of a run of a new reader of this source, which reads ASCII in the lax dialect
+-- the result is collected from a new reader of this source, which reads ASCII in the lax dialect
 abbrev pub IsReadByReader : {R : Type 0} (known : R → Option (List ℕ)) (failed : R → ℕ) (source : R)
     → Result Tree Fault → Type 0
 IsReadByReader known failed source answer = IsReadInDialect Lax known failed source answer
@@ -43,7 +43,7 @@ budgeted_input limits bytes input = within_bytes bytes (limited_input limits inp
 -- a new reader of this source, under these limits
 abbrev pub LimitedReader : {R : Type 0} (known : R → Option (List ℕ)) (failed : R → ℕ) → Type 0
 LimitedReader {R} known failed =
-    Limited (Reader R (record { known = known; failures = failed })) Limiter
+    LimitedItems (Reader R (record { known = known; failures = failed })) LimitCounter
 
 abbrev pub BeginsUnder : {R : Type 0} → Limits → (known : R → Option (List ℕ)) (failed : R → ℕ)
     (source : R) → LimitedReader known failed → Type 0
@@ -51,25 +51,25 @@ BeginsUnder limits known failed source limited =
     (items_admitted limited ≡ limited_items limits)
     × IsNewReader (inner_of_limited limited) source
 
--- the result is that of a run of a new reader of this source, under these limits
+-- the result is collected from a new reader of this source, under these limits
 abbrev pub IsReadWithin : {R : Type 0} → Limits
     → (known : R → Option (List ℕ)) (failed : R → ℕ) (source : R) → Result Tree Fault → Type 0
 IsReadWithin limits known failed source answer =
     (limited : LimitedReader known failed) × BeginsUnder limits known failed source limited
     × Collects event_of (GivesLimited (Gives known failed)) limited answer
 
--- the result is that of a run of a new reader of this source, under these limits and within this
+-- the result is collected from a new reader of this source, under these limits and within this
 -- budget of bytes
 abbrev pub IsReadWithinBudget : {R : Type 0} → Limits → (bytes : ℕ)
     → (known : R → Option (List ℕ)) (failed : R → ℕ) (source : R) → Result Tree Fault → Type 0
 IsReadWithinBudget limits bytes known failed source answer =
-    (budgeted : Limited (LimitedReader known failed) ByteBudget)
+    (budgeted : LimitedItems (LimitedReader known failed) ByteBudget)
     × (items_within_budget budgeted ≡ within_bytes bytes)
     × BeginsUnder limits known failed source (inner_of_limited budgeted)
     × Collects event_of (GivesWithinBudget (GivesLimited (Gives known failed))) budgeted answer
 
--- the result is that of a run of a new reader of ASCII, in this dialect, which has taken no byte
--- and looked at none
+-- the result is collected from a new reader of ASCII, in this dialect, which has taken no byte and
+-- looked at none
 abbrev pub IsReadAsAscii : {R : Type 0} (known : R → Option (List ℕ)) (failed : R → Option ℕ)
     (source : R) → Dialect → Result Tree Fault → Type 0
 IsReadAsAscii {R} known failed source dialect answer =
@@ -96,22 +96,22 @@ IsReadingFault limited fault =
     (IsReaderFault limited fault.kind × FaultHasOffset fault)
     ⊎ (IsFaultOfEvents fault.kind × (fault.offset ≡ None))
 
--- a file couldn't be opened, or this is true of a source over it, none of whose calls had failed
+-- the file couldn't be opened; or this is true of a source over it, none of whose calls has failed
 abbrev pub IfOpened : (F : Type 0) → Result Tree Fault → (Seeking F → Type 0) → Type 0
 IfOpened F answer P =
-    (answer ≡ Err (fault_nowhere Io))
+    (answer ≡ Err (fault_without_offset Io))
     ⊎ ((source : Seeking F) × (failures_of source ≡ 0) × P source)
 
--- the result is that of a file, which is read in this dialect if it is ASCII
+-- the result is collected from a file, which is read in this dialect if it is ASCII
 abbrev pub IsReadFromFile : (F : Type 0) → Dialect → Result Tree Fault → Type 0
 IsReadFromFile F dialect answer =
     IfOpened F answer (λ source. IsReadInDialect dialect (λ _. None) failures_of source answer)
 
--- the result is that of a file, under these limits
+-- the result is collected from a file, under these limits
 abbrev pub IsReadFromFileWithin : (F : Type 0) → Limits → Result Tree Fault → Type 0
 IsReadFromFileWithin F limits answer =
     IfOpened F answer (λ source. IsReadWithin limits (λ _. None) failures_of source answer)
 
 -- why a file has no value
 abbrev pub IsFileFault : (limited : Bool) → Fault → Type 0
-IsFileFault limited fault = (fault ≡ fault_nowhere Io) ⊎ IsReadingFault limited fault
+IsFileFault limited fault = (fault ≡ fault_without_offset Io) ⊎ IsReadingFault limited fault

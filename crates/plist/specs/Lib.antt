@@ -18,5 +18,5 @@ pub mod FromReader
 pub mod Equal
 pub mod Accessors
 pub mod MutAccessors
-pub mod Limiting
+pub mod LimitedValues
 pub mod inner

@@ -22,15 +22,15 @@ array_row = vec.the_row the_row global.the_row ghosts
 abbrev pub dictionary_row : RattleType
 dictionary_row = dictionary.the_row
 
--- when the reference ends, the value is an array, or a dictionary, of what is behind it; without a
--- reference it is unchanged
+-- when the reference ends, the value is an array, or a dictionary, with what was written through
+-- it; without a reference it is unchanged
 abbrev pub LendsArray : MutBor Value → Option (MutBor (Vec Value Global)) → Value → Fml
 LendsArray value lent old = LendsIf the_row array_row value lent made.Array old
 
 abbrev pub LendsDictionary : MutBor Value → Option (MutBor Dictionary) → Value → Fml
 LendsDictionary value lent old = LendsIf the_row dictionary_row value lent made.Dictionary old
 
--- the items, or the pairs, behind a reference
+-- the items, or the pairs, to which a reference refers
 abbrev pub items_lent : Option (MutBor (Vec Value Global)) → Option Trees
 items_lent lent = option_map (λ array. item_trees array.now.items) lent
 

@@ -4,7 +4,7 @@ use Rattle.plist_base.specs.Faults.{FaultKind, Fault, Io}
 use Rattle.plist_base.specs.Trees.{Tree}
 use Rattle.plist.specs.SendingValues.{StopsFile}
 
--- the only errors: I/O, size, and memory
+-- the only errors are those of I/O, size and memory
 abbrev pub StopsStoring : FaultKind → Tree → Type 0
 StopsStoring Io tree = ⊤
 StopsStoring kind tree = StopsFile kind tree

@@ -13,7 +13,7 @@ use Rattle.plist.specs.declared.value.Value.{Value}
 use Rattle.plist.specs.Building.{OpenCollection, InArray, InDictionary, AfterKey, Unfinished, NotBegun, Within, Complete, refusal_at}
 use Rattle.plist.specs.Dictionaries.{pairs_of}
 use Rattle.plist.specs.LastWins.{last_values, with_pair}
-use Rattle.plist.specs.inner.Steps.{and_tree, and_event}
+use Rattle.plist.specs.inner.BuilderSteps.{and_tree, and_event}
 use Rattle.plist.specs.ValueTrees.{tree_of, tree_pairs}
 
 -- an open collection with its trees; a dictionary's keys are distinct, so its last values are its

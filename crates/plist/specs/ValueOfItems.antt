@@ -2,7 +2,7 @@
 use Rattle.std.specs.Prelude.{◌≡◌, ℕ, List, [], ◌∷◌, ◌++◌, Option, None, Some, Result, Ok, Err, IfSome, map, ⊤, option_map}
 use Rattle.plist_base.specs.declared.error.Error.{Error}
 use Rattle.plist_base.specs.Events.{PlainEvent, Item}
-use Rattle.plist_base.specs.Faults.{Fault, fault_nowhere, UnexpectedEndOfEventStream, MatchFault, IsIoOrMemory}
+use Rattle.plist_base.specs.Faults.{Fault, fault_without_offset, UnexpectedEndOfEventStream, MatchFault, IsIoOrMemory}
 use Rattle.plist_base.specs.Trees.{Tree}
 use Rattle.plist_base.specs.Bracketing.{bracketing, AreAlike}
 use Rattle.plist.specs.Building.{Unfinished, IsNested, events_so_far, refusal_at}
@@ -15,7 +15,7 @@ use Rattle.plist.specs.LastWins.{last_wins}
 abbrev pub IsFaultOfNext : (held : Unfinished) (events : List PlainEvent) → (next : List Item) → Fault
     → Type 0
 IsFaultOfNext held events [] fault =
-    (fault ≡ fault_nowhere UnexpectedEndOfEventStream)
+    (fault ≡ fault_without_offset UnexpectedEndOfEventStream)
     × ((tree : Tree) → AreAlike events (bracketing tree) → ⊥)
 IsFaultOfNext held events (Ok event ∷ more) fault = IsRefusal (refusal_at held event) fault
 IsFaultOfNext held events (Err error ∷ more) fault = fault ≡ error

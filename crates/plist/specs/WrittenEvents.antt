@@ -1,9 +1,9 @@
--- The events that are written: which of them a writer took, and why it didn't take the next one.
+-- Writing events: which of them a writer took, and why it didn't take the next one.
 use Rattle.std.specs.Prelude.{◌≡◌, ◌⊎◌, List, [], ◌∷◌, ◌++◌, Result, Ok, Err}
 use Rattle.plist_base.specs.declared.error.Error.{Error}
 use Rattle.plist_base.specs.Bracketing.{bracketing}
 use Rattle.plist_base.specs.Events.{PlainEvent, Item}
-use Rattle.plist_base.specs.Faults.{Fault, fault_nowhere, OutOfMemory}
+use Rattle.plist_base.specs.Faults.{Fault, fault_without_offset, OutOfMemory}
 use Rattle.plist_base.specs.Writing.{Answer, answer_of}
 use Rattle.plist.specs.Events.{BeginsWithStart}
 use Rattle.plist.specs.declared.value.Value.{Value}
@@ -24,7 +24,7 @@ module _ {S : Type 0} (Step : S → PlainEvent → Answer → S → Type 0) wher
   -- memory ran out at a start, which wasn't written
   abbrev pub StopsForMemory : (before : S) → List PlainEvent → Fault → (after : S) → Type 0
   StopsForMemory before events fault after =
-      (fault ≡ fault_nowhere OutOfMemory) × BeginsWithStart events × (after ≡ before)
+      (fault ≡ fault_without_offset OutOfMemory) × BeginsWithStart events × (after ≡ before)
 
   -- The writer took all events; or it took the first ones, and then rejected the next one, or
   -- memory ran out.

@@ -12,7 +12,7 @@ ghost use Rattle.plist.specs.ValueOfItems.{IsReadBack, ReadsItems};
 ghost use Rattle.plist.specs.Equal.{same, IsTransitive, DecidesScalars, DecidesDictionaries, same_members};
 ghost use Rattle.plist.specs.Dictionaries.{pairs_of};
 ghost use Rattle.plist.specs.ValueTrees.{pair_trees, tree_of};
-ghost use Rattle.plist.specs.inner.PutOff.{same_values_at};
+ghost use Rattle.plist.specs.inner.DeferredPairs.{same_values_at};
 
 use crate::dictionary::Entry;
 use crate::{Dictionary, Value, write_value};
@@ -37,7 +37,8 @@ pub fn value_again(alloc: Global, value: &Value) -> Result<Value, Error>
     Value::from_events(alloc, value.events(alloc))
 }
 
-/// Returns what a new writer writes for a value's events: a file of its tree, as the sharing says.
+/// Returns the file that a new writer writes for a value's events. Its objects are shared as `S`
+/// says.
 pub fn file_by_events<S: Sharing>(alloc: Global, value: &Value) -> Result<Vec<u8>, Error>
     ensures file { IfOk result (λ file. S.IsFile (tree_of value.now) file.items) }
 {
@@ -47,13 +48,13 @@ pub fn file_by_events<S: Sharing>(alloc: Global, value: &Value) -> Result<Vec<u8
 }
 
 /// Returns whether two values are equal, that is, whether their trees are the same up to the order
-/// of a dictionary's pairs. Sameness is an equivalence; scalars are the same if they are equal, and
-/// dictionaries are if they have the same values at all keys.
+/// of a dictionary's pairs. Sameness is an equivalence. Scalars are the same if they are equal, and
+/// dictionaries if they have the same values at all keys.
 #[tactic(auto, using(crate::proofs::SameTrees::sameness))]
 pub fn are_equal(value: &Value, other: &Value) -> bool
-    // The answer.
+    // Result.
     ensures same { result ≡ same (tree_of value.now) (tree_of other.now) }
-    // The law.
+    // Laws.
     ensures reflexive { (tree : Tree) → same tree tree ≡ true }
     ensures symmetric { (tree other : Tree) → same tree other ≡ same other tree }
     ensures transitive { IsTransitive }
@@ -74,15 +75,15 @@ pub fn are_equal_dictionaries(pairs: &Dictionary, others: &Dictionary) -> bool
     pairs == others
 }
 
-/// The value of a key, and its next value.
+/// Two values that a key had, one after the other.
 pub struct Replaced {
-    /// The value of the key.
+    /// The value that the key had first.
     pub was: Value,
-    /// The value of the key after another was set.
+    /// The value that was set.
     pub next: Value,
 }
 
-/// Sets the value of a key that is there through its entry, and removes the key.
+/// Sets the value of a key through its entry if the key is there, and then removes the key.
 pub fn set_and_take(pairs: &mut Dictionary, key: String, value: Value) -> Option<Replaced>
     ensures was { option_map (λ r. r.was) result ≡ lookup (bytes_eq (string_bytes key))
         (pairs_of pairs.old) }
@@ -98,7 +99,7 @@ pub fn set_and_take(pairs: &mut Dictionary, key: String, value: Value) -> Option
     }
 }
 
-/// Writes through the entry of a key that is there, and removes the key.
+/// Writes through the entry of a key if the key is there, and then removes the key.
 pub fn write_and_take(pairs: &mut Dictionary, key: String, value: Value) -> Option<Replaced>
     ensures was { option_map (λ r. r.was) result ≡ lookup (bytes_eq (string_bytes key))
         (pairs_of pairs.old) }

@@ -8,7 +8,8 @@ use crate::collect::collect;
 use crate::dictionary::TryCopy;
 use std::alloc::{AllocError, Global};
 
-/// Builds a value from the events of another. So it doesn't recurse, however deep the value is.
+/// Copies a value by building another one from its events. So it doesn't recurse, however deep the
+/// value is.
 pub(crate) fn copy(alloc: Global, value: &Value) -> Result<Value, AllocError>
     ensures { IfOk result (λ copy. tree_of copy ≡ tree_of value.now) }
 {

@@ -77,7 +77,8 @@ impl Dictionary {
     /// Returns the value of the key, or `None` if the key isn't there.
     pub fn get(&self, key: &str) -> Option<&Value>
         ensures value { option_copied result ≡ lookup (bytes_eq key.now) (pairs_of self.now) }
-        ensures member { IfSome result (λ value. IsAmong (values_of (pairs_of self.now)) value.now) }
+        ensures member { IfSome result (λ value. IsAmong (values_of
+            (pairs_of self.now)) value.now) }
     {
         self.pairs.get(key)
     }
@@ -107,15 +108,15 @@ impl Dictionary {
     /// If memory runs out, which is only possible for a new key, the pairs are unchanged, and the
     /// key and the value are returned.
     pub fn insert(&mut self, key: String, value: Value) -> Result<Option<Value>, (String, Value)>
-        // The answer.
+        // Result.
         ensures old { IfOk result (λ old.
             old ≡ lookup (bytes_eq (string_bytes key)) (pairs_of self.old)) }
         ensures pairs { OnOk result (IsSetAt (pairs_of self.old) (string_bytes key) value
             (pairs_of self.new)) }
-        // A refusal.
+        // Errors.
         ensures absent { OnErr result (IsAbsent (string_bytes key) (pairs_of self.old)) }
         ensures handed_back { IfErr result (λ back. back ≡ (key, value)) }
-        // The state after it.
+        // State afterwards.
         ensures unchanged { OnErr result (self.new ≡ self.old) }
     {
         self.pairs.insert(key, value)
@@ -181,7 +182,7 @@ impl Dictionary {
         self.pairs.values()
     }
 
-    // Returns the pairs, which aren't dropped as a dictionary is.
+    // Returns the pairs, whose drop isn't that of a dictionary.
     fn into_pairs(self) -> Pairs<Value>
         ensures { result ≡ pairs_of self }
     {
@@ -218,7 +219,7 @@ impl Dictionary {
     }
 }
 
-// Pairs by their indices, for entries, which look up a key only once.
+// Calls on pairs by index, for entries, which look up a key only once.
 impl Dictionary {
     fn index_of(&self, key: &str) -> Option<usize>
         ensures { MatchOption result (HasNone key.now (pairs_of self.now))
@@ -293,7 +294,7 @@ impl fmt::Debug for Dictionary {
 /// matter.
 impl PartialEq for Dictionary {
     ghost use Rattle.std.specs.Cmp.{partial_equiv_from_equiv};
-    ghost use Rattle.plist.specs.inner.PutOff.{same_values_at};
+    ghost use Rattle.plist.specs.inner.DeferredPairs.{same_values_at};
     ghost use Rattle.plist.specs.inner.SameDictionaries.{same_dictionaries_equiv};
 
     ghost eq = { λ a b. same_values_at (pairs_of a) (pairs_of b) };

@@ -1,12 +1,13 @@
 //! Equality of values.
 //!
-//! Values are compared on the call stack down to a fixed number of levels; a pair that is deeper is
-//! deferred, and compared after the others. So a comparison needs no more of the call stack than
-//! these levels do, however deep the values are, unless memory for the pairs can't be allocated.
+//! Values are compared recursively down to a fixed number of levels. A pair of values that is
+//! deeper is deferred, and compared after the others. So a comparison uses a fixed amount of the
+//! call stack, however deep the values are, unless memory for the deferred pairs can't be
+//! allocated.
 
 ghost use Rattle.std.specs.Prelude.{◌≡◌, ◌-◌};
 ghost use Rattle.plist_base.specs.Trees.{Dictionary};
-ghost use Rattle.plist.specs.inner.PutOff.{PutsOff, waiting, ComparesContent, ComparesItems, ComparesPairs, ComparesValues, TakesLast};
+ghost use Rattle.plist.specs.inner.DeferredPairs.{PutsOff, waiting, ComparesContent, ComparesItems, ComparesPairs, ComparesValues, TakesLast};
 ghost use Rattle.plist.specs.Dictionaries.{pairs_of};
 ghost use Rattle.plist.specs.Equal.{same};
 ghost use Rattle.plist.specs.ValueTrees.{tree_of};
@@ -17,11 +18,11 @@ use std::alloc::Global;
 // The number of levels that are compared before a pair is deferred.
 const LEVELS: u32 = 128;
 
-/// Two values are equal if they are of one kind and have equal content: arrays index by index,
-/// dictionaries key by key, in any order.
+/// Two values are equal if they are of one kind and have equal contents. Arrays are compared index
+/// by index, and dictionaries key by key, in any order.
 ///
-/// A comparison allocates no memory for values of at most 128 levels. If it needs memory for deeper
-/// values and the allocation fails, it uses more of the call stack.
+/// A comparison of values of at most 128 levels allocates no memory. If an allocation for deeper
+/// values fails, it recurses instead.
 impl PartialEq for Value {
     ghost use Rattle.std.specs.Cmp.{partial_equiv_from_equiv};
     ghost use Rattle.plist.specs.inner.Sameness.{same_by_equiv};
@@ -30,14 +31,14 @@ impl PartialEq for Value {
 
     ghost laws = { partial_equiv_from_equiv (same_by_equiv tree_of) };
 
-    #[tactic(auto, using(crate::proofs::Comparing::put_off))]
+    #[tactic(auto, using(crate::proofs::Equality::defer))]
     fn eq(&self, other: &Value) -> bool {
-        let mut later = Later { pairs: None };
-        if !later.compare(self, other, LEVELS) {
+        let mut deferred = DeferredPairs { pairs: None };
+        if !deferred.compare(self, other, LEVELS) {
             return false;
         }
-        while let Some(pair) = later.pop() {
-            if !later.compare_content(pair.value, pair.other, LEVELS) {
+        while let Some(pair) = deferred.pop() {
+            if !deferred.compare_content(pair.value, pair.other, LEVELS) {
                 return false;
             }
         }
@@ -51,20 +52,20 @@ impl Eq for Value {
     ghost laws = { same_by_equiv tree_of };
 }
 
-// Two values that have to be compared.
+// Two values that are still to be compared.
 #[derive(Drop)]
 struct Pair<'a> {
     value: &'a Value,
     other: &'a Value,
 }
 
-// The pairs that have to be compared.
+// The pairs of values that are still to be compared.
 #[derive(Drop)]
-struct Later<'a> {
+struct DeferredPairs<'a> {
     pairs: Option<Vec<Pair<'a>>>,
 }
 
-impl<'a> Later<'a> {
+impl<'a> DeferredPairs<'a> {
     // Removes and returns the pair that was deferred last.
     fn pop(&mut self) -> Option<Pair<'a>>
         ensures { TakesLast self.old result self.new }
@@ -85,9 +86,9 @@ impl<'a> Later<'a> {
         }
     }
 
-    // Defers a pair, if it is one of collections and memory for it can be allocated.
-    #[tactic(auto, using(crate::proofs::Comparing::put_off))]
-    fn put_off(&mut self, value: &'a Value, other: &'a Value) -> bool
+    // Defers a pair of collections, if memory for it can be allocated, and returns whether it did.
+    #[tactic(auto, using(crate::proofs::Equality::defer))]
+    fn defer(&mut self, value: &'a Value, other: &'a Value) -> bool
         ensures { PutsOff value.now other.now self.old result self.new }
     {
         let Some(alloc) = value.allocator() else {
@@ -107,14 +108,14 @@ impl<'a> Later<'a> {
         if levels > 0 {
             return self.compare_content(value, other, levels - 1);
         }
-        if self.put_off(value, other) {
+        if self.defer(value, other) {
             return true;
         }
         self.compare_content(value, other, 0)
     }
 
-    // Returns whether two values, which aren't deferred themselves, are equal apart from pairs that
-    // are.
+    // Returns whether two values are equal, apart from pairs that are deferred. The two values
+    // aren't deferred themselves.
     #[cycle(same)]
     fn compare_content(&mut self, value: &'a Value, other: &'a Value, levels: u32) -> bool
         ensures { ComparesContent value.now other.now self.old result self.new }
@@ -196,7 +197,8 @@ impl<'a> Later<'a> {
     // Returns whether two dictionaries are equal, apart from pairs that are deferred.
     #[cycle(same)]
     fn compare_pairs(&mut self, pairs: &'a Dictionary, others: &'a Dictionary, levels: u32) -> bool
-        ensures { ComparesPairs (pairs_of pairs.now) (pairs_of others.now) self.old result self.new }
+        ensures { ComparesPairs (pairs_of pairs.now)
+            (pairs_of others.now) self.old result self.new }
     {
         let count = pairs.pair_count();
         if count != others.pair_count() {

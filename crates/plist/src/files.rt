@@ -5,7 +5,7 @@ ghost use Rattle.std.specs.Io.{WritesAtMost};
 ghost use Rattle.std.specs.Io.KnownBytes.{WriteAppends};
 ghost use Rattle.plist_base.specs.Outcomes.{IfFault, OnlyDevice};
 ghost use Rattle.plist.specs.Collecting.{built_tree};
-ghost use Rattle.plist.specs.Limiting.{IsWithinLimits};
+ghost use Rattle.plist.specs.LimitedValues.{IsWithinLimits};
 ghost use Rattle.plist.specs.Outputs.{WritesFirst, contents_of};
 ghost use Rattle.plist.specs.FromReader.{IsReadFromFile, IsReadFromFileWithin, IsFileFault};
 ghost use Rattle.plist.specs.SendingValues.{SendsValue};
@@ -24,14 +24,14 @@ use std::{fs, io};
 /// A file that is created, or truncated, at its first write. If nothing is written, it is left as
 /// it was.
 #[derive(Drop)]
-pub struct Output<'a, R: Files> {
+pub struct LazyFile<'a, R: Files> {
     rt: &'a R,
     path: &'a str,
     file: Option<R::File>,
 }
 
-impl<'a, R: Files> Write for Output<'a, R> {
-    // the bytes of the file, once it is open
+impl<'a, R: Files> Write for LazyFile<'a, R> {
+    // the bytes of the file, if it is open and they are known
     ghost contents = { λ output. contents_of R.File.contents output.file };
 
     fn write(&mut self, buf: &[u8]) -> io::Result<usize>
@@ -61,18 +61,18 @@ impl<'a, R: Files> Write for Output<'a, R> {
     }
 }
 
-// Returns whether a sync failed in this way because nothing can be synced: the file is a pipe or a
-// terminal, and not a regular file.
+// Returns whether a sync failed with this kind of error because the file is a pipe or a terminal,
+// which can't be synced.
 fn is_without_store<F: OpenFile>(file: &F, kind: io::ErrorKind) -> bool {
     kind == io::ErrorKind::InvalidInput && file.metadata().is_ok_and(|it| !it.is_file())
 }
 
-impl<'a, R: Files> Output<'a, R> {
-    /// Makes an output for the file of this name, without opening it.
+impl<'a, R: Files> LazyFile<'a, R> {
+    /// Creates a `LazyFile` for the file of this name, without opening it.
     pub fn new(rt: &'a R, path: &'a str) -> Self
         ensures fresh { IsNone result.file }
     {
-        Output {
+        LazyFile {
             rt,
             path,
             file: None,
@@ -84,7 +84,7 @@ impl<'a, R: Files> Output<'a, R> {
     ///
     /// # Errors
     ///
-    /// `Io`, without an offset, if that fails.
+    /// `Io`, without an offset, if the system reports a failure.
     pub fn sync(&self) -> Result<(), Error>
         ensures { OnlyDevice result }
     {
@@ -115,7 +115,7 @@ impl<'a, R: Files> Output<'a, R> {
 
 impl Value {
     /// Reads the value of the file of this name, binary or in ASCII as [`Value::from_reader`]
-    /// chooses. Each read of the file fills a window of 8 KiB, from which most bytes are taken.
+    /// chooses. It reads the file in windows of 8 KiB.
     ///
     /// # Errors
     ///
@@ -181,7 +181,7 @@ impl Value {
     }
 
     /// Writes the value as a binary property list to the file of this name, and has the system
-    /// store it. The file is created, or truncated first.
+    /// store it. If the file exists, it is truncated first.
     ///
     /// # Errors
     ///
@@ -192,6 +192,6 @@ impl Value {
     pub fn to_file_binary<R: Files>(&self, rt: &R, alloc: Global, path: &str) -> Result<(), Error>
         ensures refused { IfFault result (IsUnstored (tree_of self.now)) }
     {
-        Output::new(rt, path).store(alloc, self)
+        LazyFile::new(rt, path).store(alloc, self)
     }
 }

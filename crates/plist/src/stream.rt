@@ -1,4 +1,4 @@
-//! Events: what reads them, takes them and yields them.
+//! Events, their readers and writers, and the iterator over the events of a value.
 
 pub mod builder;
 pub mod events;

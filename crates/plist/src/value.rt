@@ -14,7 +14,7 @@ ghost use Rattle.plist_reader.specs.Reader.{items_of_dialect, items_of_input, li
 ghost use Rattle.plist_base.specs.Outcomes.{IfFault, OnlyMemory};
 ghost use Rattle.plist_base.specs.Trees.{Leaf, String};
 ghost use Rattle.plist.specs.LastWins.{AreLastValues, TreePairs, last_values, last_wins};
-ghost use Rattle.plist.specs.Limiting.{IsWithinBudget, IsWithinLimits};
+ghost use Rattle.plist.specs.LimitedValues.{IsWithinBudget, IsWithinLimits};
 ghost use Rattle.plist.specs.Events.{remaining_events};
 ghost use Rattle.plist.specs.Dictionaries.{pairs_of};
 ghost use Rattle.plist.specs.ValueTrees.{item_trees, kind_of_tree, pair_trees, tree_of};
@@ -31,7 +31,7 @@ use crate::stream::builder::AnyEvent;
 pub(crate) use crate::value::dropping::destroy_all;
 use crate::writing::collect_events;
 use plist_ascii::{AsciiReader, ByteReader, Dialect};
-use plist_base::{Date, Error, EventKind, Integer, Limited, Limits, RealBits, Source, Uid};
+use plist_base::{Date, Error, EventKind, Integer, LimitedItems, Limits, RealBits, Source, Uid};
 use plist_binwrite::complete;
 use plist_reader::Reader;
 use std::alloc::Global;
@@ -39,9 +39,9 @@ use std::io::Write;
 
 /// A property list: a scalar, an array, or a dictionary.
 ///
-/// Arrays that are nested in one another are dropped recursively, so the deeper they nest, the more
-/// of the call stack a drop needs; [`Value::destroy`] needs none. The values in a dictionary are
-/// dropped without recursion.
+/// Arrays that are nested in one another are dropped recursively, so the drop of a deep value uses
+/// much of the call stack. [`Value::destroy`] drops a value without recursion. The values in a
+/// dictionary are always dropped without recursion.
 #[cycle(value)]
 #[derive(Debug, Drop)]
 pub enum Value {
@@ -126,7 +126,7 @@ impl Value {
     }
 
     /// Returns an iterator over the events of the value, depth first.
-    #[tactic(auto, using(crate::proofs::Itself::itself))]
+    #[tactic(auto, using(crate::proofs::ValueLastWins::itself))]
     pub fn events(&self, alloc: Global) -> Events<'_>
         ensures items { remaining_events result ≡ bracketing (tree_of self.now) }
         ensures itself { last_wins (tree_of self.now) ≡ tree_of self.now }
@@ -135,7 +135,7 @@ impl Value {
     }
 
     /// Builds a value from these events. A key that is repeated keeps its first position and takes
-    /// its last value; the lengths of starts decide nothing.
+    /// its last value. The lengths of starts are ignored.
     ///
     /// Items are taken up to the first one that is an error, or that can't come next.
     ///
@@ -152,12 +152,12 @@ impl Value {
     ) -> Result<Value, Error>
         requires asked { IterableEnds I.into_iter_gives I.IntoIter.can_next I.IntoIter.remaining
             events }
-        // The answer.
+        // Result.
         ensures value { CollectsIterable I.into_iter_gives E.plain I.IntoIter.next_gives events
             result }
         ensures shown { AnswersIterable I.into_iter_gives E.plain I.IntoIter.next_gives events
             result }
-        // The law.
+        // Laws.
         ensures one_tree { DetermineTrees }
         ensures last_values { (rows : TreePairs) → AreLastValues rows (last_values rows) }
         ensures itself { (value : Value) → last_wins (tree_of value) ≡ tree_of value }
@@ -167,15 +167,15 @@ impl Value {
 
     /// Reads the value of a source, binary or in ASCII as [`Reader`] chooses. A key that is
     /// repeated keeps its first position and takes its last value. A binary file that was written
-    /// of a value is read back as that value, in order.
+    /// of a value is read back as that value, with its dictionaries in the same order.
     ///
-    /// A source is a slice of bytes, a vector, or anything that can be read and sought, such as a
-    /// file:
+    /// A source is a slice of bytes, a vector, or a [`Seeking`](plist_base::Seeking) over anything
+    /// that can be read and sought, such as a file:
     ///
     /// ```text
     /// Value::from_reader(alloc, bytes.as_slice())
     /// Value::from_reader(alloc, bytes)
-    /// Value::from_reader(alloc, Seeking::new(file))
+    /// Value::from_reader(alloc, Seeking::with_windows(alloc, file))
     /// ```
     ///
     /// ASCII is read in the lax dialect, in which a bare string doesn't end at the end of a line.
@@ -230,8 +230,8 @@ impl Value {
     ///
     /// # Errors
     ///
-    /// - `LimitReached` in place of the first event that is one too many, or else of a start that
-    ///   would open one collection too many, unless an earlier item was rejected.
+    /// - `LimitReached`, if an event would be one too many, or else if a start would open one
+    ///   collection too many, unless an earlier item is an error.
     /// - Those of [`Value::from_reader`].
     pub fn from_reader_with_limits<R: Source>(
         alloc: Global,
@@ -244,7 +244,7 @@ impl Value {
         ensures within { IfOk (built_tree result) (IsWithinLimits limits) }
     {
         let reader = Reader::new(alloc, source);
-        collect(alloc, Limited::new(reader, limits))
+        collect(alloc, LimitedItems::new(reader, limits))
     }
 
     /// Like [`Value::from_reader_with_limits`], but fails also once the strings, keys among them,
@@ -256,8 +256,8 @@ impl Value {
     ///
     /// # Errors
     ///
-    /// - `OutOfMemory`, also if the memory that the caller allows is used up: in place of the first
-    ///   string or data that exceeds it, unless an earlier item was rejected.
+    /// - `OutOfMemory`, also if a string or data would exceed the bytes that the caller allows,
+    ///   unless an earlier item is an error.
     /// - Those of [`Value::from_reader_with_limits`].
     pub fn from_reader_within<R: Source>(
         alloc: Global,
@@ -272,8 +272,8 @@ impl Value {
         ensures within { IfOk (built_tree result) (IsWithinBudget limits bytes) }
     {
         let reader = Reader::new(alloc, source);
-        let limited = Limited::new(reader, limits);
-        collect(alloc, Limited::within_bytes(limited, bytes))
+        let limited = LimitedItems::new(reader, limits);
+        collect(alloc, LimitedItems::within_bytes(limited, bytes))
     }
 
     /// Reads the value of an ASCII property list, by the rules of [`Value::from_reader`]. Bytes
@@ -339,8 +339,8 @@ impl Value {
     ///
     /// - `PlistTooLarge` if the file would have 2^64 bytes or more, and `OutOfMemory`: nothing of
     ///   it is written, and the writer is unchanged.
-    /// - `Io` if a write fails, for `Interrupted` too, or takes no byte, or if the flush fails: a
-    ///   prefix of the file is written, and all of it if the flush failed.
+    /// - `Io` if a write fails, even by `Interrupted`, or accepts no byte, or if the flush fails: a
+    ///   prefix of the file is written, or all of it if the flush failed.
     pub fn to_writer_binary<W: Write>(&self, alloc: Global, writer: &mut W) -> Result<(), Error>
         ensures sent { SendsValue W.contents self.now result writer.old writer.new }
     {
@@ -349,7 +349,7 @@ impl Value {
     }
 }
 
-/// Returns the kind of the value's first event: the scalar's own, or the start of the collection.
+/// Returns the kind of the value's first event: that of the scalar, or the start of the collection.
 pub fn kind_of_value(value: &Value) -> EventKind
     ensures { result ≡ kind_of_tree (tree_of value.now) }
 {

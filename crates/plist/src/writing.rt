@@ -26,8 +26,8 @@ fn write_item<W: Writer>(writer: &mut W, item: Result<Event<'_>, Error>) -> Resu
 ///
 /// # Errors
 ///
-/// The writer's first error, after which nothing more is written; and `OutOfMemory`, in place of a
-/// start, if the iterator over the events runs out of memory.
+/// The writer's first error, or `OutOfMemory` if the iterator over the events can't allocate memory
+/// for a start. No event is written after an error.
 pub fn write_value<W: Writer>(alloc: Global, value: &Value, writer: &mut W) -> Result<(), Error>
     ensures written { WritesValue W.Step writer.old value.now result writer.new }
 {

@@ -1,5 +1,5 @@
--- What is printed for a moment is parsed as its second, and which seconds are in the years 0 to
--- 9999.
+-- What is printed for a second in UTC is parsed as that second, and which seconds are in the years
+-- 0 to 9999.
 use Rattle.std.proofs.Common.{◌≡◌, ℕ, ℤ, pos, ◌+ℤ◌, ◌*ℤ◌, ◌<ℤ◌, ◌≤ℤ◌, ◌<◌, inl, inr, refl, arith, ◌+◌, ◌*◌, ◌/◌, ◌%◌, ◌≤◌, true, false, List, [], ◌∷◌, ◌++◌, ◌-ℤ◌, Some, slice_index, sym, ap, subst, ◌∙◌}
 use Rattle.std.specs.Int.{int_div_euclid, IsInRange}
 use Rattle.jiff_core.specs.Calendar.{days_from_civil, IsEpochDay, days_in_month}
@@ -13,7 +13,7 @@ use Rattle.std.proofs.lemmas.Bool.{cases_lt}
 use Rattle.std.proofs.lemmas.Fmt.{decimal_digit}
 use Rattle.std.specs.Fmt.{decimal, digit_glyph, padded_integral, char_count}
 use Rattle.jiff_core.proofs.CalendarLemmas.{days_in_month_bounds}
-use Rattle.plist_base.specs.Moments.{moment_text, two_digit_text}
+use Rattle.plist_base.specs.UtcSeconds.{utc_text, two_digit_text}
 
 -- 0000-01-01
 first : Date
@@ -159,7 +159,7 @@ reads century year month day hour minute second n s c y m d h i k is_day is_time
 -- the text of a second of a day spells it
 pub printed : (date : Date) (year second : ℕ) → pos year ≡ date.year → year < 10000 → second < 86400
     → IsTextOfSecond (epoch_day date *ℤ pos 86400 +ℤ pos second)
-    (moment_text record {
+    (utc_text record {
       century = year / 100;
       year = year % 100;
       month = date.month;

@@ -8,7 +8,7 @@ use Rattle.jiff_core.specs.Date.{epoch_day}
 use Rattle.jiff_core.specs.declared.civil.date.Date.{Date}
 use Rattle.jiff_core.proofs.DateLemmas.{epoch_day_injective}
 use Rattle.jiff_core.proofs.SignedLemmas.{signed_arith}
-use Rattle.plist_base.specs.UnixSeconds.{day_number, has_separators, moment, of_both, of_three, second_of_day, two_digits_at, two_digits, unix_second_of_text, zone_in, HasFourDigitYear, IsTextOfSecond}
+use Rattle.plist_base.specs.UnixSeconds.{day_number, has_separators, second_of_parts, of_both, of_three, second_of_day, two_digits_at, two_digits, unix_second_of_text, zone_in, HasFourDigitYear, IsTextOfSecond}
 use Rattle.plist_base.proofs.DatePrinting.{second_in_years, two_text, text_from}
 
 -- ---- what a result was made of
@@ -41,7 +41,7 @@ three : {A : Type 0} (a b c : Option ℕ) (make : ℕ → ℕ → ℕ → Option
     → IsSome (of_three a b c make) value → Three a b c make value
 three a b c make value is = search rules
 
-record Moment (day : Option ℤ) (time : Option ℕ) (zone : Option ℤ) (second : ℤ) : Type 0 where
+record HasParts (day : Option ℤ) (time : Option ℕ) (zone : Option ℤ) (second : ℤ) : Type 0 where
   d : ℤ
   t : ℕ
   z : ℤ
@@ -50,9 +50,9 @@ record Moment (day : Option ℤ) (time : Option ℕ) (zone : Option ℤ) (second
   is_z : IsSome zone z
   is : ((d *ℤ pos 86400 +ℤ pos t) -ℤ z) ≡ second
 
-moment_made : (day : Option ℤ) (time : Option ℕ) (zone : Option ℤ) (second : ℤ)
-    → IsSome (moment day time zone) second → Moment day time zone second
-moment_made day time zone second is = search rules
+has_parts : (day : Option ℤ) (time : Option ℕ) (zone : Option ℤ) (second : ℤ)
+    → IsSome (second_of_parts day time zone) second → HasParts day time zone second
+has_parts day time zone second is = search rules
 
 -- ---- the digits
 
@@ -167,7 +167,7 @@ unfolding unix_second_of_text
 numbers second text is =
     let test = by_test _ _ second is.spells in
     let m = marks text test.0 in
-    let parts = moment_made _ _ _ _ test.1 in
+    let parts = has_parts _ _ _ _ test.1 in
     let z = zone_made _ _ is.utc parts.is_z in
     let d = three _ _ _ _ _ parts.is_d in
     let y = both (two_digits_at text 0) (two_digits_at text 2) (λ high low. Some (high * 100 + low)) d.x d.is_x in

@@ -5,7 +5,7 @@ use Rattle.std.specs.Io.KnownBytes.{Appends}
 use Rattle.std.proofs.KnownBytes.{Appends-trans, Appends-nil}
 use Rattle.plist_base.specs.declared.error.Error.{Error}
 use Rattle.plist_base.specs.declared.sink.Sink.{Sink}
-use Rattle.plist_base.specs.Faults.{Fault, Io, fault_nowhere, fault_of}
+use Rattle.plist_base.specs.Faults.{Fault, Io, fault_without_offset, fault_of}
 use Rattle.plist_base.specs.Outcomes.{OnlyDevice}
 use Rattle.plist_base.specs.Writing.{Answer, answer_of}
 use Rattle.plist_base.specs.Prefixes.{AppendsPrefix}
@@ -117,7 +117,7 @@ module _ {W : Type 0} {contents : W → Option (List ℕ)} where
   -- the writer fails before all that was pending is written
   pub puts_broken : {a b : Sink W} {xs : List ℕ} (answer : Result (Unit {0}) Error) (error : Error)
       → IsErrAnd answer (λ e. e ≡ error) → IsSameSink a b → pending b ≡ pending a
-      → fault_of error ≡ fault_nowhere Io
+      → fault_of error ≡ fault_without_offset Io
       → AppendsPrefix (written contents a) (written contents b) (pending a)
       → PutsBytes contents a xs (answer_of answer) b
   puts_broken (Ok done) error is same kept io front = absurd is

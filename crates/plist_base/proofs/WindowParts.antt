@@ -1,4 +1,4 @@
--- What a window holds from a place on.
+-- The bytes of a window from an offset on.
 use Rattle.std.proofs.Common.{◌≡◌, ℕ, ◌+◌, ◌*◌, ◌-◌, ◌%◌, ◌≤◌, List, take, drop, get_or, sym, ap, ◌∙◌, arith, inr}
 use Rattle.std.proofs.lemmas.List.{drop-drop, drop-take}
 use Rattle.std.proofs.lemmas.Option.{get_or_from_slice_get}
@@ -12,7 +12,7 @@ rest_of_part start from size bytes within =
     ∙ sym (drop-take from (size - from) (drop start bytes))
     ∙ ap (λ n. drop from (take n (drop start bytes))) (omega (arith, within))
 
--- the same of the window that a place lies in
+-- the bytes of the window that contains an offset, from that offset on
 pub lends_part : (size place i : ℕ) (headers : List Header) (bytes lent : List ℕ) (none : Header)
     → IsWindowOf size headers i place → place % size ≤ (get_or headers i none).filled
     → lent ≡ take ((get_or headers i none).filled - place % size)

@@ -1,21 +1,21 @@
--- Items as far as an allowance admits them.
+-- The items that an allowance admits.
 use Rattle.std.specs.Prelude.{◌≡◌, Bool, true, false, cond, List, [], ◌∷◌, Option, None, Some, Result, Ok, Err, MatchBool, MatchOption, MatchResult}
 use Rattle.plist_base.specs.declared.error.Error.{Error}
 use Rattle.plist_base.specs.declared.event.Event.{Event}
-use Rattle.plist_base.specs.declared.limited.Limited.{Limited}
+use Rattle.plist_base.specs.declared.limited_items.LimitedItems.{LimitedItems}
 use Rattle.plist_base.specs.Faults.{Fault, fault_of}
 use Rattle.plist_base.specs.Events.{PlainEvent, Item, event_of}
 
 -- the inner iterator
-abbrev pub iterator_of : {I A : Type 0} → Limited I A → I
+abbrev pub iterator_of : {I A : Type 0} → LimitedItems I A → I
 iterator_of limited = limited.inner
 
 -- the iterator has ended
-abbrev pub HasEndedLimited : {I A : Type 0} → Limited I A → Type 0
+abbrev pub HasEndedLimited : {I A : Type 0} → LimitedItems I A → Type 0
 HasEndedLimited limited = limited.ended ≡ true
 
--- `lets` is what an allowance leaves of a list of items, and `may_reach` says which faults may
--- replace an event
+-- `lets` maps items to those that an allowance leaves of them, and `may_reach` says which faults
+-- may replace an event
 module _ {A : Type 0} (lets : A → List Item → List Item) (may_reach : Fault → Type 0) where
   -- the event is replaced by a fault, and no item follows it
   abbrev pub RefusesEvent : A → PlainEvent → Fault → Type 0
@@ -28,8 +28,8 @@ module _ {A : Type 0} (lets : A → List Item → List Item) where
   AdmitsEvent old event new =
       (items : List Item) → lets old (Ok event ∷ items) ≡ Ok event ∷ lets new items
 
-  -- what is left of the inner iterator's items
-  abbrev pub items_allowed : {I : Type 0} → Limited I A → List Item → List Item
+  -- the items that the allowance leaves of the inner iterator's
+  abbrev pub items_allowed : {I : Type 0} → LimitedItems I A → List Item → List Item
   items_allowed limited items = cond limited.ended [] (lets limited.limiter items)
 
 module _ {A : Type 0} (lets : A → List Item → List Item) (may_reach : Fault → Type 0) where
@@ -53,7 +53,7 @@ module _ {A : Type 0} (lets : A → List Item → List Item) (may_reach : Fault 
   -- one call of `next`: after the end `None`, and else what is yielded for the next item of the
   -- inner iterator
   abbrev pub GivesAllowed : {I : Type 0} → (I → Option (Result Event Error) → I → Type 0)
-      → Limited I A → Option (Result Event Error) → Limited I A → Type 0
+      → LimitedItems I A → Option (Result Event Error) → LimitedItems I A → Type 0
   GivesAllowed inner_gives old item new = MatchBool old.ended
       ((item ≡ None) × (new ≡ old))
       ((asked : Option (Result Event Error)) × inner_gives old.inner asked new.inner

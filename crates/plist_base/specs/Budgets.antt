@@ -3,9 +3,9 @@ use Rattle.std.specs.Prelude.{◌≡◌, ℕ, ◌+◌, ◌-◌, nat_lt, cond, le
 use Rattle.plist_base.specs.declared.byte_budget.ByteBudget.{ByteBudget}
 use Rattle.plist_base.specs.declared.error.Error.{Error}
 use Rattle.plist_base.specs.declared.event.Event.{Event}
-use Rattle.plist_base.specs.declared.limited.Limited.{Limited}
+use Rattle.plist_base.specs.declared.limited_items.LimitedItems.{LimitedItems}
 use Rattle.plist_base.specs.Allowances.{AdmitsEvent, GivesAllowed, RefusesEvent, items_allowed}
-use Rattle.plist_base.specs.Faults.{Fault, OutOfMemory, fault_nowhere}
+use Rattle.plist_base.specs.Faults.{Fault, OutOfMemory, fault_without_offset}
 use Rattle.plist_base.specs.Events.{PlainEvent, Item, text_or_data}
 
 -- the number of bytes in an event's string or data
@@ -22,19 +22,19 @@ total_bytes (event ∷ events) = bytes_in event + total_bytes events
 abbrev pub within_bytes : (left : ℕ) → List Item → List Item
 within_bytes left [] = []
 within_bytes left (Ok event ∷ items) =
-    cond (nat_lt left (bytes_in event)) (Err (fault_nowhere OutOfMemory) ∷ [])
+    cond (nat_lt left (bytes_in event)) (Err (fault_without_offset OutOfMemory) ∷ [])
     (Ok event ∷ within_bytes (left - bytes_in event) items)
 within_bytes left (Err fault ∷ items) = Err fault ∷ []
 
--- ---- what a budget leaves of the items
+-- ---- the items that a budget leaves
 
--- what is left of these items
+-- the items that the budget leaves of these
 abbrev pub within_budget : ByteBudget → List Item → List Item
 within_budget budget = within_bytes budget.left
 
 -- the fault that replaces an event
 abbrev pub IsBudgetUsedUp : Fault → Type 0
-IsBudgetUsedUp fault = fault ≡ fault_nowhere OutOfMemory
+IsBudgetUsedUp fault = fault ≡ fault_without_offset OutOfMemory
 
 abbrev pub AdmitsWithin : (old : ByteBudget) → PlainEvent → (new : ByteBudget) → Type 0
 AdmitsWithin = AdmitsEvent within_budget
@@ -42,11 +42,11 @@ AdmitsWithin = AdmitsEvent within_budget
 abbrev pub RefusesWithin : ByteBudget → PlainEvent → Fault → Type 0
 RefusesWithin = RefusesEvent within_budget IsBudgetUsedUp
 
--- what is left of the inner iterator's items
-abbrev pub items_within_budget : {I : Type 0} → Limited I ByteBudget → List Item → List Item
+-- the items that the budget leaves of the inner iterator's
+abbrev pub items_within_budget : {I : Type 0} → LimitedItems I ByteBudget → List Item → List Item
 items_within_budget = items_allowed within_budget
 
 -- one call of `next`
 abbrev pub GivesWithinBudget : {I : Type 0} → (I → Option (Result Event Error) → I → Type 0)
-    → Limited I ByteBudget → Option (Result Event Error) → Limited I ByteBudget → Type 0
+    → LimitedItems I ByteBudget → Option (Result Event Error) → LimitedItems I ByteBudget → Type 0
 GivesWithinBudget = GivesAllowed within_budget IsBudgetUsedUp

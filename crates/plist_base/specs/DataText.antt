@@ -18,11 +18,11 @@ use Rattle.plist_base.specs.declared.data.InvalidXmlData.TheVariants.{Decode, Ou
 abbrev pub overwritten : (bytes new : List ℕ) → List ℕ
 overwritten bytes new = take (length bytes) (new ++ drop (length new) bytes)
 
--- when the reference ends, the data consists of the last bytes behind it
+-- when the reference ends, the data consists of the last bytes that were written through it
 abbrev pub LendsBytes : MutBor (List ℕ) → MutBor (List ℕ) → Fml
 LendsBytes bytes lent = Lends the_row (Array u8 0) bytes lent (overwritten bytes.now)
 
--- none of the old bytes is left
+-- the new bytes replace all old ones
 abbrev pub IsAllNew : (bytes new : List ℕ) → Type 0
 IsAllNew bytes new = overwritten bytes new ≡ new
 
@@ -64,8 +64,8 @@ IsReadWhereSpelled text bytes =
 abbrev pub GrowsByBytes : List ℕ → (old new : String Global) → Type 0
 GrowsByBytes bytes old new = string_bytes new ≡ string_bytes old ++ bytes
 
--- the error of parsing a text is that of decoding it; offsets count what is left without white
--- space
+-- the error of parsing a text is that of decoding it; its offsets count bytes of the text without
+-- white space
 abbrev pub IsFaultOfText : List ℕ → InvalidXmlData → Type 0
 IsFaultOfText text (Decode fault) = decode_of standard (without_white text) ≡ Err fault
 IsFaultOfText text OutOfMemory = ⊤
@@ -92,7 +92,7 @@ written : (data_text [] ≡ []) × (data_text (replicate 51 0) ≡ replicate 68 
 unfolding base64_on_literals data_text
 written = (refl, refl, refl)
 
--- white space, short padding, and bits that are left over
+-- white space, missing padding, and surplus bits
 read : (data_of_text (codes "A A\n==") ≡ Some (0 ∷ [])) × (data_of_text (codes "AA=") ≡ None)
     × (data_of_text (codes "AB==") ≡ None)
 unfolding base64_on_literals data_of_text

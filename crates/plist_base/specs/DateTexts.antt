@@ -1,9 +1,9 @@
--- The texts of dates.
+-- Dates as texts.
 use Rattle.std.specs.Prelude.{◌≡◌, ℕ, List, ℤ, ◌+ℤ◌, ◌-ℤ◌, Option, None, Some, Result, Ok, Err, MatchResult, String, slice_index, string_bytes}
 use Rattle.std.specs.declared.alloc.Global.{Global}
 use Rattle.plist_base.specs.declared.error.Error.{Error}
 use Rattle.plist_base.specs.Date.{IsDate, IsWhole, if_second_of_date, plist_epoch, second_of_bytes}
-use Rattle.plist_base.specs.Faults.{FaultKind, OutOfMemory, fault_nowhere, fault_of}
+use Rattle.plist_base.specs.Faults.{FaultKind, OutOfMemory, fault_without_offset, fault_of}
 use Rattle.plist_base.specs.UnixSeconds.{HasFourDigitYear, IsTextOfSecond, unix_second_of_text}
 
 -- the second of the date at a Unix second, or none outside the range of dates
@@ -42,9 +42,9 @@ ReadsAs date (Err error) = ⊥
 -- the call returned an error of this kind, without an offset
 abbrev pub IsRefused : {A : Type 0} → FaultKind → Result A Error → Type 0
 IsRefused kind (Ok value) = ⊥
-IsRefused kind (Err error) = fault_of error ≡ fault_nowhere kind
+IsRefused kind (Err error) = fault_of error ≡ fault_without_offset kind
 
 -- this text is the only one that is printed; `OutOfMemory` may always be returned
 abbrev pub PrintsOnly : List ℕ → Result (String Global) Error → Type 0
 PrintsOnly text answer = MatchResult answer (λ printed. string_bytes printed ≡ text)
-    (λ error. fault_of error ≡ fault_nowhere OutOfMemory)
+    (λ error. fault_of error ≡ fault_without_offset OutOfMemory)

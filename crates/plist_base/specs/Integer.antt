@@ -5,10 +5,12 @@ use Rattle.std.specs.declared.cmp.Ordering.{Ordering}
 use Rattle.plist_base.specs.declared.integer.Number.{Number}
 use Rattle.plist_base.specs.declared.integer.Number.TheVariants as number
 
+-- the integer that is stored
 abbrev pub whole : Number → ℤ
 whole (number.Negative z) = z
 whole (number.Unsigned n) = pos n
 
+-- the form in which an integer is stored
 abbrev pub number_for : ℤ → Number
 number_for (pos n) = number.Unsigned n
 number_for (negsuc n) = number.Negative (negsuc n)

@@ -39,7 +39,7 @@ signed_of_text text =
     cond (is_numeral 10 (without_leading_sign text) && fits_signed (signed_digits_value 10 text))
     (Some (signed_digits_value 10 text)) None
 
--- the first value or, if it is none, the second
+-- the first value, or the second if there is no first one
 abbrev pub or_else : {A : Type 0} → Option A → Option A → Option A
 or_else (Some x) other = Some x
 or_else None other = other

@@ -2,7 +2,7 @@
 -- bytes.
 use Rattle.std.specs.Prelude.{◌≡◌, ℕ, List, Option, Result, IfOk, IfErr, IfSome}
 use Rattle.plist_base.specs.declared.error.Error.{Error}
-use Rattle.plist_base.specs.Faults.{Fault, Io, OutOfMemory, fault_nowhere, fault_of}
+use Rattle.plist_base.specs.Faults.{Fault, Io, OutOfMemory, fault_without_offset, fault_of}
 
 -- if the call failed, this is true of its fault
 abbrev pub IfFault : {A : Type 0} → Result A Error → (Fault → Type 0) → Type 0
@@ -14,11 +14,11 @@ OnlyFault answer fault = IfErr answer (λ error. fault_of error ≡ fault)
 
 -- if the call failed, the error is `OutOfMemory`, without an offset
 abbrev pub OnlyMemory : {A : Type 0} → Result A Error → Type 0
-OnlyMemory answer = OnlyFault answer (fault_nowhere OutOfMemory)
+OnlyMemory answer = OnlyFault answer (fault_without_offset OutOfMemory)
 
 -- if the call failed, the error is `Io`, without an offset
 abbrev pub OnlyDevice : {A : Type 0} → Result A Error → Type 0
-OnlyDevice answer = OnlyFault answer (fault_nowhere Io)
+OnlyDevice answer = OnlyFault answer (fault_without_offset Io)
 
 -- if the call succeeded and the bytes are known, this is true of them and of the value
 abbrev pub IfRead : {A E : Type 0} → Result A E → (known : Option (List ℕ)) → (List ℕ → A → Type 0)

@@ -2,7 +2,7 @@
 use Rattle.std.specs.Prelude.{ℕ}
 use Rattle.plist_base.specs.declared.seeking.Seeking.{Seeking}
 
--- how many of its calls failed
+-- the number of calls that failed
 abbrev pub failures_of : {R : Type 0} → Seeking R → ℕ
 failures_of source = source.failed
 

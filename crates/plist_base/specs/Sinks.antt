@@ -4,7 +4,7 @@ use Rattle.std.specs.Io.KnownBytes.{Appends}
 use Rattle.plist_base.specs.declared.error.Error.{Error}
 use Rattle.plist_base.specs.declared.fixed_buffer.FixedBuffer.{FixedBuffer}
 use Rattle.plist_base.specs.declared.sink.Sink.{Sink}
-use Rattle.plist_base.specs.Faults.{Io, fault_nowhere}
+use Rattle.plist_base.specs.Faults.{Io, fault_without_offset}
 use Rattle.plist_base.specs.Prefixes.{AppendsPrefix}
 use Rattle.plist_base.specs.Writing.{Answer, answer_of}
 
@@ -50,7 +50,7 @@ module _ {W : Type 0} (contents : W → Option (List ℕ)) where
   Follows old bytes (Ok done) new =
       WritesBut (written old) (written new) (pending old ++ bytes) (pending new)
   Follows old bytes (Err fault) new =
-      (fault ≡ fault_nowhere Io)
+      (fault ≡ fault_without_offset Io)
       × AppendsPrefix (written old) (written new) (pending old ++ bytes)
 
   -- what a call that puts these bytes does

@@ -82,16 +82,16 @@ zone_in text =
     (of_both (two_digits_at text 20) (two_digits_at text 23) (offset (slice_index text 19))) None)
 
 -- the Unix second of a day, a time and a zone
-abbrev pub moment : Option ℤ → Option ℕ → Option ℤ → Option ℤ
-moment (Some day) (Some time) (Some offset) = Some ((day *ℤ pos 86400 +ℤ pos time) -ℤ offset)
-moment (Some day) (Some time) None = None
-moment (Some day) None offset = None
-moment None time offset = None
+abbrev pub second_of_parts : Option ℤ → Option ℕ → Option ℤ → Option ℤ
+second_of_parts (Some day) (Some time) (Some offset) = Some ((day *ℤ pos 86400 +ℤ pos time) -ℤ offset)
+second_of_parts (Some day) (Some time) None = None
+second_of_parts (Some day) None offset = None
+second_of_parts None time offset = None
 
 -- the Unix second that a text spells, or none
 unfoldable pub unix_second_of_text : List ℕ → Option ℤ
 unix_second_of_text text =
-    cond (has_separators text) (moment (day_in text) (time_in text) (zone_in text)) None
+    cond (has_separators text) (second_of_parts (day_in text) (time_in text) (zone_in text)) None
 
 -- a text as it is printed: it spells this second, with `T` and `Z`
 pub record IsTextOfSecond (second : ℤ) (text : List ℕ) : Type 0 where

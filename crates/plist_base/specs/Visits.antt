@@ -12,11 +12,11 @@ use Rattle.plist_base.specs.Events.{PlainEvent, event_of}
 abbrev pub Flow : Type 0
 Flow = ControlFlow (Unit {0}) (Unit {0})
 
--- what a source hands over: an event, an error in the place of one, or nothing
+-- what a source hands over: an event, an error that replaces one, or nothing
 abbrev pub PlainItem : Type 0
 PlainItem = Option (Result PlainEvent Error)
 
--- what ended a visit: nothing was left, the visitor wanted no more, or an error came
+-- what ended a visit: no event remained, the visitor wanted no more, or there was an error
 abbrev pub last_turn : Result Visited Error → Option (Result Flow Error)
 last_turn (Ok Ended) = None
 last_turn (Ok Stopped) = Some (Ok (Break tt))
@@ -29,31 +29,31 @@ plain_item (Some (Ok event)) = Some (Ok (event_of event))
 plain_item (Some (Err error)) = Some (Err error)
 
 -- what a call of an iterator's `next` hands over
-abbrev pub GivesPlain : {I : Type 0} → (next_gives : I → Option (Result Event Error) → I → Type 0)
+abbrev pub YieldsPlain : {I : Type 0} → (next_gives : I → Option (Result Event Error) → I → Type 0)
     → I → PlainItem → I → Type 0
-GivesPlain next_gives old item new =
+YieldsPlain next_gives old item new =
     (given : Option (Result Event Error)) × next_gives old given new × (item ≡ plain_item given)
 
--- a source gives these events one by one
-abbrev pub GivesAll : {I : Type 0} → (gives : I → PlainItem → I → Type 0) → (old : I)
+-- a source yields these events one by one
+abbrev pub YieldsAll : {I : Type 0} → (yields : I → PlainItem → I → Type 0) → (old : I)
     → List PlainEvent → (new : I) → Type 0
-GivesAll gives old [] new = new ≡ old
-GivesAll {I} gives old (event ∷ events) new =
-    (next : I) × gives old (Some (Ok event)) next × GivesAll gives next events new
+YieldsAll yields old [] new = new ≡ old
+YieldsAll {I} yields old (event ∷ events) new =
+    (next : I) × yields old (Some (Ok event)) next × YieldsAll yields next events new
 
-module _ {I V : Type 0} (gives : I → PlainItem → I → Type 0)
+module _ {I V : Type 0} (yields : I → PlainItem → I → Type 0)
     (step : V → PlainEvent → Flow → V → Type 0) where
   -- one event is handed over, and this is what the visitor returns
   pub record HandsOver (old : I × V) (event : PlainEvent) (flow : Flow) (new : I × V) : Type 0 where
-    pub given : gives old.0 (Some (Ok event)) new.0
+    pub given : yields old.0 (Some (Ok event)) new.0
     pub taken : step old.1 event flow new.1
 
-  -- One event is handed over; or an error comes in the place of one, or nothing is left, and then
-  -- the visitor stays as it is.
+  -- One event is handed over. Or an error replaces one, or no event remains, and then the visitor
+  -- is unchanged.
   abbrev pub TakesTurn : (old : I × V) → Option (Result Flow Error) → (new : I × V) → Type 0
-  TakesTurn old None new = gives old.0 None new.0 × (new.1 ≡ old.1)
+  TakesTurn old None new = yields old.0 None new.0 × (new.1 ≡ old.1)
   TakesTurn old (Some (Ok flow)) new = (event : PlainEvent) × HandsOver old event flow new
-  TakesTurn old (Some (Err error)) new = gives old.0 (Some (Err error)) new.0 × (new.1 ≡ old.1)
+  TakesTurn old (Some (Err error)) new = yields old.0 (Some (Err error)) new.0 × (new.1 ≡ old.1)
 
   -- these events are handed over one by one, and the visitor wants more after each
   abbrev pub HandsOverAll : (old : I × V) → List PlainEvent → (new : I × V) → Type 0

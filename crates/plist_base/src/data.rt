@@ -1,4 +1,4 @@
-//! Data by itself, and its text form: lines of base64.
+//! Data, and its text form: lines of base64.
 
 ghost use Rattle.std.specs.Prelude.{◌≡◌, List, ℕ, length, Some, Ok, IfOk, IfErr, OnOk, string_bytes};
 ghost use Rattle.std.specs.Borrow.{sem};
@@ -18,7 +18,7 @@ use std::marker::Model;
 // A full line has 68 characters of base64.
 const BYTES_A_LINE: usize = 51;
 
-/// The data of a property list: a list of bytes.
+/// Bytes, with the text form that data has in XML property lists.
 #[derive(Drop)]
 pub struct Data {
     bytes: Vec<u8>,
@@ -101,7 +101,7 @@ impl Data {
         self.bytes.as_mut_slice()
     }
 
-    /// Returns the bytes, without a copy of them.
+    /// Returns the bytes without copying them.
     pub fn into_bytes(self) -> Vec<u8>
         ensures bytes { result.items ≡ self }
     {

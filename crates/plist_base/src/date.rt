@@ -13,8 +13,8 @@ const PLIST_EPOCH: i64 = 978_307_200;
 /// A point in time from -9999-01-01T00:00:00Z to 9999-12-31T23:59:59Z, stored as the eight bytes of
 /// a real: the seconds since 2001-01-01T00:00:00Z, with a fraction.
 ///
-/// Two dates are equal if their bytes are, so two dates in one second may differ in their
-/// fractions.
+/// Two dates are equal if their bytes are. So dates in the same second differ if their fractions
+/// do.
 #[derive(Clone, Copy, Debug, PartialEq, Eq, Hash)]
 pub struct Date {
     bytes: [u8; 8],
@@ -44,10 +44,10 @@ impl Date {
     /// [`ErrorKind::OverflowOrNanDate`] if the real is infinite or a NaN, or its second is outside
     /// the range of dates.
     pub fn from_plist_real(bytes: [u8; 8]) -> Result<Date, ErrorKind>
-        // The answer.
+        // Result.
         ensures date { IfOk result (λ date. date_of_bytes bytes ≡ Some date) }
         ensures bytes { IfOk result (λ date. date ≡ date_bytes bytes) }
-        // A refusal.
+        // Errors.
         ensures refused { IsErr result ↔ (date_of_bytes bytes ≡ None) }
         ensures error { IfErr result (λ error. error ≡ ErrorKind.OverflowOrNanDate) }
         ensures no_second { IfErr result (λ _. HasNoSecond bytes) }
@@ -74,14 +74,14 @@ impl Date {
     /// Converts a second since 2001-01-01T00:00:00Z to a date without a fraction. Returns `None` if
     /// the second is outside the range of dates.
     pub fn from_plist_secs(second: i64) -> Option<Date>
-        // The answer.
+        // Result.
         ensures second { IfSome result (λ date. second_of_bytes date ≡ Some second) }
         ensures date { IfSome result (λ date. IsDate date) }
         ensures whole { IfSome result (λ date. IsWhole date) }
         ensures exact { IfSome result (IsExactly second) }
-        // A refusal.
+        // Errors.
         ensures in_range { IsSome result ↔ IsSecondOfDate second }
-        // The law.
+        // Laws.
         ensures only { IfSome result (IsOnlyAt second) }
     {
         let bits = bits_of_second(second)?;
@@ -93,14 +93,14 @@ impl Date {
     /// Converts a Unix second to a date without a fraction. Returns `None` if the second is outside
     /// the range of dates.
     pub fn from_unix_secs(second: i64) -> Option<Date>
-        // The answer.
+        // Result.
         ensures second { IfSome result (λ d. second_of_bytes d ≡ Some (second -ℤ plist_epoch)) }
         ensures date { IfSome result (λ date. IsDate date) }
         ensures whole { IfSome result (λ date. IsWhole date) }
         ensures exact { IfSome result (IsExactly (second -ℤ plist_epoch)) }
-        // A refusal.
+        // Errors.
         ensures in_range { IsSome result ↔ IsSecondOfDate (second -ℤ plist_epoch) }
-        // The law.
+        // Laws.
         ensures only { IfSome result (IsOnlyAt (second -ℤ plist_epoch)) }
     {
         Date::from_plist_secs(second.checked_sub(PLIST_EPOCH)?)
@@ -160,7 +160,7 @@ fn mantissa_of(bits: u64, exponent: u64) -> u64
 
 // A real whose absolute value is below 2^52.
 #[derive(Clone, Copy)]
-struct Small {
+struct RealParts {
     mantissa: u64,
     scale: u64,
     ghost mantissa_high: { mantissa < 2 ^ 53 },
@@ -168,19 +168,19 @@ struct Small {
     ghost scale_high: { scale < 1075 },
 }
 
-impl Small {
+impl RealParts {
     // Returns `None` if the absolute value is 2^52 or more, or the real is infinite or a NaN.
     #[tactic(auto, using(crate::proofs::DateShifts::scale_is))]
-    fn from_bits(bits: u64) -> Option<Small>
+    fn from_bits(bits: u64) -> Option<RealParts>
         ensures range { IsNoneFrom 1075 (real_exponent bits) result }
-        ensures mantissa { IfSome result (λ small. small.mantissa ≡ real_mantissa bits) }
-        ensures scale { IfSome result (λ small. small.scale ≡ real_scale bits) }
+        ensures mantissa { IfSome result (λ parts. parts.mantissa ≡ real_mantissa bits) }
+        ensures scale { IfSome result (λ parts. parts.scale ≡ real_scale bits) }
     {
         let exponent = exponent_of(bits);
         if exponent >= 1075 {
             return None;
         }
-        Some(Small {
+        Some(RealParts {
             mantissa: mantissa_of(bits, exponent),
             scale: exponent.max(1),
         })
@@ -219,9 +219,9 @@ impl Small {
 fn is_fractional(bits: u64) -> bool
     ensures { result ≡ has_fraction bits }
 {
-    match Small::from_bits(bits) {
+    match RealParts::from_bits(bits) {
         None => false,
-        Some(small) => small.is_left(),
+        Some(parts) => parts.is_left(),
     }
 }
 
@@ -251,8 +251,8 @@ fn in_range(second: i64) -> Option<i64>
 fn second_of_bits(bits: u64) -> Option<i64>
     ensures { result ≡ second_of_bits bits }
 {
-    let small = Small::from_bits(bits)?;
-    in_range(round_down(bits >= 1 << 63, small.whole(), small.is_left()))
+    let parts = RealParts::from_bits(bits)?;
+    in_range(round_down(bits >= 1 << 63, parts.whole(), parts.is_left()))
 }
 
 #[tactic(auto, using(crate::proofs::DateEncoding::encoded, crate::proofs::DateEncoding::sum_is))]

@@ -6,7 +6,7 @@ ghost use Rattle.plist_base.specs.UnixSeconds as spec;
 
 use jiff_core::civil::Date;
 
-// Parses the two digits at an offset.
+// Returns the number of the two digits at an offset.
 #[tactic(auto, unfolding(crate::specs::UnixSeconds::two_digits))]
 fn two_digits_at(text: &[u8], place: usize) -> Option<u8>
     requires { place + 1 < length text.now }
@@ -21,7 +21,7 @@ fn two_digits_at(text: &[u8], place: usize) -> Option<u8>
     }
 }
 
-// Parses the four digits at an offset.
+// Returns the number of the four digits at an offset.
 fn four_digits_at(text: &[u8], place: usize) -> Option<u16>
     requires { place + 3 < length text.now }
     ensures is { result ≡ spec.four_digits_at text.now place }
@@ -94,7 +94,7 @@ fn time_in(text: &[u8]) -> Option<u32>
     }
 }
 
-// Returns whether the separators are at their offsets.
+// Returns whether the text is long enough and has the separators at their offsets.
 fn has_separators(text: &[u8]) -> bool
     ensures is { result ≡ spec.has_separators text.now }
     ensures long { IsTrue result → 20 ≤ length text.now }
@@ -132,7 +132,8 @@ fn offset(sign: u8, hours: u8, minutes: u8) -> Option<i32>
     signed(sign, u32::from(hours) * 3600 + u32::from(minutes) * 60)
 }
 
-// Parses `Z`, `z`, or a sign with HH:MM: how many seconds the zone is ahead of UTC.
+// Parses a zone, which is `Z`, `z`, or a sign with HH:MM. Returns how many seconds it is ahead of
+// UTC.
 fn zone_in(text: &[u8]) -> Option<i32>
     requires { 20 ≤ length text.now }
     ensures is { result ≡ spec.zone_in text.now }
@@ -153,7 +154,7 @@ fn zone_in(text: &[u8]) -> Option<i32>
     offset(text[19], hours, minutes)
 }
 
-// Returns the Unix second of a second of a day in a zone.
+// Returns the Unix second of a day, a second of that day, and a zone.
 fn unix_second(day: i32, time: u32, zone: i32) -> i64
     requires day { IsEpochDay day }
     requires time { time < 86400 }

@@ -4,10 +4,10 @@ ghost use Rattle.std.specs.Prelude.{◌≡◌, ◌↔◌, ℕ, List, codes, Some
 ghost use Rattle.plist_base.specs.Outcomes.{OnlyMemory};
 ghost use Rattle.plist_base.specs.Date.{IsWhole, has_fraction, second_of_bytes, HasFraction};
 ghost use Rattle.plist_base.specs.DateTexts.{HasOtherYear, HasTextYear, IsDateText, IsInUtc, IsRefused, ReadsAs, second_of_text, PrintsOnly};
-ghost use Rattle.plist_base.specs.Faults.{FractionalDate, InvalidDateString, YearOutOfRange, fault_nowhere, fault_of};
+ghost use Rattle.plist_base.specs.Faults.{FractionalDate, InvalidDateString, YearOutOfRange, fault_without_offset, fault_of};
 
 use crate::date_reading::unix_second_of_text;
-use crate::moment::Moment;
+use crate::utc_second::UtcSecond;
 use crate::{Date, Error, ErrorKind};
 use std::alloc::Global;
 use std::fmt;
@@ -27,12 +27,12 @@ impl Date {
     /// [`InvalidXmlDate`] if and only if the string doesn't have this form, the calendar doesn't
     /// have the day, or the date in UTC is outside the range of dates.
     pub fn from_xml_format(text: &str) -> Result<Date, InvalidXmlDate>
-        // The answer.
+        // Result.
         ensures second { IfOk result (λ date. second_of_bytes date ≡ second_of_text text.now) }
         ensures whole { IfOk result (λ date. IsWhole date) }
-        // A refusal.
+        // Errors.
         ensures refused { IsErr result ↔ (second_of_text text.now ≡ None) }
-        // The law.
+        // Laws.
         ensures back { (date : List ℕ) → IsDateText date text.now → ReadsAs date result }
         ensures prints { IfOk result (λ date. IsInUtc text.now → IsDateText date text.now) }
     {
@@ -53,22 +53,22 @@ impl Date {
     /// [`ErrorKind::YearOutOfRange`] if its year isn't from 0 to 9999, else
     /// [`ErrorKind::OutOfMemory`] if memory runs out.
     pub fn to_xml_format(&self, alloc: Global) -> Result<String, Error>
-        // The answer.
+        // Result.
         ensures text { IfOk result (λ text. IsDateText self.now (string_bytes text)) }
-        // A refusal.
+        // Errors.
         ensures fraction { HasFraction self.now → IsRefused FractionalDate result }
         ensures year { IsWhole self.now → HasOtherYear self.now → IsRefused YearOutOfRange result }
         ensures memory { IsWhole self.now → HasTextYear self.now → OnlyMemory result }
-        // The law.
+        // Laws.
         ensures only { (text : List ℕ) → IsDateText self.now text → PrintsOnly text result }
     {
         if self.has_fraction() {
             return Err(ErrorKind::FractionalDate.without_position());
         }
-        match Moment::from_unix_secs(self.unix_secs()) {
+        match UtcSecond::from_unix_secs(self.unix_secs()) {
             None => Err(ErrorKind::YearOutOfRange.without_position()),
-            Some(moment) => {
-                let text = moment.to_string(alloc)?;
+            Some(parts) => {
+                let text = parts.to_string(alloc)?;
                 Ok(text)
             }
         }
@@ -87,7 +87,7 @@ impl std::error::Error for InvalidXmlDate {}
 
 /// Converts to [`ErrorKind::InvalidDateString`], without an offset.
 impl From<InvalidXmlDate> for Error {
-    ghost from_gives = { λ _ e. fault_of e ≡ fault_nowhere InvalidDateString };
+    ghost from_gives = { λ _ e. fault_of e ≡ fault_without_offset InvalidDateString };
 
     fn from(_error: InvalidXmlDate) -> Error {
         ErrorKind::InvalidDateString.without_position()

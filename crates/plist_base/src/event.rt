@@ -148,7 +148,7 @@ impl<'a> Event<'a> {
     }
 }
 
-/// Writes the content to the hasher in one call; starts and ends write nothing.
+/// Writes the content to the hasher in one call. Starts and ends write nothing.
 impl Hash for Event<'_> {
     ghost use Rattle.plist_base.specs.inner.Hashing.{same_writes, writes_of};
 

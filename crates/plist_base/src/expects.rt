@@ -6,7 +6,7 @@ ghost use Rattle.plist_base.specs.Expects.{change_of, change_of_value, change_of
 
 use crate::{Event, EventShape};
 
-/// What the next events must be.
+/// What the next events have to be.
 #[derive(Clone, Copy, Drop)]
 pub enum Expect {
     /// A value.
@@ -22,13 +22,13 @@ pub enum Expect {
 pub enum Change {
     /// The event isn't allowed here.
     Refused,
-    /// The expectation is met, and leaves the stack.
+    /// The expectation is met, and is popped from the stack.
     Popped,
     /// The expectation stays.
     Kept,
     /// The expectation stays, and this one is pushed on top of it.
     Pushed(Expect),
-    /// This expectation replaces it.
+    /// This expectation replaces the topmost one.
     Replaced(Expect),
 }
 

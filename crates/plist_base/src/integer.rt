@@ -19,7 +19,7 @@ enum Number {
 
 /// An integer from `i64::MIN` to `u64::MAX`.
 ///
-/// Integers are compared by their values: it doesn't matter from which type one was made.
+/// Integers are compared by their values, whatever types they were made from.
 #[derive(Clone, Copy, Eq, Hash)]
 pub struct Integer {
     number: Number,
@@ -222,7 +222,7 @@ impl From<u8> for Integer {
     }
 }
 
-/// Formats the value in decimal, with a `-` before a negative one.
+/// Formats the value in decimal. A negative one begins with `-`.
 impl fmt::Display for Integer {
     ghost output = { λ integer. Some (signed_decimal integer) };
 
@@ -301,7 +301,7 @@ fn number_in(text: &str) -> Option<Integer>
     }
 }
 
-/// Makes `text.parse::<Integer>()` work, which parses as [`Integer::from_str`] does.
+/// Parses as [`Integer::from_str`] does, so that `text.parse::<Integer>()` can be called.
 impl FromStr for Integer {
     type Err = InvalidInteger;
 

@@ -24,9 +24,9 @@ pub struct Limits {
 /// Which of the [`Limits`] was reached.
 #[derive(Clone, Copy, Debug, PartialEq, Eq)]
 pub enum Limit {
-    /// The depth: a start would open one collection too many.
+    /// [`Limits::depth`]: a start would open one collection too many.
     Depth,
-    /// The items: there would be one event too many.
+    /// [`Limits::items`]: there would be one event too many.
     Items,
 }
 
@@ -42,7 +42,7 @@ impl Limit {
     }
 }
 
-// Returns how many collections are open after an event, given how many were open before it.
+// Returns how many collections are open after an event if `level` were open before it.
 fn level_after(depth: u64, level: u64, shape: EventShape) -> Result<u64, Limit>
     ensures value { IfOk result (IsLevelAfter depth level shape) }
     ensures refused { IfErr result (IsTooDeep depth level shape) }
@@ -59,24 +59,24 @@ fn level_after(depth: u64, level: u64, shape: EventShape) -> Result<u64, Limit>
     }
 }
 
-/// Limits, and what has been admitted under them.
+/// Counts the events and the open collections of a property list under [`Limits`].
 #[derive(Clone, Copy)]
-pub struct Limiter {
+pub struct LimitCounter {
     limits: Limits,
     // The number of events admitted so far.
-    came: u64,
+    admitted: u64,
     // The number of open collections.
     level: u64,
 }
 
-impl Limiter {
-    /// Creates a limiter that has admitted nothing yet.
-    pub fn new(limits: Limits) -> Limiter
+impl LimitCounter {
+    /// Creates a counter that has admitted no event.
+    pub fn new(limits: Limits) -> LimitCounter
         ensures items { limited_by result ≡ limited_items limits }
     {
-        Limiter {
+        LimitCounter {
             limits,
-            came: 0,
+            admitted: 0,
             level: 0,
         }
     }
@@ -87,16 +87,16 @@ impl Limiter {
         ensures admitted { OnOk result (Admits self.old (event_of event.now) self.new) }
         ensures refused { IfErr result (RefusesBy self.old (event_of event.now)) }
     {
-        if self.came >= self.limits.items {
+        if self.admitted >= self.limits.items {
             return Err(Limit::Items);
         }
         self.level = level_after(self.limits.depth, self.level, event.shape())?;
-        self.came += 1;
+        self.admitted += 1;
         Ok(())
     }
 }
 
-impl Allowance for Limiter {
+impl Allowance for LimitCounter {
     ghost use Rattle.plist_base.specs.Limits.{limited_by, IsLimitReached};
 
     ghost lets = { limited_by };

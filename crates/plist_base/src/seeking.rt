@@ -13,14 +13,14 @@ use std::io::{Read, Seek, SeekFrom};
 /// A source over a reader that can seek, such as a file. Its bytes aren't known, since others may
 /// change them.
 ///
-/// It keeps windows, which it lends, so that small reads near one another, in several parts of a
-/// file in turn, cost one read of `R`. By itself it has eight of 512 bytes. Given an allocator, it
-/// has eight of 8 KiB in memory, and up to 8,192 where windows have to be filled again. What begins
-/// in a window and has at most 64 bytes lies whole in what it lends, unless its read was short. A
-/// read or seek that answers `Interrupted` is a failure, too.
+/// It buffers windows of the file, so that many small reads near one another cost one read of `R`,
+/// also if they alternate between several parts of the file. [`Source::buffered`] lends their
+/// bytes. Without an allocator it has eight windows of 512 bytes. With one it has at first eight
+/// windows of 8 KiB, and up to 8,192 if windows have to be filled again. Anything that begins in a
+/// window and has at most 64 bytes is buffered completely, unless the read of the window was short.
+/// A read or seek that fails with `Interrupted` isn't tried again.
 ///
-/// It has less than 5 KiB itself, since a call takes as much of the call stack for each time that
-/// it is passed on by value.
+/// The struct itself has less than 5 KiB, so that it can be moved on a small call stack.
 #[derive(Drop)]
 pub struct Seeking<R> {
     inner: R,
@@ -42,9 +42,9 @@ impl<R: Read + Seek> Seeking<R> {
 
     /// Creates a source over this reader whose windows have 8 KiB.
     ///
-    /// It allocates eight of them when it fills the first one. If windows have to be filled again,
-    /// it doubles their number, up to 8,192 windows (68 MB). Beyond the first eight it never has
-    /// more than twice as many as the file needs. If an allocation fails, it goes on with the
+    /// It allocates eight windows when it fills the first one. If windows have to be filled again,
+    /// it doubles their number, up to 8,192 windows (68 MB). Unless it has only eight, they are
+    /// fewer than twice as many as the file has. If an allocation fails, it continues with the
     /// windows that it has, which are at first those of [`Seeking::new`].
     pub fn with_windows(alloc: Global, inner: R) -> Self
         ensures inner { seekable_of result ≡ inner }
@@ -64,7 +64,7 @@ impl<R: Read + Seek> Seeking<R> {
         }
     }
 
-    /// The reader, at no certain place.
+    /// Returns the reader, whose position is unspecified.
     pub fn into_inner(self) -> R
         ensures { result ≡ seekable_of self }
     {
@@ -76,7 +76,7 @@ impl<R: Read + Seek> Seeking<R> {
         inner
     }
 
-    // Counts an answer that is a failure.
+    // Counts the result if it is an error, and returns it.
     fn count<T>(&mut self, answer: Result<T, io::Error>) -> Result<T, io::Error>
         ensures answer { result ≡ answer }
         ensures failures { CountsFailure result (failures_of self.old) (failures_of self.new) }
@@ -87,15 +87,16 @@ impl<R: Read + Seek> Seeking<R> {
         answer
     }
 
-    // Copies what a window has from this place on, which is filled before that where none has it.
+    // Copies the bytes from this offset on out of their window, which is filled first if it has to
+    // be.
     fn copy_from_window(&mut self, place: u64, buf: &mut [u8]) -> Result<usize, io::Error>
         ensures bound { IfOk result (λ count. count ≤ length buf.new) }
         ensures failures { failures_of self.new ≡ failures_of self.old }
     {
-        if self.windows.held(place).is_empty() {
+        if self.windows.buffered(place).is_empty() {
             self.windows.fill(place, &mut self.inner)?;
         }
-        Ok(copy_at(self.windows.held(place), 0, buf))
+        Ok(copy_at(self.windows.buffered(place), 0, buf))
     }
 
     fn read_past_windows(&mut self, place: u64, buf: &mut [u8]) -> Result<usize, io::Error>
@@ -114,19 +115,19 @@ impl<R: Read + Seek> Seeking<R> {
             return Ok(0);
         }
         if buf.len() < self.windows.size() {
-            let held = self.copy_from_window(place, buf)?;
-            if held > 0 {
-                return Ok(held);
+            let copied = self.copy_from_window(place, buf)?;
+            if copied > 0 {
+                return Ok(copied);
             }
         }
-        // What is longer than a window, or what a short read of one didn't reach.
+        // The read is longer than a window, or a short read of the window didn't reach this offset.
         self.read_past_windows(place, buf)
     }
 
-    // Reads where no window has the bytes. It stands apart so that a window is copied fast.
+    // Reads bytes that aren't buffered. It is a function of its own to keep `read_at` small.
     #[cold]
     #[inline(never)]
-    fn read_anew(&mut self, place: u64, buf: &mut [u8]) -> Result<usize, io::Error>
+    fn read_unbuffered(&mut self, place: u64, buf: &mut [u8]) -> Result<usize, io::Error>
         ensures bound { IfOk result (λ count. count ≤ length buf.new) }
         ensures failures { CountsFailure result (failures_of self.old) (failures_of self.new) }
     {
@@ -149,16 +150,16 @@ impl<R: Read + Seek + Drop> Source for Seeking<R> {
     }
 
     fn read_at(&mut self, place: u64, buf: &mut [u8]) -> Result<usize, io::Error> {
-        let held = copy_at(self.windows.held(place), 0, buf);
-        if held > 0 {
-            return Ok(held);
+        let copied = copy_at(self.windows.buffered(place), 0, buf);
+        if copied > 0 {
+            return Ok(copied);
         }
-        self.read_anew(place, buf)
+        self.read_unbuffered(place, buf)
     }
 
-    /// What its windows hold, without a read.
+    /// Returns the bytes of a window, without a read.
     #[inline(always)]
     fn buffered(&self, place: u64) -> &[u8] {
-        self.windows.held(place)
+        self.windows.buffered(place)
     }
 }

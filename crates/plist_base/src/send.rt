@@ -14,7 +14,7 @@ use std::io::Write;
 ///
 /// # Errors
 ///
-/// `Io`, without an offset, if a write fails or takes no byte. A prefix of the bytes is written
+/// `Io`, without an offset, if a write fails or accepts no byte. A prefix of the bytes is written
 /// then.
 pub fn send<W: Write>(writer: &mut W, bytes: &[u8]) -> Result<(), Error>
     ensures sent { OnOk result (Appends (W.contents writer.old) (W.contents writer.new) bytes.now) }
@@ -54,9 +54,9 @@ pub fn flush<W: Write>(writer: &mut W) -> Result<(), Error>
 ///
 /// # Errors
 ///
-/// `Io`, without an offset, if a write fails or takes no byte, and a prefix of the bytes is
-/// written; or if the flush fails, and all of them are.
-#[tactic(auto, using(crate::proofs::Fronts::front_whole))]
+/// `Io`, without an offset, if a write fails or accepts no byte, after a prefix of the bytes was
+/// written; or if the flush fails, after all of them were.
+#[tactic(auto, using(crate::proofs::WriterBytes::front_whole))]
 pub fn send_and_flush<W: Write>(writer: &mut W, bytes: &[u8]) -> Result<(), Error>
     ensures sent { OnOk result (Appends (W.contents writer.old) (W.contents writer.new) bytes.now) }
     ensures fault { OnlyDevice result }

@@ -1,10 +1,10 @@
-//! A sink: bytes on their way to a writer through a buffer of fixed size.
+//! A sink, which writes bytes to a writer through a buffer of fixed size.
 
-ghost use Rattle.std.specs.Prelude.{◌≡◌, ◌++◌, [], Ok, true, false, OnOk};
+ghost use Rattle.std.specs.Prelude.{◌≡◌, ◌++◌, ◌+◌, ◌≤◌, [], Ok, true, false, OnOk, length};
 ghost use Rattle.std.specs.Io.KnownBytes.{Appends};
 ghost use Rattle.plist_base.specs.Outcomes.{OnlyDevice};
 ghost use Rattle.plist_base.specs.Prefixes.{AppendsPrefix};
-ghost use Rattle.plist_base.specs.Sinks.{IsSameSink, Puts, PutsBytes, PutsNothing, pending, room, sink_capacity, written};
+ghost use Rattle.plist_base.specs.Sinks.{IsSameSink, Puts, PutsBytes, PutsNothing, buffered, pending, room, sink_capacity, written};
 
 use crate::send::{send, send_and_flush};
 use crate::{Error, FixedBuffer};
@@ -13,7 +13,8 @@ use std::io::Write;
 /// Writes bytes to a writer through a buffer of [`SINK_CAPACITY`] bytes.
 ///
 /// Bytes that fit into the buffer are pending there. When they don't fit, the sink first writes
-/// what is pending and then the bytes themselves, so no call allocates memory. [`Sink::finish`] writes the rest.
+/// what is pending and then the bytes themselves, so no call allocates memory. [`Sink::finish`]
+/// writes the rest.
 ///
 /// ```text
 /// let mut buffer = FixedBuffer::new(alloc)?;
@@ -24,7 +25,7 @@ use std::io::Write;
 ///
 /// # Errors
 ///
-/// Each call returns `Io`, without an offset, if a write fails or takes no byte. A failed write
+/// Each call returns `Io`, without an offset, if a write fails or accepts no byte. A failed write
 /// isn't tried again, not even after `Interrupted`. A prefix of all the bytes that were put is
 /// written then, and the sink is of no further use.
 #[derive(Drop)]
@@ -33,6 +34,21 @@ pub struct Sink<'s, W> {
     pub writer: &'s mut W,
     /// The bytes that are pending.
     pub buffer: &'s mut FixedBuffer,
+}
+
+// Pushes bytes. Copying from a local array of a few bytes avoids a call that copies memory.
+#[inline(always)]
+fn push_bytes(buffer: &mut FixedBuffer, bytes: &[u8])
+    requires { length bytes.now ≤ room buffer.old }
+    ensures pushed { buffered buffer.new ≡ buffered buffer.old ++ bytes.now }
+    ensures room { room buffer.new + length bytes.now ≡ room buffer.old }
+{
+    match bytes {
+        [a] => buffer.push(&[*a]),
+        [a, b] => buffer.push(&[*a, *b]),
+        [a, b, c, d] => buffer.push(&[*a, *b, *c, *d]),
+        _ => buffer.push(bytes),
+    }
 }
 
 impl<'s, W: Write> Sink<'s, W> {
@@ -65,7 +81,7 @@ impl<'s, W: Write> Sink<'s, W> {
         if bytes.len() > self.buffer.room() {
             return false;
         }
-        self.buffer.push(bytes);
+        push_bytes(self.buffer, bytes);
         true
     }
 
@@ -102,7 +118,7 @@ impl<'s, W: Write> Sink<'s, W> {
         self.write_through(bytes)
     }
 
-    // Puts bytes and then others if all of them fit into the buffer.
+    // Puts two slices if both fit into the buffer, and returns whether they do.
     fn try_put_both(&mut self, first: &[u8], second: &[u8]) -> bool
         ensures put { result ≡ true → PutsBytes W.contents self.old (first.now ++ second.now)
             (Ok tt) self.new }
@@ -112,11 +128,12 @@ impl<'s, W: Write> Sink<'s, W> {
         if first.len() > room || second.len() > room - first.len() {
             return false;
         }
-        self.buffer.push(first);
-        self.buffer.push(second);
+        push_bytes(self.buffer, first);
+        push_bytes(self.buffer, second);
         true
     }
 
+    // Puts two slices that don't both fit into the buffer.
     #[cold]
     #[inline(never)]
     fn put_apart(&mut self, first: &[u8], second: &[u8]) -> Result<(), Error>
@@ -126,7 +143,7 @@ impl<'s, W: Write> Sink<'s, W> {
         self.put(second)
     }
 
-    /// Puts bytes and then others.
+    /// Puts two slices, one after the other.
     pub fn put_both(&mut self, first: &[u8], second: &[u8]) -> Result<(), Error>
         ensures { Puts W.contents self.old (first.now ++ second.now) result self.new }
     {
@@ -140,8 +157,8 @@ impl<'s, W: Write> Sink<'s, W> {
     ///
     /// # Errors
     ///
-    /// `Io`, without an offset, if a write fails or takes no byte, and a prefix of what is pending
-    /// is written; or if the flush fails, and all of it is.
+    /// `Io`, without an offset, if a write fails or accepts no byte, after a prefix of what is
+    /// pending was written; or if the flush fails, after all of it was.
     pub fn finish(&mut self) -> Result<(), Error>
         ensures sent { OnOk result (Appends (written W.contents self.old)
             (written W.contents self.new) (pending self.old)) }

@@ -1,4 +1,4 @@
-//! Where readers take their bytes from.
+//! Sources, from which readers take their bytes.
 
 ghost use Rattle.std.specs.Prelude.{◌≡◌, ℕ, ◌+◌, ◌-◌, ◌^◌, ◌<◌, ◌≤◌, List, length, drop, Some, Option, IfOk, IfSome, OnOk};
 ghost use Rattle.plist_base.specs.Sources.{CountsFailure, GivesAt, LiesAt, AnswersIo, FailsReading, FillsUpTo, EndsTooEarly, IsIoWithin};
@@ -15,7 +15,7 @@ use std::io;
 /// ```text
 /// Value::from_reader(alloc, bytes.as_slice())
 /// Value::from_reader(alloc, bytes)
-/// Value::from_reader(alloc, Seeking::new(file))
+/// Value::from_reader(alloc, Seeking::with_windows(alloc, file))
 /// ```
 pub trait Source: Drop {
     /// The bytes, if they are known.
@@ -34,9 +34,9 @@ pub trait Source: Drop {
         ensures unchanged { known self.new ≡ known self.old }
         ensures failures { CountsFailure result (failures self.old) (failures self.new) };
 
-    /// Reads bytes from offset `place` on into the front of the buffer, and returns how many. It
-    /// may read fewer than there are, but reads none only if the buffer is empty or no byte is
-    /// left.
+    /// Reads bytes from offset `place` on into the front of the buffer, and returns their number.
+    /// It may read fewer bytes than there are, but returns 0 only if the buffer is empty or no byte
+    /// is left.
     ///
     /// # Errors
     ///
@@ -48,8 +48,8 @@ pub trait Source: Drop {
         ensures unchanged { known self.new ≡ known self.old }
         ensures failures { CountsFailure result (failures self.old) (failures self.new) };
 
-    /// Returns bytes from offset `place` on that the source has in memory, without a read: as many
-    /// as happen to be there, often none. By default it returns none.
+    /// Returns bytes from offset `place` on that the source has in memory, without a read. There
+    /// may be any number of them, and often there are none. By default it returns none.
     fn buffered(&self, place: u64) -> &[u8]
         ensures bytes { IfSome (known self.now) (λ bytes. LiesAt bytes place result.now) }
     {
@@ -67,7 +67,7 @@ pub(crate) fn rest_from(bytes: &[u8], place: u64) -> &[u8]
     &bytes[place as usize..]
 }
 
-// Copies the bytes from an offset on, as many as fit into the buffer, and returns how many.
+// Copies as many bytes from an offset on as fit into the buffer, and returns their number.
 pub(crate) fn copy_at(bytes: &[u8], place: u64, buf: &mut [u8]) -> usize
     ensures bound { result ≤ length buf.new }
     ensures bytes { GivesAt bytes.now place result buf.new }
@@ -84,7 +84,7 @@ pub(crate) fn copy_at(bytes: &[u8], place: u64, buf: &mut [u8]) -> usize
     count
 }
 
-/// The bytes are known, and no read fails.
+/// The bytes of a slice are known, and no read fails.
 impl<'a> Source for &'a [u8] {
     ghost known = { λ s. Some s.now };
 
@@ -107,7 +107,7 @@ impl<'a> Source for &'a [u8] {
     }
 }
 
-/// The bytes are known, and no read fails.
+/// The bytes of a vector are known, and no read fails.
 impl Source for Vec<u8> {
     ghost known = { λ v. Some v.items };
 
@@ -139,13 +139,13 @@ impl Source for Vec<u8> {
 /// that read. The buffer then contains the bytes that precede this offset.
 pub fn read_exact_at<S: Source>(source: &mut S, place: u64, buf: &mut [u8]) -> Result<(), Error>
     requires { place + length buf.old < 2 ^ 64 }
-    // The answer.
+    // Result.
     ensures bytes { OnOk result (IfSome (S.known source.old) (λ b. LiesAt b place buf.new)) }
-    // A refusal.
+    // Errors.
     ensures refused { IfRefused result (S.known source.old) (IsIoWithin place (length buf.old)) }
     ensures short { IfRefused result (S.known source.old) (EndsTooEarly place) }
     ensures fault { IfFault result (FailsReading place (length buf.old)) }
-    // The state after it.
+    // State afterwards.
     ensures filled { IfRefused result (S.known source.old) (FillsUpTo place buf.new) }
     ensures unchanged { S.known source.new ≡ S.known source.old }
     ensures failures { AnswersIo result (S.failures source.old) (S.failures source.new) }

@@ -7,7 +7,7 @@ use std::marker::Model;
 
 /// The number by which one value of an archive refers to another.
 ///
-/// It is a type of its own, so that it isn't taken for an [`Integer`](crate::Integer).
+/// It is a type of its own, so that it can't be confused with an [`Integer`](crate::Integer).
 #[derive(Clone, Copy, PartialEq, Eq, Hash)]
 pub struct Uid {
     number: u64,

@@ -1,24 +1,25 @@
 //! Visitors, which take the events of a property list one by one.
 
 ghost use Rattle.std.specs.Iterator.{IsFinite};
-ghost use Rattle.plist_base.specs.Visits.{GivesPlain, Visits};
+ghost use Rattle.plist_base.specs.Visits.{YieldsPlain, Visits};
 
 use crate::{Date, Error, Event, Integer, OwnedEvent, RealBits, Uid};
 use std::borrow::{CowSlice, CowStr};
 use std::ops::ControlFlow;
 
-/// Takes the events of a property list one by one, and says after each whether more are wanted.
+/// Takes the events of a property list one by one, and returns after each whether it wants more.
 ///
 /// A visitor doesn't check the order of events: the source that it visits hands them over in the
 /// order of the file. A visitor that can fail keeps its error and returns `Break`.
 ///
-/// Only [`EventVisitor::event`] has to be written. Each other call takes the event that it names,
-/// and a visitor for which speed counts writes those that come often.
+/// Only [`EventVisitor::event`] is required. Each of the other methods takes the event that it
+/// names; a fast visitor implements those for the events that are frequent.
 pub trait EventVisitor {
     ghost use Rattle.plist_base.specs.Events.{EndCollection, PlainEvent, StartArray, StartDictionary, event_of};
     ghost use Rattle.plist_base.specs.Visits.{Flow};
 
-    /// What a call does that takes an event: what it returns, and the visitor before and after it.
+    /// What a call that takes an event does: the visitor before it, the event, the result, and the
+    /// visitor after it.
     ghost step: { Self → PlainEvent → Flow → Self → Type 0 };
 
     /// Takes an event, and returns `Continue` if the next one is wanted.
@@ -89,7 +90,7 @@ pub trait EventVisitor {
         self.event(Event::Real(bits))
     }
 
-    /// Takes a text, or a key.
+    /// Takes a string, which may be a key.
     #[inline(always)]
     fn string(&mut self, text: CowStr<'_>) -> ControlFlow<()>
         ensures { step self.old (event_of (Event.String text.entry)) result self.new }
@@ -106,7 +107,7 @@ pub trait EventVisitor {
     }
 }
 
-/// Why a source handed over no more events.
+/// Why a visit ended.
 #[derive(Clone, Copy, Debug, PartialEq, Eq)]
 pub enum Visited {
     /// All events were handed over.
@@ -119,30 +120,32 @@ pub enum Visited {
 pub trait EventSource {
     ghost use Rattle.plist_base.specs.Visits.{PlainItem, Visits};
 
-    /// What it does to hand over one item: an event, an error, or nothing.
-    ghost gives: { Self → PlainItem → Self → Type 0 };
+    /// What the source does to yield one item: an event, an error, or nothing at the end.
+    ghost yields: { Self → PlainItem → Self → Type 0 };
 
-    /// Hands the events that remain to a visitor, one by one, until none is left, an error comes in
-    /// the place of one, or the visitor wants no more.
+    /// Hands the remaining events to a visitor, one by one, until no event is left, an error
+    /// replaces one, or the visitor wants no more.
     ///
     /// # Errors
-    /// The error that comes in the place of an event.
+    ///
+    /// The error that replaces an event.
     fn visit<V: EventVisitor>(&mut self, visitor: &mut V) -> Result<Visited, Error>
-        ensures { Visits gives V.step (self.old, visitor.old) result (self.new, visitor.new) };
+        ensures { Visits yields V.step (self.old, visitor.old) result (self.new, visitor.new) };
 }
 
 /// Hands the owned events of an iterator to a visitor, as [`EventSource::visit`] does those of a
 /// source.
 ///
 /// # Errors
-/// The error that comes in the place of an event.
+///
+/// The error that replaces an event.
 pub fn visit_items<I: Iterator<Item = Result<OwnedEvent, Error>>, V: EventVisitor>(
     items: &mut I,
     visitor: &mut V,
 ) -> Result<Visited, Error>
     requires can { I.can_next items.old }
     requires ends { IsFinite (I.remaining items.old) }
-    ensures { Visits (GivesPlain I.next_gives) V.step (items.old, visitor.old) result
+    ensures { Visits (YieldsPlain I.next_gives) V.step (items.old, visitor.old) result
         (items.new, visitor.new) }
 {
     while let Some(item) = items.next() {

@@ -1,26 +1,26 @@
-//! Windows of a file in two slices: what is known of each, and their bytes.
+//! Windows of a file in two slices: a header for each window, and the bytes of all windows.
 
-ghost use Rattle.std.specs.Prelude.{◌≡◌, ◌+◌, ◌*◌, ◌<◌, ◌≤◌, ◌^◌, length, drop, take, IfSome, OnErr};
+ghost use Rattle.std.specs.Prelude.{◌≡◌, ◌+◌, ◌*◌, ◌<◌, ◌≤◌, length, drop, take, IfSome, OnErr};
 ghost use Rattle.plist_base.specs.inner.Windows.{IsWindowOf, LendsFrom};
 
 use std::io;
 use std::io::{Read, Seek, SeekFrom};
 
-/// A window also has this many bytes of the next one, so that whatever begins in it and is no
-/// longer than that lies whole in it.
+/// A window also contains this many bytes of the next one, so anything that begins in a window and
+/// is no longer than this lies completely in it.
 pub(crate) const OVERLAP: usize = 64;
 
-/// How many windows there are at most.
-pub(crate) const MOST: usize = 8192;
+/// The greatest number of windows.
+pub(crate) const MAX_WINDOWS: usize = 8192;
 
-/// What is known of a window.
+/// Which bytes of the file a window contains.
 #[derive(Clone, Copy)]
 pub(crate) struct Header {
-    // Where it begins, and how many bytes it has from there on.
+    // The offset at which the window begins, and the number of bytes that it contains.
     start: u64,
     filled: usize,
-    // Whether the other window of its slot is the next one to be filled. It counts in the first of
-    // the two alone.
+    // Whether the second window of the slot is to be filled next. Only the header of the slot's
+    // first window stores this.
     turn: bool,
 }
 
@@ -31,16 +31,16 @@ pub(crate) const UNFILLED: Header = Header {
     turn: false,
 };
 
-// The first of the two windows of a slot, which the window's number names.
+// Returns the index of the first of the two windows in the slot for this window of the file.
 #[inline(always)]
 fn first_window(count: usize, number: u64) -> usize
     ensures { result + 1 < 8192 }
 {
     let last_slot = (count / 2).saturating_sub(1) as u64;
-    2 * ((number & last_slot) as usize % (MOST / 2))
+    2 * ((number & last_slot) as usize % (MAX_WINDOWS / 2))
 }
 
-/// The window that a place lies in, if it is buffered.
+/// Returns the index of the window that contains this offset, or `None` if it isn't buffered.
 #[inline(always)]
 pub(crate) fn window_at(headers: &[Header], size: usize, place: u64) -> Option<usize>
     requires { 0 < size }
@@ -60,7 +60,7 @@ pub(crate) fn window_at(headers: &[Header], size: usize, place: u64) -> Option<u
     }
 }
 
-// The `size` bytes from an index on, or as many of them as there are.
+// Returns the `size` bytes from this index on, or fewer if the slice ends before.
 #[inline(always)]
 fn part(bytes: &[u8], first: usize, size: usize) -> &[u8]
     ensures { result.now ≡ take size (drop first bytes.now) }
@@ -69,7 +69,7 @@ fn part(bytes: &[u8], first: usize, size: usize) -> &[u8]
     &rest[..size.min(rest.len())]
 }
 
-/// The bytes that are buffered from a place on, perhaps none.
+/// Returns the buffered bytes from this offset on, often none.
 #[inline(always)]
 pub(crate) fn buffered_in<'a>(
     headers: &[Header],
@@ -91,8 +91,8 @@ pub(crate) fn buffered_in<'a>(
     part(bytes, i * (size + OVERLAP) + from, filled - from)
 }
 
-// The window that is to be filled for a place: its own one, or else of the two of its slot the one
-// that was filled first.
+// Returns the index of the window to fill for this offset: the one that contains it already, or
+// else the one of the slot's two windows that was filled earlier.
 fn window_for(headers: &mut [Header], size: usize, place: u64) -> usize
     requires { 0 < size }
     ensures within { result < 8192 }
@@ -110,7 +110,7 @@ fn window_for(headers: &mut [Header], size: usize, place: u64) -> usize
     if turn { first + 1 } else { first }
 }
 
-// Fills a window from its start on by one read. It is empty after a failure.
+// Fills a window from its start on, by one read. If that fails, the window is empty.
 fn fill_window<R: Read + Seek>(
     header: &mut Header,
     memory: &mut [u8],
@@ -127,7 +127,7 @@ fn fill_window<R: Read + Seek>(
     Ok(())
 }
 
-/// Fills the window that a place lies in, if there is one.
+/// Fills the window for this offset, if the slices have one.
 pub(crate) fn fill_in<R: Read + Seek>(
     headers: &mut [Header],
     bytes: &mut [u8],

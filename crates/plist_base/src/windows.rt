@@ -1,176 +1,190 @@
-//! The windows of a file that are buffered: a few short ones, or many long ones in memory.
+//! The buffered windows of a file: eight short ones in the struct itself, or long ones on the heap.
 
-ghost use Rattle.std.specs.Prelude.{◌≡◌, ◌≤◌, length};
-ghost use Rattle.plist_base.specs.inner.Windows.{KeepsWindows, Lends, LendsFrom};
+ghost use Rattle.std.specs.Prelude.{◌≤◌, length};
+ghost use Rattle.plist_base.specs.inner.Windows.{KeepsWindows, Lends};
 
-use crate::window::{Header, MOST, OVERLAP, UNFILLED, buffered_in, fill_in, window_at};
+use crate::window::{Header, MAX_WINDOWS, OVERLAP, UNFILLED, buffered_in, fill_in, window_at};
 use std::alloc::Global;
 use std::io;
 use std::io::{Read, Seek};
 
-// A short window begins at a multiple of this size.
-const SHORT: usize = 512;
+// The size of a short window, which begins at a multiple of it.
+const SHORT_WINDOW: usize = 512;
 
-// A long window begins at a multiple of this size, which is what one read of a file usually gives.
-const LONG: usize = 8192;
+// The size of a long window, which begins at a multiple of it. One read of a file usually returns
+// as many bytes.
+const LONG_WINDOW: usize = 8192;
 
-// How many windows there are at first.
-const FEW: usize = 8;
+// The number of windows before the first doubling.
+const INITIAL_WINDOWS: usize = 8;
 
-// A window that is filled again counts as much as this many that are filled for the first time.
-const AGAIN: u64 = 8;
+// Filling a window again counts as much as filling this many windows for the first time.
+const REFILL_WEIGHT: u64 = 8;
 
-// How many windows of a file are noted once they were filled: those of its first 512 MiB.
-const NOTED: usize = 65_536;
+// The windows of the first 512 MiB of a file: only for these is it stored whether they were filled.
+const TRACKED_WINDOWS: usize = 65_536;
 
-// Short windows, which need no memory.
+// Short windows, which need no allocation.
 #[derive(Drop)]
-struct FewWindows {
-    headers: [Header; FEW],
-    bytes: [u8; FEW * (SHORT + OVERLAP)],
+struct ShortWindows {
+    headers: [Header; INITIAL_WINDOWS],
+    bytes: [u8; INITIAL_WINDOWS * (SHORT_WINDOW + OVERLAP)],
 }
 
-// Long windows in memory, none at first.
+// Long windows on the heap; there are none at first.
 //
-// Their number is doubled, up to 8,192, once more windows were filled again than there are, and
-// that isn't rare beside those that are filled for the first time: a file that is read in order
-// needs few. There are fewer than twice as many as the file has, since with as many as that no
-// window takes the place of another.
+// Their number doubles when refills outnumber the windows, up to 8,192 windows. Refills that are
+// rare among first fills don't count: a file that is read in order needs few windows. There are
+// always fewer than twice as many windows as the file has, since with as many as the file has none
+// replaces another.
 #[derive(Drop)]
-struct ManyWindows {
+struct LongWindows {
     headers: Vec<Header>,
     bytes: Vec<u8>,
-    // A bit for each window of the file, whether it was filled.
-    noted: Vec<u64>,
-    // What the windows weigh that were filled again.
-    weight: u64,
+    // A bit for each window of the file: whether it was ever filled.
+    ever_filled: Vec<u64>,
+    // The refills so far, weighted, less the first fills.
+    refills: u64,
 }
 
-impl ManyWindows {
+impl LongWindows {
     fn new(alloc: Global) -> Self {
-        ManyWindows {
+        LongWindows {
             headers: Vec::new(alloc),
             bytes: Vec::new(alloc),
-            noted: Vec::new(alloc),
-            weight: 0,
+            ever_filled: Vec::new(alloc),
+            refills: 0,
         }
     }
 
-    // Makes so many windows, where there is memory for them, and answers whether there was.
+    // Extends the windows to this number, and returns whether memory for them could be allocated.
     fn extend_to(&mut self, count: usize) -> bool
         requires { (length self.old.headers.items ≤ count) × (count ≤ 8192) }
         ensures { KeepsWindows self.old self.new }
     {
-        let size = (count * (LONG + OVERLAP)).max(self.bytes.len());
+        let size = (count * (LONG_WINDOW + OVERLAP)).max(self.bytes.len());
         self.bytes.resize(size, 0).is_ok() && self.headers.resize(count, UNFILLED).is_ok()
     }
 
-    // Makes the first windows, if there are none, and answers whether there are some.
-    fn begin(&mut self) -> bool
+    // Allocates the first windows if there are none, and returns whether there are any.
+    fn allocate_first(&mut self) -> bool
         ensures { KeepsWindows self.old self.new }
     {
         if !self.headers.is_empty() {
             return true;
         }
-        let _ = self.noted.resize(NOTED / 64, 0);
-        self.extend_to(FEW)
+        let _ = self.ever_filled.resize(TRACKED_WINDOWS / 64, 0);
+        self.extend_to(INITIAL_WINDOWS)
     }
 
-    // Notes that a window is filled, and answers whether that was noted before.
-    fn note(&mut self, number: u64) -> bool
+    // Stores that a window is filled, and returns whether it was filled before.
+    fn mark_filled(&mut self, number: u64) -> bool
         ensures { KeepsWindows self.old self.new }
     {
         let (word, bit) = ((number / 64) as usize, 1 << (number % 64));
-        match self.noted.get_mut(word) {
-            Some(noted) => {
-                let before = *noted & bit != 0;
-                *noted |= bit;
+        match self.ever_filled.get_mut(word) {
+            Some(ever_filled) => {
+                let before = *ever_filled & bit != 0;
+                *ever_filled |= bit;
                 before
             }
             None => false,
         }
     }
 
-    // Weighs a window that is to be filled, and makes twice as many where that is worth it.
-    fn weigh(&mut self, number: u64)
+    // Counts the fill of a window, and doubles the number of windows if refills are frequent.
+    fn count_fill(&mut self, number: u64)
         ensures { KeepsWindows self.old self.new }
     {
-        if !self.note(number) {
-            self.weight = self.weight.saturating_sub(1);
+        if !self.mark_filled(number) {
+            self.refills = self.refills.saturating_sub(1);
             return;
         }
-        self.weight = self.weight.saturating_add(AGAIN);
+        self.refills = self.refills.saturating_add(REFILL_WEIGHT);
         let count = self.headers.len();
-        if count < MOST && self.weight > AGAIN * count as u64 {
-            self.weight = 0;
-            self.extend_to((count * 2).min(MOST));
+        if count < MAX_WINDOWS && self.refills > REFILL_WEIGHT * count as u64 {
+            self.refills = 0;
+            self.extend_to((count * 2).min(MAX_WINDOWS));
         }
     }
 
-    // Fills the window that a place lies in.
+    // Fills the window that contains this offset.
     fn fill<R: Read + Seek>(&mut self, place: u64, reader: &mut R) -> Result<(), io::Error> {
-        if window_at(&self.headers, LONG, place).is_none() {
-            self.weigh(place / LONG as u64);
+        if window_at(&self.headers, LONG_WINDOW, place).is_none() {
+            self.count_fill(place / LONG_WINDOW as u64);
         }
-        fill_in(&mut self.headers, &mut self.bytes, LONG, place, reader)
+        fill_in(
+            &mut self.headers,
+            &mut self.bytes,
+            LONG_WINDOW,
+            place,
+            reader,
+        )
     }
 }
 
-/// Windows of a file: eight short ones, or in memory eight long ones at first.
+/// The windows of a file: eight short ones, or at first eight long ones on the heap.
 #[derive(Drop)]
 pub(crate) struct Windows {
-    few: FewWindows,
-    many: Option<ManyWindows>,
+    short: ShortWindows,
+    long: Option<LongWindows>,
 }
 
 impl Windows {
-    /// Windows that were never filled. With an allocator they lie in memory once the first is filled.
+    /// Creates windows that were never filled. With an allocator they are long ones, which are
+    /// allocated when the first is filled.
     pub(crate) fn new(alloc: Option<Global>) -> Self {
         Windows {
-            few: FewWindows {
-                headers: [UNFILLED; FEW],
-                bytes: [0; FEW * (SHORT + OVERLAP)],
+            short: ShortWindows {
+                headers: [UNFILLED; INITIAL_WINDOWS],
+                bytes: [0; INITIAL_WINDOWS * (SHORT_WINDOW + OVERLAP)],
             },
-            many: match alloc {
-                Some(alloc) => Some(ManyWindows::new(alloc)),
+            long: match alloc {
+                Some(alloc) => Some(LongWindows::new(alloc)),
                 None => None,
             },
         }
     }
 
-    /// Reads of fewer bytes than this one are made by windows.
+    /// Returns the size of a window. Shorter reads are served by windows.
     pub(crate) fn size(&self) -> usize {
-        match &self.many {
-            Some(_) => LONG,
-            None => SHORT,
+        match &self.long {
+            Some(_) => LONG_WINDOW,
+            None => SHORT_WINDOW,
         }
     }
 
-    /// The bytes that are buffered from a place on, perhaps none.
+    /// Returns the buffered bytes from this offset on, often none.
     #[inline(always)]
-    pub(crate) fn held(&self, place: u64) -> &[u8]
+    pub(crate) fn buffered(&self, place: u64) -> &[u8]
         ensures bytes { Lends self.now place result.now }
     {
-        match &self.many {
-            Some(many) if !many.headers.is_empty() => {
-                buffered_in(&many.headers, &many.bytes, LONG, place)
+        match &self.long {
+            Some(long) if !long.headers.is_empty() => {
+                buffered_in(&long.headers, &long.bytes, LONG_WINDOW, place)
             }
-            _ => buffered_in(&self.few.headers, &self.few.bytes, SHORT, place),
+            _ => buffered_in(&self.short.headers, &self.short.bytes, SHORT_WINDOW, place),
         }
     }
 
-    /// Fills the window that a place lies in.
+    /// Fills the window that contains this offset.
     pub(crate) fn fill<R: Read + Seek>(
         &mut self,
         place: u64,
         reader: &mut R,
     ) -> Result<(), io::Error> {
-        if let Some(many) = &mut self.many {
-            if many.begin() {
-                return many.fill(place, reader);
+        if let Some(long) = &mut self.long {
+            if long.allocate_first() {
+                return long.fill(place, reader);
             }
         }
-        let few = &mut self.few;
-        fill_in(&mut few.headers, &mut few.bytes, SHORT, place, reader)
+        let short = &mut self.short;
+        fill_in(
+            &mut short.headers,
+            &mut short.bytes,
+            SHORT_WINDOW,
+            place,
+            reader,
+        )
     }
 }

@@ -1,7 +1,7 @@
 //! The trait of writers, which take the events of a property list.
 
 ghost use Rattle.std.specs.Prelude.{◌≡◌, Bool, List, Err, false, true};
-ghost use Rattle.plist_base.specs.Faults.{WriterFailed, fault_nowhere};
+ghost use Rattle.plist_base.specs.Faults.{WriterFailed, fault_without_offset};
 
 use crate::{Date, Error, Event, Integer, RealBits, Uid};
 use std::borrow::{CowSlice, CowStr};
@@ -116,5 +116,5 @@ pub trait Writer: Sealed {
     // After a failure, each call returns `WriterFailed` and changes nothing.
     ghost law_of_failed: { (before : Self) (event : PlainEvent) (answer : Answer) (after : Self)
         → Step before event answer after → failed before ≡ true
-        → (answer ≡ Err (fault_nowhere WriterFailed)) × (after ≡ before) };
+        → (answer ≡ Err (fault_without_offset WriterFailed)) × (after ≡ before) };
 }

@@ -10,7 +10,7 @@ use Rattle.std.proofs.Math.ListN.{length-replicate}
 use Rattle.std.proofs.Math.Seq.{take-length}
 use Rattle.plist_base.specs.declared.error.Error.{Error}
 use Rattle.plist_base.specs.Events.{PlainEvent, ScalarEvent}
-use Rattle.plist_base.specs.Faults.{Fault, FaultKind, MatchFault, OutOfMemory, error_kind_of, fault_at, fault_nowhere, fault_of, kind_of}
+use Rattle.plist_base.specs.Faults.{Fault, FaultKind, MatchFault, OutOfMemory, error_kind_of, fault_at, fault_without_offset, fault_of, kind_of}
 use Rattle.plist_base.specs.Faults as faults
 use Rattle.plist_base.specs.Sources.{CountsIo, LiesAt}
 use Rattle.plist_base.specs.Trees as trees
@@ -327,7 +327,7 @@ grows-small scalar h = absurd h
 
 -- a small object is refused where allocation fails
 pub small-refused : (all : List ℕ) (object : Object) (place : ℕ) (kind : PackedKind) (content : ℕ)
-    (e : Error) → fault_of e ≡ fault_nowhere OutOfMemory → MayAllocate (unpacked kind content)
+    (e : Error) → fault_of e ≡ fault_without_offset OutOfMemory → MayAllocate (unpacked kind content)
     → IsDecodedAs all object (decoded.Small kind content) → IsRefusedAs object place e
 small-refused all object place kind content e memory wanted is =
     MatchFault-at _ _ _ _ _ (ap (λ (f : Fault). f.kind) memory)

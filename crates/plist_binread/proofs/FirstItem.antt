@@ -6,7 +6,7 @@ use Rattle.std.proofs.lemmas.Bool.{cases_lt}
 use Rattle.std.proofs.Math.ListN.{length-replicate}
 use Rattle.plist_base.specs.declared.error.Error.{Error}
 use Rattle.plist_base.specs.Visits.{Flow}
-use Rattle.plist_base.specs.Faults.{Fault, OutOfMemory, MatchFault, fault_nowhere, kind_of, error_kind_of, fault_of}
+use Rattle.plist_base.specs.Faults.{Fault, OutOfMemory, MatchFault, fault_without_offset, kind_of, error_kind_of, fault_of}
 use Rattle.plist_base.specs.Events.{PlainEvent, Item}
 use Rattle.plist_base.proofs.Refusals.{MatchFault-all, MatchFault-at, MatchFault-weaker}
 use Rattle.plist_binread.specs.declared.frames.Frame.{Frame}
@@ -120,7 +120,7 @@ begins_with bytes before after (Err e) current is yields =
     MatchFault-weaker (kind_of (error_kind_of e)) (λ remaining. rw is remaining)
     (λ wanted. rw is (remaining_if_wanted (until_fault before) wanted)) (λ only. is ∙ only) yields
 
-pub known_wanted : (known : Option (List ℕ)) (e : Error) → fault_of e ≡ fault_nowhere OutOfMemory
+pub known_wanted : (known : Option (List ℕ)) (e : Error) → fault_of e ≡ fault_without_offset OutOfMemory
     → IfSome known (λ bytes. RefusesFirst bytes e)
 known_wanted known e memory = IfSome-all known (λ bytes.
     MatchFault-at (kind_of (error_kind_of e)) OutOfMemory _ _ _ (ap (λ (f : Fault). f.kind) memory)
@@ -182,7 +182,7 @@ known_uncounted known e count none refused = IfSome_then known refused (λ bytes
     (λ is. none ∙ sym (ap (λ head. length (places_with head)) is)))
 
 pub known_hidden : (known : Option (List ℕ)) (e : Error) (count : ℕ)
-    → fault_of e ≡ fault_nowhere OutOfMemory
+    → fault_of e ≡ fault_without_offset OutOfMemory
     → IfSome known (λ bytes. CountsObjects {A = Flow} bytes (Err e) count)
 known_hidden known e count memory = IfSome-all known (λ bytes.
     MatchFault-at (kind_of (error_kind_of e)) OutOfMemory _ _ _ (ap (λ (f : Fault). f.kind) memory)

@@ -3,10 +3,10 @@ use Rattle.std.proofs.Common.{◌≡◌, ℕ, Bool, true, false, List, [], ◌�
 use Rattle.std.specs.Option.{is_some}
 use Rattle.plist_base.specs.declared.error.Error.{Error}
 use Rattle.plist_base.specs.declared.limits.Limit.{Limit}
-use Rattle.plist_base.specs.declared.limits.Limiter.{Limiter}
+use Rattle.plist_base.specs.declared.limits.LimitCounter.{LimitCounter}
 use Rattle.plist_base.specs.Events.{PlainEvent, Item, StartArray, StartDictionary, ScalarEvent}
 use Rattle.plist_base.specs.Trees.{Data, String}
-use Rattle.plist_base.specs.Faults.{FaultKind, Fault, LimitReached, MatchFault, fault_of, fault_nowhere, kind_of, error_kind_of}
+use Rattle.plist_base.specs.Faults.{FaultKind, Fault, LimitReached, MatchFault, fault_of, fault_without_offset, kind_of, error_kind_of}
 use Rattle.plist_base.specs.Limits.{AdmitsAny, RefusesAny, event_or_limit, limited_by_any}
 use Rattle.plist_base.specs.Sources.{IsOffsetWithin}
 use Rattle.plist_base.specs.Visits.{PlainItem}
@@ -19,28 +19,28 @@ use Rattle.std.proofs.lemmas.Option.{IfSome_then}
 -- ---- where a fault is
 
 -- a refusal comes of a limit, whose fault is the one item that comes then
-by-limit : (limiter : Option Limiter) (event : PlainEvent) (fault : Fault)
+by-limit : (limiter : Option LimitCounter) (event : PlainEvent) (fault : Fault)
     → RefusesAny limiter event fault → (is_some limiter ≡ true) × (limit : Limit)
-    × (fault ≡ fault_nowhere (LimitReached limit))
+    × (fault ≡ fault_without_offset (LimitReached limit))
     × ((items : List Item) → limited_by_any limiter (Ok event ∷ items) ≡ Err fault ∷ [])
 by-limit None event fault r = absurd r
 by-limit (Some limiter) event fault r = (refl, r.0.0, r.0.1, r.1)
 
 -- the fault of a limit is neither a device's nor lack of memory
 limit-fault : (fault : Fault) (limit : Limit) (X Y Z : Type 0)
-    → fault ≡ fault_nowhere (LimitReached limit) → Z → MatchFault fault.kind X Y Z
+    → fault ≡ fault_without_offset (LimitReached limit) → Z → MatchFault fault.kind X Y Z
 limit-fault fault limit X Y Z is z = rw is z
 
-pub refused-other : (limiter : Option Limiter) (event : PlainEvent) (fault : Fault) (X Y Z : Type 0)
+pub refused-other : (limiter : Option LimitCounter) (event : PlainEvent) (fault : Fault) (X Y Z : Type 0)
     → RefusesAny limiter event fault → Z → MatchFault fault.kind X Y Z
 refused-other limiter event fault X Y Z r z =
     let by = by-limit limiter event fault r in limit-fault fault by.1 X Y Z by.2 z
 
 pub limit-given : (start end : ℕ) (limited : Bool) (fault : Fault) (limit : Limit) → limited ≡ true
-    → fault ≡ fault_nowhere (LimitReached limit) → IsGivenWithin start end limited fault
+    → fault ≡ fault_without_offset (LimitReached limit) → IsGivenWithin start end limited fault
 limit-given start end limited fault limit e is = rw is (record { placed = (e, refl) })
 
-pub refused-given : (start end : ℕ) (limiter : Option Limiter) (event : PlainEvent) (fault : Fault)
+pub refused-given : (start end : ℕ) (limiter : Option LimitCounter) (event : PlainEvent) (fault : Fault)
     → RefusesAny limiter event fault → IsGivenWithin start end (is_some limiter) fault
 refused-given start end limiter event fault r =
     let by = by-limit limiter event fault r in limit-given start end _ fault by.1 by.0 by.2
@@ -58,11 +58,11 @@ still-given start end limited fault h = record { placed = by fault.kind h.placed
 
 -- ---- what is to come
 
-none-under : (limiter : Option Limiter) → limited_by_any limiter [] ≡ []
+none-under : (limiter : Option LimitCounter) → limited_by_any limiter [] ≡ []
 none-under None = refl
 none-under (Some limiter) = refl
 
-fault-under : (limiter : Option Limiter) (fault : Fault)
+fault-under : (limiter : Option LimitCounter) (fault : Fault)
     → limited_by_any limiter (Err fault ∷ []) ≡ Err fault ∷ []
 fault-under None fault = refl
 fault-under (Some limiter) fault = refl
@@ -75,13 +75,13 @@ module _ (P : List Item → Type 0)
     (first : (event : PlainEvent) (items others : List Item) → P (Ok event ∷ items)
     → P (Ok event ∷ others))
     (cut : (fault : Fault) (items : List Item) → P (Err fault ∷ items) → P (Err fault ∷ []))
-    (limits : (limit : Limit) → P (Err (fault_nowhere (LimitReached limit)) ∷ [])) where
+    (limits : (limit : Limit) → P (Err (fault_without_offset (LimitReached limit)) ∷ [])) where
   choice-of : (o : Option Limit) (event : PlainEvent) (items behind : List Item)
       → P (Ok event ∷ items) → P (event_or_limit o event behind)
   choice-of None event items behind h = first event items behind h
   choice-of (Some limit) event items behind h = limits limit
 
-  under-of : (limiter : Option Limiter) (items : List Item) → P items
+  under-of : (limiter : Option LimitCounter) (items : List Item) → P items
       → P (limited_by_any limiter items)
   under-of None items h = h
   under-of (Some limiter) [] h = h
@@ -96,14 +96,14 @@ event-allocates (ScalarEvent (Data bytes)) items others h = tt
 event-allocates (ScalarEvent (String text)) items others h = tt
 event-allocates event items others h = h
 
-remaining-under : (limiter : Option Limiter) (items : List Item) → SomeRemain items
+remaining-under : (limiter : Option LimitCounter) (items : List Item) → SomeRemain items
     → SomeRemain (limited_by_any limiter items)
 remaining-under =
     under-of SomeRemain (λ event items others _. one-remaining (Ok event) others)
     (λ fault items _. one-remaining (Err fault) [])
-    (λ limit. one-remaining (Err (fault_nowhere (LimitReached limit))) [])
+    (λ limit. one-remaining (Err (fault_without_offset (LimitReached limit))) [])
 
-either-under : (new : Bool) (limiter : Option Limiter) (items : List Item)
+either-under : (new : Bool) (limiter : Option LimitCounter) (items : List Item)
     → MatchBool new (SomeRemain items) (AllocatesFirst items)
     → MatchBool new (SomeRemain (limited_by_any limiter items)) (AllocatesFirst (limited_by_any
     limiter items))
@@ -114,7 +114,7 @@ either-under false limiter items h =
 -- ---- what a call gives
 
 -- what a call gives of the items before, and what it gives of them behind limits
-module _ (new : Bool) (current : PlainEvent) (known : Option (List ℕ)) (old now : Option Limiter)
+module _ (new : Bool) (current : PlainEvent) (known : Option (List ℕ)) (old now : Option LimitCounter)
     (before after : List ℕ → List Item) where
   abbrev Gave : PlainItem → Type 0
   Gave item = IfSome known (λ bytes. GivesAs (λ event. event) new (before bytes) item (after bytes))

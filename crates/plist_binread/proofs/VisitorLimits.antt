@@ -4,7 +4,7 @@ use Rattle.plist_base.specs.declared.error.Error.{Error}
 use Rattle.plist_base.specs.Events.{PlainEvent}
 use Rattle.plist_base.specs.Faults.{Fault, fault_of}
 use Rattle.plist_base.specs.Limits.{Refuses, RefusesAny}
-use Rattle.plist_base.specs.declared.limits.Limiter.{Limiter}
+use Rattle.plist_base.specs.declared.limits.LimitCounter.{LimitCounter}
 use Rattle.plist_base.specs.Visits.{Flow}
 use Rattle.plist_binread.specs.Advancing.{TakesWithin}
 use Rattle.plist_binread.specs.Handing.{HandsItem}
@@ -43,7 +43,7 @@ reached_limit step old new (Some (Ok flow)) P error before after h = elim h.take
 ]
 
 -- the limiter of a reader refuses the event that its visitor was refused
-pub refuses_any : (limiter : Option Limiter) (limits now : Limiter) (event : PlainEvent)
+pub refuses_any : (limiter : Option LimitCounter) (limits now : LimitCounter) (event : PlainEvent)
     (fault given : Fault) → limiter ≡ Some limits → now ≡ limits → given ≡ fault
     → Refuses now event given → RefusesAny limiter event fault
 refuses_any limiter limits now event fault given is at same refused =

@@ -5,7 +5,7 @@ use Rattle.std.specs.List.{AllByRecursion, slice_get}
 use Rattle.std.proofs.lemmas.Bool.Decides.{eqb_tells, nat_tests}
 use Rattle.std.proofs.lemmas.List.{get_or-set_same, get_or-set_other}
 use Rattle.plist_base.specs.declared.error.Error.{Error}
-use Rattle.plist_base.specs.Faults.{Fault, FaultKind, OutOfMemory, ObjectReferenceTooLarge, RecursiveObject, MatchFault, fault_of, fault_at, fault_nowhere}
+use Rattle.plist_base.specs.Faults.{Fault, FaultKind, OutOfMemory, ObjectReferenceTooLarge, RecursiveObject, MatchFault, fault_of, fault_at, fault_without_offset}
 use Rattle.plist_base.specs.Events.{PlainEvent, ScalarEvent, Item}
 use Rattle.plist_base.specs.Trees.{Scalar}
 use Rattle.plist_base.proofs.Refusals.{MatchFault-at, MatchFault-weaker}
@@ -208,7 +208,7 @@ module _ (bytes : List ℕ) (bounds : Bounds) where
 
           -- memory was wanted for the scalar that is held
           pub unfound_memory : (e : Error) → 0 < unmarked (get_or tags number 0)
-              → fault_of e ≡ fault_nowhere OutOfMemory
+              → fault_of e ≡ fault_without_offset OutOfMemory
               → MayAllocate (cached (get_or tags number 0) (get_or contents number 0))
               → Explains (until_fault before) e
           unfound_memory e some memory wanted = found_refused e
@@ -242,7 +242,7 @@ place_is bytes bounds walk k number place h is = cc (
 
 -- a collection for which room is wanted
 pub known_full : (known : Option (List ℕ)) (bounds : Bounds) (place : ℕ) (d : Decoded) (e : Error)
-    → fault_of e ≡ fault_nowhere OutOfMemory → IsCollectionStart d
+    → fault_of e ≡ fault_without_offset OutOfMemory → IsCollectionStart d
     → IfSome known (λ bytes. bounds.trailer ≤ length bytes
     → IsDecodedAs (bytes_at bounds place bytes) (object_at bounds place bytes) d)
     → IfSome known (λ bytes. bounds.trailer ≤ length bytes

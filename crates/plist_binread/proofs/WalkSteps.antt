@@ -4,7 +4,7 @@ use Rattle.std.specs.List.{list_any, flat_map, slice_get}
 use Rattle.std.proofs.lemmas.List.{reverse-append}
 use Rattle.std.proofs.Math.Nat.{mul-le-mul_right}
 use Rattle.plist_base.specs.declared.error.Error.{Error}
-use Rattle.plist_base.specs.Faults.{Fault, InvalidUtf8String, InvalidUtf16String, OutOfMemory, ObjectReferenceTooLarge, RecursiveObject, kind_of, error_kind_of, fault_of, fault_at, fault_nowhere}
+use Rattle.plist_base.specs.Faults.{Fault, InvalidUtf8String, InvalidUtf16String, OutOfMemory, ObjectReferenceTooLarge, RecursiveObject, kind_of, error_kind_of, fault_of, fault_at, fault_without_offset}
 use Rattle.plist_base.specs.Events.{PlainEvent, EndCollection, Item}
 use Rattle.plist_base.specs.Trees as trees
 use Rattle.plist_base.specs.Trees.{Data, String}
@@ -188,7 +188,7 @@ steps_up a b h = let e : b ≡ a + (b - a) = omega arith in rw e (steps_more _ a
 
 -- lack of memory is a refusal of a collection
 pub refused_memory : (object : Object) (place : ℕ) (e : Error) (start : PlainEvent) (count : ℕ)
-    → fault_of e ≡ fault_nowhere OutOfMemory → IsCollection object start count
+    → fault_of e ≡ fault_without_offset OutOfMemory → IsCollection object start count
     → IsRefusedAs object place e
 refused_memory object place e start count memory collection =
     MatchFault-at _ _ _ _ _ (ap (λ (f : Fault). f.kind) memory)
@@ -196,7 +196,7 @@ refused_memory object place e start count memory collection =
 
 -- and of a text or data that is cached
 pub refused_cached : (object : Object) (place : ℕ) (e : Error) (scalar : Option trees.Scalar)
-    → fault_of e ≡ fault_nowhere OutOfMemory → scalar_in object ≡ scalar → IsTextOrData scalar
+    → fault_of e ≡ fault_without_offset OutOfMemory → scalar_in object ≡ scalar → IsTextOrData scalar
     → IsRefusedAs object place e
 refused_cached object place e scalar memory is wanted =
     MatchFault-at _ _ _ _ _ (ap (λ (f : Fault). f.kind) memory)

@@ -8,7 +8,7 @@ use Rattle.plist_base.specs.Events.{PlainEvent, Item, event_of}
 use Rattle.plist_base.specs.Sources.{ItemCountsIo}
 use Rattle.plist_format.specs.Container.{head_of}
 use Rattle.std.specs.Option.{is_some}
-use Rattle.plist_base.specs.declared.limits.Limiter.{Limiter}
+use Rattle.plist_base.specs.declared.limits.LimitCounter.{LimitCounter}
 use Rattle.plist_base.specs.Limits.{limited_items, limited_by_any}
 use Rattle.plist_base.specs.declared.limits.Limits.{Limits}
 use Rattle.plist_format.specs.Unfolding.{items_of_file}
@@ -49,7 +49,7 @@ AreListsWithin count tags contents frames =
 abbrev pub limited_file : Limits → List ℕ → List Item
 limited_file limits bytes = limited_items limits (items_of_file bytes)
 
-abbrev pub file_under : Option Limiter → List ℕ → List Item
+abbrev pub file_under : Option LimitCounter → List ℕ → List Item
 file_under limiter bytes = limited_by_any limiter (items_of_file bytes)
 
 module _ {R C : Type 0} {g : Ghosts R} {h : CounterGhosts C} where

@@ -2,7 +2,7 @@
 use Rattle.std.specs.Prelude.{◌≡◌, MatchResult}
 use Rattle.std.specs.declared.ops.ControlFlow.TheVariants.{Break}
 use Rattle.plist_base.specs.Events.{IsTextOrDataEvent, PlainEvent, event_of}
-use Rattle.plist_base.specs.Faults.{OutOfMemory, fault_nowhere, fault_of}
+use Rattle.plist_base.specs.Faults.{OutOfMemory, fault_without_offset, fault_of}
 use Rattle.plist_base.specs.Visits.{Flow}
 use Rattle.plist_binread.specs.declared.first_event.FirstEvent.{FirstEvent}
 
@@ -10,4 +10,4 @@ use Rattle.plist_binread.specs.declared.first_event.FirstEvent.{FirstEvent}
 abbrev pub KeepsEvent : PlainEvent → Flow → FirstEvent → Type 0
 KeepsEvent event flow visitor = (flow ≡ Break tt) × MatchResult visitor.kept
     (λ owned. event_of owned ≡ event)
-    (λ error. (fault_of error ≡ fault_nowhere OutOfMemory) × IsTextOrDataEvent event)
+    (λ error. (fault_of error ≡ fault_without_offset OutOfMemory) × IsTextOrDataEvent event)

@@ -1,7 +1,7 @@
 //! The error of a step that failed, which is kept apart so that the results of steps stay small.
 
 ghost use Rattle.std.specs.Prelude.{◌≡◌, ℕ};
-ghost use Rattle.plist_base.specs.Faults.{ObjectOffsetTooLarge, OutOfMemory, fault_at, fault_nowhere, fault_of};
+ghost use Rattle.plist_base.specs.Faults.{ObjectOffsetTooLarge, OutOfMemory, fault_at, fault_without_offset, fault_of};
 ghost use Rattle.plist_base.specs.Sources.{CountsIo};
 ghost use Rattle.plist_format.specs.Object.{Object};
 ghost use Rattle.plist_binread.specs.FaultOffsets.{FailsWithin};
@@ -50,7 +50,7 @@ impl FaultSlot {
     #[cold]
     #[inline(never)]
     pub fn refuse_memory(&mut self) -> StepError
-        ensures fault { fault_of self.new.fault ≡ fault_nowhere OutOfMemory }
+        ensures fault { fault_of self.new.fault ≡ fault_without_offset OutOfMemory }
     {
         self.refuse(ErrorKind::OutOfMemory.without_position())
     }

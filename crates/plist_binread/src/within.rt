@@ -2,7 +2,7 @@
 
 ghost use Rattle.std.specs.Prelude.{◌≡◌};
 
-use plist_base::{Allowance, Error, Event, EventVisitor, Limiter};
+use plist_base::{Allowance, Error, Event, EventVisitor, LimitCounter};
 use std::ops::ControlFlow;
 
 /// Passes events on to another visitor, as many as limits admit.
@@ -10,7 +10,7 @@ use std::ops::ControlFlow;
 /// The first event that isn't admitted is the last one that it takes.
 #[derive(Drop)]
 pub struct Within<'v, V> {
-    limiter: &'v mut Limiter,
+    limiter: &'v mut LimitCounter,
     // The error of the event that wasn't admitted.
     reached: &'v mut Result<(), Error>,
     visitor: &'v mut V,
@@ -20,7 +20,7 @@ impl<'v, V: EventVisitor> Within<'v, V> {
     /// Creates a visitor that passes events on. The error of one that isn't admitted goes into
     /// `reached`.
     pub fn new(
-        limiter: &'v mut Limiter,
+        limiter: &'v mut LimitCounter,
         reached: &'v mut Result<(), Error>,
         visitor: &'v mut V,
     ) -> Within<'v, V>

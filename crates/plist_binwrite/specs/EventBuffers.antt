@@ -5,7 +5,7 @@ use Rattle.plist_base.specs.declared.error.EventKind.{EventKind}
 use Rattle.plist_base.specs.declared.error.EventKind.TheVariants as event_kind
 use Rattle.plist_base.specs.Bracketing.{without_length, AreTreeEvents, AreComplete, CanContinue}
 use Rattle.plist_base.specs.Events.{PlainEvent, kind_of_event}
-use Rattle.plist_base.specs.Faults.{Fault, UnexpectedEventType, fault_nowhere}
+use Rattle.plist_base.specs.Faults.{Fault, UnexpectedEventType, fault_without_offset}
 use Rattle.plist_binwrite.specs.declared.event_buffer.EventBuffer.{EventBuffer}
 use Rattle.plist_binwrite.specs.declared.event_buffer.PushError.{PushError}
 use Rattle.plist_binwrite.specs.declared.event_buffer.PushError.TheVariants as push_error
@@ -27,7 +27,7 @@ expected_instead (event ∷ events) = event_kind.DictionaryKeyOrEndCollection
 -- the fault of an event that can't follow the buffered ones
 abbrev pub misplaced_fault : List PlainEvent → PlainEvent → Fault
 misplaced_fault held event =
-    fault_nowhere (UnexpectedEventType (expected_instead held) (kind_of_event event))
+    fault_without_offset (UnexpectedEventType (expected_instead held) (kind_of_event event))
 
 -- the error for an event of this kind that can't follow the buffered ones
 abbrev pub misplaced_error : List PlainEvent → (found : EventKind) → PushError
@@ -61,5 +61,5 @@ abbrev pub RejectsEvent : (before : EventBuffer) → PlainEvent → (after : Eve
     → Type 0
 RejectsEvent before event after (push_error.Misplaced expected found) =
     IsMisplaced (buffered_events before) event
-    (fault_nowhere (UnexpectedEventType expected found)) × (after ≡ before)
+    (fault_without_offset (UnexpectedEventType expected found)) × (after ≡ before)
 RejectsEvent before event after push_error.OutOfMemory = CanTake before event

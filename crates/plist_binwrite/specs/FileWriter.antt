@@ -3,7 +3,7 @@ use Rattle.std.specs.Prelude.{◌≡◌, ◌⊎◌, ℕ, Bool, true, false, List
 use Rattle.std.specs.declared.io.traits.Write.{Ghosts}
 use Rattle.plist_base.specs.Bracketing.{without_length, AreTreeEvents, CanContinue}
 use Rattle.plist_base.specs.Events.{PlainEvent}
-use Rattle.plist_base.specs.Faults.{WriterFailed, fault_nowhere}
+use Rattle.plist_base.specs.Faults.{WriterFailed, fault_without_offset}
 use Rattle.plist_base.specs.Trees.{Tree}
 use Rattle.plist_base.specs.Writing.{Answer, MatchKind}
 use Rattle.plist_binwrite.specs.declared.sharing.Sharing.{Ghosts as SharingGhosts}
@@ -66,5 +66,5 @@ module _ {W S : Type 0} {g : Ghosts W} {h : SharingGhosts S} (IsFile : Tree → 
       → (after : FileWriter W S g h) → Type 0
   IsWriterStep before event answer after =
       MatchBool (failed_of before)
-      ((answer ≡ Err (fault_nowhere WriterFailed)) × (after ≡ before))
+      ((answer ≡ Err (fault_without_offset WriterFailed)) × (after ≡ before))
       (TakesEvent before event answer after)

@@ -19,7 +19,7 @@ pub fn count_objects(alloc: Global, bytes: &[u8]) -> (usize, usize)
     (before, reader.objects_in_file())
 }
 
-/// Returns how many objects a file has whose root isn't one of them: as many as its head has.
+/// Returns the number of objects in a file whose root isn't one of them, which is that of its head.
 pub fn count_without_root(alloc: Global, bytes: &[u8]) -> Option<usize>
     ensures { IfSome result (λ count. count ≡ objects_in_head bytes.now) }
 {

@@ -226,22 +226,23 @@ pub fn put_uid(dest: &mut Value, uid: Uid) -> Option<&Uid>
 }
 
 /// Removes the items of an array. Any other value is unchanged.
-pub fn drop_items(held: &mut Value)
-    ensures items { IsSome (array_in (tree_of held.old)) → tree_of held.new ≡ Array NoTrees }
-    ensures other { array_in (tree_of held.old) ≡ None → held.new ≡ held.old }
+pub fn drop_items(value: &mut Value)
+    ensures items { IsSome (array_in (tree_of value.old)) → tree_of value.new ≡ Array NoTrees }
+    ensures other { array_in (tree_of value.old) ≡ None → value.new ≡ value.old }
 {
-    match held.as_array_mut() {
+    match value.as_array_mut() {
         Some(items) => items.clear(),
         None => {}
     }
 }
 
 /// Removes the pairs of a dictionary. Any other value is unchanged.
-pub fn drop_pairs(held: &mut Value)
-    ensures pairs { IsSome (dictionary_in (tree_of held.old)) → tree_of held.new ≡ Pairs NoMembers }
-    ensures other { dictionary_in (tree_of held.old) ≡ None → held.new ≡ held.old }
+pub fn drop_pairs(value: &mut Value)
+    ensures pairs { IsSome (dictionary_in (tree_of value.old)) → tree_of value.new
+        ≡ Pairs NoMembers }
+    ensures other { dictionary_in (tree_of value.old) ≡ None → value.new ≡ value.old }
 {
-    match held.as_dictionary_mut() {
+    match value.as_dictionary_mut() {
         Some(pairs) => pairs.clear(),
         None => {}
     }

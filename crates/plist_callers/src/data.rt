@@ -32,18 +32,18 @@ pub fn bytes_of_copy(first: &Data) -> Result<Vec<u8>, Error>
 }
 
 /// Returns the first byte of data, if it has one.
-pub fn first_byte(held: &Data) -> Option<u8>
-    ensures { result ≡ slice_get held.now 0 }
+pub fn first_byte(first: &Data) -> Option<u8>
+    ensures { result ≡ slice_get first.now 0 }
 {
-    held.as_ref().first().copied()
+    first.as_ref().first().copied()
 }
 
 /// Sets the first byte of data. The others don't change.
-pub fn set_first_byte(held: &mut Data, byte: u8)
-    requires { 0 < length held.old }
-    ensures { held.new ≡ slice_set held.old 0 byte }
+pub fn set_first_byte(first: &mut Data, byte: u8)
+    requires { 0 < length first.old }
+    ensures { first.new ≡ slice_set first.old 0 byte }
 {
-    let bytes = held.as_mut();
+    let bytes = first.as_mut();
     bytes[0] = byte;
 }
 

@@ -63,7 +63,8 @@ pub fn set_by_entry(
     first: Value,
     value: Value,
 ) -> Result<(), (String, Value)>
-    ensures done { OnOk result (IsSetAt (pairs_of pairs.old) (string_bytes key) value (pairs_of pairs.new)) }
+    ensures done { OnOk result (IsSetAt (pairs_of pairs.old) (string_bytes key) value
+        (pairs_of pairs.new)) }
     ensures refused { OnErr result (pairs_of pairs.new ≡ pairs_of pairs.old) }
     ensures handed_back { IfErr result (λ back. back ≡ (key, first)) }
 {
@@ -81,7 +82,8 @@ pub fn set_by_made_entry<F: FnOnce() -> Value>(
     value: Value,
 ) -> Result<(), (String, Value)>
     requires { F.pre first }
-    ensures done { OnOk result (IsSetAt (pairs_of pairs.old) (string_bytes key) value (pairs_of pairs.new)) }
+    ensures done { OnOk result (IsSetAt (pairs_of pairs.old) (string_bytes key) value
+        (pairs_of pairs.new)) }
     ensures refused { OnErr result (pairs_of pairs.new ≡ pairs_of pairs.old) }
     ensures handed_back { IfErr result (λ back. (back.0 ≡ key) × F.post first back.1) }
 {
@@ -93,7 +95,8 @@ pub fn set_by_made_entry<F: FnOnce() -> Value>(
 /// Removes a key through its entry.
 pub fn take_by_entry(pairs: &mut Dictionary, key: String) -> Option<Value>
     ensures value { result ≡ lookup (bytes_eq (string_bytes key)) (pairs_of pairs.old) }
-    ensures pairs { OnSome result (IsTakenAt (pairs_of pairs.old) (string_bytes key) (pairs_of pairs.new)) }
+    ensures pairs { OnSome result (IsTakenAt (pairs_of pairs.old) (string_bytes key)
+        (pairs_of pairs.new)) }
 {
     match pairs.entry(key) {
         Occupied(entry) => Some(entry.remove()),

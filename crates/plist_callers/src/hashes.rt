@@ -7,7 +7,7 @@ ghost use Rattle.std.specs.List.{fold};
 use plist::{Date, Integer, RealBits, Uid};
 use std::hash::{DefaultHasher, Hash, Hasher};
 
-// Returns the hash of a value: that of its writes, in order.
+// Returns the hash of a value, which is that of its writes in order.
 fn hash_of<T: Hash>(value: &T) -> u64
     ensures { result ≡ sip.finish (fold sip.write sip.initial (T.hash_input value.now)) }
 {

@@ -10,7 +10,7 @@ ghost use Rattle.plist_pairs.specs.Shown.{shown_key, shown_owned_pair, shown_pai
 use plist::{Dictionary, Value};
 
 /// What an iterator reported before its first call, and what that call returned.
-pub struct Begun<T> {
+pub struct FirstCall<T> {
     /// The number of remaining items.
     pub left: usize,
     /// The bounds on the number of remaining items.
@@ -20,7 +20,7 @@ pub struct Begun<T> {
 }
 
 /// Starts to iterate over the pairs.
-pub fn begin_pairs(pairs: &Dictionary) -> Begun<(&String, &Value)>
+pub fn begin_pairs(pairs: &Dictionary) -> FirstCall<(&String, &Value)>
     ensures left { result.left ≡ length (pairs_of pairs.now) }
     ensures hint { result.hint ≡ (length (pairs_of pairs.now), Some (length (pairs_of pairs.now))) }
     ensures first { option_map shown_pair result.first ≡ slice_get (pairs_of pairs.now) 0 }
@@ -28,11 +28,11 @@ pub fn begin_pairs(pairs: &Dictionary) -> Begun<(&String, &Value)>
     let mut iter = pairs.into_iter();
     let (left, hint) = (iter.len(), iter.size_hint());
     let first = iter.next();
-    Begun { left, hint, first }
+    FirstCall { left, hint, first }
 }
 
 /// Starts to iterate over the keys.
-pub fn begin_keys(pairs: &Dictionary) -> Begun<&String>
+pub fn begin_keys(pairs: &Dictionary) -> FirstCall<&String>
     ensures left { result.left ≡ length (keys_of (pairs_of pairs.now)) }
     ensures hint { result.hint ≡ (result.left, Some result.left) }
     ensures first { option_map shown_key result.first ≡ slice_get (keys_of (pairs_of pairs.now)) 0 }
@@ -40,11 +40,11 @@ pub fn begin_keys(pairs: &Dictionary) -> Begun<&String>
     let mut keys = pairs.keys();
     let (left, hint) = (keys.len(), keys.size_hint());
     let first = keys.next();
-    Begun { left, hint, first }
+    FirstCall { left, hint, first }
 }
 
 /// Starts to iterate over the values.
-pub fn begin_values(pairs: &Dictionary) -> Begun<&Value>
+pub fn begin_values(pairs: &Dictionary) -> FirstCall<&Value>
     ensures left { result.left ≡ length (values_of (pairs_of pairs.now)) }
     ensures hint { result.hint ≡ (result.left, Some result.left) }
     ensures first { option_map deref result.first ≡ slice_get (values_of (pairs_of pairs.now)) 0 }
@@ -52,11 +52,11 @@ pub fn begin_values(pairs: &Dictionary) -> Begun<&Value>
     let mut values = pairs.values();
     let (left, hint) = (values.len(), values.size_hint());
     let first = values.next();
-    Begun { left, hint, first }
+    FirstCall { left, hint, first }
 }
 
 /// Starts to iterate over the pairs by value.
-pub fn begin_own_pairs(pairs: Dictionary) -> Begun<(String, Value)>
+pub fn begin_own_pairs(pairs: Dictionary) -> FirstCall<(String, Value)>
     ensures left { result.left ≡ length (pairs_of pairs) }
     ensures hint { result.hint ≡ (result.left, Some result.left) }
     ensures first { option_map shown_owned_pair result.first ≡ slice_get (pairs_of pairs) 0 }
@@ -64,5 +64,5 @@ pub fn begin_own_pairs(pairs: Dictionary) -> Begun<(String, Value)>
     let mut iter = pairs.into_iter();
     let (left, hint) = (iter.len(), iter.size_hint());
     let first = iter.next();
-    Begun { left, hint, first }
+    FirstCall { left, hint, first }
 }

@@ -2,12 +2,12 @@
 
 ghost use Rattle.std.specs.Prelude.{◌≡◌, false};
 
-use plist_base::{Allowance, Error, Limited, OwnedEvent};
+use plist_base::{Allowance, Error, LimitedItems, OwnedEvent};
 
 /// Returns whether, under limits or within a budget, an item follows the `None` of an iterator that
 /// may yield more. None does.
 pub fn comes_after_none<I: Iterator<Item = Result<OwnedEvent, Error>>, A: Allowance>(
-    limited: &mut Limited<I, A>,
+    limited: &mut LimitedItems<I, A>,
 ) -> bool
     requires { (items : I) → I.can_next items }
     ensures { result ≡ false }

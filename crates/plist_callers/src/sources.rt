@@ -10,7 +10,7 @@ use std::alloc::Global;
 use std::io;
 use std::io::{Read, Seek};
 
-/// Reads bytes of a slice: those at the offset, if there are this many.
+/// Fills the buffer with the bytes of a slice at the offset, if there are this many.
 pub fn read_slice(bytes: &[u8], place: u64, buf: &mut [u8]) -> Result<(), Error>
     requires { place + length buf.old < 2 ^ 64 }
     ensures bytes { OnOk result (LiesAt bytes.now place buf.new) }
@@ -20,7 +20,7 @@ pub fn read_slice(bytes: &[u8], place: u64, buf: &mut [u8]) -> Result<(), Error>
     read_exact_at(&mut source, place, buf)
 }
 
-/// Reads bytes of a vector: those at the offset, if there are this many.
+/// Fills the buffer with the bytes of a vector at the offset, if there are this many.
 pub fn read_vector(bytes: Vec<u8>, place: u64, buf: &mut [u8]) -> Result<(), Error>
     requires { place + length buf.old < 2 ^ 64 }
     ensures bytes { OnOk result (LiesAt bytes.items place buf.new) }
@@ -38,7 +38,8 @@ pub fn sizes(bytes: &[u8], more: Vec<u8>) -> (Option<u64>, Option<u64>)
     (slice.size().ok(), vector.size().ok())
 }
 
-/// Returns how many bytes a slice and a vector have buffered from an offset on: all that there are.
+/// Returns the numbers of bytes that a slice and a vector have buffered from an offset on, which
+/// are all their bytes.
 pub fn lent(bytes: &[u8], more: &Vec<u8>, place: u64) -> (usize, usize)
     ensures { result ≡ (length (drop place bytes.now), length (drop place more.now.items)) }
 {

@@ -3,11 +3,11 @@
 
 ghost use Rattle.std.specs.Prelude.{◌≡◌, Err, IfOk, IfSome, false, true};
 ghost use Rattle.plist_ascii.specs.Texts.{tight_stops};
-ghost use Rattle.plist_base.specs.Faults.{WriterFailed, fault_nowhere};
+ghost use Rattle.plist_base.specs.Faults.{WriterFailed, fault_without_offset};
 ghost use Rattle.plist_reader.specs.Reader.{items_of_dialect, items_of_input};
 ghost use Rattle.plist.specs.Collecting.{built_tree};
 ghost use Rattle.plist.specs.ValueOfItems.{IsValueOf};
-ghost use Rattle.plist.specs.Limiting.{NestsWithin};
+ghost use Rattle.plist.specs.LimitedValues.{NestsWithin};
 ghost use Rattle.plist.specs.FromReader.{items_of_text};
 ghost use Rattle.plist.specs.Dictionaries.{pairs_of};
 ghost use Rattle.plist.specs.ValueTrees.{tree_of, tree_pairs};
@@ -65,7 +65,8 @@ pub fn finish_without_memory(
     builder: &mut Builder,
     event: Event<'_>,
 ) -> Option<Result<Value, Error>>
-    ensures { IfSome result (λ answer. built_tree answer ≡ Err (fault_nowhere WriterFailed)) }
+    ensures { IfSome result (λ answer. built_tree answer ≡ Err
+        (fault_without_offset WriterFailed)) }
 {
     match builder.write(event) {
         Ok(()) => None,

@@ -2,7 +2,7 @@
 //! failed; one that ran out of memory for an event has.
 
 ghost use Rattle.std.specs.Prelude.{◌≡◌, Err, IfErr, IfSome, ⊤};
-ghost use Rattle.plist_base.specs.Faults.{WriterFailed, error_kind_of, fault_nowhere, kind_of};
+ghost use Rattle.plist_base.specs.Faults.{WriterFailed, error_kind_of, fault_without_offset, kind_of};
 ghost use Rattle.plist_base.specs.Writing.{MatchKind, answer_of};
 ghost use Rattle.plist_binwrite.specs.FileWriter.{sink_of};
 
@@ -38,7 +38,8 @@ pub fn next_without_memory<W: Write + Drop>(
     event: Event<'_>,
     next: Event<'_>,
 ) -> Option<(Result<(), Error>, W)>
-    ensures failed { IfSome result (λ found. answer_of found.0 ≡ Err (fault_nowhere WriterFailed)) }
+    ensures failed { IfSome result (λ found. answer_of found.0 ≡ Err
+        (fault_without_offset WriterFailed)) }
     ensures inner { IfSome result (λ found. found.1 ≡ sink_of writer) }
 {
     let mut writer = writer;

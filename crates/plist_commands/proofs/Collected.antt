@@ -8,11 +8,11 @@ use Rattle.plist_base.specs.declared.error.Error.{Error}
 use Rattle.plist_base.specs.declared.visitor.Visited.{Visited}
 use Rattle.plist_base.specs.declared.visitor.Visited.TheVariants.{Ended, Stopped}
 use Rattle.plist_base.specs.Events.{PlainEvent, Item}
-use Rattle.plist_base.specs.Faults.{Fault, OutOfMemory, error_kind_of, fault_nowhere, fault_of, kind_of}
+use Rattle.plist_base.specs.Faults.{Fault, OutOfMemory, error_kind_of, fault_without_offset, fault_of, kind_of}
 use Rattle.plist_base.specs.Sources.{ItemCountsIo}
 use Rattle.plist_base.specs.Visits.{Flow, PlainItem, Visits}
 use Rattle.plist_base.proofs.Refusals.{MatchFault-at}
-use Rattle.plist_base.proofs.Visiting.{kept_all}
+use Rattle.plist_base.proofs.Visits.{kept_all}
 use Rattle.plist_binwrite.specs.EventBuffers.{TestsWhole}
 use Rattle.plist.specs.ValueOfItems.{IsReadIfKnown}
 use Rattle.plist_base.specs.declared.source.Source.{Ghosts}
@@ -26,14 +26,14 @@ use Rattle.plist_commands.specs.Holding.{AnswersVisit, HasPaused, HoldsMore, IsE
 use Rattle.plist_commands.specs.Items.{ComesIfKnown}
 use Rattle.plist_commands.specs.Printing.{CountsReads}
 use Rattle.plist_commands.specs.ReaderRuns.{HoldsRun, StepsBinary}
-use Rattle.plist_commands.proofs.Coming.{binary_comes}
-use Rattle.plist_commands.proofs.HeldBack.{fault_counts, memory_own, own_counts}
+use Rattle.plist_commands.proofs.SourceItems.{binary_comes}
+use Rattle.plist_commands.proofs.PendingBytes.{fault_counts, memory_own, own_counts}
 use Rattle.plist_commands.proofs.Runs.{HasHeld, held_faulted, held_more, held_none, held_refused, held_stopped, held_whole}
 use Rattle.plist_commands.proofs.Streaming.{HasTaken, came_next, goes_on, held_at_end, taken_none, tells_next, tells_none, took_event, took_fault, whole_at_end}
 
 -- memory may be refused whatever the items are
 read_without_memory : (items : Option (List Item)) (error : Error)
-    → fault_of error ≡ fault_nowhere OutOfMemory → IsReadIfKnown items (Err (fault_of error))
+    → fault_of error ≡ fault_without_offset OutOfMemory → IsReadIfKnown items (Err (fault_of error))
 read_without_memory None error memory = tt
 read_without_memory (Some all) error memory =
     MatchFault-at (kind_of (error_kind_of error)) OutOfMemory ⊤ ⊤ _
@@ -130,7 +130,7 @@ module _ {I : Type 0} (gives : I → PlainItem → I → Type 0) (coming : I →
           × HoldsMore (is_complete new.1) (collected visit.left.1) event (collected new.1))
           (TestsWhole (is_complete visit.left.1) (collected visit.left.1)
           → CanContinue (collected visit.left.1) event → ⊥)
-          (λ error. fault_of error ≡ fault_nowhere OutOfMemory)
+          (λ error. fault_of error ≡ fault_without_offset OutOfMemory)
           → MatchStop stop (◌≡◌ {A = Bool} true true) (◌≡◌ {A = Bool} true false)
           (λ error. ◌≡◌ {A = Bool} true false) → Held first new
       by Paused event given taken paused =
@@ -168,7 +168,7 @@ module _ {I : Type 0} (gives : I → PlainItem → I → Type 0) (coming : I →
       × HoldsMore (is_complete new.1) (collected left.1) event (collected new.1))
       (TestsWhole (is_complete left.1) (collected left.1)
       → CanContinue (collected left.1) event → ⊥)
-      (λ error. fault_of error ≡ fault_nowhere OutOfMemory)
+      (λ error. fault_of error ≡ fault_without_offset OutOfMemory)
       → MatchStop stop (answer ≡ Ok false) (answer ≡ Ok false) (λ error. answer ≡ Err error)
       → Concludes gives coming failures first answer new
   stops_there first left new event Paused answer held last not_paused taken is =

@@ -1,12 +1,12 @@
 pub mod Blocks
-pub mod Coming
+pub mod SourceItems
 pub mod Collected
-pub mod HeldBack
-pub mod Passing
+pub mod PendingBytes
+pub mod LineParts
 pub mod PlainBytes
 pub mod Runs
-pub mod Printed
+pub mod ScalarLines
 pub mod Printers
 pub mod Streaming
 pub mod Trees
-pub mod Said
+pub mod ErrorMessages

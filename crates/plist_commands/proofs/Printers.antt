@@ -6,13 +6,13 @@ use Rattle.plist_base.specs.declared.error.Error.{Error}
 use Rattle.plist_base.specs.declared.sink.Sink.{Sink}
 use Rattle.plist_base.specs.declared.visitor.Visited.TheVariants.{Ended, Stopped}
 use Rattle.plist_base.specs.Events.{PlainEvent}
-use Rattle.plist_base.specs.Faults.{Io, fault_nowhere, fault_of}
+use Rattle.plist_base.specs.Faults.{Io, fault_without_offset, fault_of}
 use Rattle.plist_base.specs.Prefixes.{AppendsPrefix}
 use Rattle.plist_base.specs.Sinks.{Puts, pending, written}
 use Rattle.plist_base.specs.Visits.{HandsOverAll, PlainItem, Visits}
-use Rattle.plist_base.proofs.Fronts.{Appends-at}
+use Rattle.plist_base.proofs.WriterBytes.{Appends-at}
 use Rattle.plist_base.proofs.SinkSteps.{same_itself, same_then}
-use Rattle.plist_base.proofs.Visiting.{kept_all}
+use Rattle.plist_base.proofs.Visits.{kept_all}
 use Rattle.plist_commands.specs.declared.print.Printer.{Printer}
 use Rattle.plist_commands.specs.Printers.{FailsAfterLines, IsSamePrinter, PrintsLine, pending_lines, printed}
 use Rattle.plist_commands.specs.ReaderRuns.{PrintsRun}
@@ -22,7 +22,7 @@ module _ {W : Type 0} (contents : W → Option (List ℕ)) where
   -- what was pending is written
   pub record Empties (old : Sink W) (answer : Result (Unit {0}) Error) (new : Sink W) : Type 0 where
     pub sent : OnOk answer (Appends (written contents old) (written contents new) (pending old))
-    pub fault : IfErr answer (λ error. fault_of error ≡ fault_nowhere Io)
+    pub fault : IfErr answer (λ error. fault_of error ≡ fault_without_offset Io)
     pub prefix : AppendsPrefix (written contents old) (written contents new) (pending old)
 
   pub empties : (old new : Sink W) (answer : Result (Unit {0}) Error) → Puts contents old [] answer new
@@ -56,35 +56,35 @@ module _ {W : Type 0} (contents : W → Option (List ℕ)) where
       let done = empties old new answer put none in
       record { same = put.same; lines = inr (rw is at done.fault); prefix = done.prefix }
 
-module _ {I W : Type 0} (gives : I → PlainItem → I → Type 0) (contents : W → Option (List ℕ)) where
+module _ {I W : Type 0} (yields : I → PlainItem → I → Type 0) (contents : W → Option (List ℕ)) where
   -- the events that came so far were taken
   abbrev Ran : (old now : I × Printer W) → Type 0
   Ran old now =
-      HasRun gives old.0 now.0 (printed contents old.1) (printed contents now.1)
+      HasRun yields old.0 now.0 (printed contents old.1) (printed contents now.1)
       (pending_lines now.1)
       × IsSamePrinter old.1 now.1
 
   ran_all : (old new : I × Printer W) (events : List PlainEvent) → pending_lines old.1 ≡ []
-      → HandsOverAll gives (PrintsLine contents) old events new → Ran old new
+      → HandsOverAll yields (PrintsLine contents) old events new → Ran old new
   ran_all old new events none handed =
-      kept_all gives (PrintsLine contents) (Ran old)
+      kept_all yields (PrintsLine contents) (Ran old)
       (λ now next event (run, same) one. (
-        run_more gives old.0 now.0 next.0 event (printed contents old.1) (printed contents now.1)
+        run_more yields old.0 now.0 next.0 event (printed contents old.1) (printed contents now.1)
             (printed contents next.1) (pending_lines now.1) (pending_lines next.1) run one.given
             one.taken.follows,
         same_then same one.taken.same,
       ))
       old new events (
-        run_none gives old.0 (printed contents old.1) (pending_lines old.1) none,
+        run_none yields old.0 (printed contents old.1) (pending_lines old.1) none,
         same_itself,
       )
       handed
 
   -- then nothing came
   pub visited_ended : (old new : I × Printer W) → pending_lines old.1 ≡ []
-      → Visits gives (PrintsLine contents) old (Ok Ended) new
-      → (left : I) × gives left None new.0
-      × HasRun gives old.0 left (printed contents old.1) (printed contents new.1)
+      → Visits yields (PrintsLine contents) old (Ok Ended) new
+      → (left : I) × yields left None new.0
+      × HasRun yields old.0 left (printed contents old.1) (printed contents new.1)
       (pending_lines new.1)
       × IsSamePrinter old.1 new.1
   visited_ended old new none visit =
@@ -97,9 +97,9 @@ module _ {I W : Type 0} (gives : I → PlainItem → I → Type 0) (contents : W
 
   -- or an error did
   pub visited_error : (old new : I × Printer W) (error : Error) → pending_lines old.1 ≡ []
-      → Visits gives (PrintsLine contents) old (Err error) new
-      → (left : I) × gives left (Some (Err error)) new.0
-      × HasRun gives old.0 left (printed contents old.1) (printed contents new.1)
+      → Visits yields (PrintsLine contents) old (Err error) new
+      → (left : I) × yields left (Some (Err error)) new.0
+      × HasRun yields old.0 left (printed contents old.1) (printed contents new.1)
       (pending_lines new.1)
       × IsSamePrinter old.1 new.1
   visited_error old new error none visit =
@@ -112,14 +112,14 @@ module _ {I W : Type 0} (gives : I → PlainItem → I → Type 0) (contents : W
 
   -- or the printer stopped
   pub visited_stopped : (old new : I × Printer W) → pending_lines old.1 ≡ []
-      → Visits gives (PrintsLine contents) old (Ok Stopped) new
-      → PrintsRun gives old.0 (Err new.1.failure) new.0 (printed contents old.1)
+      → Visits yields (PrintsLine contents) old (Ok Stopped) new
+      → PrintsRun yields old.0 (Err new.1.failure) new.0 (printed contents old.1)
       (printed contents new.1)
       × IsSamePrinter old.1 new.1
   visited_stopped old new none visit =
       let ran = ran_all old visit.left visit.events none visit.handed in
       let (event, one) = visit.ended in (
-        run_stopped gives old.0 visit.left.0 new.0 event (printed contents old.1)
+        run_stopped yields old.0 visit.left.0 new.0 event (printed contents old.1)
             (printed contents visit.left.1) (printed contents new.1) (pending_lines visit.left.1)
             new.1.failure ran.0 one.given one.taken.follows.0 one.taken.follows.1,
         same_then ran.1 one.taken.same,

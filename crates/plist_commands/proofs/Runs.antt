@@ -11,12 +11,12 @@ use Rattle.plist_commands.specs.declared.convert.Streamed.TheVariants.{NeedsValu
 use Rattle.plist_commands.specs.Converting.{IfOkIs}
 use Rattle.plist_base.specs.declared.error.Error.{Error}
 use Rattle.plist_base.specs.Events.{PlainEvent}
-use Rattle.plist_base.specs.Faults.{Fault, FaultKind, Io, IsIo, IsIoOrMemory, MatchFault, OutOfMemory, error_kind_of, fault_nowhere, fault_of, kind_of, offset_of}
+use Rattle.plist_base.specs.Faults.{Fault, FaultKind, Io, IsIo, IsIoOrMemory, MatchFault, OutOfMemory, error_kind_of, fault_without_offset, fault_of, kind_of, offset_of}
 use Rattle.plist_base.specs.Prefixes.{AppendsPrefix}
 use Rattle.plist_base.specs.Sinks.{WritesBut}
-use Rattle.plist_base.specs.Visits.{GivesAll, PlainItem}
-use Rattle.plist_base.proofs.Fronts.{Appends-at}
-use Rattle.plist_base.proofs.Visiting.{given_more}
+use Rattle.plist_base.specs.Visits.{YieldsAll, PlainItem}
+use Rattle.plist_base.proofs.WriterBytes.{Appends-at}
+use Rattle.plist_base.proofs.Visits.{given_more}
 use Rattle.plist_commands.specs.EscapedLines.{line_of, lines_of_events}
 use Rattle.plist_commands.specs.Printing.{IsWriterFault}
 use Rattle.plist_commands.specs.ReaderRuns.{ComesOfReading, HoldsRun, PrintsRun}
@@ -59,21 +59,21 @@ front_kept old now after bytes (sent, rest, appended, is) kept =
 
 -- the writer failed, or memory ran out
 own_fault : (fault : Fault) → IsWriterFault fault
-    → (fault ≡ fault_nowhere Io) ⊎ (fault ≡ fault_nowhere OutOfMemory)
+    → (fault ≡ fault_without_offset Io) ⊎ (fault ≡ fault_without_offset OutOfMemory)
 own_fault fault (none, own) = by fault.kind fault.offset none own
   where
     by : (kind : FaultKind) (offset : Option ℕ) → offset ≡ None → IsIoOrMemory kind
-        → (◌≡◌ {A = Fault} (record { kind = kind; offset = offset }) (fault_nowhere Io))
-        ⊎ (◌≡◌ {A = Fault} (record { kind = kind; offset = offset }) (fault_nowhere OutOfMemory))
+        → (◌≡◌ {A = Fault} (record { kind = kind; offset = offset }) (fault_without_offset Io))
+        ⊎ (◌≡◌ {A = Fault} (record { kind = kind; offset = offset }) (fault_without_offset OutOfMemory))
     by Io offset none own = inl (rw none refl)
     by OutOfMemory offset none own = inr (rw none refl)
     by kind offset none own = absurd own
 
 -- this many events came, whose lines were sent or are held back
-abbrev pub HasRun : {I : Type 0} (gives : I → PlainItem → I → Type 0) (old now : I)
+abbrev pub HasRun : {I : Type 0} (yields : I → PlainItem → I → Type 0) (old now : I)
     → (before after : Option (List ℕ)) → (held : List ℕ) → Type 0
-HasRun gives old now before after held =
-    (events : List PlainEvent) × GivesAll gives old events now
+HasRun yields old now before after held =
+    (events : List PlainEvent) × YieldsAll yields old events now
     × WritesBut before after (lines_of_events events) held
 
 -- with one line more
@@ -96,33 +96,33 @@ passed_further before now after lines held kept (sent, appended, is) (part, more
   is ∙ ap (λ l. sent ++ l) split ∙ sym (append_assoc sent part kept),
 )
 
-module _ {I : Type 0} (gives : I → PlainItem → I → Type 0) where
+module _ {I : Type 0} (yields : I → PlainItem → I → Type 0) where
   pub run_none : (old : I) (before : Option (List ℕ)) (held : List ℕ) → held ≡ []
-      → HasRun gives old old before before held
+      → HasRun yields old old before before held
   run_none old before held none = ([], refl, ([], Appends-nil before, sym none))
 
   -- one event more
   pub run_more : (old now new : I) (event : PlainEvent) (before here after : Option (List ℕ))
-      (held kept : List ℕ) → HasRun gives old now before here held
-      → gives now (Some (Ok event)) new → WritesBut here after (held ++ line_of event) kept
-      → HasRun gives old new before after kept
+      (held kept : List ℕ) → HasRun yields old now before here held
+      → yields now (Some (Ok event)) new → WritesBut here after (held ++ line_of event) kept
+      → HasRun yields old new before after kept
   run_more old now new event before here after held kept (events, through, passed) step line = (
     events ++ event ∷ [],
-    given_more gives old now new events event through step,
+    given_more yields old now new events event through step,
     passed_further before here after _ _ kept (line_held events event before here held passed) line,
   )
 
   -- its line didn't go out whole
   pub run_stopped : (old now new : I) (event : PlainEvent) (before here after : Option (List ℕ))
-      (held : List ℕ) (error : Error) → HasRun gives old now before here held
-      → gives now (Some (Ok event)) new → fault_of error ≡ fault_nowhere Io
+      (held : List ℕ) (error : Error) → HasRun yields old now before here held
+      → yields now (Some (Ok event)) new → fault_of error ≡ fault_without_offset Io
       → AppendsPrefix here after (held ++ line_of event)
-      → PrintsRun gives old (Err error) new before after
+      → PrintsRun yields old (Err error) new before after
   run_stopped old now new event before here after held error (events, through, passed) step own
       front = (
         events ++ event ∷ [],
         new,
-        given_more gives old now new events event through step,
+        given_more yields old now new events event through step,
         inr (
           inl (own, inl refl),
           front_sent before here after _ _ (line_held events event before here held passed) front,
@@ -131,17 +131,17 @@ module _ {I : Type 0} (gives : I → PlainItem → I → Type 0) where
 
   -- a fault came, which is the answer once what was held back was sent
   pub run_faulted : (old now new : I) (before here after : Option (List ℕ)) (held : List ℕ)
-      (error answer : Error) → HasRun gives old now before here held
-      → gives now (Some (Err error)) new
-      → ((answer ≡ error) × Appends here after held) ⊎ (fault_of answer ≡ fault_nowhere Io)
-      → AppendsPrefix here after held → PrintsRun gives old (Err answer) new before after
+      (error answer : Error) → HasRun yields old now before here held
+      → yields now (Some (Err error)) new
+      → ((answer ≡ error) × Appends here after held) ⊎ (fault_of answer ≡ fault_without_offset Io)
+      → AppendsPrefix here after held → PrintsRun yields old (Err answer) new before after
   run_faulted old now new before here after held error answer (events, through, passed) step
       (inl (same, sent)) front = (
         events,
         now,
         through,
         inl (
-          subst (λ e. gives now (Some (Err e)) new) (sym same) step,
+          subst (λ e. yields now (Some (Err e)) new) (sym same) step,
           all_sent before here after _ _ passed sent,
         ),
       )
@@ -158,10 +158,10 @@ module _ {I : Type 0} (gives : I → PlainItem → I → Type 0) where
 
   -- nothing came, and what was held back is sent
   pub run_ended : (old now new : I) (before here after : Option (List ℕ)) (held : List ℕ)
-      (answer : Result (Unit {0}) Error) → HasRun gives old now before here held
-      → gives now None new → OnOk answer (Appends here after held)
-      → IfErr answer (λ error. fault_of error ≡ fault_nowhere Io)
-      → AppendsPrefix here after held → PrintsRun gives old answer new before after
+      (answer : Result (Unit {0}) Error) → HasRun yields old now before here held
+      → yields now None new → OnOk answer (Appends here after held)
+      → IfErr answer (λ error. fault_of error ≡ fault_without_offset Io)
+      → AppendsPrefix here after held → PrintsRun yields old answer new before after
   run_ended old now new before here after held (Ok done) (events, through, passed) step sent own
       front = (events, now, through, (step, all_sent before here after _ _ passed sent))
   run_ended old now new before here after held (Err error) (events, through, passed) step sent own
@@ -175,15 +175,15 @@ module _ {I : Type 0} (gives : I → PlainItem → I → Type 0) where
   -- no memory for the lines
   pub run_unbegun : (old : I) (before : Option (List ℕ)) (answer : Result (Unit {0}) Error)
       (error : Error) → IsErrAnd answer (λ e. e ≡ error)
-      → fault_of error ≡ fault_nowhere OutOfMemory → PrintsRun gives old answer old before before
+      → fault_of error ≡ fault_without_offset OutOfMemory → PrintsRun yields old answer old before before
   run_unbegun old before (Ok done) error is none = absurd is
   run_unbegun old before (Err e) error is none =
       ([], old, refl, inr (inr (rw is none, refl), ([], [], Appends-nil before, refl)))
 
   -- a flush after what failed
   run_kept : (old new : I) (before now after : Option (List ℕ)) (error : Error)
-      → PrintsRun gives old (Err error) new before now → Keeps now after
-      → PrintsRun gives old (Err error) new before after
+      → PrintsRun yields old (Err error) new before now → Keeps now after
+      → PrintsRun yields old (Err error) new before after
   run_kept old new before now after error (events, left, through, inl (step, sent)) kept =
       (events, left, through, inl (step, appends_kept before now after _ sent kept))
   run_kept old new before now after error (events, left, through, inr (stops, front)) kept =
@@ -192,65 +192,65 @@ module _ {I : Type 0} (gives : I → PlainItem → I → Type 0) where
   -- what failed before stays the answer
   pub run_refused : (old new : I) (before now after : Option (List ℕ)) (error : Error)
       (answer : Result (Unit {0}) Error) → IsErrAnd answer (λ e. e ≡ error)
-      → PrintsRun gives old (Err error) new before now → Keeps now after
-      → PrintsRun gives old answer new before after
+      → PrintsRun yields old (Err error) new before now → Keeps now after
+      → PrintsRun yields old answer new before after
   run_refused old new before now after error (Ok done) same ran kept = absurd same
   run_refused old new before now after error (Err other) same ran kept =
       run_kept old new before now after other
-      (subst (λ e. PrintsRun gives old (Err e) new before now) (sym same) ran) kept
+      (subst (λ e. PrintsRun yields old (Err e) new before now) (sym same) ran) kept
 
 -- ---- events that are held
 
 -- this many events came, which are held
-abbrev pub HasHeld : {I : Type 0} (gives : I → PlainItem → I → Type 0) (old now : I)
+abbrev pub HasHeld : {I : Type 0} (yields : I → PlainItem → I → Type 0) (old now : I)
     → (held : List PlainEvent) → Type 0
-HasHeld gives old now held =
-    (events : List PlainEvent) × GivesAll gives old events now
+HasHeld yields old now held =
+    (events : List PlainEvent) × YieldsAll yields old events now
     × (held ≡ map without_length events)
 
-module _ {I : Type 0} (gives : I → PlainItem → I → Type 0) where
-  pub held_none : (old : I) (held : List PlainEvent) → held ≡ [] → HasHeld gives old old held
+module _ {I : Type 0} (yields : I → PlainItem → I → Type 0) where
+  pub held_none : (old : I) (held : List PlainEvent) → held ≡ [] → HasHeld yields old old held
   held_none old held none = ([], refl, none)
 
   -- one event more
   pub held_more : (old now new : I) (event : PlainEvent) (held longer : List PlainEvent)
-      → HasHeld gives old now held → gives now (Some (Ok event)) new
-      → longer ≡ held ++ without_length event ∷ [] → HasHeld gives old new longer
+      → HasHeld yields old now held → yields now (Some (Ok event)) new
+      → longer ≡ held ++ without_length event ∷ [] → HasHeld yields old new longer
   held_more old now new event held longer (events, through, is) step more = (
     events ++ event ∷ [],
-    given_more gives old now new events event through step,
+    given_more yields old now new events event through step,
     more ∙ ap (λ l. l ++ without_length event ∷ []) is
         ∙ sym (map-append without_length events (event ∷ [])),
   )
 
   -- a fault came
   pub held_faulted : (old now new : I) (held final : List PlainEvent) (error : Error)
-      → HasHeld gives old now held → gives now (Some (Err error)) new
-      → HoldsRun gives old (Err error) new final
+      → HasHeld yields old now held → yields now (Some (Err error)) new
+      → HoldsRun yields old (Err error) new final
   held_faulted old now new held final error (events, through, is) step =
       (events, now, through, inl step)
 
   -- an event came that can't be held
   pub held_refused : (old now new : I) (event : PlainEvent) (held final : List PlainEvent)
-      → HasHeld gives old now held → gives now (Some (Ok event)) new
-      → HoldsRun gives old (Ok false) new final
+      → HasHeld yields old now held → yields now (Some (Ok event)) new
+      → HoldsRun yields old (Ok false) new final
   held_refused old now new event held final (events, through, is) step =
       (events, now, through, (inr (event, step), λ no. absurd (true≢false (sym no))))
 
   -- memory was wanted for it
   pub held_stopped : (old now new : I) (event : PlainEvent) (held final : List PlainEvent)
-      (error : Error) → HasHeld gives old now held → gives now (Some (Ok event)) new
-      → fault_of error ≡ fault_nowhere OutOfMemory → HoldsRun gives old (Err error) new final
+      (error : Error) → HasHeld yields old now held → yields now (Some (Ok event)) new
+      → fault_of error ≡ fault_without_offset OutOfMemory → HoldsRun yields old (Err error) new final
   held_stopped old now new event held final error (events, through, is) step memory = (
     events ++ event ∷ [],
     new,
-    given_more gives old now new events event through step,
+    given_more yields old now new events event through step,
     inr (memory, refl),
   )
 
   -- nothing came
   pub held_whole : (old now new : I) (held : List PlainEvent) (whole : Bool)
-      → HasHeld gives old now held → gives now None new → HoldsRun gives old (Ok whole) new held
+      → HasHeld yields old now held → yields now None new → HoldsRun yields old (Ok whole) new held
   held_whole old now new held whole (events, through, is) step =
       (events, now, through, (inl step, λ _. (step, is)))
 
@@ -268,8 +268,8 @@ io_rises error old new io counts = by (kind_of (error_kind_of error)) io counts
 pub ends_sent : (sent : Type 0) (whole : Bool) (answer : Result Streamed Error) → whole ≡ true
     → IfOkIs answer Sent sent → IfErr answer (λ error. offset_of error ≡ None)
     → ComesOfReading sent (Ok whole) answer
-ends_sent sent whole (Ok found) is wrote nowhere = rw is wrote
-ends_sent sent whole (Err error) is wrote nowhere = rw is nowhere
+ends_sent sent whole (Ok found) is wrote without_offset = rw is wrote
+ends_sent sent whole (Err error) is wrote without_offset = rw is without_offset
 
 pub ends_left : (sent : Type 0) (whole : Bool) → whole ≡ false
     → ComesOfReading sent (Ok whole) (Ok NeedsValue)

@@ -13,7 +13,7 @@ use Rattle.plist_keyed.specs.Errors.{MatchError}
 use Rattle.plist_commands.specs.EscapedLines.{lines_of_events}
 use Rattle.plist_commands.specs.Failures.{PlainFailure, OfPlist, OfArchive, NoSuchTop}
 
--- the property list is an archive whose key names an object with this tree, or this fault
+-- the property list is an archive, in which the key names an object with this tree, or this fault
 abbrev pub IsResolvedAt : (root : Value) → (key : List ℕ) → Result Tree ArchiveFault → Type 0
 IsResolvedAt root key answer =
     (objects : List Value) × (names : List (List ℕ × Value)) × (uid : ℕ)
@@ -23,28 +23,28 @@ IsResolvedAt root key answer =
 abbrev pub IsTreeAt : (root : Value) → (key : List ℕ) → Tree → Type 0
 IsTreeAt root key tree = IsResolvedAt root key (Ok tree)
 
--- it is an archive in which the key names no object
+-- the property list is an archive in which the key names no object
 abbrev pub IsUnnamed : (root : Value) → (key : List ℕ) → Type 0
 IsUnnamed root key =
     (objects : List Value) × (names : List (List ℕ × Value)) × IsArchiveOf root objects names
     × ((uid : ℕ) → ¬ (IsUidAt key names uid))
 
--- the failure says why there is no tree; lack of memory may always be why
+-- the failure says why there is no tree; `OutOfMemory` is always possible
 abbrev pub IsRefusedAt : (root : Value) → (key : List ℕ) → PlainFailure → Type 0
 IsRefusedAt root key (OfPlist fault) = ⊥
 IsRefusedAt root key (OfArchive error) =
     MatchError error (¬ (IsArchive root)) ⊤ (λ fault. IsResolvedAt root key (Err fault))
 IsRefusedAt root key NoSuchTop = IsUnnamed root key
 
--- the lines of that tree went out
+-- the lines of the tree at the key were written
 abbrev pub PrintsTreeAt : {W : Type 0} → (contents : W → Option (List ℕ)) → (root : Value)
     → (key : List ℕ) → (old new : W) → Type 0
 PrintsTreeAt contents root key old new =
     (tree : Tree) × IsTreeAt root key tree
     × Appends (contents old) (contents new) (lines_of_events (bracketing tree))
 
--- the failure says why they didn't: there is no tree, and nothing went out; or the writer or memory
--- failed, and a beginning did
+-- the failure says why the lines weren't written: there is no tree at the key, and nothing was
+-- written; or a write or an allocation failed, and a prefix of the lines was written
 abbrev pub IsUnprintedAt : {W : Type 0} → (contents : W → Option (List ℕ)) → (root : Value)
     → (key : List ℕ) → PlainFailure → (old new : W) → Type 0
 IsUnprintedAt contents root key (OfPlist fault) old new =

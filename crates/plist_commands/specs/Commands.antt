@@ -1,4 +1,4 @@
--- What the words after the program's name ask for, and how a command ends.
+-- The command that the arguments ask for, and how a command ends.
 use Rattle.std.specs.Prelude.{◌≡◌, ◌≢◌, ℕ, Bool, List, [], ◌∷◌, Option, Result, Ok, Err, String, codes, map, string_bytes}
 use Rattle.std.specs.declared.alloc.Global.{Global}
 use Rattle.plist_commands.specs.Failures.{CommandOutcome, outcome_of}
@@ -7,19 +7,19 @@ use Rattle.plist_commands.specs.Messages.{PlainMessage, Fault}
 use Rattle.plist_commands.specs.declared.commands.Command.{Command}
 use Rattle.plist_commands.specs.declared.commands.Command.TheVariants as command
 
--- what the program can be asked to do
+-- the commands of the program
 pub data PlainCommand : Type 0 where
   Print : (file : List ℕ) → PlainCommand
   Convert : (from to : List ℕ) → PlainCommand
   Keyed : (file key : List ℕ) → PlainCommand
 
--- the words that ask for it
+-- the arguments that ask for a command
 abbrev pub words_for : PlainCommand → List (List ℕ)
 words_for (Print file) = codes "print" ∷ file ∷ []
 words_for (Convert from to) = codes "convert" ∷ from ∷ to ∷ []
 words_for (Keyed file key) = codes "keyed" ∷ file ∷ key ∷ []
 
--- the words are no command
+-- the arguments ask for no command
 abbrev pub IsNoCommand : (words : List (List ℕ)) → Type 0
 IsNoCommand words = (asked : PlainCommand) → ¬ (words ≡ words_for asked)
 
@@ -29,8 +29,8 @@ plain_command_of (command.Print file) = Print file.now
 plain_command_of (command.Convert from to) = Convert from.now to.now
 plain_command_of (command.Keyed file key) = Keyed file.now key.now
 
--- how the program ends where a command answered so: with 0 and no word where it is done, with 1
--- where it was refused, and then its fault has been reported
+-- how the program ends after this result of a command: with 0 and without a report if it succeeded;
+-- with 1 if it failed, after its error was reported
 abbrev pub IsStatusAfter : {E : Type 0} → (reports : E → PlainMessage → Bool → E → Type 0)
     → CommandOutcome → (status : ℕ)
     → (old new : E) → Type 0
@@ -38,8 +38,8 @@ IsStatusAfter reports (Ok done) status old new = (status ≡ 0) × (new ≡ old)
 IsStatusAfter reports (Err failure) status old new =
     (status ≡ 1) × ((whole : Bool) × reports old (Fault failure) whole new)
 
--- the words ask for a command that may have answered so, and an output whose bytes are known then
--- holds these
+-- the arguments ask for a command that may have this result, after which these are the known bytes
+-- of the output
 abbrev pub Answered : {O : Type 0}
     → (answers : PlainCommand → Option (List ℕ) → CommandOutcome → Option (List ℕ) → Type 0)
     → (contents : O → Option (List ℕ)) → (words : List (String Global)) → (old : O) → CommandOutcome
@@ -48,9 +48,8 @@ Answered answers contents words old answer new =
     (asked : PlainCommand) × (map string_bytes words ≡ words_for asked)
     × answers asked (contents old) answer (contents new)
 
--- Unless the status is that of wrong words, the words ask for a command that may have answered so,
--- an output whose bytes are known then holds these, and the program ends as it does after that
--- answer.
+-- Unless the status is 2, the arguments ask for a command that may have some result after which
+-- these are the known bytes of the output, and the program ends as it does after that result.
 abbrev pub RunEnds : {O E : Type 0}
     → (answers : PlainCommand → Option (List ℕ) → CommandOutcome → Option (List ℕ) → Type 0)
     → (contents : O → Option (List ℕ)) → (reports : E → PlainMessage → Bool → E → Type 0)
@@ -60,7 +59,7 @@ RunEnds answers contents reports words status old new err whole =
     × (map string_bytes words ≡ words_for asked)
     × answers asked (contents old) answer (contents new) × IsStatusAfter reports answer status err whole
 
--- the command may have answered so, and an output whose bytes are known then holds these
+-- the command may have this result, after which these are the known bytes of the output
 abbrev pub Performs : {O A : Type 0} → (answers : PlainCommand → Option (List ℕ) → CommandOutcome
     → Option (List ℕ) → Type 0) → (contents : O → Option (List ℕ)) → Command → O → Result A Failure
     → O → Type 0

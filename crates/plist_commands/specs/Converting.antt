@@ -1,4 +1,4 @@
--- What becomes of a source's property list where its file is sent without a value.
+-- What is written for a source's property list if no value is made of it.
 use Rattle.std.specs.Prelude.{◌≡◌, ◌⊎◌, ℕ, Bool, true, List, ◌++◌, Option, Result, Ok, Err, IfErr, IfOk, IfSome}
 use Rattle.std.specs.Option.{option_map}
 use Rattle.plist_base.specs.Bracketing.{bracketing, AreAlike, AreTreeEvents}
@@ -25,70 +25,70 @@ BytesHaveKeysOnce bytes = (tree : Tree) × AreItemsOfTree (items_of_input bytes)
 abbrev pub items_of_known : (known : Option (List ℕ)) → Option (List Item)
 items_of_known known = option_map items_of_input known
 
--- known bytes are read so, by the rules of values
+-- known bytes are read as this tree, or with this fault, by the rules of values
 abbrev pub IsReadAs : (known : Option (List ℕ)) → Result Tree Fault → Type 0
 IsReadAs known answer = IsReadIfKnown (items_of_known known) answer
 
--- nothing went out, and known bytes are no such list
+-- nothing was written, and known bytes are no property list in which each key occurs once
 abbrev pub LeavesToValue : {W : Type 0} → (known : Option (List ℕ)) → (old new : W) → Type 0
 LeavesToValue known old new = (new ≡ old) × IfSome known (λ bytes. BytesHaveKeysOnce bytes → ⊥)
 
 module _ {W : Type 0} (contents : W → Option (List ℕ)) (known : Option (List ℕ)) where
-  -- the tree that the bytes are read as goes out, or its sending stops
+  -- a file of the tree that the bytes are read as was written, or writing it failed
   abbrev pub SendsRead : Answer → (old new : W) → Type 0
   SendsRead answer old new =
       (tree : Tree) × IsReadAs known (Ok tree) × SendsTree contents tree answer old new
 
-  -- nothing is read, and nothing went out; or the sending of what is read stops
+  -- reading failed, and nothing was written; or writing what was read failed
   abbrev pub IsStopped : Fault → (old new : W) → Type 0
   IsStopped fault old new =
       ((new ≡ old) × IsReadAs known (Err fault)) ⊎ SendsRead (Err fault) old new
 
-  -- all of it goes out
+  -- a whole file of the tree that the bytes are read as was written
   abbrev pub SendsAll : (old new : W) → Type 0
   SendsAll old new = SendsRead (Ok tt) old new
 
-  -- the only refusal is a fault for which it stops
+  -- if the call failed, the error is that of reading or of writing
   abbrev pub IsStoppedFor : {A : Type 0} → Result A Error → (old new : W) → Type 0
   IsStoppedFor answer old new = IfErr answer (λ error. IsStopped (fault_of error) old new)
 
--- what went out of these bytes is a file of the tree that they are read as
+-- a file of the tree that these bytes are read as was written
 abbrev pub SendsBytes : (bytes old new : List ℕ) → Type 0
 SendsBytes bytes old new =
     (tree : Tree) × IsValueOf (items_of_input bytes) (Ok tree)
     × ((file : List ℕ) × IsFileOf tree file × (new ≡ old ++ file))
 
--- this is so where a call is done with this answer
+-- this is true if the call returned `Ok` with this value
 abbrev pub IfOkIs : {A E : Type 0} → Result A E → A → Type 0 → Type 0
 IfOkIs answer wanted P = IfOk answer (λ found. found ≡ wanted → P)
 
--- ---- the events of a reader, held
+-- ---- the buffered events of a reader
 
--- the items that a reader has still to give, where its source's bytes are known
+-- the items that a reader hasn't yielded yet, if the bytes of its source are known
 abbrev pub items_left : {S C : Type 0} {g : Ghosts S} {h : CounterGhosts C}
     → (known : S → Option (List ℕ)) → BinaryReader S C g h → Option (List Item)
 items_left known reader = option_map (λ bytes. items_to_come bytes reader) (known
     (binary_source reader))
 
--- the events are a tree's, and the items are of that tree
+-- the buffered events are those of a tree, and known items are those of the same tree
 abbrev pub HoldsTree : (items : Option (List Item)) → (held : List PlainEvent) → Type 0
 HoldsTree items held =
     AreTreeEvents held
     × IfSome items (λ all. (tree : Tree) × AreItemsOfTree all tree × AreAlike held (bracketing tree))
 
--- the same where the answer is that they are
+-- if the call returned `true`, the buffered events are those of a tree
 abbrev pub FindsTree : (items : Option (List Item)) → Result Bool Error → (held : List PlainEvent)
     → Type 0
 FindsTree items answer held = IfOkIs answer true (HoldsTree items held)
 
--- whatever known bytes have such items, this is so of them
+-- this is true of all known bytes whose items are those of the tree of the buffered events
 abbrev pub ForBytesOf : (held : List PlainEvent) → (Option (List ℕ) → Type 0) → Type 0
 ForBytesOf held P = (known : Option (List ℕ)) → HoldsTree (items_of_known known) held → P known
 
--- the only refusal is what a value of the items is refused for
+-- if the call failed, the error is the one with which reading a value of the items fails
 abbrev pub IsRefusedFor : {A : Type 0} → (items : Option (List Item)) → Result A Error → Type 0
 IsRefusedFor items answer = IfErr answer (λ error. IsReadIfKnown items (Err (fault_of error)))
 
--- the items are no tree's
+-- known items aren't those of a tree
 abbrev pub AreNoTree : (items : Option (List Item)) → Type 0
 AreNoTree items = IfSome items (λ all. (tree : Tree) → AreItemsOfTree all tree → ⊥)

@@ -17,22 +17,22 @@ use Rattle.plist_commands.specs.declared.lines.ShortLine.TheVariants as short
 abbrev pub hexadecimal_digit : ℕ → ℕ
 hexadecimal_digit value = if nat_lt value 10 then 48 + value else 87 + value
 
--- does a byte of a text stand for itself? printable ASCII does, but not the backslash and the quote
+-- is a byte of a string printed as it is? printable ASCII is, except the backslash and the quote
 abbrev pub stands_for_itself : ℕ → Bool
 stands_for_itself byte =
     nat_le 0x20 byte && nat_le byte 0x7e && not (byte == 0x5c) && not (byte == 0x22)
 
--- how a byte of a text is printed: as itself, or as a backslash, an x and two hexadecimal digits
+-- how a byte of a string is printed: as it is, or as a backslash, an x and two hexadecimal digits
 abbrev pub escaped_byte : ℕ → List ℕ
 escaped_byte byte =
     if stands_for_itself byte then byte ∷ []
     else codes "\\x" ++ hexadecimal_digit (byte / 16) ∷ hexadecimal_digit (byte % 16) ∷ []
 
--- how a text is printed, between its quotes
+-- how a string is printed, between its quotes
 abbrev pub escaped_text : List ℕ → List ℕ
 escaped_text bytes = flat_map escaped_byte bytes
 
--- a start: its word, and after a space its length where that is known
+-- a start: its word, and after a space its length, if that is known
 abbrev pub text_of_start : (word : List ℕ) → (length : Option ℕ) → List ℕ
 text_of_start word None = word
 text_of_start word (Some length) = word ++ codes " " ++ decimal length
@@ -42,7 +42,7 @@ abbrev pub hexadecimal : List ℕ → List ℕ
 hexadecimal bytes =
     flat_map (λ byte. hexadecimal_digit (byte / 16) ∷ hexadecimal_digit (byte % 16) ∷ []) bytes
 
--- bytes as those of a text, or as those of data
+-- bytes as those of a string, or as those of data
 abbrev pub in_notation : Notation → List ℕ → List ℕ
 in_notation notation.Text bytes = escaped_text bytes
 in_notation notation.Hexadecimal bytes = hexadecimal bytes
@@ -57,7 +57,7 @@ abbrev pub text_of_real : RealBits → List ℕ
 text_of_real (Four bytes) = hexadecimal bytes
 text_of_real (Eight bytes) = hexadecimal bytes
 
--- a date's second, and after a space its bytes where it has a fraction
+-- a date's second, and after a space its bytes, if it has a fraction
 abbrev pub text_of_date : (bytes : List ℕ) → List ℕ
 text_of_date bytes =
     text_of_second (second_of_bytes bytes)
@@ -67,7 +67,7 @@ text_of_date bytes =
     text_of_second None = []
     text_of_second (Some second) = signed_decimal second
 
--- the words of a scalar
+-- the printed form of a scalar
 abbrev pub words_of_scalar : Scalar → List ℕ
 words_of_scalar (Boolean true) = codes "Boolean true"
 words_of_scalar (Boolean false) = codes "Boolean false"
@@ -78,7 +78,7 @@ words_of_scalar (Real bits) = codes "Real " ++ text_of_real bits
 words_of_scalar (String bytes) = codes "String \"" ++ escaped_text bytes ++ codes "\""
 words_of_scalar (Uid number) = codes "Uid " ++ decimal number
 
--- the words of an event
+-- the printed form of an event
 abbrev pub event_text : PlainEvent → List ℕ
 event_text (StartArray length) = text_of_start (codes "StartArray") length
 event_text (StartDictionary length) = text_of_start (codes "StartDictionary") length

@@ -1,4 +1,4 @@
--- Why a command isn't done.
+-- Why a command fails.
 use Rattle.std.specs.Prelude.{ℕ, List, Result, Ok, Err, codes}
 use Rattle.plist_base.specs.Faults.{Fault, fault_of, fault_text}
 use Rattle.plist_keyed.specs.declared.error.KeyedError.{KeyedError}
@@ -6,7 +6,7 @@ use Rattle.plist_keyed.specs.Errors.{text_of_error}
 use Rattle.plist_commands.specs.declared.failure.Failure.{Failure}
 use Rattle.plist_commands.specs.declared.failure.Failure.TheVariants as failure
 
--- a fault of a property list, one of an archive, or a key that names no object of it
+-- the error of a property list, the error of an archive, or a key that names no object
 pub data PlainFailure : Type 0 where
   OfPlist : Fault → PlainFailure
   OfArchive : KeyedError → PlainFailure
@@ -18,13 +18,13 @@ plain_failure_of (failure.Plist error) = OfPlist (fault_of error)
 plain_failure_of (failure.Keyed error) = OfArchive error
 plain_failure_of failure.NoSuchTop = NoSuchTop
 
--- the text of it
+-- the printed form of a failure
 abbrev pub failure_text : PlainFailure → List ℕ
 failure_text (OfPlist fault) = fault_text fault
 failure_text (OfArchive error) = text_of_error error
 failure_text NoSuchTop = codes "NoSuchTop"
 
--- what contracts see of a command's answer
+-- what contracts see of a command's result
 abbrev pub CommandOutcome : Type 0
 CommandOutcome = Result (Unit {0}) PlainFailure
 

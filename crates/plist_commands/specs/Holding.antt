@@ -1,4 +1,4 @@
--- What a collector does that takes an event.
+-- What a collector does when it takes an event.
 use Rattle.std.specs.Prelude.{◌≡◌, Bool, true, false, List, [], ◌∷◌, ◌++◌, Result, Ok, Err}
 use Rattle.std.specs.declared.ops.ControlFlow.TheVariants.{Continue, Break}
 use Rattle.plist_base.specs.Bracketing.{CanContinue, without_length}
@@ -6,26 +6,26 @@ use Rattle.plist_base.specs.declared.error.Error.{Error}
 use Rattle.plist_base.specs.declared.visitor.Visited.{Visited}
 use Rattle.plist_base.specs.declared.visitor.Visited.TheVariants.{Ended, Stopped}
 use Rattle.plist_base.specs.Events.{PlainEvent}
-use Rattle.plist_base.specs.Faults.{OutOfMemory, fault_nowhere, fault_of}
+use Rattle.plist_base.specs.Faults.{OutOfMemory, fault_without_offset, fault_of}
 use Rattle.plist_base.specs.Visits.{Flow}
 use Rattle.plist_binwrite.specs.EventBuffers.{TestsWhole, buffered_events, is_whole}
 use Rattle.plist_commands.specs.declared.collector.Collector.{Collector}
 use Rattle.plist_commands.specs.declared.collector.StopReason.{StopReason}
 use Rattle.plist_commands.specs.declared.collector.StopReason.TheVariants.{Failed, Misplaced, Paused}
 
--- the event can follow those that were held, it is held after them without its length, and it is
--- known whether all of them are a whole property list's
+-- the event can follow those that were buffered, it is buffered after them without its length, and
+-- `whole` says whether all of them are those of a whole property list
 abbrev pub HoldsMore : (whole : Bool) → (before : List PlainEvent) → PlainEvent
     → (after : List PlainEvent) → Type 0
 HoldsMore whole before event after =
     CanContinue before event × (after ≡ before ++ without_length event ∷ [])
     × TestsWhole whole (before ++ event ∷ [])
 
--- nothing is held
+-- no event is buffered
 abbrev pub IsEmpty : (whole : Bool) → (held : List PlainEvent) → Type 0
 IsEmpty whole held = (held ≡ []) × (whole ≡ false)
 
--- the events that a collector has taken, and whether they are a whole property list's
+-- the events that a collector has buffered, and whether they are those of a whole property list
 abbrev pub collected : Collector → List PlainEvent
 collected collector = buffered_events collector.pending
 
@@ -51,23 +51,23 @@ MatchStop Paused paused misplaced failed = paused
 MatchStop Misplaced paused misplaced failed = misplaced
 MatchStop (Failed error) paused misplaced failed = failed error
 
--- What taking an event does: it is held, and the collector may pause. Or it can't follow those that
--- were held, if it was known whether they are a whole property list's; or memory was refused.
+-- What taking an event does: it is buffered, and the collector may pause. Or it can't follow those
+-- that were buffered. Or an allocation failed.
 abbrev pub CollectsEvent : (old : Collector) → PlainEvent → Flow → (new : Collector) → Type 0
 CollectsEvent old event (Continue more) new =
     (new.pauses ≡ old.pauses) × HoldsMore (is_complete new) (collected old) event (collected new)
 CollectsEvent old event (Break stop) new = MatchStop new.stop
     ((old.pauses ≡ true) × HoldsMore (is_complete new) (collected old) event (collected new))
     (TestsWhole (is_complete old) (collected old) → CanContinue (collected old) event → ⊥)
-    (λ error. fault_of error ≡ fault_nowhere OutOfMemory)
+    (λ error. fault_of error ≡ fault_without_offset OutOfMemory)
 
--- a test: did the collector pause at a visit that returned this?
+-- whether the collector paused in a visit with this result
 abbrev pub HasPaused : Bool → Collector → Result Visited Error → Type 0
 HasPaused answer collector (Ok Stopped) =
     MatchStop collector.stop (answer ≡ true) (answer ≡ false) (λ error. answer ≡ false)
 HasPaused answer collector visited = answer ≡ false
 
--- the answer after a visit that returned this
+-- the result of collecting, after a visit with this result
 abbrev pub AnswersVisit : Result Visited Error → Collector → Result Bool Error → Type 0
 AnswersVisit (Ok Ended) collector answer = answer ≡ Ok (is_complete collector)
 AnswersVisit (Ok Stopped) collector answer =

@@ -1,4 +1,4 @@
--- The items that a source has still to give.
+-- The items that a source hasn't yielded yet.
 use Rattle.std.specs.Prelude.{◌≡◌, ℕ, List, [], ◌∷◌, Option, None, Some, Ok, Err, IfSome, MatchOption, MatchResult, map, ⊤}
 use Rattle.plist_base.specs.declared.source.Source.{Ghosts}
 use Rattle.plist_base.specs.Events.{Item}
@@ -9,28 +9,28 @@ use Rattle.plist_reader.specs.Reader.{reader_source}
 use Rattle.plist.specs.declared.stream.events.Events.{Events}
 use Rattle.plist.specs.Events.{remaining_events}
 
--- The item is the first of those that were to come, and the others are to come then. There is none
--- only where none was to come. A device's fault and lack of memory may come anywhere.
+-- The item is the first of those that remained, and the others remain. There is no item only if
+-- none remained. `Io` and `OutOfMemory` are always possible.
 abbrev pub GivesNext : (before : List Item) → PlainItem → (after : List Item) → Type 0
 GivesNext before item after = MatchOption item (before ≡ []) (λ answer. MatchResult answer
     (λ event. before ≡ Ok event ∷ after)
     (λ error. MatchFault (kind_of (error_kind_of error)) ⊤ ⊤ (before ≡ Err (fault_of error) ∷ after)))
 
--- the same, where the items to come are known
+-- if the remaining items are known, this one is the first of them, and the others remain
 abbrev pub ComesIfKnown : (before : Option (List Item)) → PlainItem → (after : Option (List Item))
     → Type 0
 ComesIfKnown before item after =
     IfSome before (λ all. (left : List Item) × (after ≡ Some left) × GivesNext all item left)
 
--- how many reads of a source failed, if there is one
+-- how many calls of a source failed, or 0 if there is no source
 abbrev pub failures_if_held : {S : Type 0} → (failures : S → ℕ) → Option S → ℕ
 failures_if_held failures None = 0
 failures_if_held failures (Some source) = failures source
 
--- how many reads of a reader's source failed, if it has one
+-- how many calls of a reader's source failed, or 0 if it has none
 abbrev pub failures_in : {S : Type 0} {g : Ghosts S} → (failures : S → ℕ) → Reader S g → ℕ
 failures_in failures reader = failures_if_held failures (reader_source reader)
 
--- the items that the events left of a value are
+-- the remaining events of a value, as items
 abbrev pub items_of_events : Events → Option (List Item)
 items_of_events events = Some (map Ok (remaining_events events))

@@ -5,7 +5,7 @@ use Rattle.std.specs.declared.ops.ControlFlow.TheVariants.{Continue, Break}
 use Rattle.plist_base.specs.declared.error.Error.{Error}
 use Rattle.plist_base.specs.declared.sink.Sink.{Sink}
 use Rattle.plist_base.specs.Events.{PlainEvent}
-use Rattle.plist_base.specs.Faults.{Io, fault_nowhere, fault_of}
+use Rattle.plist_base.specs.Faults.{Io, fault_without_offset, fault_of}
 use Rattle.plist_base.specs.Prefixes.{AppendsPrefix}
 use Rattle.plist_base.specs.Sinks.{IsSameSink, PutsBytes, buffered, pending, written}
 use Rattle.plist_base.specs.Visits.{Flow}
@@ -31,7 +31,7 @@ answer_of_flow (Continue more) failure = Ok tt
 answer_of_flow (Break stop) failure = Err (fault_of failure)
 
 module _ {W : Type 0} (contents : W → Option (List ℕ)) where
-  -- the bytes of the writer, where they are known
+  -- the bytes of the writer, if they are known
   abbrev pub printed : Printer W → Option (List ℕ)
   printed printer = contents printer.writer.now
 
@@ -48,5 +48,5 @@ module _ {W : Type 0} (contents : W → Option (List ℕ)) where
   pub record FailsAfterLines (old : Sink W) (error answer : Error) (new : Sink W) : Type 0 where
     pub same : IsSameSink old new
     pub lines : ((answer ≡ error) × Appends (written contents old) (written contents new)
-        (pending old)) ⊎ (fault_of answer ≡ fault_nowhere Io)
+        (pending old)) ⊎ (fault_of answer ≡ fault_without_offset Io)
     pub prefix : AppendsPrefix (written contents old) (written contents new) (pending old)

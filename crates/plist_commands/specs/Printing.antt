@@ -1,4 +1,4 @@
--- What printing the items of a file does to a writer, and what it answers.
+-- What printing the items of a file writes, and what it returns.
 use Rattle.std.specs.Prelude.{◌≡◌, ℕ, ◌⊎◌, List, Option, None, Some, ⊤, IfSome, MatchResult, Result}
 use Rattle.std.specs.Io.KnownBytes.{Appends}
 use Rattle.plist_base.specs.declared.error.Error.{Error}
@@ -16,18 +16,18 @@ use Rattle.plist.specs.declared.value.Value.{Value}
 use Rattle.plist.specs.ValueTrees.{tree_of}
 use Rattle.plist_commands.specs.EscapedLines.{lines_of, lines_of_events, first_fault}
 
--- there is no fault, and all the lines went out
+-- the items have no fault, and all lines were written
 abbrev pub PrintsAll : List Item → (old new : Option (List ℕ)) → Type 0
 PrintsAll items old new = (first_fault items ≡ None) × Appends old new (lines_of items)
 
--- the error is the first fault, and all the lines before it went out; but a device's failure and
--- lack of memory, which come from outside, say nothing of the items
+-- the error is the first fault, and all lines before it were written; `Io` and `OutOfMemory` say
+-- nothing of the items
 abbrev pub PrintsUntil : Error → List Item → (old new : Option (List ℕ)) → Type 0
 PrintsUntil error items old new =
     MatchFault (kind_of (error_kind_of error)) ⊤ ⊤
     ((first_fault items ≡ Some (fault_of error)) × Appends old new (lines_of items))
 
--- how printing changes a writer, if the items are known
+-- what printing items writes, if they are known
 module _ {W : Type 0} (contents : W → Option (List ℕ)) (items : Option (List Item)) (old new : W)
   where
     abbrev pub PrintsItems : Type 0
@@ -36,12 +36,12 @@ module _ {W : Type 0} (contents : W → Option (List ℕ)) (items : Option (List
     abbrev pub PrintsItemsUntil : Error → Type 0
     PrintsItemsUntil error = IfSome items (λ all. PrintsUntil error all (contents old) (contents new))
 
-    -- a beginning of their lines went out
+    -- a prefix of their lines was written
     abbrev pub SendsPrefixOfItems : Type 0
     SendsPrefixOfItems =
         IfSome items (λ all. AppendsPrefix (contents old) (contents new) (lines_of all))
 
--- how printing all items of a source's file changes a writer, if its bytes are known
+-- what printing all items of a source's file writes, if its bytes are known
 module _ {S W : Type 0} (known : S → Option (List ℕ)) (contents : W → Option (List ℕ)) (source : S)
     (old new : W) where
   abbrev pub PrintsFile : Type 0
@@ -56,7 +56,7 @@ module _ {S W : Type 0} (known : S → Option (List ℕ)) (contents : W → Opti
   SendsPrefixOfFile = IfSome (known source) (λ bytes.
       AppendsPrefix (contents old) (contents new) (lines_of (items_of_file bytes)))
 
--- the lines of all the events of a value went out, or a beginning of them
+-- the lines of all events of a value were written, or a prefix of them
 module _ {W : Type 0} (contents : W → Option (List ℕ)) (value : Value) (old new : W) where
   abbrev pub PrintsValue : Type 0
   PrintsValue =
@@ -66,20 +66,21 @@ module _ {W : Type 0} (contents : W → Option (List ℕ)) (value : Value) (old 
   SendsPrefixOfValue =
       AppendsPrefix (contents old) (contents new) (lines_of_events (bracketing (tree_of value)))
 
--- the writer's failure, or lack of memory for a line: neither has an offset
+-- a write failed, or an allocation for a line: neither error has an offset
 abbrev pub IsWriterFault : Fault → Type 0
 IsWriterFault fault = (fault.offset ≡ None) × IsIoOrMemory fault.kind
 
 abbrev pub IsWriterError : Error → Type 0
 IsWriterError error = IsWriterFault (fault_of error)
 
--- the source failed only where the answer is `Io`, and that without an offset may be the writer's
+-- the count of failures rose only if the call returned `Io`; without an offset that may be the
+-- writer's
 abbrev pub CountsReads : {A : Type 0} → Result A Error → (old new : ℕ) → Type 0
 CountsReads answer old new = MatchResult answer (λ _. new ≡ old)
     (λ error. MatchFault (kind_of (error_kind_of error))
     (((offset_of error ≡ None) × (new ≡ old)) ⊎ Rises old new) (new ≡ old) (new ≡ old))
 
--- the count of failed reads of the source inside a reader changes with the result in this way
+-- the count of failures of a reader's source changes with the result in this way
 abbrev pub CountsReadsOf : {S C A : Type 0} {g : Ghosts S} {h : CounterGhosts C}
     → (failures : S → ℕ) → BinaryReader S C g h → Result A Error → BinaryReader S C g h → Type 0
 CountsReadsOf failures old answer new =

@@ -1,14 +1,14 @@
--- What becomes of the events that a reader goes through, whatever its source gives.
+-- What is done with the events that a reader yields, whatever its source returns.
 use Rattle.std.specs.Prelude.{◌≡◌, ◌⊎◌, ℕ, Bool, true, false, List, map, Option, None, Some, Result, Ok, Err, IsErrAnd, MatchResult}
 use Rattle.std.specs.Io.KnownBytes.{Appends}
 use Rattle.plist_base.specs.declared.error.Error.{Error}
 use Rattle.plist_base.specs.declared.source.Source.{Ghosts}
 use Rattle.plist_base.specs.Bracketing.{without_length}
 use Rattle.plist_base.specs.Events.{PlainEvent}
-use Rattle.plist_base.specs.Faults.{Io, IsIo, OutOfMemory, error_kind_of, fault_nowhere, fault_of, kind_of, offset_of}
+use Rattle.plist_base.specs.Faults.{Io, IsIo, OutOfMemory, error_kind_of, fault_without_offset, fault_of, kind_of, offset_of}
 use Rattle.plist_base.specs.Prefixes.{AppendsPrefix}
 use Rattle.plist_base.specs.Sources.{Rises}
-use Rattle.plist_base.specs.Visits.{GivesAll, GivesPlain, PlainItem}
+use Rattle.plist_base.specs.Visits.{YieldsAll, YieldsPlain, PlainItem}
 use Rattle.plist_binread.specs.BinaryReader.{is_new, binary_source}
 use Rattle.plist_binread.specs.FaultOffsets.{HasOffset}
 use Rattle.plist_binread.specs.Advancing.{Steps}
@@ -21,43 +21,45 @@ use Rattle.plist_commands.specs.Items.{failures_in}
 use Rattle.plist_commands.specs.Printing.{CountsReads, CountsReadsOf}
 
 module _ {I : Type 0} (gives : I → PlainItem → I → Type 0) where
-  -- it was asked once at most
+  -- the source was called at most once
   abbrev pub IsAskedOnce : (old new : I) → Type 0
   IsAskedOnce old new = (new ≡ old) ⊎ ((item : PlainItem) × gives old item new)
 
-  -- the writer failed, and the source was asked once at most; or memory ran out for a line
+  -- a write failed, and the source was called at most once; or an allocation for a line failed
   abbrev pub StopsPrinting : Error → (old new : I) → Type 0
   StopsPrinting error old new =
-      ((fault_of error ≡ fault_nowhere Io) × IsAskedOnce old new)
-      ⊎ ((fault_of error ≡ fault_nowhere OutOfMemory) × (new ≡ old))
+      ((fault_of error ≡ fault_without_offset Io) × IsAskedOnce old new)
+      ⊎ ((fault_of error ≡ fault_without_offset OutOfMemory) × (new ≡ old))
 
-  -- Events came, whose lines went out; and then nothing came, or the fault that is the answer. Or a
-  -- beginning of the lines went out, and the answer is that the writer failed or memory ran out.
+  -- The source yielded events, whose lines were written, and then nothing, or the error that is
+  -- returned. Or a prefix of the lines was written, and the error is that of a write or an
+  -- allocation.
   abbrev pub PrintsRun : (old : I) → Result (Unit {0}) Error → (new : I)
       → (before after : Option (List ℕ)) → Type 0
   PrintsRun old answer new before after =
-      (events : List PlainEvent) × (left : I) × GivesAll gives old events left × MatchResult answer
+      (events : List PlainEvent) × (left : I) × YieldsAll gives old events left × MatchResult answer
       (λ _. gives left None new × Appends before after (lines_of_events events))
       (λ error. (gives left (Some (Err error)) new × Appends before after (lines_of_events events))
       ⊎ (StopsPrinting error left new × AppendsPrefix before after (lines_of_events events)))
 
-  -- Events came, and nothing after them, or one that isn't held; they were held where they are a
-  -- tree's: nothing came after them then. Or a fault came, which is the answer; or memory ran out.
+  -- The source yielded events, and then nothing, or one that isn't buffered. If the result is
+  -- `true`, nothing followed them, and they are buffered. Or the source yielded the error that is
+  -- returned. Or an allocation failed.
   abbrev pub HoldsRun : (old : I) → Result Bool Error → (new : I) → (held : List PlainEvent)
       → Type 0
   HoldsRun old answer new held =
-      (events : List PlainEvent) × (left : I) × GivesAll gives old events left × MatchResult answer
+      (events : List PlainEvent) × (left : I) × YieldsAll gives old events left × MatchResult answer
       (λ whole. (gives left None new ⊎ ((event : PlainEvent) × gives left (Some (Ok event)) new))
       × (whole ≡ true → gives left None new × (held ≡ map without_length events)))
       (λ error. gives left (Some (Err error)) new
-      ⊎ ((fault_of error ≡ fault_nowhere OutOfMemory) × (new ≡ left)))
+      ⊎ ((fault_of error ≡ fault_without_offset OutOfMemory) × (new ≡ left)))
 
--- what a reader of a binary source gives
+-- one step of a reader of a binary source
 abbrev pub StepsBinary : {S : Type 0} {g : Ghosts S} (known : S → Option (List ℕ)) (failed : S → ℕ)
     → BinaryReaderOf S g → PlainItem → BinaryReaderOf S g → Type 0
 StepsBinary known failed = Steps known failed ⊥ (λ _. 0)
 
--- what was printed of the events that a reader had still to give
+-- what was printed of the events that a reader hadn't yielded yet
 abbrev pub PrintsReader : {S : Type 0} {g : Ghosts S} (known : S → Option (List ℕ)) (failed : S → ℕ)
     → BinaryReaderOf S g → Result (Unit {0}) Error → BinaryReaderOf S g → (before after : Option (List ℕ))
     → Type 0
@@ -74,15 +76,14 @@ PrintsSource {S} known failed source answer before after =
     × PrintsReader known failed reader answer left before after
     × CountsReadsOf failed reader answer left
 
--- ---- events that are held
+-- ---- events that are buffered
 
--- what a reader of either format gives
+-- one step of a reader of either format
 abbrev pub StepsReader : {S : Type 0} {g : Ghosts S} (known : S → Option (List ℕ)) (failed : S → ℕ)
     → Reader S g → PlainItem → Reader S g → Type 0
-StepsReader known failed = GivesPlain (Gives known failed)
+StepsReader known failed = YieldsPlain (Gives known failed)
 
--- a reader of a binary source holds this very one and has given nothing; its events were held, and
--- its source's failures are counted
+-- the events of a new reader of this binary source were buffered, and its failed reads were counted
 abbrev pub HoldsBinary : {S : Type 0} (known : S → Option (List ℕ)) (failed : S → ℕ) (source : S)
     → Result Bool Error → (held : List PlainEvent) → Type 0
 HoldsBinary {S} known failed source answer held =
@@ -92,7 +93,7 @@ HoldsBinary {S} known failed source answer held =
     × HoldsRun (StepsBinary known failed) reader answer left held
     × CountsReadsOf failed reader answer left
 
--- these are the events that a new reader of a source of any format yielded
+-- the events of a new reader of this source, of any format, were buffered
 abbrev pub HoldsOther : {S : Type 0} (known : S → Option (List ℕ)) (failed : S → ℕ) (source : S)
     → Result Bool Error → (held : List PlainEvent) → Type 0
 HoldsOther {S} known failed source answer held =
@@ -102,7 +103,7 @@ HoldsOther {S} known failed source answer held =
     × HoldsRun (StepsReader known failed) reader answer left held
     × CountsReads answer (failures_in failed reader) (failures_in failed left)
 
--- The format was asked for, and a read failed; or none had failed, and a reader has the source.
+-- A read failed while the format was determined; or none did, and a reader has the source.
 abbrev pub ReadsSource : {S : Type 0} (known : S → Option (List ℕ)) (failed : S → ℕ) (source : S)
     → Result Bool Error → (held : List PlainEvent) → Type 0
 ReadsSource {S} known failed source answer held =
@@ -112,15 +113,17 @@ ReadsSource {S} known failed source answer held =
     ⊎ ((failed front ≡ failed source)
     × (HoldsBinary known failed front answer held ⊎ HoldsOther known failed front answer held)))
 
--- what comes of a source that was read so: it needs a value, or is refused for the same; or what
--- was held is sent, or needs a value, or is refused for lack of memory, for size or by the writer
+-- the result of a conversion, given that of buffering the events: their file was written, or a
+-- value is needed, or writing failed; without a whole property list a value is needed; an error is
+-- returned
 abbrev pub ComesOfReading : (sent : Type 0) → Result Bool Error → Result Streamed Error → Type 0
 ComesOfReading sent (Ok true) answer =
     MatchResult answer (λ found. found ≡ Sent → sent) (λ error. offset_of error ≡ None)
 ComesOfReading sent (Ok false) answer = answer ≡ Ok NeedsValue
 ComesOfReading sent (Err error) answer = answer ≡ Err error
 
--- a source was read so, and this came of it; what is sent of the events that were held is this
+-- a source's events were buffered, and this is the result of the conversion; `sends` says what was
+-- written for them
 abbrev pub ConvertsSource : {S : Type 0} (known : S → Option (List ℕ)) (failed : S → ℕ)
     (source : S) → Result Streamed Error → (sends : List PlainEvent → Type 0) → Type 0
 ConvertsSource known failed source answer sends =

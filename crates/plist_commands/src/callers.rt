@@ -1,5 +1,5 @@
-//! Proved callers: what the commands make of known bytes, and send to a vector; what is told of no
-//! words, and how a run ends.
+//! Proved callers: what the commands write to a vector for known bytes, what is reported if there
+//! are no arguments, and how a run ends.
 
 ghost use Rattle.std.specs.Prelude.{◌≡◌, ◌++◌, Bool, Err, IfErr, IfSome, Ok, OnOk, Some, codes, false, true};
 ghost use Rattle.plist_base.specs.Prefixes.{AppendsPrefix};
@@ -21,9 +21,10 @@ use plist_base::Error;
 use std::alloc::Global;
 use std::io::Write;
 
-/// Prints bytes: the lines of a file's items, or those before the first fault.
+/// Prints the lines of a file's items, or those before the first fault.
 ///
 /// # Errors
+///
 /// The first fault, or `OutOfMemory`.
 pub fn print_bytes(alloc: Global, bytes: &[u8], out: &mut Vec<u8>) -> Result<(), Error>
     ensures printed { OnOk result
@@ -36,10 +37,11 @@ pub fn print_bytes(alloc: Global, bytes: &[u8], out: &mut Vec<u8>) -> Result<(),
     print_events(alloc, bytes, out)
 }
 
-/// Converts bytes: a file of the tree that they are read as goes out, or none.
+/// Converts bytes: a file of the tree that they are read as is written, or nothing.
 ///
 /// # Errors
-/// Those of a binary file, and `OutOfMemory`.
+///
+/// Those of [`convert_binary`].
 pub fn convert_bytes(alloc: Global, bytes: &[u8], out: &mut Vec<u8>) -> Result<Streamed, Error>
     ensures sent { IfOkIs result Sent (SendsBytes bytes.now out.old.items out.new.items) }
     ensures left { IfOkIs result NeedsValue (LeavesToValue (Some bytes.now) out.old out.new) }
@@ -47,7 +49,7 @@ pub fn convert_bytes(alloc: Global, bytes: &[u8], out: &mut Vec<u8>) -> Result<S
     convert_binary(alloc, bytes, out)
 }
 
-/// The text of a failure; none where there was no memory for it.
+/// Returns the line that is reported for a failure, or `None` if an allocation for it fails.
 pub fn text_of_failure(alloc: Global, failure: &Failure) -> Option<Vec<u8>>
     ensures { IfSome result (λ text. text.items
         ≡ codes "Error: " ++ failure_text (plain_failure_of failure.now) ++ codes "\n") }
@@ -59,7 +61,8 @@ pub fn text_of_failure(alloc: Global, failure: &Failure) -> Option<Vec<u8>>
     }
 }
 
-/// Whether printing bytes met a read that failed, which has a place: it never does.
+/// Returns whether printing bytes ends with the error of a read, which has an offset. It never
+/// does.
 pub fn meets_a_failed_read(alloc: Global, bytes: &[u8], out: &mut Vec<u8>) -> bool
     ensures { result ≡ false }
 {
@@ -69,7 +72,8 @@ pub fn meets_a_failed_read(alloc: Global, bytes: &[u8], out: &mut Vec<u8>) -> bo
     }
 }
 
-/// The status of no words, which is that of wrong ones: no line is printed, and the usage is.
+/// Returns the status if there are no arguments, which is that of wrong ones. Nothing is printed,
+/// and the usage is reported.
 pub fn status_of_no_words<R: Commands, O: Write, E: Messages>(
     rt: &R,
     alloc: Global,
@@ -83,7 +87,8 @@ pub fn status_of_no_words<R: Commands, O: Write, E: Messages>(
     run_words(rt, alloc, &[], out, err)
 }
 
-/// Whether a run is done: then its command may have answered so, and nothing is reported.
+/// Returns whether a run succeeds. Then its command may have returned `Ok`, and nothing is
+/// reported.
 pub fn is_done<R: Commands, O: Write, E: Messages>(
     rt: &R,
     alloc: Global,
@@ -98,7 +103,7 @@ pub fn is_done<R: Commands, O: Write, E: Messages>(
     run_words(rt, alloc, words, out, err) == 0
 }
 
-/// Whether a run is refused: then its command may have answered why, and that is reported.
+/// Returns whether a run fails. Then its command may have returned an error, which is reported.
 pub fn is_refused<R: Commands, O: Write, E: Messages>(
     rt: &R,
     alloc: Global,

@@ -1,4 +1,4 @@
-//! The visitor that buffers the events of a property list until all have come.
+//! The visitor that buffers all events of a property list.
 
 ghost use Rattle.std.specs.Prelude.{◌≡◌, false, true};
 ghost use Rattle.plist_base.specs.Bracketing.{CanContinue};
@@ -71,7 +71,7 @@ impl Collector {
         }
     }
 
-    // Wants no more events.
+    // Stores why no more events are wanted, and wants no more.
     #[cold]
     fn end(&mut self, stop: StopReason) -> ControlFlow<()>
         ensures { EndsAtEvent self.old stop result self.new }
@@ -98,9 +98,9 @@ impl Collector {
         matches!(visited, Ok(Visited::Stopped)) && matches!(self.stop, StopReason::Paused)
     }
 
-    /// Pauses no more. The number of different scalars that are expected is a hint, with which
-    /// their table grows in larger steps: a table that doubles as it fills takes a fifth of the
-    /// time that is needed for a large file.
+    /// Makes the collector pause no more. The expected number of different scalars is a hint, by
+    /// which their table grows in larger steps: for a large file a fifth of the time would be spent
+    /// on doubling it.
     pub(crate) fn expect_scalars(&mut self, count: usize)
         ensures events { collected self.new ≡ collected self.old }
         ensures whole { is_complete self.new ≡ is_complete self.old }
@@ -115,7 +115,7 @@ impl Collector {
     ///
     /// # Errors
     ///
-    /// The error that came in the place of an event, or `OutOfMemory`.
+    /// The error that replaced an event, or `OutOfMemory`.
     pub(crate) fn answer(&mut self, visited: Result<Visited, Error>) -> Result<bool, Error>
         ensures answer { AnswersVisit visited self.old result }
         ensures held { self.new.pending ≡ self.old.pending }

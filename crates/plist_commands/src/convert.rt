@@ -13,7 +13,7 @@ ghost use Rattle.plist_commands.specs.declared.convert.Streamed.TheVariants.{Nee
 
 use crate::collector::Collector;
 use crate::open::open_source;
-use plist::{Output, Value};
+use plist::{LazyFile, Value};
 use plist_base::{Error, EventSource, Source};
 use plist_binread::BinaryReader;
 use plist_binwrite::complete;
@@ -24,7 +24,7 @@ use std::alloc::Global;
 use std::io::Write;
 use std::rt::Files;
 
-/// What became of a property list that was to be written without a value.
+/// The result of writing a property list without making its value.
 #[derive(Clone, Copy)]
 pub enum Streamed {
     /// Its file was written.
@@ -33,8 +33,8 @@ pub enum Streamed {
     NeedsValue,
 }
 
-// Buffers the events of a binary source. After the first event the reader knows how many objects
-// the file has, and so how many different scalars can come.
+// Buffers the events of a binary source. After the first event the reader knows the number of
+// objects in the file, and no more different scalars can follow.
 #[inline(never)]
 fn hold_binary<S: Source>(
     alloc: Global,
@@ -60,8 +60,8 @@ fn hold_binary<S: Source>(
     collector.answer(others)
 }
 
-// Buffers the events of a source of any format. It is a function of its own, since what it moves
-// takes much of the call stack.
+// Buffers the events of a source of any format. It is a function of its own, since moving the
+// reader uses much of the call stack.
 #[inline(never)]
 fn hold_any<S: Source>(alloc: Global, source: S, collector: &mut Collector) -> Result<bool, Error>
     requires empty { IsEmpty (is_complete collector.old) (collected collector.old) }
@@ -113,7 +113,7 @@ fn send_events<W: Write>(
         (λ known. IsStoppedFor W.contents known result writer.old writer.new) }
     ensures wrote { IfOkIs result Sent (Sends W.contents (buffered_events pending.now) (Ok tt)
         writer.old writer.new) }
-    ensures nowhere { IfErr result (λ error. offset_of error ≡ None) }
+    ensures without_offset { IfErr result (λ error. offset_of error ≡ None) }
 {
     let events = pending.events();
     if repeats_key(alloc, events)? {
@@ -130,7 +130,7 @@ fn send_events<W: Write>(
 /// # Errors
 ///
 /// The errors of [`Value::from_reader`], before anything is written, and those of
-/// [`Value::to_writer_binary`], after the bytes that this call writes in that case.
+/// [`Value::to_writer_binary`], with what that call writes before it fails.
 pub fn convert_binary<S: Source, W: Write>(
     alloc: Global,
     source: S,
@@ -157,7 +157,7 @@ fn stream_to<R: Files, S: Source>(
     source: S,
     to: &str,
 ) -> Result<Streamed, Error> {
-    let mut output = Output::new(rt, to);
+    let mut output = LazyFile::new(rt, to);
     let sent = convert_binary(alloc, source, &mut output)?;
     if let Streamed::Sent = sent {
         output.sync()?;
@@ -174,7 +174,7 @@ fn convert_value<R: Files>(rt: &R, alloc: Global, from: &str, to: &str) -> Resul
 }
 
 /// Writes the property list of a file to another one, or to the same file. The other file is
-/// created or truncated only when nothing but its device can still fail.
+/// created or truncated only after everything that can fail except writing it has succeeded.
 ///
 /// # Errors
 ///

@@ -13,13 +13,13 @@ use std::fmt;
 pub enum Failure {
     /// A property list can't be read, written or printed.
     Plist(Error),
-    /// It isn't an archive, or the archive has no such tree.
+    /// The property list isn't an archive, or the archive has no such tree.
     Keyed(KeyedError),
     /// The archive names no object by this key.
     NoSuchTop,
 }
 
-/// Prints the text of the error.
+/// Formats the error.
 impl fmt::Display for Failure {
     ghost output = { λ failure. Some (failure_text (plain_failure_of failure)) };
 

@@ -1,4 +1,4 @@
-//! What the program writes beside its output.
+//! The messages that the program writes to standard error.
 
 ghost use Rattle.std.specs.Prelude.{◌≡◌, Bool, IfOk, is_ok};
 ghost use Rattle.plist_commands.specs.Failures.{plain_failure_of};
@@ -11,7 +11,7 @@ use plist_base::{Error, ErrorKind};
 use std::fmt::Write as _;
 use std::io::Write;
 
-/// What is written if a command fails.
+/// A message of the program.
 #[derive(Clone, Copy)]
 pub enum Message<'a> {
     /// How the program is used.
@@ -36,7 +36,8 @@ pub trait Messages {
 
 // Returns the line of an error, which has at most 256 bytes.
 fn line_of_failure(failure: &Failure) -> Result<ArrayString<256>, Error>
-    ensures { IfOk result (λ line. line.bytes ≡ message_text (Fault (plain_failure_of failure.now))) }
+    ensures { IfOk result (λ line. line.bytes ≡ message_text (Fault
+        (plain_failure_of failure.now))) }
 {
     let mut line = ArrayString::new();
     match writeln!(line, "Error: {failure}") {

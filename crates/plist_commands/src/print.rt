@@ -229,7 +229,7 @@ impl<'p, W: Write> Printer<'p, W> {
         }
     }
 
-    // Returns the failure for which the printer stopped.
+    // Returns the error for which the printer stopped.
     fn take_failure(&mut self) -> Error
         ensures failure { result ≡ self.old.failure }
         ensures same { IsSamePrinter self.old self.new }
@@ -264,7 +264,7 @@ impl<'p, W: Write> Printer<'p, W> {
     // Prints the events that remain of a source, and writes the lines that are pending.
     fn print_all<I: EventSource>(&mut self, source: &mut I) -> Result<(), Error>
         requires empty { pending_lines self.old ≡ [] }
-        ensures ran { PrintsRun I.gives source.old result source.new
+        ensures ran { PrintsRun I.yields source.old result source.new
             (printed W.contents self.old) (printed W.contents self.new) }
         ensures same { IsSamePrinter self.old self.new }
     {
@@ -346,27 +346,27 @@ impl<'p, W: Write> EventVisitor for Printer<'p, W> {
     }
 }
 
-// Prints the events that remain of a source, without a flush.
+// Prints the remaining events of a source, without a flush.
 fn print_unflushed<I: EventSource, W: Write>(
     alloc: Global,
     source: &mut I,
     writer: &mut W,
 ) -> Result<(), Error>
-    ensures { PrintsRun I.gives source.old result source.new (W.contents writer.old)
+    ensures { PrintsRun I.yields source.old result source.new (W.contents writer.old)
         (W.contents writer.new) }
 {
     let mut buffer = FixedBuffer::new(alloc)?;
     Printer::new(&mut buffer, writer).print_all(source)
 }
 
-// Prints the events that remain of a source, and then flushes the writer. A failed flush is an
-// error only if nothing failed before it.
+// Prints the remaining events of a source, and then flushes the writer. A failed flush is an error
+// only if nothing failed before it.
 pub(crate) fn print_source<I: EventSource, W: Write>(
     alloc: Global,
     source: &mut I,
     writer: &mut W,
 ) -> Result<(), Error>
-    ensures { PrintsRun I.gives source.old result source.new (W.contents writer.old)
+    ensures { PrintsRun I.yields source.old result source.new (W.contents writer.old)
         (W.contents writer.new) }
 {
     let sent = print_unflushed(alloc, source, writer);
@@ -375,7 +375,7 @@ pub(crate) fn print_source<I: EventSource, W: Write>(
     flushed
 }
 
-/// Prints the events that remain of a reader, as [`print_events`] prints those of a source.
+/// Prints the remaining events of a reader, as [`print_events`] prints those of a source.
 ///
 /// # Errors
 ///
@@ -385,15 +385,15 @@ pub fn print_reader<S: Source, W: Write>(
     reader: &mut BinaryReader<S>,
     writer: &mut W,
 ) -> Result<(), Error>
-    // The answer.
+    // Result.
     ensures printed { OnOk result
         (PrintsItems W.contents (items_left S.known reader.old) writer.old writer.new) }
     ensures answers { PrintsReader S.known S.failures reader.old result reader.new
         (W.contents writer.old) (W.contents writer.new) }
-    // A refusal.
+    // Errors.
     ensures refused { IfErr result
         (PrintsItemsUntil W.contents (items_left S.known reader.old) writer.old writer.new) }
-    // The state after it.
+    // State afterwards.
     ensures prefix { SendsPrefixOfItems W.contents (items_left S.known reader.old)
         writer.old writer.new }
     ensures unchanged { S.known (binary_source reader.new) ≡ S.known (binary_source reader.old) }
@@ -407,10 +407,10 @@ pub fn print_reader<S: Source, W: Write>(
 ///
 /// # Errors
 ///
-/// The first error of the source, after the lines of the events before it. If the writer fails, the
-/// error is `Io` without an offset, and if an allocation for a line fails, it is `OutOfMemory`: a
-/// beginning of the lines is written then. A failed flush is an error only if nothing failed before
-/// it.
+/// The first error of the source, after the lines of the events before it were written. If a write
+/// fails, the error is `Io` without an offset, and if an allocation for a line fails, it is
+/// `OutOfMemory`; a prefix of the lines is written then. A failed flush is an error only if nothing
+/// failed before it.
 pub fn print_events<S: Source, W: Write>(
     alloc: Global,
     source: S,
@@ -431,7 +431,7 @@ pub fn print_events<S: Source, W: Write>(
 ///
 /// # Errors
 ///
-/// `Io` if the writer fails, and `OutOfMemory`, both without an offset: a beginning of the lines is
+/// `Io` if a write fails, and `OutOfMemory`, both without an offset. A prefix of the lines is
 /// written then. A failed flush is an error only if nothing failed before it.
 pub fn print_value<W: Write>(alloc: Global, value: &Value, writer: &mut W) -> Result<(), Error>
     ensures printed { OnOk result (PrintsValue W.contents value.now writer.old writer.new) }

@@ -86,8 +86,8 @@ fn wanted_of(alloc: Global, check: &str, words: &str) -> Result<String, AllocErr
     }
 }
 
-/// An example of an object: `kept` is a small scalar, decoded once and then given from the cache;
-/// what isn't small is read `anew` each time; after a `fault` nothing comes.
+/// Runs an example of an object. A small scalar is `kept`: it is decoded once, and then yielded
+/// from the cache. Any other object is decoded `anew` each time. Nothing follows a `fault`.
 pub(crate) fn run(alloc: Global, row: Row<'_>) -> Result<(), Wrong> {
     let bytes = twice(alloc, row.given)?;
     let mut tally = Tally { raised: 0 };

@@ -1,5 +1,5 @@
-//! What a writer writes to devices that take one byte per call, fail at each call in turn, or take
-//! nothing.
+//! What a writer writes to devices that accept one byte per call, fail at each call in turn, or
+//! accept nothing.
 
 use plist::{Value, write_value};
 use plist_base::{Error, Writer};
@@ -215,8 +215,8 @@ fn is_tried(call: u64, size: usize) -> bool {
     size < 200 || call.saturating_add(1) == size as u64 || call == 65_535 || call == 65_537
 }
 
-// Checks that the whole file is written to a device that takes one byte per call, and that a prefix
-// of it is if a call fails. The flush is one more call.
+// Checks that the whole file is written to a device that accepts one byte per call, and a prefix of
+// it if a call fails. The flush is one more call.
 pub(crate) fn expect_file_on_devices<S: Sharing>(
     alloc: Global,
     sending: Sending<'_>,

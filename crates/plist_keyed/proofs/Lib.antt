@@ -1,6 +1,6 @@
-pub mod Opened
-pub mod Expanding
-pub mod Settling
-pub mod Checked
-pub mod Answered
-pub mod Walked
+pub mod NotArchives
+pub mod TreeItems
+pub mod SettledUids
+pub mod CheckSteps
+pub mod WalkValues
+pub mod WalkSteps

@@ -1,17 +1,16 @@
--- What an object of a keyed archive stands for: its tree, with each Uid replaced by the tree of the
--- object that it names.
+-- The tree of an object of a keyed archive, in which each Uid is replaced by the tree of the object
+-- that it names.
 use Rattle.std.specs.Prelude.{ℕ, zero, suc, Bool, true, false, List, [], ◌∷◌, length, Option, Some, None, Result, Ok, Err, nat_eq, slice_get}
 use Rattle.std.specs.List.{list_any}
 use Rattle.std.specs.Option.{option_map_or}
 use Rattle.plist_base.specs.Trees.{Scalar, Uid, Tree, Leaf, Array, Dictionary, Trees, NoTrees, TreeAnd, Members, NoMembers, MemberAnd}
 
--- why a Uid stands for nothing: the archive has no such object, or that object's tree would hold
--- itself
+-- why a Uid has no tree: the archive has no such object, or that object's tree would contain itself
 pub data ArchiveFault : Type 0 where
   UidOutOfRange : ℕ → ArchiveFault
   RecursiveUid : ℕ → ArchiveFault
 
--- one answer after another; the first fault decides
+-- the result of the second step if the first one succeeds, or else the fault of the first
 abbrev pub and_then : {A B : Type 0} → Result A ArchiveFault → (A → Result B ArchiveFault)
     → Result B ArchiveFault
 and_then (Ok a) f = f a
@@ -23,7 +22,7 @@ number_of_uid (Uid uid) = Some uid
 number_of_uid scalar = None
 
 module _ (follow : ℕ → Result Tree ArchiveFault) where
-  -- a tree in which each Uid is followed, in order
+  -- the tree in which each Uid is replaced, in order
   abbrev mutual
     pub replaced : Tree → Result Tree ArchiveFault
     replaced (Leaf scalar) = option_map_or follow (number_of_uid scalar) (Ok (Leaf scalar))
@@ -42,7 +41,7 @@ module _ (follow : ℕ → Result Tree ArchiveFault) where
         and_then (replaced tree)
         (λ first. and_then (replaced_pairs pairs) (λ done. Ok (MemberAnd key first done)))
 
--- the tree of what a Uid finds, unless that object is open already
+-- the tree of the object that a Uid names, unless that object is open already
 abbrev pub tree_found : (found : Option Tree) (is_open : Bool) (uid : ℕ)
     → (Tree → Result Tree ArchiveFault) → Result Tree ArchiveFault
 tree_found None is_open uid tree = Err (UidOutOfRange uid)
@@ -51,7 +50,7 @@ tree_found (Some object) false uid tree = tree object
 
 module _ (objects : List Tree) where
   -- The tree of a Uid inside the objects of the path. `fuel` is the number of objects that aren't
-  -- on the path: where it is 0, each object is open.
+  -- on the path: if it is 0, each object is open.
   unfoldable pub resolved : (fuel : ℕ) (path : List ℕ) (uid : ℕ) → Result Tree ArchiveFault
   resolved zero path uid = tree_found (slice_get objects uid) true uid (λ object. Ok object)
   resolved (suc fuel) path uid =

@@ -1,4 +1,4 @@
--- What an archive holds: its objects, and the pairs that name some of them.
+-- The contents of an archive: its objects, and the pairs that name some of them.
 use Rattle.std.specs.Prelude.{◌≡◌, ℕ, List, Some, codes, map}
 use Rattle.std.specs.Map.{lookup}
 use Rattle.std.specs.Str.{bytes_eq}
@@ -14,38 +14,38 @@ use Rattle.plist_keyed.specs.declared.archive.Archive.{Archive}
 use Rattle.plist_keyed.specs.declared.error.KeyedError.{KeyedError}
 use Rattle.plist_keyed.specs.declared.error.KeyedError.TheVariants as keyed_error
 
--- the objects, by number
+-- the objects, by index
 abbrev pub objects_of : Archive → List Value
 objects_of archive = archive.objects.now.items
 
--- the tree of each
+-- the trees of the objects, in which no Uid is replaced
 abbrev pub trees_in : Archive → List Tree
 trees_in archive = map tree_of (objects_of archive)
 
--- the pairs of a name and what it stands for
+-- the pairs of a name and a value, which names an object if it is a Uid
 abbrev pub names_of : Archive → List (List ℕ × Value)
 names_of archive = pairs_of archive.names.now
 
--- the array stands at the key
+-- the key's value is this array
 abbrev pub IsArrayAt : (key : List ℕ) → (pairs : List (List ℕ × Value)) → (array : Vec Value Global)
     → Type 0
 IsArrayAt key pairs array = lookup (bytes_eq key) pairs ≡ Some (value.Array array)
 
--- none does
+-- the key's value isn't an array, or the key is missing
 abbrev pub HasNoArrayAt : (key : List ℕ) → (pairs : List (List ℕ × Value)) → Type 0
 HasNoArrayAt key pairs = (array : Vec Value Global) → ¬ (IsArrayAt key pairs array)
 
--- the dictionary stands at the key
+-- the key's value is this dictionary
 abbrev pub IsDictionaryAt : (key : List ℕ) → (pairs : List (List ℕ × Value))
     → (dictionary : Dictionary) → Type 0
 IsDictionaryAt key pairs dictionary =
     lookup (bytes_eq key) pairs ≡ Some (value.Dictionary dictionary)
 
--- none does
+-- the key's value isn't a dictionary, or the key is missing
 abbrev pub HasNoDictionaryAt : (key : List ℕ) → (pairs : List (List ℕ × Value)) → Type 0
 HasNoDictionaryAt key pairs = (dictionary : Dictionary) → ¬ (IsDictionaryAt key pairs dictionary)
 
--- the Uid stands at the key
+-- the key's value is this Uid
 abbrev pub IsUidAt : (key : List ℕ) → (pairs : List (List ℕ × Value)) → (uid : ℕ) → Type 0
 IsUidAt key pairs uid = lookup (bytes_eq key) pairs ≡ Some (value.Uid uid)
 
@@ -64,10 +64,10 @@ abbrev pub IsArchive : (root : Value) → Type 0
 IsArchive root =
     (objects : List Value) × (names : List (List ℕ × Value)) × IsArchiveOf root objects names
 
--- the archive is that of the property list
+-- the property list is this archive
 abbrev pub IsOpenedOf : (root : Value) → Archive → Type 0
 IsOpenedOf root archive = IsArchiveOf root (objects_of archive) (names_of archive)
 
--- the property list is no archive, which is what the error says
+-- the property list isn't an archive, and the error says so
 abbrev pub IsNoArchive : (root : Value) → KeyedError → Type 0
 IsNoArchive root error = (error ≡ keyed_error.NotAnArchive) × ¬ (IsArchive root)

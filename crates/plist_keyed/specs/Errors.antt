@@ -1,4 +1,4 @@
--- Faults: their texts, and what they say of an archive.
+-- Errors: their printed forms, and what they say of an archive.
 use Rattle.std.specs.Prelude.{◌≡◌, ℕ, ◌++◌, List, Result, Err, codes, decimal, ⊤}
 use Rattle.plist_keyed.specs.Archives.{ArchiveFault, UidOutOfRange, RecursiveUid}
 use Rattle.plist_keyed.specs.declared.error.KeyedError.{KeyedError}
@@ -6,32 +6,31 @@ use Rattle.plist_keyed.specs.declared.error.KeyedError.TheVariants as error
 use Rattle.plist_keyed.specs.declared.error.WalkError.{WalkError}
 use Rattle.plist_keyed.specs.declared.error.WalkError.TheVariants as walk
 
--- the text of a fault: its name, and in brackets the number that it holds
+-- the printed form of an error: its name, and its number in brackets, if it has one
 abbrev pub text_of_error : KeyedError → List ℕ
 text_of_error error.NotAnArchive = codes "NotAnArchive"
 text_of_error (error.UidOutOfRange uid) = codes "UidOutOfRange(" ++ decimal uid ++ codes ")"
 text_of_error (error.RecursiveUid uid) = codes "RecursiveUid(" ++ decimal uid ++ codes ")"
 text_of_error error.OutOfMemory = codes "OutOfMemory"
 
--- one fact where the property list is no archive, one for lack of memory, and one for a fault of
--- the archive
+-- a fact for `NotAnArchive`, one for `OutOfMemory`, and one for a fault of the archive
 abbrev pub MatchError : KeyedError → (closed memory : Type 0) → (ArchiveFault → Type 0) → Type 0
 MatchError error.NotAnArchive closed memory fault = closed
 MatchError (error.UidOutOfRange uid) closed memory fault = fault (UidOutOfRange uid)
 MatchError (error.RecursiveUid uid) closed memory fault = fault (RecursiveUid uid)
 MatchError error.OutOfMemory closed memory fault = memory
 
--- it is this fault of the archive, or lack of memory
+-- the error is the fault of this result, or `OutOfMemory`
 abbrev pub IsFaultOf : {A : Type 0} → Result A ArchiveFault → KeyedError → Type 0
 IsFaultOf answer e = MatchError e ⊥ ⊤ (λ fault. answer ≡ Err fault)
 
--- one fact for lack of memory, and one for a fault of the archive that a walk met
+-- a fact for `OutOfMemory`, and one for a fault that a walk found in the archive
 abbrev pub MatchWalkError : WalkError → (memory : Type 0) → (ArchiveFault → Type 0) → Type 0
 MatchWalkError (walk.MissingObject uid) memory fault = fault (UidOutOfRange uid)
 MatchWalkError (walk.OpenObject uid) memory fault = fault (RecursiveUid uid)
 MatchWalkError walk.OutOfMemory memory fault = memory
 
--- what a walk's error is in the words of an archive
+-- the error of an archive for an error of a walk over it
 abbrev pub error_of_walk : WalkError → KeyedError
 error_of_walk (walk.MissingObject uid) = error.UidOutOfRange uid
 error_of_walk (walk.OpenObject uid) = error.RecursiveUid uid

@@ -1,10 +1,10 @@
--- Trees of archives, worked out.
+-- Worked examples: trees of archives.
 use Rattle.std.specs.Prelude.{◌≡◌, refl, [], ◌∷◌, Ok, Err, codes}
 use Rattle.plist_base.specs.Trees as trees
 use Rattle.plist_base.specs.Trees.{Tree, Leaf, Array, Dictionary, NoTrees, TreeAnd, NoMembers, MemberAnd}
 use Rattle.plist_keyed.specs.Archives.{UidOutOfRange, RecursiveUid, resolved, resolved_tree}
 
--- the object of Uid 0 in most archives, which stands for nothing
+-- the object of Uid 0 in most archives, which means that there is no object
 abbrev null : Tree
 null = Leaf (trees.String (codes "$null"))
 
@@ -19,14 +19,14 @@ a_name_and_nothing_next : resolved_tree (null ∷ Dictionary
 unfolding resolved
 a_name_and_nothing_next = refl
 
--- an object that is named twice is no fault
+-- an object may be named twice
 named_twice : resolved_tree (null ∷ Array
     (TreeAnd (Leaf (trees.Uid 2)) (TreeAnd (Leaf (trees.Uid 2)) NoTrees)) ∷ x ∷ []) 1
     ≡ Ok (Array (TreeAnd x (TreeAnd x NoTrees)))
 unfolding resolved
 named_twice = refl
 
--- an object that is a Uid stands for what that one names
+-- an object that is a Uid has the tree of the object that it names
 a_uid_for_an_object : resolved_tree (null ∷ Leaf (trees.Uid 2) ∷ x ∷ []) 1 ≡ Ok x
 unfolding resolved
 a_uid_for_an_object = refl

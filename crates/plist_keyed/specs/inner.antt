@@ -1,4 +1,4 @@
--- What bodies and proofs speak of, and no public clause.
+-- What bodies and proofs use, but no public clause.
 pub mod Walks
 pub mod Settled
 pub mod Checking

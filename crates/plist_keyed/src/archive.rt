@@ -15,8 +15,8 @@ use crate::walk::value_at;
 use plist::{Dictionary, Uid, Value};
 use std::alloc::Global;
 
-/// A property list as an archive: the objects of its `$objects`, and the pairs of its `$top`, which
-/// name some of them by their Uids.
+/// An archive in a property list: the objects in its array `$objects`, and the pairs in its
+/// dictionary `$top`, which name some of the objects by their Uids.
 ///
 /// An object's Uid is its index among the objects, from 0 on.
 #[derive(Clone, Copy)]
@@ -38,7 +38,8 @@ fn array_at<'a>(pairs: &'a Dictionary, key: &str) -> Option<&'a Vec<Value>>
 
 // Returns the dictionary at a key.
 fn dictionary_at<'a>(pairs: &'a Dictionary, key: &str) -> Option<&'a Dictionary>
-    ensures found { IfSome result (λ others. IsDictionaryAt key.now (pairs_of pairs.now) others.now) }
+    ensures found { IfSome result (λ others. IsDictionaryAt key.now
+        (pairs_of pairs.now) others.now) }
     ensures missing { IsNone result → HasNoDictionaryAt key.now (pairs_of pairs.now) }
 {
     let Some(Value::Dictionary(others)) = pairs.get(key) else {
@@ -82,33 +83,33 @@ impl<'a> Archive<'a> {
         Some(*uid)
     }
 
-    /// Returns the object of a Uid, in which no Uid is followed, or `None` if the archive has none.
-    /// It allocates nothing.
+    /// Returns the object that a Uid names, with its Uids unchanged, or `None` if the archive has
+    /// no such object. It allocates nothing.
     pub fn get(&self, uid: Uid) -> Option<&'a Value>
         ensures { option_copied result ≡ slice_get (objects_of self.now) uid }
     {
         self.objects.get(uid.get() as usize)
     }
 
-    /// Returns the object of a Uid, with each Uid in it replaced by the tree of the object that it
-    /// names. An object that is named more than once appears in the tree as often.
+    /// Returns the tree of the object that a Uid names, in which each Uid is replaced by the tree
+    /// of the object that it names. An object that is named more than once appears as often in the
+    /// tree.
     ///
-    /// So the tree may be exponentially larger than the archive: thirty objects, each an array that
-    /// names the next one twice, make a tree of 2^30 leaves. To walk over an archive without making
-    /// its tree, follow its Uids by [`Archive::get`].
+    /// So the tree may be exponentially larger than the archive: thirty objects, each of which is
+    /// an array that names the next one twice, make a tree of 2^30 leaves. To walk over an archive
+    /// without making its tree, follow its Uids by [`Archive::get`].
     ///
-    /// Before any part of the tree is made, each Uid is followed once to find a fault. So a fault
-    /// is found in a time that grows with the objects alone, and the whole call takes a time that
-    /// grows with the objects and the tree. The Uids that were followed are stored until the call
-    /// returns.
+    /// Each Uid is followed once to find a fault before any part of the tree is made. So the time
+    /// to find a fault grows only with the objects, and the time of the whole call grows with the
+    /// objects and the tree. The Uids that were followed are stored until the call returns.
     ///
-    /// The walks keep the open objects in lists of their own, so the call stack doesn't grow with
-    /// the depth. The returned value may be as deep; [`Value::destroy`] drops it in a loop.
+    /// The walks store the open objects in lists, so the call stack doesn't grow with the depth.
+    /// The returned value may be deep, too; [`Value::destroy`] drops it without recursion.
     ///
     /// # Errors
     ///
-    /// The first fault in depth-first order, where an object's Uid precedes what the object
-    /// contains:
+    /// The first fault in depth-first order, in which a Uid precedes the contents of the object
+    /// that it names:
     ///
     /// - `UidOutOfRange` for a Uid that names no object.
     /// - `RecursiveUid` for a Uid that is reached while its own object is open.

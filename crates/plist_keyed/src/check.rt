@@ -1,6 +1,6 @@
-//! The walk that finds the first fault below a Uid of an archive, or shows that there is none.
+//! The walk that finds the first fault below a Uid of an archive, if there is a fault.
 //!
-//! It follows each Uid once. When it reaches one again, nothing below that Uid has a fault.
+//! It follows each Uid once. If it reaches one again that isn't open, there is no fault below it.
 
 ghost use Rattle.std.specs.Prelude.{◌≡◌, ◌⊎◌, [], ◌∷◌, false, IfErr, IfOk, IfSome, IsNone, None, OnOk, Some, nat_eq, slice_get, ℕ};
 ghost use Rattle.std.specs.Option.{option_copied};
@@ -48,10 +48,11 @@ struct Check<'a> {
     objects: &'a [Value],
     // The Uids that are open, outermost first.
     path: IndexSet<u64>,
-    // The remaining items of the object of each.
+    // The remaining items of the objects that the open Uids name.
     levels: Vec<Events<'a>>,
-    // The settled Uids, whose objects were walked whole, in that order. Each has the Uid at which
-    // its chain ends: the next one of a chain is the Uid that is the object of the one before.
+    // The settled Uids, whose objects were walked completely, in the order in which they were
+    // settled. Each is stored with the end of its chain. In a chain, the object of each Uid is the
+    // next Uid.
     ends: IndexMap<u64, u64>,
 }
 
@@ -95,12 +96,13 @@ impl<'a> Check<'a> {
     // Enters the object of a Uid, unless it is settled.
     fn follow(&mut self, uid: u64) -> Result<(), WalkError>
         requires { IsCheckAt self.old (ScalarEvent (PlainUid uid) ∷ []) }
-        // The answer.
-        ensures passed { OnOk result (PassesEvents (unchecked_from self.old uid) (unchecked_steps self.new)) }
+        // Result.
+        ensures passed { OnOk result (PassesEvents (unchecked_from self.old uid)
+            (unchecked_steps self.new)) }
         ensures reached { OnOk result (IsReached self.new uid) }
-        // A refusal.
+        // Errors.
         ensures refused { IfErr result (IsFirstFaultOf (unchecked_from self.old uid)) }
-        // The state after it.
+        // State afterwards.
         ensures check { OnOk result (IsCheck self.new) }
         ensures objects { OnOk result (self.new.objects ≡ self.old.objects) }
         ensures kept { OnOk result (KeepsReached self.old self.new) }
@@ -117,10 +119,11 @@ impl<'a> Check<'a> {
         self.open(uid, object)
     }
 
-    // Takes the step of one event.
+    // Takes an event of the innermost object, and follows it if it is a Uid.
     fn pass(&mut self, event: &Event<'a>) -> Result<(), WalkError>
         requires { IsCheckAt self.old (event_of event.now ∷ []) }
-        ensures passed { OnOk result (PassesEvents (unchecked_from_event self.old (event_of event.now))
+        ensures passed { OnOk result (PassesEvents (unchecked_from_event self.old
+            (event_of event.now))
             (unchecked_steps self.new)) }
         ensures refused { IfErr result (IsFirstFaultOf
             (unchecked_from_event self.old (event_of event.now))) }
@@ -169,7 +172,8 @@ impl<'a> Check<'a> {
         Ok(())
     }
 
-    // Takes one step of the walk, at the remaining items of the innermost object.
+    // Takes the next of these remaining items of the innermost object, or leaves the object if it
+    // has none.
     fn step(&mut self, left: Events<'a>) -> Result<(), WalkError>
         requires { IsCheckWith self.old left }
         ensures passed { OnOk result (PassesEvents (unchecked_with self.old left.entry)
@@ -195,8 +199,10 @@ impl<'a> Check<'a> {
         requires path { self.old.path.keys ≡ [] }
         requires levels { self.old.levels.items ≡ [] }
         requires ends { self.old.ends.entries ≡ [] }
-        ensures settled { OnOk result (IsSettledBelow (objects_checked self.old) uid self.new.ends) }
-        ensures refused { IfErr result (IsFirstFaultOf (steps_from (objects_checked self.old) uid)) }
+        ensures settled { OnOk result (IsSettledBelow
+            (objects_checked self.old) uid self.new.ends) }
+        ensures refused { IfErr result (IsFirstFaultOf (steps_from
+            (objects_checked self.old) uid)) }
     {
         self.follow(uid)?;
         while let Some(left) = self.levels.pop() {

@@ -22,16 +22,16 @@ use std::alloc::Global;
 
 // What a step of the walk does.
 #[derive(Drop)]
-enum Move<'a> {
+enum WalkStep<'a> {
     // No item was left, so the walk is done.
-    Done,
+    End,
     // An event is yielded.
-    Gave(Event<'a>),
+    Event(Event<'a>),
     // An object is entered or left, and no event is yielded.
-    Passed,
+    Skip,
 }
 
-// The events of a tree in which each Uid is settled, so that the walk finds no fault.
+// A walk that yields the events of a tree. Each Uid in it is settled, so it finds no fault.
 #[derive(Drop)]
 struct Walk<'a> {
     alloc: Global,
@@ -85,7 +85,8 @@ impl<'a> Walk<'a> {
     fn enter(&mut self, uid: u64) -> Result<(), Error>
         requires walk { IsWalk self.old }
         requires settled { IsIn uid (settled_in self.old.ends) }
-        ensures entered { OnOk result (Skips (remaining_from self.old uid) (remaining_steps self.new)) }
+        ensures entered { OnOk result (Skips (remaining_from self.old uid)
+            (remaining_steps self.new)) }
         ensures memory { OnlyMemory result }
         ensures path { IsWalk self.new }
         ensures archive { KeepsArchive self.old self.new }
@@ -97,8 +98,9 @@ impl<'a> Walk<'a> {
         Ok(())
     }
 
-    // Takes the step of one event.
-    fn pass(&mut self, event: Event<'a>) -> Result<Move<'a>, Error>
+    // Takes an event of the innermost object: enters the object of a Uid, and yields any other
+    // event.
+    fn pass(&mut self, event: Event<'a>) -> Result<WalkStep<'a>, Error>
         requires walk { IsWalk self.old }
         requires settled { NameOnly (event_of event ∷ []) (settled_in self.old.ends) }
         ensures path { IsWalk self.new }
@@ -107,26 +109,26 @@ impl<'a> Walk<'a> {
             (remaining_steps self.new) }
     {
         match uid_of(&event) {
-            None => Ok(Move::Gave(event)),
+            None => Ok(WalkStep::Event(event)),
             Some(uid) => {
                 self.enter(uid)?;
-                Ok(Move::Passed)
+                Ok(WalkStep::Skip)
             }
         }
     }
 
-    // Takes one step of the walk.
-    fn step(&mut self) -> Result<Move<'a>, Error>
+    // Takes the next item of the innermost object, or leaves the object if it has none.
+    fn step(&mut self) -> Result<WalkStep<'a>, Error>
         requires { IsWalk self.old }
         ensures path { IsWalk self.new }
         ensures archive { KeepsArchive self.old self.new }
         ensures yields { Yields (remaining_steps self.old) result (remaining_steps self.new) }
     {
         let Some(mut left) = self.levels.pop() else {
-            return Ok(Move::Done);
+            return Ok(WalkStep::End);
         };
         match left.next() {
-            None => Ok(Move::Passed),
+            None => Ok(WalkStep::Skip),
             Some(item) => {
                 self.levels.push_reserved(left);
                 self.pass(item?)
@@ -139,16 +141,16 @@ impl<'a> Walk<'a> {
         requires { IsWalk self.old }
         ensures path { IsWalk self.new }
         ensures archive { KeepsArchive self.old self.new }
-        ensures gives { GivesItemOfUid self.old result self.new }
+        ensures yields { GivesItemOfUid self.old result self.new }
         ensures shorter { OnSome result (length (remaining_steps self.new) < length
             (remaining_steps self.old)) }
     {
         'steps: loop {
             match self.step() {
                 Err(error) => return Some(Err(error)),
-                Ok(Move::Done) => return None,
-                Ok(Move::Gave(event)) => return Some(Ok(event)),
-                Ok(Move::Passed) => {}
+                Ok(WalkStep::End) => return None,
+                Ok(WalkStep::Event(event)) => return Some(Ok(event)),
+                Ok(WalkStep::Skip) => {}
             }
         }
     }
@@ -187,7 +189,7 @@ fn value_below(
     Value::from_events(alloc, walk)
 }
 
-/// Returns the value of a Uid's object, with each Uid in it followed.
+/// Returns the value of the object that a Uid names, in which each Uid is replaced.
 ///
 /// # Errors
 ///

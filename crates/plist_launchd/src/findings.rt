@@ -1,28 +1,28 @@
-//! What is wrong with a job.
+//! The errors and warnings that are found in a job.
 
 use crate::keys::{Shape, advice_for, shape_of};
 use plist::{Dictionary, Error, Value};
 use std::alloc::Global;
 use std::fmt;
 
-/// One thing that is wrong with a job.
+/// An error or a warning.
 #[derive(Debug, Drop)]
 pub enum Finding<'a> {
     /// A key that every job needs is missing.
     Missing(&'static str),
-    /// A value has another type.
+    /// A value has the wrong type.
     WrongType {
         key: &'a str,
         wanted: Shape,
         found: &'static str,
     },
-    /// An item of an array of strings has another type.
+    /// An item of an array of strings has the wrong type.
     WrongItem {
         key: &'a str,
         index: usize,
         found: &'static str,
     },
-    /// A key is not known.
+    /// A key is unknown.
     Unknown(&'a str),
     /// A key is deprecated.
     Deprecated {
@@ -37,7 +37,7 @@ pub enum Finding<'a> {
 }
 
 impl Finding<'_> {
-    /// Whether it is an error, and not a warning.
+    /// Returns whether this is an error, and not a warning.
     pub fn is_error(&self) -> bool {
         matches!(
             self,
@@ -70,7 +70,7 @@ impl fmt::Display for Finding<'_> {
     }
 }
 
-// The type of a value, in words.
+// Returns the type of a value, in words.
 fn type_of(value: &Value) -> &'static str {
     match value {
         Value::Array(_) => "an array",
@@ -85,10 +85,10 @@ fn type_of(value: &Value) -> &'static str {
     }
 }
 
-// What is found in a job so far.
+// The findings so far.
 type Findings<'a> = Vec<Finding<'a>>;
 
-// Looks at a path.
+// Checks a path.
 fn check_path<'a>(key: &'a str, path: &'a str, to: &mut Findings<'a>) -> Result<(), Error> {
     if !path.starts_with('/') {
         to.push(Finding::Relative { key, path })?;
@@ -96,7 +96,7 @@ fn check_path<'a>(key: &'a str, path: &'a str, to: &mut Findings<'a>) -> Result<
     Ok(())
 }
 
-// Looks at an item of an array of strings.
+// Checks an item of an array of strings.
 fn check_item<'a>(
     key: &'a str,
     index: usize,
@@ -115,7 +115,7 @@ fn check_item<'a>(
     }
 }
 
-// Looks at a value that has the shape of its key.
+// Checks a value that has the shape that its key requires.
 fn check_content<'a>(
     key: &'a str,
     value: &'a Value,
@@ -134,7 +134,7 @@ fn check_content<'a>(
     }
 }
 
-// Looks at a key and its value.
+// Checks a key and its value.
 fn check_pair<'a>(key: &'a str, value: &'a Value, to: &mut Findings<'a>) -> Result<(), Error> {
     let Some(wanted) = shape_of(key) else {
         to.push(Finding::Unknown(key))?;
@@ -151,7 +151,7 @@ fn check_pair<'a>(key: &'a str, value: &'a Value, to: &mut Findings<'a>) -> Resu
     Ok(())
 }
 
-// Looks for what has to be started: a program, or else the first of the arguments.
+// Checks that there is something to start: a program, or else the first of the arguments.
 fn check_program<'a>(job: &'a Dictionary, to: &mut Findings<'a>) -> Result<(), Error> {
     if job.contains_key("Program") {
         return Ok(());
@@ -168,7 +168,7 @@ fn check_program<'a>(job: &'a Dictionary, to: &mut Findings<'a>) -> Result<(), E
     Ok(())
 }
 
-/// What is wrong with a job: first what is missing, then what its keys have, in their order.
+/// Checks a job. The findings are first about missing keys, and then about its keys in their order.
 pub fn check(alloc: Global, job: &Dictionary) -> Result<Findings<'_>, Error> {
     let mut findings = Vec::new(alloc);
     if !job.contains_key("Label") {

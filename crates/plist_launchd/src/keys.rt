@@ -1,9 +1,9 @@
-//! The keys of a launchd job that are known, and what each has to be.
+//! The known keys of a launchd job, and the shape that each requires.
 
 use plist::Value;
 use std::fmt;
 
-/// What the value of a key has to be.
+/// The shape that a key requires of its value.
 #[derive(Clone, Copy, Debug, PartialEq, Eq)]
 pub enum Shape {
     Boolean,
@@ -20,7 +20,7 @@ pub enum Shape {
 }
 
 impl Shape {
-    /// Whether a value has this shape. The items of an array are not looked at.
+    /// Returns whether a value has this shape. The items of an array aren't checked.
     pub fn admits(self, value: &Value) -> bool {
         match value {
             Value::Boolean(_) => matches!(self, Shape::Boolean | Shape::BooleanOrDictionary),
@@ -58,7 +58,7 @@ impl fmt::Display for Shape {
     }
 }
 
-// Keys that launchd.plist(5) describes.
+// The keys that launchd.plist(5) describes.
 const KEYS: [(&str, Shape); 48] = [
     ("AbandonProcessGroup", Shape::Boolean),
     ("Debug", Shape::Boolean),
@@ -110,7 +110,7 @@ const KEYS: [(&str, Shape); 48] = [
     ("WorkingDirectory", Shape::Path),
 ];
 
-// The keys that are deprecated, and what to do instead.
+// The deprecated keys, and what to use instead.
 const DEPRECATED: [(&str, &str); 4] = [
     ("HopefullyExitsFirst", "remove it"),
     ("HopefullyExitsLast", "remove it"),
@@ -118,7 +118,7 @@ const DEPRECATED: [(&str, &str); 4] = [
     ("ServiceIPC", "remove it"),
 ];
 
-/// What a key has to be; of an unknown one nothing.
+/// Returns the shape that a key requires, or `None` if the key is unknown.
 pub fn shape_of(key: &str) -> Option<Shape> {
     for (name, shape) in KEYS {
         if name == key {
@@ -128,7 +128,7 @@ pub fn shape_of(key: &str) -> Option<Shape> {
     None
 }
 
-/// What to do in place of a key, if it is deprecated.
+/// Returns what to use instead of a key, if it is deprecated.
 pub fn advice_for(key: &str) -> Option<&'static str> {
     for (name, advice) in DEPRECATED {
         if name == key {

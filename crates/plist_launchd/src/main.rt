@@ -1,7 +1,7 @@
-//! Checks launchd jobs: its words are files, and it prints a line for each thing that is wrong with
-//! one. The status is 0 if nothing is, 1 if there are warnings alone, and otherwise 2. It is the
-//! port of `examples/launchd.rs`, which stands on the Rust crate `plist`; but it reads no XML, and
-//! reads a file under limits and within a budget of bytes.
+//! Checks launchd jobs. Its arguments are files, and it prints a line for each error and each
+//! warning. The status is 0 if there are none, 1 if there are only warnings, and otherwise 2. The
+//! program is the port of `examples/launchd.rs`, which uses the Rust crate `plist`. Unlike that one
+//! it reads no XML, and it reads files under limits and within a budget of bytes.
 #![tactic(auto)]
 
 mod findings;
@@ -17,16 +17,16 @@ use std::process::ExitCode;
 use std::rt::Files;
 use std::{env, fs};
 
-// What is read of a file: as much as any job has, and no more.
+// No file may exceed these limits, which are larger than any job needs.
 const LIMITS: Limits = Limits {
     depth: 16,
     items: 10_000,
 };
 
-// How many bytes the strings and the data of a file may have.
+// The number of bytes that the strings and the data of a file may have together.
 const BYTES: u64 = 1 << 20;
 
-/// How bad the worst is that was found.
+/// The worst finding.
 #[derive(Clone, Copy, Debug, PartialEq, Eq, PartialOrd, Ord)]
 enum Worst {
     Nothing,
@@ -35,7 +35,7 @@ enum Worst {
 }
 
 impl Worst {
-    // The status of the program.
+    // Returns the exit status of the program.
     fn status(self) -> u8 {
         match self {
             Worst::Nothing => 0,
@@ -45,13 +45,13 @@ impl Worst {
     }
 }
 
-// The value of a file.
+// Reads the value of a file.
 fn read<R: Files>(rt: &R, alloc: Global, path: &str) -> Result<Value, Error> {
     let file = fs::open(rt, path)?;
-    Value::from_reader_within(alloc, Seeking::new(file), LIMITS, BYTES)
+    Value::from_reader_within(alloc, Seeking::with_windows(alloc, file), LIMITS, BYTES)
 }
 
-// Prints what is wrong with a job.
+// Prints the findings for a job.
 fn check_job<W: Write>(
     alloc: Global,
     out: &mut W,
@@ -71,7 +71,7 @@ fn check_job<W: Write>(
     Ok(worst)
 }
 
-// Prints what is wrong with a file.
+// Prints the findings for a file.
 fn check_file<R: Files, W: Write>(
     rt: &R,
     alloc: Global,

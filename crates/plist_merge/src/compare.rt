@@ -1,4 +1,4 @@
-//! What differs between two dictionaries, by key path.
+//! The differences between two dictionaries, by key path.
 
 use crate::Failure;
 use crate::text::text_of;
@@ -6,7 +6,7 @@ use plist::{Dictionary, Value};
 use std::alloc::Global;
 use std::io::Write;
 
-// Whether two arrays are the same.
+// Returns whether two arrays have the same items.
 #[cycle(same)]
 fn are_same_items(items: &[Value], others: &[Value]) -> bool {
     if items.len() != others.len() {
@@ -20,7 +20,7 @@ fn are_same_items(items: &[Value], others: &[Value]) -> bool {
     true
 }
 
-// Whether two dictionaries have the same at each key.
+// Returns whether two dictionaries have the same value at each key.
 #[cycle(same)]
 fn are_same_pairs(pairs: &Dictionary, others: &Dictionary) -> bool {
     if pairs.len() != others.len() {
@@ -35,8 +35,8 @@ fn are_same_pairs(pairs: &Dictionary, others: &Dictionary) -> bool {
     true
 }
 
-// Whether two values are the same: reals where they are equal as numbers, as in the Rust crate, and
-// not where their bytes are equal, as `==` says.
+// Returns whether two values are the same. Reals are compared as numbers, as in the Rust crate,
+// while `==` compares their bytes.
 #[cycle(same)]
 fn is_same(value: &Value, other: &Value) -> bool {
     match (value, other) {
@@ -47,7 +47,7 @@ fn is_same(value: &Value, other: &Value) -> bool {
     }
 }
 
-// Prints how the value of a path has changed.
+// Prints how the value at a path has changed.
 #[cycle(diff)]
 fn diff_value<W: Write>(
     alloc: Global,
@@ -70,7 +70,7 @@ fn diff_value<W: Write>(
     }
 }
 
-// Prints the keys of a dictionary that another one hasn't.
+// Prints the keys of a dictionary that another one doesn't have.
 fn print_added<W: Write>(
     out: &mut W,
     old: &Dictionary,
@@ -85,8 +85,8 @@ fn print_added<W: Write>(
     Ok(())
 }
 
-/// Prints a line for each key that was removed, changed or added, in dictionaries within
-/// dictionaries too; `path` is what comes before the keys.
+/// Prints a line for each key that was removed, changed or added, also in nested dictionaries. Each
+/// key is printed after `path`.
 #[cycle(diff)]
 pub fn diff<W: Write>(
     alloc: Global,

@@ -1,7 +1,7 @@
-//! Merges property lists, and prints what differs. Its words are done in turn: `diff=OLD,NEW` and
-//! `merge=BASE,OVER,OUT`. It is the port of `examples/merge.rs`, which stands on the Rust crate
-//! `plist`; but it reads files under limits, since both a merge and a comparison go down a tree by
-//! the call stack.
+//! Merges property lists, and prints their differences. It executes its arguments in turn:
+//! `diff=OLD,NEW` and `merge=BASE,OVER,OUT`. The program is the port of `examples/merge.rs`, which
+//! uses the Rust crate `plist`. Unlike that one it reads files under limits, since a merge and a
+//! comparison recurse over the tree.
 #![tactic(auto)]
 
 mod compare;
@@ -16,20 +16,20 @@ use std::process::ExitCode;
 use std::rt::Files;
 use std::{env, fmt, io};
 
-// What is read of a file.
+// No file may exceed these limits.
 const LIMITS: Limits = Limits {
     depth: 64,
     items: 100_000,
 };
 
-/// Why a word isn't done.
+/// The error of executing an argument.
 #[derive(Debug, Drop)]
 enum Failure {
     /// A file can't be read or written, or a line can't be printed.
     Plist(Error),
-    /// The file is not a dictionary.
+    /// The root of the file isn't a dictionary.
     NoDictionary,
-    /// The word is no command.
+    /// The argument isn't a command.
     Usage,
 }
 
@@ -51,7 +51,7 @@ impl From<AllocError> for Failure {
     }
 }
 
-/// Of an I/O error the reason, too.
+/// Formats the error. For an I/O error the text includes the reason.
 impl fmt::Display for Failure {
     fn fmt<W: fmt::Write>(&self, f: &mut fmt::Formatter<W>) -> fmt::Result {
         match self {
@@ -62,9 +62,9 @@ impl fmt::Display for Failure {
     }
 }
 
-// Merges a dictionary into another one: where both have a dictionary at a key, these are merged;
-// any other value replaces the one of its key. The dictionary that is taken apart comes first among
-// the parameters, by which the recursion is seen to end.
+// Merges a dictionary into another one. If both have a dictionary at a key, these are merged; any
+// other value replaces the one at its key. The prover finds that the recursion ends because the
+// dictionary that gets less deep is the first parameter.
 fn merge(over: Dictionary, base: &mut Dictionary) -> Result<(), Error> {
     for (key, value) in over {
         match value {
@@ -82,7 +82,7 @@ fn merge(over: Dictionary, base: &mut Dictionary) -> Result<(), Error> {
     Ok(())
 }
 
-// The dictionary of a file.
+// Reads the dictionary in a file.
 fn open<R: Files>(rt: &R, alloc: Global, path: &str) -> Result<Dictionary, Failure> {
     match Value::from_file_with_limits(rt, alloc, path, LIMITS)? {
         Value::Dictionary(pairs) => Ok(pairs),
@@ -90,7 +90,7 @@ fn open<R: Files>(rt: &R, alloc: Global, path: &str) -> Result<Dictionary, Failu
     }
 }
 
-// Prints what differs between two files.
+// Prints the differences between two files.
 fn print_diff<R: Files, W: Write>(
     rt: &R,
     alloc: Global,
@@ -105,7 +105,7 @@ fn print_diff<R: Files, W: Write>(
     diff(alloc, out, &before, &after, "")
 }
 
-// Merges a file into another one, prints what that changes, and writes the result.
+// Merges a file into another one, prints the changes, and writes the result.
 fn merge_files<R: Files, W: Write>(
     rt: &R,
     alloc: Global,
@@ -124,7 +124,7 @@ fn merge_files<R: Files, W: Write>(
     Ok(())
 }
 
-// Does what a word says.
+// Executes an argument.
 fn perform<R: Files, W: Write>(
     rt: &R,
     alloc: Global,

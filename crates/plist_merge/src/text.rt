@@ -3,7 +3,7 @@
 use plist::{Date, Dictionary, Error, ErrorKind, Value};
 use std::alloc::Global;
 
-// The text of a date; of one that has none, as one with a fraction of a second, its second.
+// Returns the text of a date, or its second if it has no text, for example because of a fraction.
 fn date_text(alloc: Global, date: Date) -> Result<String, Error> {
     match date.to_xml_format(alloc) {
         Ok(text) => Ok(text),
@@ -14,7 +14,7 @@ fn date_text(alloc: Global, date: Date) -> Result<String, Error> {
     }
 }
 
-// The texts of the items of an array.
+// Returns the texts of an array's items.
 #[cycle(text)]
 fn items_text(alloc: Global, items: &[Value]) -> Result<String, Error> {
     let mut text = String::new(alloc);
@@ -26,7 +26,7 @@ fn items_text(alloc: Global, items: &[Value]) -> Result<String, Error> {
     Ok(text)
 }
 
-// The keys of a dictionary.
+// Returns the keys of a dictionary.
 fn keys_text(alloc: Global, pairs: &Dictionary) -> Result<String, Error> {
     let mut text = String::new(alloc);
     for key in pairs.keys() {
@@ -37,7 +37,8 @@ fn keys_text(alloc: Global, pairs: &Dictionary) -> Result<String, Error> {
     Ok(text)
 }
 
-/// The text of a value: of an array with its items, of a dictionary with its keys.
+/// Returns the text of a value. The text of an array has its items, and that of a dictionary its
+/// keys.
 #[cycle(text)]
 pub fn text_of(alloc: Global, value: &Value) -> Result<String, Error> {
     match value {

@@ -5,7 +5,7 @@ use Rattle.std.proofs.lemmas.Option.{slice_get-get_or, none-some, same_Some}
 use Rattle.std.proofs.lemmas.Slice.Eq.{bytes_eq-Decides}
 use Rattle.std.specs.Map.{lookup, keys_of, values_of}
 use Rattle.std_collections.proofs.HashLookup.{set_value_at_push}
-use Rattle.plist_pairs.proofs.Columns.{get-map}
+use Rattle.plist_pairs.proofs.PairColumns.{get-map}
 use Rattle.indexmap.proofs.MapLemmas.{Found-position, absent_from_lookup, insert_entry-absent, insert_entry-first, some_index, swap_remove_entry-found, swap_remove_entry-missing}
 use Rattle.indexmap.specs.Layout.{length-set_value_at}
 use Rattle.indexmap.specs.IndexMap.{set_value_at, insert_entry, swap_remove_entry}

@@ -1,7 +1,7 @@
-pub mod Columns
+pub mod PairColumns
 pub mod EntrySteps
-pub mod Keeping
-pub mod Retained
-pub mod Extended
-pub mod Rebuilt
-pub mod Among
+pub mod DistinctKeys
+pub mod RetainLoop
+pub mod Inserts
+pub mod ColumnAppends
+pub mod PairValues

@@ -14,7 +14,7 @@ abbrev pub Rows : Type 0 → Type 0
 Rows V = List (List ℕ × V)
 
 module _ {F V : Type 0} (g : Shared F (Bor (String Global) × (Bor V × Unit {0})) Bool) (f : F) where
-  -- the closure, called with the key and the value of this pair, may return this answer
+  -- the closure, called with the key and the value of this pair, may return this Boolean
   pub record AnswersAtPair (pair : List ℕ × V) (answer : Bool) : Type 0 where
     pub key : Bor (String Global)
     pub value : Bor V

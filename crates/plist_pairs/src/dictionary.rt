@@ -59,7 +59,7 @@ fn empty_store<V>(alloc: Global) -> Result<Box<Store<V>>, AllocError>
     }
 }
 
-// Sets the store, which must be `None`. An assignment would have to drop the old value, which isn't
+// Sets the store, which must be `None`. An assignment would have to drop the old store, which isn't
 // possible for every type of values.
 fn put<V>(dest: &mut Option<Box<Store<V>>>, store: Box<Store<V>>)
     requires { dest.old ≡ None }
@@ -78,7 +78,7 @@ impl<V> Pairs<V> {
     ghost use Rattle.plist_pairs.specs.Lends.{LendsAtKey};
     ghost use Rattle.plist_pairs.specs.Shown.{shown_key, shown_pair};
 
-    /// Creates pairs without any entry. It allocates nothing before the first insert.
+    /// Creates a `Pairs` without pairs. It allocates nothing before the first insert.
     pub fn new(alloc: Global) -> Pairs<V>
         ensures empty { result ≡ [] }
     {
@@ -136,13 +136,13 @@ impl<V> Pairs<V> {
     /// If memory runs out, which is only possible for a new key, the pairs are unchanged, and the
     /// key and the value are returned.
     pub fn insert(&mut self, key: String, value: V) -> Result<Option<V>, (String, V)>
-        // The answer.
+        // Result.
         ensures old { IfOk result (λ old. old ≡ lookup (bytes_eq (string_bytes key)) self.old) }
         ensures pairs { OnOk result (IsSetAt self.old (string_bytes key) value self.new) }
-        // A refusal.
+        // Errors.
         ensures absent { OnErr result (IsAbsent (string_bytes key) self.old) }
         ensures handed_back { IfErr result (λ back. back ≡ (key, value)) }
-        // The state after it.
+        // State afterwards.
         ensures unchanged { OnErr result (self.new ≡ self.old) }
     {
         if let Some(store) = &mut self.store {
@@ -177,7 +177,7 @@ impl<V> Pairs<V> {
     }
 
     /// Returns an iterator over the pairs, in their order.
-    #[tactic(auto, using(crate::proofs::Columns::no_keys))]
+    #[tactic(auto, using(crate::proofs::PairColumns::no_keys))]
     pub fn iter(&self) -> Iter<'_, V>
         ensures rest { result ≡ self.now }
         ensures runs { ShowsInOrder (shown_pair {V = V}) }
@@ -191,7 +191,7 @@ impl<V> Pairs<V> {
     }
 
     /// Returns an iterator over the keys, in the order of the pairs.
-    #[tactic(auto, using(crate::proofs::Columns::no_keys))]
+    #[tactic(auto, using(crate::proofs::PairColumns::no_keys))]
     pub fn keys(&self) -> Keys<'_>
         ensures rest { result ≡ keys_of self.now }
         ensures runs { ShowsInOrder shown_key }
@@ -214,7 +214,7 @@ impl<V> Pairs<V> {
         }
     }
 
-    // Returns the store, or else an empty one, which takes no memory.
+    // Returns the store, or an empty one if there is none. An empty store has no allocation.
     fn into_store(self) -> Store<V>
         ensures { result ≡ self }
     {

@@ -1,4 +1,4 @@
--- The format that some bytes have.
+-- The format that the first bytes of an input indicate.
 use Rattle.std.specs.Prelude.{◌≡◌, ℕ, ◌+◌, ◌-◌, ◌^◌, Bool, cond, ◌==◌, nat_eq, List, [], ◌∷◌, take, drop, get_or, Option, None, Some, codes, refl}
 use Rattle.std.specs.List.{list_any, prefix_len, starts_with}
 use Rattle.plist_format.specs.Container.{magic}

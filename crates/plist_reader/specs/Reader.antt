@@ -4,9 +4,9 @@ use Rattle.std.specs.Option.{is_some, option_map}
 use Rattle.plist_base.specs.declared.error.Error.{Error}
 use Rattle.plist_base.specs.declared.event.Event.{Event}
 use Rattle.plist_base.specs.declared.source.Source.{Ghosts}
-use Rattle.plist_base.specs.declared.limited.Limited.{Limited}
+use Rattle.plist_base.specs.declared.limited_items.LimitedItems.{LimitedItems}
 use Rattle.plist_base.specs.declared.limits.Limits.{Limits}
-use Rattle.plist_base.specs.declared.limits.Limiter.{Limiter}
+use Rattle.plist_base.specs.declared.limits.LimitCounter.{LimitCounter}
 use Rattle.plist_base.specs.Allowances.{HasEndedLimited, iterator_of}
 use Rattle.plist_base.specs.Limits.{GivesLimited, items_admitted, limited_items}
 use Rattle.plist_base.specs.Faults.{Fault, FaultKind, Io, IncompleteComment, InvalidOctalString, InvalidUtf16String, InvalidUtf8AsciiStream, LimitReached, MatchFault, OutOfMemory, UnclosedString, XmlUnsupported, kind_of, error_kind_of, fault_of, fault_at}
@@ -22,7 +22,7 @@ use Rattle.plist_format.specs.Unfolding.{items_of_file}
 use Rattle.plist_ascii.specs.Ascii.{items_of_ascii}
 use Rattle.plist_ascii.specs.AsciiReader as ascii
 use Rattle.plist_ascii.specs.declared.reader.AsciiReader.{AsciiReader}
-use Rattle.plist_reader.specs.declared.bytes.SourceBytes.{SourceBytes}
+use Rattle.plist_reader.specs.declared.bytes.BufferedSource.{BufferedSource}
 use Rattle.plist_ascii.specs.Texts.{ends_bare}
 use Rattle.plist_ascii.specs.declared.dialect.Dialect.{Dialect}
 use Rattle.plist_ascii.specs.declared.dialect.Dialect.TheVariants.{Lax}
@@ -53,7 +53,7 @@ items_by shown bytes = items_in_format Lax shown bytes
 abbrev pub items_of_input : List ℕ → List Item
 items_of_input bytes = items_by (format_of bytes) bytes
 
--- what these limits leave of the items
+-- the items under these limits
 abbrev pub limited_input : Limits → List ℕ → List Item
 limited_input limits bytes = limited_items limits (items_of_input bytes)
 
@@ -71,7 +71,7 @@ abbrev pub BinaryReaderOf : (R : Type 0) → Ghosts R → Type 0
 BinaryReaderOf R g = BinaryReader R Uncounted g ghosts
 
 abbrev pub AsciiReaderOf : Type 0 → Type 0
-AsciiReaderOf R = AsciiReader (SourceBytes R)
+AsciiReaderOf R = AsciiReader (BufferedSource R)
 
 -- the items that a reader of ASCII hasn't yielded yet
 abbrev pub ascii_items_to_come : {R : Type 0} (known : R → Option (List ℕ)) → AsciiReaderOf R
@@ -131,7 +131,7 @@ HasEndedState (state.Limited reader) = HasEndedLimited reader
 HasEndedState (state.Refused source) = ⊤
 HasEndedState state.Moved = ⊤
 
--- are there limits?
+-- does the reader have limits?
 abbrev pub is_limited_in : {R : Type 0} {g : Ghosts R} → State R g → Bool
 is_limited_in (state.Unread source limits dialect) = is_some limits
 is_limited_in (state.Binary reader) = binary.has_limits reader
@@ -205,10 +205,10 @@ IsSourceRefusal item = MatchOption item ⊥ (λ answer. MatchResult answer (λ _
 
 -- a fact for `OutOfMemory` and `LimitReached`, which have no offset, and one for every other fault
 -- of a reader
-abbrev pub MatchOffset : FaultKind → (nowhere placed : Type 0) → Type 0
-MatchOffset OutOfMemory nowhere placed = nowhere
-MatchOffset (LimitReached limit) nowhere placed = nowhere
-MatchOffset kind nowhere placed = placed
+abbrev pub MatchOffset : FaultKind → (without placed : Type 0) → Type 0
+MatchOffset OutOfMemory without placed = without
+MatchOffset (LimitReached limit) without placed = without
+MatchOffset kind without placed = placed
 
 abbrev pub FaultHasOffset : Fault → Type 0
 FaultHasOffset fault = MatchOffset fault.kind (fault.offset ≡ None) (HasOffset fault.offset)
@@ -236,7 +236,7 @@ module _ {R : Type 0} {g : Ghosts R} (known : R → Option (List ℕ)) (failed :
   BeginsInside limits dialect item (state.Ascii new) = (fresh : AsciiReaderOf R)
       × (ascii.place_of fresh ≡ 0) × (ascii.dialect_of fresh ≡ dialect) × (limits ≡ None)
       × AsciiGives known failed fresh item new
-  BeginsInside limits dialect item (state.Limited new) = (fresh : Limited (AsciiReaderOf R) Limiter)
+  BeginsInside limits dialect item (state.Limited new) = (fresh : LimitedItems (AsciiReaderOf R) LimitCounter)
       × (ascii.place_of (iterator_of fresh) ≡ 0)
       × (ascii.dialect_of (iterator_of fresh) ≡ dialect) × (is_some limits ≡ true)
       × GivesLimited (AsciiGives known failed) fresh item new
@@ -252,7 +252,7 @@ module _ {R : Type 0} {g : Ghosts R} (known : R → Option (List ℕ)) (failed :
       (reader : BinaryReaderOf R g) × (new ≡ state.Binary reader) × BinaryGives known failed old item reader
   GivesInside (state.Ascii old) item new =
       (reader : AsciiReaderOf R) × (new ≡ state.Ascii reader) × AsciiGives known failed old item reader
-  GivesInside (state.Limited old) item new = (reader : Limited (AsciiReaderOf R) Limiter)
+  GivesInside (state.Limited old) item new = (reader : LimitedItems (AsciiReaderOf R) LimitCounter)
       × (new ≡ state.Limited reader) × GivesLimited (AsciiGives known failed) old item reader
   GivesInside old item new = (item ≡ None) × (new ≡ old)
 

@@ -1,4 +1,4 @@
-//! A source's bytes, from its first one on.
+//! A source's bytes, which are taken one after another from the first one on.
 
 ghost use Rattle.std.specs.Prelude.{◌≡◌, ◌≤◌, Some, slice_get};
 ghost use Rattle.plist_base.specs.Sources.{CountsFailure};
@@ -22,36 +22,36 @@ pub fn read_byte<S: Source>(source: &mut S, place: u64) -> Result<Option<u8>, io
     Ok(Some(buffer[0]))
 }
 
-// The number of bytes that one read of the source asks for.
+// The number of bytes that one read of the source requests.
 const WINDOW: usize = 512;
 
 /// A source that is read from its first byte on, at most 2^64 - 1 bytes. It counts its failures.
 ///
-/// It reads only when a byte is requested and none is buffered, and buffers what one read returned.
+/// It reads only if a byte is requested and none is buffered, and buffers what the read returned.
 #[derive(Drop)]
-pub struct SourceBytes<R> {
+pub struct BufferedSource<R> {
     source: R,
     // The number of bytes that have been read.
     place: u64,
-    // What the last read returned. The bytes before `from` have been taken.
+    // The bytes that the last read returned, up to `end`. Those before `from` have been taken.
     window: [u8; WINDOW],
     from: usize,
     end: usize,
     ghost within: { (from ≤ end) × (end ≤ 512) },
 }
 
-impl<R: Source> SourceBytes<R> {
+impl<R: Source> BufferedSource<R> {
     ghost use Rattle.std.specs.Prelude.{◌≡◌, [], OnOk};
     ghost use Rattle.std.specs.Io.KnownBytes.{IsAtEnd};
     ghost use Rattle.plist_reader.specs.Streams.{stream_source, stream_place, held, stream_bytes_left, ReadCounts};
 
-    /// Makes a stream from which no byte has been read.
+    /// Creates a `BufferedSource` from which no byte has been read.
     pub fn new(source: R) -> Self
         ensures source { stream_source result ≡ source }
         ensures place { stream_place result ≡ 0 }
         ensures held { held result ≡ [] }
     {
-        SourceBytes {
+        BufferedSource {
             source,
             place: 0,
             window: [0; WINDOW],
@@ -84,7 +84,7 @@ impl<R: Source> SourceBytes<R> {
     }
 }
 
-impl<R: Source> ByteReader for SourceBytes<R> {
+impl<R: Source> ByteReader for BufferedSource<R> {
     ghost use Rattle.std.specs.Prelude.{Some};
     ghost use Rattle.plist_reader.specs.Streams.{stream_bytes_left, held};
 

@@ -1,4 +1,4 @@
-//! The format that some bytes have.
+//! The format that the first bytes of an input indicate.
 
 ghost use Rattle.std.specs.Prelude.{◌≡◌, ◌+◌, ◌-◌, ◌<◌, nat_eq, slice_get, IfErr};
 ghost use Rattle.std.specs.List.{starts_with};
@@ -29,12 +29,12 @@ pub enum Format {
 
 // Returns whether the bytes begin with these.
 fn begins_with<S: Source, const N: usize>(source: &mut S, front: &[u8; N]) -> Result<bool, Error>
-    // The answer.
+    // Result.
     ensures value { DecodesBy result (S.known source.old) (λ b. starts_with nat_eq b front.now) }
-    // A refusal.
+    // Errors.
     ensures refused { IfErr result (λ error. IsIo (kind_of (error_kind_of error))) }
     ensures offset { IfErr result (λ error. HasOffset (offset_of error)) }
-    // The state after it.
+    // State afterwards.
     ensures unchanged { S.known source.new ≡ S.known source.old }
     ensures failures { AnswersIo result (S.failures source.old) (S.failures source.new) }
 {
@@ -52,12 +52,12 @@ fn begins_with<S: Source, const N: usize>(source: &mut S, front: &[u8; N]) -> Re
 
 // Returns the number of bytes in the byte order mark, or 0 if the source begins with none.
 fn byte_order_mark_length<S: Source>(source: &mut S) -> Result<u64, Error>
-    // The answer.
+    // Result.
     ensures length { DecodesBy result (S.known source.old) byte_order_mark_length }
-    // A refusal.
+    // Errors.
     ensures refused { IfErr result (λ error. IsIo (kind_of (error_kind_of error))) }
     ensures offset { IfErr result (λ error. HasOffset (offset_of error)) }
-    // The state after it.
+    // State afterwards.
     ensures unchanged { S.known source.new ≡ S.known source.old }
     ensures failures { AnswersIo result (S.failures source.old) (S.failures source.new) }
 {
@@ -87,12 +87,12 @@ fn is_white(byte: u8) -> bool
 
 // Returns the offset of the first byte after white space if that byte is `<`.
 fn xml_place<S: Source>(source: &mut S, start: u64) -> Result<Option<u64>, Error>
-    // The answer.
+    // Result.
     ensures value { DecodesBy result (S.known source.old) (λ b. xml_place start (input_front b)) }
-    // A refusal.
+    // Errors.
     ensures refused { IfErr result (λ error. IsIo (kind_of (error_kind_of error))) }
     ensures offset { IfErr result (λ error. HasOffset (offset_of error)) }
-    // The state after it.
+    // State afterwards.
     ensures unchanged { S.known source.new ≡ S.known source.old }
     ensures failures { AnswersIo result (S.failures source.old) (S.failures source.new) }
 {
@@ -115,12 +115,12 @@ fn xml_place<S: Source>(source: &mut S, start: u64) -> Result<Option<u64>, Error
 ///
 /// `Io`, with the offset of the failed read.
 pub fn format_of<S: Source>(source: &mut S) -> Result<Format, Error>
-    // The answer.
+    // Result.
     ensures format { DecodesBy result (S.known source.old) format_of }
-    // A refusal.
+    // Errors.
     ensures refused { IfErr result (λ error. IsIo (kind_of (error_kind_of error))) }
     ensures offset { IfErr result (λ error. HasOffset (offset_of error)) }
-    // The state after it.
+    // State afterwards.
     ensures unchanged { S.known source.new ≡ S.known source.old }
     ensures failures { AnswersIo result (S.failures source.old) (S.failures source.new) }
 {

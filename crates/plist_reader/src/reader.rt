@@ -6,11 +6,11 @@ ghost use Rattle.plist_binread.specs.BinaryReader.{WillGive, has_limits as is_li
 ghost use Rattle.plist_reader.specs.Formats.{format_of};
 ghost use Rattle.plist_reader.specs.Reader.{StateGives, all_steps, file_within, steps_in_state};
 
-use crate::bytes::SourceBytes;
+use crate::bytes::BufferedSource;
 use crate::format::{Format, format_of};
 use plist_ascii::{AsciiReader, Dialect};
 use plist_base::{
-    Error, ErrorKind, EventSource, EventVisitor, Limited, Limits, OwnedEvent, Source, Visited,
+    Error, ErrorKind, EventSource, EventVisitor, LimitedItems, Limits, OwnedEvent, Source, Visited,
     visit_items,
 };
 use plist_binread::BinaryReader;
@@ -23,10 +23,10 @@ pub(crate) enum State<R: Source> {
     // `next` hasn't been called.
     Unread(R, Option<Limits>, Dialect),
     Binary(BinaryReader<R>),
-    Ascii(AsciiReader<SourceBytes<R>>),
+    Ascii(AsciiReader<BufferedSource<R>>),
     // A reader of ASCII under limits.
-    Limited(Limited<AsciiReader<SourceBytes<R>>>),
-    // The source is in a format that isn't read, or a read failed before the format was known.
+    Limited(LimitedItems<AsciiReader<BufferedSource<R>>>),
+    // The source is in a format that isn't supported, or a read failed before the format was known.
     Refused(R),
     // The state while the first item is read.
     Moved,
@@ -52,7 +52,7 @@ fn begin_binary<R: Source>(
     limits: Option<Limits>,
 ) -> (State<R>, Option<Result<OwnedEvent, Error>>)
     requires { IfSome (R.known source) (λ bytes. Format.Binary ≡ format_of bytes) }
-    ensures gives { (dialect : Dialect) → StateGives R.known R.failures
+    ensures yields { (dialect : Dialect) → StateGives R.known R.failures
         (State.Unread source limits dialect) result.1 result.0 }
     ensures falls { IfSome result.1 (λ _. steps_in_state result.0 < all_steps) }
 {
@@ -69,18 +69,18 @@ fn begin_ascii<R: Source>(
     dialect: Dialect,
 ) -> (State<R>, Option<Result<OwnedEvent, Error>>)
     requires { IfSome (R.known source) (λ bytes. Format.Ascii ≡ format_of bytes) }
-    ensures gives { StateGives R.known R.failures (State.Unread source limits dialect) result.1
+    ensures yields { StateGives R.known R.failures (State.Unread source limits dialect) result.1
         result.0 }
     ensures falls { IfSome result.1 (λ _. steps_in_state result.0 < all_steps) }
 {
-    let mut reader = AsciiReader::with_dialect(alloc, SourceBytes::new(source), dialect);
+    let mut reader = AsciiReader::with_dialect(alloc, BufferedSource::new(source), dialect);
     match limits {
         None => {
             let item = reader.next();
             (State::Ascii(reader), item)
         }
         Some(limits) => {
-            let mut limited = Limited::new(reader, limits);
+            let mut limited = LimitedItems::new(reader, limits);
             let item = limited.next();
             (State::Limited(limited), item)
         }
@@ -94,7 +94,7 @@ fn begin<R: Source>(
     limits: Option<Limits>,
     dialect: Dialect,
 ) -> (State<R>, Option<Result<OwnedEvent, Error>>)
-    ensures gives { StateGives R.known R.failures (State.Unread source limits dialect) result.1
+    ensures yields { StateGives R.known R.failures (State.Unread source limits dialect) result.1
         result.0 }
     ensures falls { IfSome result.1 (λ _. steps_in_state result.0 < all_steps) }
 {
@@ -111,18 +111,19 @@ fn begin<R: Source>(
 
 /// Reads a property list of either format as events, from its first byte on.
 ///
-/// If the first eight bytes are `bplist00` it acts as a [`BinaryReader`], and otherwise as an
-/// [`AsciiReader`], for empty and short input, too. If the first byte after an optional byte order
-/// mark (EF BB BF) and white space is `<`, the only item is `XmlUnsupported`, with the offset of
-/// that byte. The reader chooses on the first call of `next`.
+/// If the first eight bytes are `bplist00`, it acts as a [`BinaryReader`]. Otherwise it acts as an
+/// [`AsciiReader`], also for empty and short input. But if the first byte after an optional byte
+/// order mark (EF BB BF) and white space is `<`, the only item is `XmlUnsupported`, with the offset
+/// of that byte. The reader chooses on the first call of `next`.
 ///
 /// # Errors
 ///
-/// `XmlUnsupported`, after which the reader has ended. `Io` with the offset of the failed read, if
-/// a read fails while the reader chooses; then it has ended, too. After the choice, the errors of
-/// the chosen reader, with the same effect: a binary reader has ended after each of its errors, and
-/// an ASCII one goes on after those of its bytes. `LimitReached` if there are limits
-/// ([`Reader::with_limits`]).
+/// - `XmlUnsupported`; the reader has ended then.
+/// - `Io`, with the offset of the failed read, if a read fails while the reader chooses; it has
+///   ended then, too.
+/// - After the choice, the errors of the chosen reader. A binary reader has ended after each of its
+///   errors, and an ASCII reader continues after those of its bytes.
+/// - `LimitReached` if there are limits ([`Reader::with_limits`]).
 #[derive(Drop)]
 pub struct Reader<R: Source> {
     alloc: Global,
@@ -176,10 +177,10 @@ impl<R: Source> Reader<R> {
         }
     }
 
-    // Reads the first item. Only here is the state moved, which may be as large as a source's
-    // windows.
+    // Reads the first item. Only this call moves the state, which may be as large as the windows of
+    // a source.
     fn first(&mut self) -> Option<Result<OwnedEvent, Error>>
-        ensures gives { GivesFirst R.known R.failures self.old.state result self.new.state }
+        ensures yields { GivesFirst R.known R.failures self.old.state result self.new.state }
         ensures falls { FirstAdvances self.old.state result self.new.state }
     {
         match mem::replace(&mut self.state, State::Moved) {
@@ -218,10 +219,10 @@ impl<R: Source> Iterator for Reader<R> {
 }
 
 impl<R: Source> EventSource for Reader<R> {
-    ghost use Rattle.plist_base.specs.Visits.{GivesPlain};
+    ghost use Rattle.plist_base.specs.Visits.{YieldsPlain};
     ghost use Rattle.plist_reader.specs.Reader.{Gives};
 
-    ghost gives = { GivesPlain (Gives R.known R.failures) };
+    ghost yields = { YieldsPlain (Gives R.known R.failures) };
 
     fn visit<V: EventVisitor>(&mut self, visitor: &mut V) -> Result<Visited, Error> {
         visit_items(self, visitor)

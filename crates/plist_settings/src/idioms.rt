@@ -1,6 +1,6 @@
-//! The idioms of `docs/PORTING.md`, which `examples/idioms.rs` has on the Rust crate `plist`: each
-//! run once, on `settings.plist` where it wants a file. The lines of `stdout` with two bars are
-//! what the crate gives.
+//! The idioms of `docs/PORTING.md`, each run once, on `settings.plist` if it needs a file.
+//! `examples/idioms.rs` runs them on the Rust crate `plist`. The lines of `stdout` that have two
+//! bars are what that program prints.
 
 use crate::Failure;
 use plist::stream::reading::format_of;
@@ -14,27 +14,28 @@ use std::rt::Files;
 
 const FILE: &str = "settings.plist";
 
-// What a dictionary has under a key, as a number.
+// Returns the integer under a key of a dictionary.
 fn number_at(value: &Value, key: &str) -> Option<i64> {
     value.as_dictionary()?.get(key)?.as_signed_integer()
 }
 
+// Returns the version in the settings, as a string.
 fn version_of(alloc: Global, value: &Value) -> Result<String, Failure> {
     let version = number_at(value, "Version").ok_or(Failure::NoSetting)?;
     Ok(format!(in alloc; "{version}")?)
 }
 
-// How many events come, up to the first fault.
+// Counts the events of the settings file, or returns its first error.
 fn count_of<R: Files + AllocGlobal>(rt: &R, alloc: Global) -> Result<u64, Failure> {
     let mut count: u64 = 0;
-    for event in Reader::new(alloc, Seeking::new(fs::open(rt, FILE)?)) {
+    for event in Reader::new(alloc, Seeking::with_windows(alloc, fs::open(rt, FILE)?)) {
         let _event = event?;
         count = count.saturating_add(1);
     }
     Ok(count)
 }
 
-// Files: by each call that opens one.
+// Reads a value by one of the calls that open a file.
 fn opened<R: Files + AllocGlobal>(rt: &R, alloc: Global, name: &str) -> Result<Value, Failure> {
     match name {
         "from_file" => Ok(Value::from_file(rt, alloc, FILE)?),
@@ -43,7 +44,7 @@ fn opened<R: Files + AllocGlobal>(rt: &R, alloc: Global, name: &str) -> Result<V
             Ok(Value::from_file_with_dialect(rt, alloc, "lines.plist", dialect)?)
         }
         "a missing file" => Ok(Value::from_file(rt, alloc, "missing.plist")?),
-        "a stranger's file" => {
+        "an untrusted file" => {
             let limits = Limits {
                 depth: 3,
                 items: 100,
@@ -63,7 +64,7 @@ fn opened<R: Files + AllocGlobal>(rt: &R, alloc: Global, name: &str) -> Result<V
         }
         "from_reader of a file" => {
             let file = fs::open(rt, FILE)?;
-            Ok(Value::from_reader(alloc, Seeking::new(file))?)
+            Ok(Value::from_reader(alloc, Seeking::with_windows(alloc, file))?)
         }
         "to_file_binary" => {
             Value::from_file(rt, alloc, FILE)?.to_file_binary(rt, alloc, "copy.plist")?;
@@ -73,14 +74,14 @@ fn opened<R: Files + AllocGlobal>(rt: &R, alloc: Global, name: &str) -> Result<V
     }
 }
 
-// The length of a file of one text.
+// Writes a file of one string, and returns its length.
 fn written(alloc: Global) -> Result<usize, Error> {
     let mut writer = BinaryWriter::new(alloc, Vec::new(alloc));
     writer.write(Event::String(CowStr::Borrowed("text")))?;
     Ok(writer.into_inner().len())
 }
 
-// Files and streams.
+// Runs an idiom of files and streams.
 fn streamed<R: Files + AllocGlobal>(rt: &R, alloc: Global, name: &str) -> Result<String, Failure> {
     match name {
         "stream::Reader" => Ok(format!(in alloc; "{}", count_of(rt, alloc)?)?),
@@ -102,7 +103,7 @@ fn streamed<R: Files + AllocGlobal>(rt: &R, alloc: Global, name: &str) -> Result
     }
 }
 
-// Looks into the settings.
+// Runs an idiom that borrows from the settings.
 fn seen(alloc: Global, value: &Value, name: &str) -> Option<String> {
     let settings = value.as_dictionary()?;
     match name {
@@ -121,7 +122,7 @@ fn seen(alloc: Global, value: &Value, name: &str) -> Option<String> {
     }
 }
 
-// Takes values out of the settings.
+// Runs an idiom that takes values out of the settings.
 fn taken(alloc: Global, value: Value, name: &str) -> Option<String> {
     let mut settings = value.into_dictionary()?;
     match name {
@@ -149,7 +150,7 @@ fn taken(alloc: Global, value: Value, name: &str) -> Option<String> {
     }
 }
 
-// The keys of a dictionary, in their order.
+// Returns the keys of a borrowed dictionary, in their order.
 fn keys_of(alloc: Global, settings: &Dictionary) -> Result<String, AllocError> {
     let mut keys = String::new(alloc);
     for (key, _value) in settings {
@@ -159,7 +160,7 @@ fn keys_of(alloc: Global, settings: &Dictionary) -> Result<String, AllocError> {
     Ok(keys)
 }
 
-// The same of a dictionary by value.
+// Returns the keys of a dictionary that is iterated by value, in their order.
 fn keys_out_of(alloc: Global, settings: Dictionary) -> Result<String, AllocError> {
     let mut keys = String::new(alloc);
     for (key, _value) in settings {
@@ -169,7 +170,7 @@ fn keys_out_of(alloc: Global, settings: Dictionary) -> Result<String, AllocError
     Ok(keys)
 }
 
-// A dictionary of two pairs, made by inserting them.
+// Returns a dictionary of two pairs, which are inserted one by one.
 fn made(alloc: Global) -> Result<Dictionary, Error> {
     let mut settings = Dictionary::new(alloc);
     let _none = settings.insert("b".to_string(alloc)?, Value::from(7_i64))?;
@@ -177,7 +178,7 @@ fn made(alloc: Global) -> Result<Dictionary, Error> {
     Ok(settings)
 }
 
-// Takes the entries of a key that is there and of one that isn't.
+// Returns a dictionary after calls on the entries of a key that is there and of one that isn't.
 fn with_entries(alloc: Global) -> Result<Dictionary, Error> {
     let mut settings = made(alloc)?;
     let _old = settings
@@ -189,14 +190,14 @@ fn with_entries(alloc: Global) -> Result<Dictionary, Error> {
     Ok(settings)
 }
 
-// The same pairs in the order of their keys.
+// Returns a dictionary of two pairs, sorted by their keys.
 fn sorted(alloc: Global) -> Result<Dictionary, Error> {
     let mut settings = made(alloc)?;
     settings.sort_keys()?;
     Ok(settings)
 }
 
-// Dictionaries, made in each way.
+// Makes a dictionary by one of the idioms, and returns its keys.
 fn changed(alloc: Global, name: &str) -> Result<String, Failure> {
     let settings = match name {
         "insert" => made(alloc)?,
@@ -210,12 +211,12 @@ fn changed(alloc: Global, name: &str) -> Result<String, Failure> {
     Ok(keys_of(alloc, &settings)?)
 }
 
-// Makes values of what they hold.
+// Makes a value by one of the idioms.
 fn built(alloc: Global, name: &str) -> Result<Value, Failure> {
     match name {
-        "a text" => Ok(Value::try_from_str(alloc, "text")?),
+        "a string" => Ok(Value::try_from_str(alloc, "text")?),
         "a number" => Ok(Value::from(7_i64)),
-        "a truth value" => Ok(Value::Boolean(true)),
+        "a Boolean" => Ok(Value::Boolean(true)),
         "a real" => Ok(Value::Real(RealBits::from_f64(0.1))),
         "data" => Ok(Value::Data(Vec::from_slice(alloc, &[0, 255])?)),
         "a date" => Ok(Value::Date(Date::from_unix_secs(0).ok_or(Failure::NoSetting)?)),
@@ -228,7 +229,7 @@ fn built(alloc: Global, name: &str) -> Result<Value, Failure> {
     }
 }
 
-// What a value holds, in words.
+// Returns the content of a value, as a string.
 fn content_of(alloc: Global, value: &Value) -> Result<String, Failure> {
     match value {
         Value::String(text) => Ok(text.clone()?),
@@ -241,13 +242,13 @@ fn content_of(alloc: Global, value: &Value) -> Result<String, Failure> {
     }
 }
 
-// The text of a date.
+// Returns the text of a date.
 fn date_text(alloc: Global, value: &Value) -> Result<String, Failure> {
     let date = value.as_date().ok_or(Failure::NoSetting)?;
     Ok(date.to_xml_format(alloc)?)
 }
 
-// What an idiom gives, as a text.
+// Returns the result of an idiom, as a string.
 fn text_of<R: Files + AllocGlobal>(
     rt: &R,
     alloc: Global,
@@ -270,7 +271,7 @@ fn text_of<R: Files + AllocGlobal>(
     }
 }
 
-// The text of an idiom, or why there is none.
+// Returns the result of an idiom, or its error, as a string.
 fn idiom_text<R: Files + AllocGlobal>(
     rt: &R,
     alloc: Global,
@@ -283,7 +284,7 @@ fn idiom_text<R: Files + AllocGlobal>(
     }
 }
 
-/// Prints a line for each idiom that the file of this name has.
+/// Prints a line for each idiom that the file of this name lists.
 pub fn print<R: Files + AllocGlobal, W: Write>(
     rt: &R,
     alloc: Global,

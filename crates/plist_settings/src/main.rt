@@ -1,6 +1,6 @@
-//! A settings tool. Its words are done in turn: `open=FILE`, `list`, `get=PATH`, `set=PATH=TEXT`,
-//! `delete=PATH` and `save=FILE`. A path is keys with dots between. It is the port of
-//! `examples/settings.rs`, which stands on the Rust crate `plist`.
+//! A settings tool. It executes its arguments in turn: `open=FILE`, `list`, `get=PATH`,
+//! `set=PATH=TEXT`, `delete=PATH` and `save=FILE`. A path consists of keys, separated by dots. The
+//! program is the port of `examples/settings.rs`, which uses the Rust crate `plist`.
 #![tactic(auto)]
 
 mod idioms;
@@ -13,16 +13,16 @@ use std::process::ExitCode;
 use std::rt::Files;
 use std::{env, fmt, io};
 
-/// Why a word isn't done.
+/// The error of executing an argument.
 #[derive(Debug, Drop)]
 enum Failure {
     /// A file can't be read or written, or a line can't be printed.
     Plist(Error),
-    /// The file holds no dictionary.
+    /// The root of the file isn't a dictionary.
     NoDictionary,
-    /// There is no such setting, and no place for one.
+    /// There is no such setting, or it can't be added.
     NoSetting,
-    /// The word is no command.
+    /// The argument isn't a command.
     Usage,
 }
 
@@ -44,12 +44,12 @@ impl From<AllocError> for Failure {
     }
 }
 
-/// Of a failed device the reason, too.
+/// Formats the error. For an I/O error the text includes the reason.
 impl fmt::Display for Failure {
     fn fmt<W: fmt::Write>(&self, f: &mut fmt::Formatter<W>) -> fmt::Result {
         match self {
             Failure::Plist(error) => write!(f, "{}", error.reason()),
-            Failure::NoDictionary => f.write_str("the file holds no dictionary"),
+            Failure::NoDictionary => f.write_str("the root isn't a dictionary"),
             Failure::NoSetting => f.write_str("no such setting"),
             Failure::Usage => {
                 f.write_str("open=FILE list get=PATH set=PATH=TEXT delete=PATH save=FILE")
@@ -58,7 +58,7 @@ impl fmt::Display for Failure {
     }
 }
 
-// The setting at a path.
+// Returns the setting at a path.
 fn get<'a>(place: &'a Dictionary, path: &str) -> Option<&'a Value> {
     match path.split_once('.') {
         None => place.get(path),
@@ -66,7 +66,7 @@ fn get<'a>(place: &'a Dictionary, path: &str) -> Option<&'a Value> {
     }
 }
 
-// Sets the setting at a path, in dictionaries that are made where they are missing.
+// Sets the setting at a path, and returns whether it could be set. Missing dictionaries are added.
 fn set(alloc: Global, place: &mut Dictionary, path: &str, setting: Value) -> Result<bool, Error> {
     match path.split_once('.') {
         None => {
@@ -85,7 +85,7 @@ fn set(alloc: Global, place: &mut Dictionary, path: &str, setting: Value) -> Res
     }
 }
 
-// Takes the setting at a path out.
+// Removes the setting at a path, and returns it.
 fn delete(place: &mut Dictionary, path: &str) -> Option<Value> {
     match path.split_once('.') {
         None => place.remove(path),
@@ -93,7 +93,7 @@ fn delete(place: &mut Dictionary, path: &str) -> Option<Value> {
     }
 }
 
-// The setting of a text: a number, a truth value or the text.
+// Converts a string to a setting: an integer, a Boolean, or the string itself.
 fn setting_of(alloc: Global, text: &str) -> Result<Value, Error> {
     if let Ok(number) = text.parse::<i64>() {
         return Ok(Value::from(number));
@@ -105,7 +105,7 @@ fn setting_of(alloc: Global, text: &str) -> Result<Value, Error> {
     }
 }
 
-// What a line says of a setting.
+// Returns the text that is printed for a setting.
 fn text_of(alloc: Global, value: &Value) -> Result<String, Failure> {
     match value {
         Value::Array(items) => Ok(format!(in alloc; "{} items", items.len())?),
@@ -137,7 +137,7 @@ fn list<W: Write>(alloc: Global, out: &mut W, at: &Dictionary, path: &str) -> Re
     Ok(())
 }
 
-// The dictionary of a file.
+// Reads the dictionary in a file.
 fn open<R: Files>(rt: &R, alloc: Global, path: &str) -> Result<Dictionary, Failure> {
     match Value::from_file(rt, alloc, path)? {
         Value::Dictionary(settings) => Ok(settings),
@@ -145,7 +145,7 @@ fn open<R: Files>(rt: &R, alloc: Global, path: &str) -> Result<Dictionary, Failu
     }
 }
 
-// Does what a word says.
+// Executes an argument.
 fn perform<R: Files + AllocGlobal, W: Write>(
     rt: &R,
     alloc: Global,

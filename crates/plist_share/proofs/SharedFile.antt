@@ -1,7 +1,7 @@
 -- Writing a file by the classes of trees writes the shared file.
 use Rattle.std.proofs.Common.{◌≡◌, ℕ, List, Option, Err, refl}
 use Rattle.plist_base.specs.Bracketing.{AreAlike, bracketing}
-use Rattle.plist_base.specs.Faults.{Fault, OutOfMemory, fault_nowhere}
+use Rattle.plist_base.specs.Faults.{Fault, OutOfMemory, fault_without_offset}
 use Rattle.plist_base.specs.Trees.{Tree}
 use Rattle.plist_base.specs.Writing.{Answer}
 use Rattle.plist_binwrite.specs.Classes.{IsFileBy, size_by, SendsBy}
@@ -35,7 +35,7 @@ module _ {W : Type 0} (contents : W → Option (List ℕ)) (events : EventTable)
 
 -- if an allocation failed before anything was planned, nothing was written
 pub sends_nothing : {W : Type 0} (contents : W → Option (List ℕ)) (events : EventTable)
-    (fault : Fault) (old new : W) → fault ≡ fault_nowhere OutOfMemory → new ≡ old
+    (fault : Fault) (old new : W) → fault ≡ fault_without_offset OutOfMemory → new ≡ old
     → SendsShared contents (plain_events events) (Err fault) old new
 sends_nothing contents events fault old new is same =
     rw is (refl, same)

@@ -10,19 +10,19 @@ use std::fmt::Write as _;
 use std::io::{Cursor, ErrorKind, Read, Seek, SeekFrom, Write};
 use std::{fmt, io};
 
-/// What happens at the one call that differs from the others.
+/// What happens at one call of a device.
 #[derive(Clone, Copy)]
 pub enum DeviceFault {
-    /// It fails with an error of this kind.
+    /// The call fails with an error of this kind.
     Fails(ErrorKind),
-    /// A read returns no byte; a write takes no byte, which is a failure.
+    /// A read returns no byte, or a write accepts no byte, which is a failure.
     MovesNothing,
-    /// From then on only this many bytes are there.
+    /// From then on the device has only this many bytes.
     Shrinks(usize),
 }
 
 /// The message of each error of a device. No error of the libraries or of the system has it.
-pub const DEVICE_MESSAGE: &str = "the device said so";
+pub const DEVICE_MESSAGE: &str = "the device failed";
 
 /// Returns a device's own error.
 pub fn device_error(kind: ErrorKind) -> io::Error {
@@ -37,17 +37,17 @@ pub const READ_FAILURES: [ErrorKind; 4] = [
     ErrorKind::UnexpectedEof,
 ];
 
-/// A device that moves one byte per call, except at one call, counted from 0. A second try of that
-/// call would succeed.
+/// A device that moves one byte per call, except at one call. That call has a fault; a second try
+/// of it would succeed.
 #[derive(Drop)]
 pub struct Device {
-    /// The bytes that it returns, or has taken.
+    /// The bytes that `read` returns, or `write` has accepted.
     pub bytes: Vec<u8>,
-    /// The number of bytes that `read` has returned, or `write` has taken.
+    /// The number of bytes that `read` has returned, or `write` has accepted.
     pub moved: usize,
     /// The offset of the last call, or 0 if that asked for the size.
     pub place: u64,
-    /// The number of bytes that it had taken at its last flush.
+    /// The number of bytes that `write` had accepted at the last flush.
     pub flushed: usize,
     /// The greatest number of bytes in the buffer of a `write`.
     pub longest: usize,
@@ -60,13 +60,13 @@ pub struct Device {
 }
 
 impl Device {
-    /// Makes a device that fails at a call with `Interrupted`, after which callers may want to try
-    /// again.
+    /// Makes a device that fails at this call, counted from 0, with `Interrupted`. Other callers
+    /// would try again.
     pub fn new(bytes: Vec<u8>, fails_at: u64) -> Device {
         Device::with_fault(bytes, fails_at, DeviceFault::Fails(ErrorKind::Interrupted))
     }
 
-    /// Makes a device with this fault at this call.
+    /// Makes a device with this fault at this call, counted from 0.
     pub fn with_fault(bytes: Vec<u8>, faulty_call: u64, fault: DeviceFault) -> Device {
         Device {
             bytes,
@@ -229,8 +229,8 @@ pub fn expect_io<T: Drop>(
     expect_failure(answer, kind, DEVICE_MESSAGE, offset)
 }
 
-// Checks that the device failed once, at its last call, and that the items before are followed by
-// this error, with the offset of the call and the device's message.
+// Checks that the device failed once, at its last call, and that the items found are these,
+// followed by the error of that call, with its offset and the device's message.
 pub(crate) fn expect_cut(
     alloc: Global,
     device: &Device,
@@ -245,11 +245,11 @@ pub(crate) fn expect_cut(
     let fault = format!(in alloc; "Io (offset {}): {DEVICE_MESSAGE}", device.place)?;
     match items.strip_suffix(fault.as_str()) {
         Some(found) if found.trim_end() == before.trim_end() => Ok(()),
-        _ => fail(format!(in alloc; "at call {call} came {items}, and not {before} {fault}")),
+        _ => fail(format!(in alloc; "call {call}: {items} instead of {before} {fault}")),
     }
 }
 
-/// A file that fails at one call, counting from 0.
+/// A file that fails at one call.
 #[derive(Drop)]
 pub struct Disk {
     inner: Cursor<Vec<u8>>,
@@ -265,7 +265,7 @@ pub struct Disk {
 }
 
 impl Disk {
-    /// Makes a file of these bytes that fails at this call.
+    /// Makes a file of these bytes that fails at this call, counted from 0.
     pub fn new(bytes: Vec<u8>, fails_at: u64) -> Disk {
         Disk {
             inner: Cursor::new(bytes),

@@ -142,7 +142,7 @@ pub fn expect_answers<W: Writer>(
         }
     }
     if all.as_str() != answers {
-        return fail(format!(in alloc; "to {words} came {all}, and not {answers}"));
+        return fail(format!(in alloc; "for {words}: {all} instead of {answers}"));
     }
     Ok(())
 }

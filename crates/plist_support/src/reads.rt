@@ -5,7 +5,7 @@ use crate::device::{Device, DeviceFault, expect_cut};
 use crate::words::words_of;
 use crate::wrong::{Wrong, fail};
 use plist_ascii::{AsciiReader, Dialect};
-use plist_base::{Limited, Limits, Sequential, Source};
+use plist_base::{LimitedItems, Limits, Sequential, Source};
 use plist_binread::BinaryReader;
 use plist_reader::Reader;
 use std::alloc::{AllocError, Global};
@@ -26,8 +26,15 @@ pub enum By {
     Either,
 }
 
+// A reader of bytes.
+#[derive(Clone, Copy)]
+struct Reading<'a> {
+    by: By,
+    bytes: &'a [u8],
+}
+
 // More items than any example has.
-const MOST: usize = 100;
+const MAX_ITEMS: usize = 100;
 
 /// Returns the words of the items of a source, up to this many.
 pub fn words_over<S: Source + Read>(
@@ -44,7 +51,7 @@ pub fn words_over<S: Source + Read>(
         }
         By::Within(limits, bytes) => {
             let reader = BinaryReader::with_limits(alloc, source, limits);
-            words_of(alloc, Limited::within_bytes(reader, bytes).take(most))
+            words_of(alloc, LimitedItems::within_bytes(reader, bytes).take(most))
         }
         By::Ascii => words_of(alloc, AsciiReader::new(alloc, source).take(most)),
         By::Tight => {
@@ -70,35 +77,34 @@ fn device_of(
 
 const INTERRUPTED: DeviceFault = DeviceFault::Fails(ErrorKind::Interrupted);
 
-// Checks a device that fails at this call, which is made for the item after these: the item is
-// replaced by `Io`, with the offset of the read, and nothing more is yielded.
+// Checks a device that fails at this call, which is made for the item after the items `before`:
+// `Io`, with the offset of the read, replaces that item, and nothing more is yielded.
 fn expect_failure(
     alloc: Global,
-    by: By,
-    bytes: &[u8],
+    reading: Reading<'_>,
     before: &str,
     most: usize,
     call: u64,
 ) -> Result<(), Wrong> {
-    let mut device = device_of(alloc, bytes, call, INTERRUPTED)?;
-    let found = words_over(alloc, by, &mut device, most)?;
+    let mut device = device_of(alloc, reading.bytes, call, INTERRUPTED)?;
+    let found = words_over(alloc, reading.by, &mut device, most)?;
     expect_cut(alloc, &device, found.as_str(), before)?;
-    let mut device = device_of(alloc, bytes, call, INTERRUPTED)?;
-    let all = words_over(alloc, by, &mut device, usize::MAX)?;
+    let mut device = device_of(alloc, reading.bytes, call, INTERRUPTED)?;
+    let all = words_over(alloc, reading.by, &mut device, usize::MAX)?;
     if all.as_str() != found.as_str() || device.calls != call.saturating_add(1) {
         let calls = device.calls;
-        return fail(format!(in alloc; "at call {call} of {calls} came {found}, and then {all}"));
+        return fail(format!(in alloc; "call {call} of {calls}: {found}, and then {all}"));
     }
     Ok(())
 }
 
 // Calls a reader for up to this many items, and returns their words and the number of calls of the
 // device.
-fn run_over(alloc: Global, by: By, bytes: &[u8], most: usize) -> Result<(String, u64), Wrong> {
-    let mut device = device_of(alloc, bytes, u64::MAX, INTERRUPTED)?;
-    let found = words_over(alloc, by, &mut device, most)?;
+fn run_over(alloc: Global, reading: Reading<'_>, most: usize) -> Result<(String, u64), Wrong> {
+    let mut device = device_of(alloc, reading.bytes, u64::MAX, INTERRUPTED)?;
+    let found = words_over(alloc, reading.by, &mut device, most)?;
     if device.failures != 0 {
-        return fail(format!(in alloc; "a failure behind {found}"));
+        return fail(format!(in alloc; "a failure after {found}"));
     }
     Ok((found, device.calls))
 }
@@ -106,21 +112,22 @@ fn run_over(alloc: Global, by: By, bytes: &[u8], most: usize) -> Result<(String,
 /// Checks that a device that moves one byte per call yields these items, and that a failure of any
 /// call that is made for an item replaces that item.
 pub fn expect_on_devices(alloc: Global, by: By, bytes: &[u8], items: &str) -> Result<(), Wrong> {
-    let (mut before, mut made) = run_over(alloc, by, bytes, 0)?;
-    for most in 1..MOST {
-        let (found, calls) = run_over(alloc, by, bytes, most)?;
+    let reading = Reading { by, bytes };
+    let (mut before, mut made) = run_over(alloc, reading, 0)?;
+    for most in 1..MAX_ITEMS {
+        let (found, calls) = run_over(alloc, reading, most)?;
         for call in made..calls {
-            expect_failure(alloc, by, bytes, before.as_str(), most, call)?;
+            expect_failure(alloc, reading, before.as_str(), most, call)?;
         }
         if found.as_str() == before.as_str() {
             if found.as_str() != items {
-                return fail(format!(in alloc; "{found} came, and not {items}"));
+                return fail(format!(in alloc; "{found} instead of {items}"));
             }
             return Ok(());
         }
         (before, made) = (found, calls);
     }
-    fail(format!(in alloc; "more than {MOST} items"))
+    fail(format!(in alloc; "more than {MAX_ITEMS} items"))
 }
 
 // Checks a source that has `left` bytes after its first call: it yields these items, or a prefix of
@@ -137,7 +144,7 @@ fn expect_shrunk(alloc: Global, bytes: &[u8], items: &str, left: usize) -> Resul
     let fault = format!(in alloc; "UnexpectedEof (offset {})", device.place)?;
     match found.strip_suffix(fault.as_str()) {
         Some(before) if items.starts_with(before.trim_end()) => Ok(()),
-        _ => fail(format!(in alloc; "with {left} bytes left came {found}, and not {fault}")),
+        _ => fail(format!(in alloc; "with {left} bytes left: {found} instead of {fault}")),
     }
 }
 

@@ -1,9 +1,9 @@
 //! Events as words, separated by blanks.
 //!
-//! `[2` and `{2` are starts with their length, `[` and `{` starts without one, `end` is an end,
-//! `true` and `false` are themselves, and so are numbers. `'a'` is a string and `<00ff>` data in
-//! hexadecimal; `uid:4` is a Uid, `real:3fc00000` a real by its bytes, `date:-5` a date by its
-//! second, to which `date:0/3fe0000000000000` adds the bytes of a date with a fraction.
+//! `[2` and `{2` are starts with a length, `[` and `{` are starts without one, and `end` is an end.
+//! `true`, `false` and numbers are written as they are. `'a'` is a string, `<00ff>` is data in
+//! hexadecimal, `uid:4` is a Uid, and `real:3fc00000` is a real by its bytes. `date:-5` is a date
+//! by its second; for a date with a fraction, as in `date:0/3fe0000000000000`, its bytes follow.
 
 ghost use Rattle.std.specs.Iterator.{IsFinite};
 

@@ -34,7 +34,7 @@ pub fn expect_same(alloc: Global, found: &str, wanted: &str) -> Result<(), Wrong
     if found == wanted {
         return Ok(());
     }
-    fail(format!(in alloc; "{found} came, and not {wanted}"))
+    fail(format!(in alloc; "{found} instead of {wanted}"))
 }
 
 /// Checks that the bytes are the expected ones.

@@ -9,7 +9,8 @@ use std::alloc::Global;
 use std::borrow::CowStr;
 use std::io::Write;
 
-// The events of an archive whose objects are `$null`, a dictionary of two Uids, and a text.
+// Returns the event at this index, of an archive whose objects are `$null`, a dictionary of two
+// Uids, and a string.
 fn event_at(number: u8) -> Option<Event<'static>> {
     match number {
         0 => Some(Event::StartDictionary(None)),
@@ -56,7 +57,7 @@ pub fn number_of(error: KeyedError) -> Option<u64> {
     }
 }
 
-// The tree of an archive's root.
+// Returns the tree of an archive's root.
 pub fn root_of(alloc: Global, root: &Value) -> Result<Option<Value>, KeyedError> {
     let archive: Archive<'_> = Archive::open(root)?;
     let top: Option<Uid> = archive.top("root");

@@ -71,7 +71,7 @@ pub fn collected(alloc: Global, pairs: Vec<(String, Value)>) -> Result<Dictionar
     Dictionary::from_pairs(alloc, pairs)
 }
 
-// How many pairs there are, counted one by one.
+// Returns the number of pairs, counted one by one.
 pub fn counted(pairs: &Dictionary) -> u64 {
     let mut count: u64 = 0;
     for (_key, _value) in pairs {
@@ -86,7 +86,7 @@ pub fn first_of(pairs: Dictionary) -> Option<(String, Value)> {
     left.next()
 }
 
-// How many pairs there are, each taken out.
+// Returns the number of pairs, which are iterated by value.
 pub fn taken(pairs: Dictionary) -> u64 {
     let mut count: u64 = 0;
     for (_key, _value) in pairs {
@@ -95,7 +95,7 @@ pub fn taken(pairs: Dictionary) -> u64 {
     count
 }
 
-// The dictionary of these keys, in order, under each of which is its number from 1 on.
+// Makes a dictionary of these keys, in order. The value of each is its number, from 1 on.
 pub fn numbered(alloc: Global, keys: &[&str]) -> Result<Dictionary, Error> {
     let mut pairs: Dictionary = Dictionary::new(alloc);
     let mut number: u64 = 0;

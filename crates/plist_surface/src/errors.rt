@@ -1,11 +1,11 @@
-//! Errors: their kinds, and what is said of one.
+//! Errors: their kinds, and the calls on one.
 
 use crate::traits::{is_copy, is_debug, is_display, is_eq, is_error};
 use plist_base::{Error, ErrorKind, EventKind, Limit};
 use std::io;
 use std::io::Write;
 
-// The kind of this number.
+// Returns the kind with this number.
 fn kind_at(number: u8) -> Option<ErrorKind> {
     match number {
         1 => Some(ErrorKind::UnexpectedEof),
@@ -53,7 +53,7 @@ fn later_kind_at(number: u8) -> Option<ErrorKind> {
     }
 }
 
-// What a kind holds, by all kinds.
+// Returns the content of a kind, by a match over all kinds.
 pub fn content_of(kind: &ErrorKind) -> &'static str {
     match kind {
         ErrorKind::UnknownObjectType(_) => "a marker",
@@ -92,7 +92,7 @@ pub fn content_of(kind: &ErrorKind) -> &'static str {
     }
 }
 
-// The kinds of events.
+// Returns the kinds of events.
 fn event_kinds() -> [EventKind; 12] {
     [
         EventKind::StartArray,

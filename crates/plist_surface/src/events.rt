@@ -1,4 +1,4 @@
-//! Events: their ten kinds, and what is done with one.
+//! Events: their ten kinds, and the calls on one.
 
 ghost use Rattle.std.specs.Iterator.{IsFinite};
 
@@ -8,7 +8,7 @@ use std::alloc::Global;
 use std::borrow::{CowSlice, CowStr};
 use std::io::Write;
 
-// An event of each kind, counted from 0.
+// Returns an event of the kind with this number, counted from 0.
 pub fn event_at(number: u8) -> Option<Event<'static>> {
     match number {
         0 => Some(Event::StartArray(Some(9))),
@@ -48,7 +48,7 @@ pub fn print_event<W: Write>(out: &mut W, event: &Event<'_>) -> Result<(), Error
     Ok(())
 }
 
-// Prints items in a line after a name.
+// Prints a line with a name and items.
 pub fn print_items<W: Write, I: Iterator<Item = Result<OwnedEvent, Error>> + Drop>(
     out: &mut W,
     name: &str,

@@ -1,5 +1,5 @@
-//! All names of `plist::stream` and of `plist::dictionary` at once, beside a trait of the standard
-//! library: a call of that trait is its own.
+//! Imports all names of `plist::stream` and of `plist::dictionary` beside a trait of the standard
+//! library. A call of that trait's method is not ambiguous.
 
 use plist::dictionary::*;
 use plist::stream::*;

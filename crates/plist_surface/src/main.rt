@@ -1,6 +1,6 @@
-//! The public surface, item by item: each name by its path, each call with the types of its
-//! arguments and of what it returns, each struct by its literal, and each enum by a match over its
-//! variants. A change that breaks a program which uses them is refused here.
+//! Uses the public surface, item by item: each name by its path, each call with the types of its
+//! arguments and of its result, each struct by a literal, and each enum by a match over its
+//! variants. If a change would break a program that uses one of them, this crate doesn't compile.
 //!
 //! It prints what the calls return for worked examples of the formats.
 #![tactic(auto)]

@@ -1,5 +1,5 @@
-//! The paths by which `plist` passes on what the crates below it have: each function returns what
-//! it takes, under the other path of its type.
+//! The paths by which `plist` re-exports items of the crates below it. Each function returns its
+//! argument, whose type it names by the other path.
 
 pub fn data(it: plist::Data) -> plist_base::Data {
     it

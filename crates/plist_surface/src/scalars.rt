@@ -32,7 +32,7 @@ const REALS: [[u8; 8]; 3] = [
     [0x7f, 0xf0, 0, 0, 0, 0, 0, 0],
 ];
 
-// An integer of each type of numbers.
+// Returns an integer of each primitive type.
 pub fn integers() -> [Integer; 8] {
     [
         Integer::from(1_i64),
@@ -76,7 +76,7 @@ pub fn uid_calls(uid: Uid) -> u64 {
     uid.get()
 }
 
-// The bytes of a real, by its two widths.
+// Returns the bytes of a real, by a match over its two widths.
 pub fn bytes_of_real(bits: RealBits) -> u64 {
     is_copy(bits);
     is_eq(&bits);
@@ -108,13 +108,13 @@ pub fn invalid_date(error: InvalidXmlDate) -> Error {
     Error::from(error)
 }
 
-// The text of a date's text.
+// Parses the text of a date, and returns the text of that date.
 pub fn date_again(alloc: Global, text: &str) -> Result<String, Error> {
     let read: Result<Date, InvalidXmlDate> = Date::from_xml_format(text);
     read?.to_xml_format(alloc)
 }
 
-// The text of a date's bytes.
+// Returns the text of the date with these bytes.
 pub fn date_of_bytes(alloc: Global, bytes: [u8; 8]) -> Result<String, Error> {
     match Date::from_plist_real(bytes) {
         Ok(date) => date.to_xml_format(alloc),
@@ -149,7 +149,7 @@ pub fn invalid_data(error: InvalidXmlData) -> Option<plist_base::DecodeError> {
     }
 }
 
-// The text of as many zero bytes.
+// Returns the text of data of this many zero bytes.
 pub fn zeros(alloc: Global, count: usize) -> Result<String, Error> {
     let data: Data = Data::new(vec![in alloc; 0; count]?);
     data.to_xml_format(alloc)

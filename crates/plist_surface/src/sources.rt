@@ -1,4 +1,4 @@
-//! Sources: the bytes that binary files are read from.
+//! Sources, from which binary files are read.
 
 ghost use Rattle.std.specs.Prelude.{Some};
 
@@ -6,7 +6,7 @@ use plist_base::{Seeking, Sequential, Source};
 use std::io;
 use std::io::{Read, Seek};
 
-/// A source of one's own.
+/// A source that is defined outside the library.
 #[derive(Drop)]
 pub struct Owned {
     bytes: Vec<u8>,

@@ -1,4 +1,4 @@
-//! Values: their nine kinds, what they are made of, and where they are read from and written to.
+//! Values: their nine kinds, the conversions into them, and how they are read and written.
 
 use crate::events::print_items;
 use crate::traits::{is_debug, is_eq};
@@ -10,7 +10,7 @@ use plist_binread::Limits;
 use std::alloc::Global;
 use std::io::{Read, Write};
 
-// The kind of a value, which is taken apart.
+// Returns the kind of a value, by a match over all kinds.
 pub fn kind_of(value: Value) -> EventKind {
     match value {
         Value::Array(items) => {
@@ -193,7 +193,7 @@ pub fn of_text(alloc: Global, text: &str) -> Result<Value, Error> {
     Value::try_from_str(alloc, text)
 }
 
-// Prints what comes of reading a text within limits.
+// Prints the result of reading an ASCII property list under limits.
 fn print_within<W: Write>(alloc: Global, out: &mut W, limits: Limits) -> Result<(), Error> {
     let text: &[u8] = b"((a))";
     match Value::from_reader_with_limits(alloc, text, limits) {

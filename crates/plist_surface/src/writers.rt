@@ -1,4 +1,4 @@
-//! Writers: the calls of the trait, and what takes events.
+//! Writers: the calls of the trait, and its implementations.
 
 use crate::events::event_at;
 use plist::Builder;
@@ -11,7 +11,7 @@ use std::io::Write;
 
 pub fn is_sealed<T: Sealed>(_writer: &T) {}
 
-// An array of each kind of value, by the ten calls.
+// Writes an array of a value of each kind, by the ten methods.
 pub fn write_each<W: Writer>(writer: &mut W, date: Date) -> Result<(), Error> {
     is_sealed(writer);
     writer.write_start_array(Some(8))?;
@@ -27,7 +27,7 @@ pub fn write_each<W: Writer>(writer: &mut W, date: Date) -> Result<(), Error> {
     writer.write_end_collection()
 }
 
-// The same events, each by `write`.
+// Writes an array of a value of each kind, each event by `write`.
 pub fn write_events<W: Writer>(writer: &mut W) -> Result<(), Error> {
     for number in 0..=10_u8 {
         if let Some(event) = event_at(number) {
@@ -44,7 +44,7 @@ pub fn built(alloc: Global) -> Result<plist::Value, Error> {
     builder.finish()
 }
 
-// The file of an array of two arrays of one text.
+// Writes an array of two arrays, each of which contains one string.
 fn array_of_arrays<W: Writer>(writer: &mut W) -> Result<(), Error> {
     writer.write(Event::StartArray(None))?;
     for _ in 0..2 {
@@ -67,12 +67,12 @@ pub fn shared(alloc: Global) -> Result<Vec<u8>, Error> {
     Ok(writer.into_inner())
 }
 
-// One form of an object by itself.
+// Writes the object of a Boolean by itself.
 pub fn put_true(sink: &mut Sink<'_, Vec<u8>>) -> Result<(), Error> {
     forms::put_boolean(sink, true)
 }
 
-// Prints bytes in hexadecimal after a name.
+// Prints a line with a name and bytes in hexadecimal.
 pub fn print_bytes<W: Write>(out: &mut W, name: &str, bytes: &[u8]) -> Result<(), Error> {
     write!(out, "{name}: ")?;
     for byte in bytes {

@@ -1,5 +1,5 @@
-//! `plist_tool print FILE` prints the events of a binary property list, each on a line of its own;
-//! `plist_tool convert IN OUT` writes a property list of either format as a binary one;
+//! `plist_tool print FILE` prints the events of a binary property list, each on a line of its own.
+//! `plist_tool convert IN OUT` writes a property list of either format as a binary one.
 //! `plist_tool keyed FILE KEY` prints a tree of a keyed archive as `print` prints a file.
 #![tactic(auto)]
 
@@ -22,7 +22,8 @@ fn run<R: Files + Env + AllocGlobal, O: Write, E: Messages>(
     out: &mut O,
     err: &mut E,
 ) -> Result<u8, Error>
-    ensures runs { IfOk result (λ status. RunsWords E.reports status out.old out.new err.old err.new) }
+    ensures runs { IfOk result
+        (λ status. RunsWords E.reports status out.old out.new err.old err.new) }
     ensures memory { OnlyMemory result }
     ensures unchanged { OnErr result ((out.new ≡ out.old) × (err.new ≡ err.old)) }
 {
@@ -30,7 +31,7 @@ fn run<R: Files + Env + AllocGlobal, O: Write, E: Messages>(
     Ok(run_words(rt, rt.alloc(), words.as_slice(), out, err))
 }
 
-// Returns the exit code of a run: its status, or 1 if there was no memory to begin, which is
+// Returns the exit code of a run: its status, or 1 if memory ran out before the run, which is
 // reported.
 fn exit_code<E: Messages>(answer: Result<u8, Error>, err: &mut E) -> ExitCode
     ensures status { IsStatusOf answer (exit_status result) }
@@ -45,8 +46,7 @@ fn exit_code<E: Messages>(answer: Result<u8, Error>, err: &mut E) -> ExitCode
     }
 }
 
-// Runs the command with standard output, to which it writes many lines at a time, and standard
-// error.
+// Runs the command with standard output and standard error. The command buffers its output itself.
 fn main(rt: HostRuntime) -> ExitCode {
     let mut out = io::writer(&rt);
     let mut err = rt.stderr();

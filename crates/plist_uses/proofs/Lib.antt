@@ -1,2 +1,2 @@
 pub mod Tallies
-pub mod Handed
+pub mod WriterRuns

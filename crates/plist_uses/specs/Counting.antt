@@ -46,8 +46,8 @@ AreCountedOf items answer = IfOk answer (AreCountsOf items)
 
 -- the items are events up to this fault
 abbrev pub StopAt : List Item → Fault → Type 0
-StopAt items fault = (events : List PlainEvent) × (behind : List Item)
-    × (items ≡ map Ok events ++ Err fault ∷ behind)
+StopAt items fault = (events : List PlainEvent) × (more : List Item)
+    × (items ≡ map Ok events ++ Err fault ∷ more)
 
 -- the error is `Io` or `OutOfMemory`, or the first fault of the items
 abbrev pub IsRefusedBy : List Item → Result Counts Error → Type 0

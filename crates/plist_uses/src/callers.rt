@@ -3,7 +3,7 @@
 ghost use Rattle.std.specs.Prelude.{◌≡◌, ◌∷◌, [], IfOk, IfSome, OnOk, string_bytes};
 ghost use Rattle.std.specs.Option.{option_copied};
 ghost use Rattle.plist.specs.WrittenEvents.{TakesAll};
-ghost use Rattle.plist.specs.Limiting.{NestsWithin};
+ghost use Rattle.plist.specs.LimitedValues.{NestsWithin};
 ghost use Rattle.plist.specs.ValueTrees.{tree_of};
 ghost use Rattle.plist_reader.specs.Reader.{items_of_input};
 ghost use Rattle.plist_uses.specs.Converting.{IsFileOfInput};

@@ -8,9 +8,8 @@ use plist::{Error, Value};
 use std::alloc::Global;
 use std::io::Write;
 
-/// Reads a property list, writes it as a binary one, and returns its value. The file that is
-/// written is one of that value. If the bytes of the source are known, the value is that of their
-/// items.
+/// Reads a property list, writes it as a binary one, and returns its value. The written file has
+/// that value. If the bytes of the source are known, the value is that of their items.
 ///
 /// # Errors
 ///

@@ -28,8 +28,8 @@ fn write_reading<W: Writer>(reading: &Reading, writer: &mut W) -> Result<(), Err
     writer.write_end_collection()
 }
 
-/// Writes readings as an array of dictionaries, event by event: to a `BinaryWriter`, to one that
-/// shares, or to any other. No value of them is made.
+/// Writes readings as an array of dictionaries, event by event, to a `BinaryWriter`, a
+/// `SharingWriter` or any other writer. It makes no value of them.
 ///
 /// # Errors
 ///

@@ -1,6 +1,6 @@
-//! Examples to copy: small callers of the library, each with its own contract, which follows from
-//! the contracts of what it calls. Three have a proof: `counting` and `generated`, of what their
-//! loops maintain, and `convert`, of an error. `callers` has proved callers of the examples.
+//! Examples to copy: small callers of the library, each with a contract of its own, which follows
+//! from the contracts of the calls in it. Three have proof files: `counting` and `generated` for
+//! their loops, and `convert` for an error. `callers` has proved callers of the examples.
 #![tactic(auto)]
 
 pub mod archive;

@@ -5,7 +5,7 @@ ghost use Rattle.plist_base.specs.Bracketing.{bracketing};
 ghost use Rattle.plist_base.specs.Budgets.{total_bytes};
 ghost use Rattle.plist.specs.Collecting.{built_tree};
 ghost use Rattle.plist.specs.ValueOfItems.{IsValueOf};
-ghost use Rattle.plist.specs.Limiting.{NestsWithin};
+ghost use Rattle.plist.specs.LimitedValues.{NestsWithin};
 ghost use Rattle.plist.specs.ValueTrees.{tree_of};
 ghost use Rattle.plist_uses.specs.Uploads.{items_of_upload};
 

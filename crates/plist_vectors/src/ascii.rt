@@ -50,8 +50,8 @@ fn next_of(rt: &impl Abort, reader: &mut AsciiReader<Device>) -> Result<OwnedEve
     }
 }
 
-// Checks that a device's error is passed on, and that nothing is read after it, although the device
-// would go on.
+// Checks that a device's error is passed on, and that nothing is read after it, although further
+// reads would succeed.
 fn expect_handed_on(rt: &(impl Abort + AllocGlobal), kind: ErrorKind) {
     let device = device_of(rt, "(a)", 1, DeviceFault::Fails(kind));
     let mut reader = AsciiReader::new(rt.alloc(), device);
@@ -69,7 +69,7 @@ fn ends_after_a_failure(rt: HostRuntime) {
     }
 }
 
-// Nothing is read after the end of the input, although the device would go on.
+// Nothing is read after the end of the input, although further reads would succeed.
 #[test]
 fn ends_at_the_end(rt: HostRuntime) {
     let device = device_of(&rt, "(a)", 2, DeviceFault::MovesNothing);
@@ -82,7 +82,7 @@ fn ends_at_the_end(rt: HostRuntime) {
     assert_eq!(rt; device.moved, 2);
 }
 
-// Checks the value of a text's items, and the number of calls of the device that it takes.
+// Checks the value of a text's items, and the number of calls of the device.
 fn expect_asked(rt: &(impl Abort + AllocGlobal), text: &str, wanted: &str, calls: u64) {
     let mut device = device_of(rt, text, u64::MAX, DeviceFault::MovesNothing);
     let reader = AsciiReader::new(rt.alloc(), &mut device);
@@ -90,8 +90,8 @@ fn expect_asked(rt: &(impl Abort + AllocGlobal), text: &str, wanted: &str, calls
     assert_eq!(rt; device.calls, calls);
 }
 
-// No item is read after one that is rejected, and the reader is called just once after the last
-// one.
+// No item is read after one that is rejected, and the reader is called only once after the last
+// item.
 #[test]
 fn a_value_takes_no_item_more(rt: HostRuntime) {
     expect_asked(&rt, "(a)", "[1 'a' end", 4);

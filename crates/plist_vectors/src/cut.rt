@@ -14,7 +14,7 @@ use std::process::Abort;
 // The number of bytes in a trailer.
 const TRAILER: usize = 32;
 
-// A file whose bytes from `end` up to `resumes`, where its table or trailer begins, are missing.
+// A file without its bytes from `end` up to `resumes`, where its table or trailer begins.
 #[derive(Drop)]
 struct Cut {
     bytes: Vec<u8>,
@@ -24,7 +24,7 @@ struct Cut {
     place: u64,
 }
 
-// Copies the bytes from an offset up to an end, as many as fit into the buffer.
+// Copies as many of the bytes from an offset up to an end as fit into the buffer.
 fn copy_between(bytes: &[u8], place: u64, end: usize, buf: &mut [u8]) -> usize
     ensures { result ≤ length buf.new }
 {
@@ -81,7 +81,7 @@ fn expect_end(rt: &(impl Abort + AllocGlobal), cut: &Cut, found: &str, items: &s
     );
     match found.strip_suffix(fault.as_str()) {
         Some(before) => assert!(rt; items.starts_with(before.trim_end()), "at {}", cut.end),
-        None => panic!(rt; "cut at {} it gave {found}, and not {fault}", cut.end),
+        None => panic!(rt; "cut at {}: {found} instead of {fault}", cut.end),
     }
     assert!(rt; cut.place >= cut.end as u64, "at {}", cut.end);
     assert!(rt; cut.place < cut.resumes as u64, "at {}", cut.end);

@@ -1,5 +1,5 @@
-//! A ledger can be the counter of a reader. Its count doesn't exist at run time, so the examples in
-//! `decoded` test counts.
+//! A ledger can be the counter of a reader. Its count doesn't exist at run time, so this test can't
+//! check it; the examples in `decoded` check counts.
 
 ghost use Rattle.std.specs.Prelude.{◌≡◌, ◌<◌};
 

@@ -61,7 +61,7 @@ fn texts_with_an_offset(rt: HostRuntime) {
     expect_text(&rt, failed_device(), "Io (offset 3)");
 }
 
-// Checks the two texts of a kind of events, separated by a blank.
+// Checks the `Display` and the `Debug` text of a kind of events, separated by a blank.
 fn expect_kind(rt: &(impl Abort + AllocGlobal), kind: EventKind, texts: &str) {
     let found = must(rt, format!(in rt.alloc(); "{kind} {kind:?}"));
     assert_eq!(rt; found.as_str(), texts);

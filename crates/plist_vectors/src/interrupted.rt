@@ -1,5 +1,5 @@
-//! What follows a read that was interrupted, or failed in another way: its error, and no further
-//! call.
+//! A read that was interrupted, or failed in another way, returns its error, and no call follows
+//! it.
 
 use crate::sources::sample;
 use crate::support::must;

@@ -57,7 +57,7 @@ fn last_item(
 }
 
 // Checks that the error of a device that fails at this call is passed on, and that the failed call
-// isn't tried again, although the device would go on. Returns whether there is such a call.
+// isn't tried again, although a second try would succeed. Returns whether there is such a call.
 fn expect_failure(rt: &(impl Abort + AllocGlobal), call: u64, kind: ErrorKind) -> bool {
     let mut device = device_of(rt, call, DeviceFault::Fails(kind));
     let last = last_item(rt, &mut device);

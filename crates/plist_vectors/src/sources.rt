@@ -1,4 +1,4 @@
-//! Sources over a file, and reading them from their start on.
+//! Sources over a file, and readers of their bytes from the start on.
 
 use crate::support::must;
 use plist_base::{Seeking, Sequential, Source, read_exact_at};
@@ -144,9 +144,9 @@ const OF_ONE: [u32; 4] = [0, 32_768, 65_536, 98_304];
 // Four parts of the last slot, even if there are twice as many slots.
 const OF_LAST: [u32; 4] = [57_344, 122_880, 188_416, 253_952];
 
-// The ninth window that is filled again doubles the windows, so that the four parts have two slots.
-// The parts of the last slot have two only after the seventeenth such window doubles them once
-// more.
+// The ninth window that is filled again doubles the number of windows, after which the four parts
+// have two slots. The parts of the last slot have two slots only after the seventeenth such window
+// doubles it again.
 #[test]
 fn windows_grow(rt: HostRuntime) {
     assert_eq!(rt; calls_of_rounds(&rt, true, OF_ONE, 3), 24);
@@ -199,8 +199,8 @@ fn goes_on_after_a_failure(rt: HostRuntime) {
     }
 }
 
-// Checks windows of one slot that are read in turn, while the disk fails at this call, which is
-// made for the third or the fourth. Then nothing is buffered there, and later reads return the
+// Reads windows of one slot in turn, while the disk fails at this call, which is made for the third
+// or the fourth window. Checks that this window is empty then, and that later reads return the
 // file's bytes.
 fn expect_failed_window(rt: &(impl Abort + AllocGlobal), call: u64) {
     let mut source = Seeking::with_windows(rt.alloc(), Disk::new(sample(rt, 100_000), call));
@@ -228,8 +228,8 @@ fn a_failed_window_holds_nothing(rt: HostRuntime) {
     }
 }
 
-// Bytes that a short read didn't reach are read at their own offset, even in windows that were
-// added: each round over the four offsets fills all their windows again, until there are twice as
+// Bytes that a short read didn't reach are read at their own offset, also in windows that were
+// added. Each round over the four offsets fills all their windows again, until there are twice as
 // many.
 #[test]
 fn gives_the_bytes_of_short_reads_of_more_windows(rt: HostRuntime) {

@@ -54,7 +54,7 @@ impl Source for Vast {
     }
 }
 
-// Data for which there is no memory ends a reader, even under limits that allow it.
+// A reader ends at data for which there is no memory, even under limits that allow it.
 #[test]
 fn ends_where_no_memory_is_found(rt: HostRuntime) {
     let limits = Limits { depth: 9, items: 9 };
@@ -68,7 +68,7 @@ fn ends_where_no_memory_is_found(rt: HostRuntime) {
     assert_eq!(rt; found.as_str(), "OutOfMemory");
 }
 
-// Data for which there is no memory ends the reading of a value.
+// Reading a value fails at data for which there is no memory.
 #[test]
 fn no_value_is_read(rt: HostRuntime) {
     let limits = Limits { depth: 9, items: 9 };

@@ -8,7 +8,7 @@ use Rattle.plist_base.specs.Bracketing.{bracketing, bracketing_of_items, bracket
 use Rattle.plist_base.proofs.Grammar.{alike_behind, all_taken, can_continue, continue_alike, continues, none_is, steps_snoc, wanted_alike}
 use Rattle.plist.specs.LastWins.{TreePairs}
 use Rattle.plist.specs.Building.{OpenCollection, InArray, InDictionary, AfterKey, Unfinished, NotBegun, Within, Complete, events_within, events_around, events_so_far, expected_within, if_refused, refusal_of, refusal_at, AllTakeValue, IsNested, TakesValue, last_wins_within, last_wins_so_far, complete_tree}
-use Rattle.plist.specs.inner.Steps.{and_pair, and_tree, at_value, in_array, in_dictionary, and_event}
+use Rattle.plist.specs.inner.BuilderSteps.{and_pair, and_tree, at_value, in_array, in_dictionary, and_event}
 use Rattle.plist_base.specs.declared.expects.Expect.{Expect}
 use Rattle.plist_base.specs.declared.expects.Expect.TheVariants.{OneValue, Items, Pairs}
 use Rattle.plist_base.specs.declared.expects.Change.{Change}

@@ -9,7 +9,7 @@ use Rattle.plist_base.specs.declared.expects.Expect.TheVariants.{OneValue}
 use Rattle.plist_base.specs.Events.{PlainEvent}
 use Rattle.plist_base.specs.Expects.{change_of}
 use Rattle.plist_base.specs.Faults as faults
-use Rattle.plist_base.specs.Faults.{FaultKind, fault_nowhere, WriterFailed}
+use Rattle.plist_base.specs.Faults.{FaultKind, fault_without_offset, WriterFailed}
 use Rattle.plist_base.specs.Bracketing.{CanContinue, ContinueAlike}
 use Rattle.plist_base.specs.Writing.{Answer, MatchKind, AnswersByOrder}
 use Rattle.plist.specs.declared.stream.builder.Builder.{Builder}
@@ -94,7 +94,7 @@ failed_kind before after event unchanged kind r f = absurd (true≢false (sym f 
 
 pub failed_law : (before : Builder) (event : PlainEvent) (answer : Answer) (after : Builder)
     → IsBuildingStep before event answer after → before.failed ≡ true
-    → (answer ≡ Err (fault_nowhere WriterFailed)) × (after ≡ before)
+    → (answer ≡ Err (fault_without_offset WriterFailed)) × (after ≡ before)
 failed_law before event (Ok done) after s f = absurd (true≢false (sym f ∙ s.1.0))
 failed_law before event (Err fault) after s f =
     let k = failed_kind (built_of before) (built_of after) event (after ≡ before) fault.kind s.1.1

@@ -5,7 +5,7 @@ use Rattle.plist_pairs.specs.inner.PairsSame.{same_pairs_equiv}
 use Rattle.plist.specs.declared.dictionary.Dictionary.{Dictionary}
 use Rattle.plist.specs.Dictionaries.{pairs_of}
 use Rattle.plist.specs.ValueTrees.{tree_of}
-use Rattle.plist.specs.inner.PutOff.{same_values_at}
+use Rattle.plist.specs.inner.DeferredPairs.{same_values_at}
 use Rattle.plist.specs.inner.Sameness.{same_by, same_by_equiv}
 
 of_pairs : IsEquivalence (same_pairs (same_by tree_of))

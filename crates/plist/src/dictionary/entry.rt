@@ -10,7 +10,7 @@ ghost use Rattle.plist.specs.Dictionaries.{pairs_of};
 use crate::{Dictionary, Value};
 use std::mem;
 
-/// The entry of a key in a dictionary, which has a pair or is vacant.
+/// The entry of a key in a dictionary: the key's pair, or a vacant entry if the key isn't there.
 #[derive(Drop)]
 pub enum Entry<'a> {
     /// The key isn't there.
@@ -41,12 +41,13 @@ impl Dictionary {
     /// Returns the entry of the key. It allocates no memory; only the insert of a vacant entry
     /// does.
     pub fn entry(&mut self, key: String) -> Entry<'_>
-        // The answer.
+        // Result.
         ensures now { entry_pairs result ≡ pairs_of self.old }
         ensures key { entry_key result ≡ Some (string_bytes key) }
-        ensures value { entry_value result ≡ lookup (bytes_eq (string_bytes key)) (pairs_of self.old) }
+        ensures value { entry_value result ≡ lookup (bytes_eq (string_bytes key))
+            (pairs_of self.old) }
         ensures kept { kept_key result ≡ unless_there key (pairs_of self.old) }
-        // The state after it.
+        // State afterwards.
         ensures same_pairs { (entry_ref result).ghost_name ≡ self.entry.ghost_name }
         ensures writes { Inserts result (pairs_of self.old) (string_bytes key) }
         ensures removes { Removes result (pairs_of self.old) (string_bytes key) }
@@ -162,8 +163,8 @@ impl<'a> Entry<'a> {
         }
     }
 
-    /// Returns a mutable reference to the key's value: the one that it has, or else this one, which
-    /// is added.
+    /// Returns a mutable reference to the key's value. If the key isn't there, it is first added
+    /// with this value.
     ///
     /// # Errors
     ///

@@ -12,7 +12,8 @@ use std::ops::{Index, IndexMut};
 impl<'q> Index<&'q str> for Dictionary {
     type Output = Value;
 
-    ghost can_index = { λ dictionary key. IsSome (lookup (bytes_eq key.now) (pairs_of dictionary)) };
+    ghost can_index = { λ dictionary key. IsSome (lookup (bytes_eq key.now)
+        (pairs_of dictionary)) };
 
     ghost index_gives = { λ dictionary key value.
         lookup (bytes_eq key.now) (pairs_of dictionary) ≡ Some value };

@@ -14,10 +14,10 @@ use std::alloc::Global;
 
 /// Builds a value from its events.
 ///
-/// A builder keeps the events that it has taken, up to lengths, with each key in its first position
-/// with its last value. An event that can't come next is rejected and changes nothing: with
-/// `UnexpectedEventType` before the root is complete, and with `ExpectedEndOfEventStream` after it.
-/// If memory runs out, the builder has failed: its contents are dropped, and each later call
+/// A key that is repeated keeps its first position and takes its last value. The lengths of starts
+/// are ignored. An event that can't come next is rejected and changes nothing: with
+/// `UnexpectedEventType` before the root is complete, and with `ExpectedEndOfEventStream` after
+/// that. If memory runs out, the builder has failed: its contents are dropped, and each later call
 /// returns `WriterFailed`.
 #[derive(Drop)]
 pub struct Builder {
@@ -43,7 +43,7 @@ impl Builder {
         }
     }
 
-    // Takes one event.
+    // Adds an event.
     pub(crate) fn take(&mut self, event: Event<'_>) -> Result<(), Error>
         ensures step { IsBuildingStep self.old (event_of event.entry) (answer_of result) self.new }
         ensures added { OnOk result (BuilderAddsEvent self.old (event_of event.entry) self.new) }
@@ -66,7 +66,7 @@ impl Builder {
         }
     }
 
-    // Takes the event of an item, or returns its error.
+    // Adds the event of an item, or returns the error that the item is.
     pub(crate) fn take_item<E: AnyEvent>(&mut self, item: Result<E, Error>) -> Result<(), Error>
         requires { (built_of self.old).failed ≡ false }
         ensures taken { OnOk result (TakesItem self.old (item_by E.plain item) self.new) }
@@ -85,13 +85,13 @@ impl Builder {
     /// - `WriterFailed` if it has failed.
     /// - `UnexpectedEndOfEventStream` if the events aren't those of a value yet.
     pub fn finish(&mut self) -> Result<Value, Error>
-        // The answer.
+        // Result.
         ensures value { IfOk result (HasAllEventsOf (built_of self.old)) }
         ensures complete { IfOk result (IsBuilt (built_of self.old)) }
         ensures working { OnOk result ((built_of self.old).failed ≡ false) }
-        // A refusal.
+        // Errors.
         ensures refused { IfFault result (IsUnfinished (built_of self.old)) }
-        // The state after it.
+        // State afterwards.
         ensures emptied { OnOk result (built_of self.new ≡ nothing_built) }
         ensures unchanged { OnErr result (self.new ≡ self.old) }
     {
@@ -106,7 +106,7 @@ impl Builder {
     }
 }
 
-/// An event, whatever it borrows: an [`Event`] of any lifetime.
+/// An [`Event`] of any lifetime.
 pub trait AnyEvent: Drop {
     ghost use Rattle.plist_base.specs.Events.{PlainEvent};
     ghost use Rattle.plist.specs.Builder.{RefusesWith, TakesItem, built_of};

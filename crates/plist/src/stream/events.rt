@@ -14,14 +14,14 @@ use std::alloc::Global;
 use std::borrow::{CowSlice, CowStr};
 use std::ops::ControlFlow;
 
-// An open collection, with what is left of it.
+// An open collection, with its remaining contents.
 #[derive(Drop)]
 enum Level<'a> {
     Array(&'a [Value]),
     Dictionary(Iter<'a>),
 }
 
-// What is next.
+// The next thing to do.
 #[derive(Drop)]
 enum Next<'a> {
     Nothing,
@@ -55,7 +55,7 @@ impl<'a> Events<'a> {
         }
     }
 
-    // Removes and returns what is next.
+    // Removes and returns the next item or end of the innermost open collection, or the root.
     fn advance(&mut self) -> Next<'a>
         ensures { ComesNext self.old result self.new }
     {
@@ -82,7 +82,7 @@ impl<'a> Events<'a> {
         }
     }
 
-    // Opens a collection. If memory for that runs out, no events are left.
+    // Opens a collection. If memory for that runs out, no events remain.
     fn open(&mut self, level: Level<'a>) -> Result<(), Error>
         requires { self.old.value ≡ None }
         ensures opened { OnOk result (OpensLevel self.old level.entry self.new) }
@@ -98,7 +98,7 @@ impl<'a> Events<'a> {
         }
     }
 
-    // Returns the first event of a value, whose others are left then.
+    // Returns the first event of a value, whose other events remain.
     fn begin(&mut self, value: &'a Value) -> Result<Event<'a>, Error>
         requires { self.old.value ≡ None }
         ensures { BeginsValue (tree_of value.now) self.old result self.new }
@@ -145,10 +145,10 @@ impl<'a> Iterator for Events<'a> {
 }
 
 impl<'a> EventSource for Events<'a> {
-    ghost use Rattle.plist_base.specs.Visits.{GivesPlain};
+    ghost use Rattle.plist_base.specs.Visits.{YieldsPlain};
     ghost use Rattle.plist.specs.Events.{GivesEvent};
 
-    ghost gives = { GivesPlain GivesEvent };
+    ghost yields = { YieldsPlain GivesEvent };
 
     fn visit<V: EventVisitor>(&mut self, visitor: &mut V) -> Result<Visited, Error> {
         while let Some(item) = self.next() {

@@ -1,5 +1,5 @@
-//! What a program needs to write a writer of its own: the forms of objects, a table of events, and
-//! the calls that write a whole file.
+//! Items for writers that are defined outside the library: the forms of objects, a table of events,
+//! and the calls that write a whole file.
 
 pub use plist_base::{FixedBuffer, Sink};
 pub use plist_binwrite::{

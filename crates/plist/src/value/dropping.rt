@@ -1,6 +1,6 @@
-//! How values are dropped without recursion. The values that are left are in one list. When the
-//! values of a collection are added, that list is stored among them as an array, in a slot that one
-//! of them leaves, so that no memory is allocated.
+//! How values are dropped without recursion. The values that are still to be dropped are in one
+//! list. When the values of a collection are added, that list is stored among them as an array, in
+//! a slot that one of them leaves, so that no memory is allocated.
 
 ghost use Rattle.std.specs.Prelude.{◌<◌, vec_len};
 ghost use Rattle.std.specs.Vec.{vec_capacity};
@@ -59,7 +59,8 @@ pub(crate) fn destroy_all(values: Vec<Value>) {
     left.destroy_empty();
 }
 
-// Joins the values that are left and those that a collection contained into one list.
+// Joins the values that are still to be dropped and those that a collection contained into one
+// list.
 //
 // It allocates no memory: the collection was taken out of the first list, which therefore has
 // capacity for one more value, and so has the second.

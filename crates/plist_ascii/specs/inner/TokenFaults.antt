@@ -3,7 +3,7 @@ use Rattle.std.specs.Prelude.{◌≡◌, ℕ, Option, None, Some, Result, Ok, Er
 use Rattle.std.specs.Option.{option_map}
 use Rattle.plist_base.specs.declared.event.Event.{Event}
 use Rattle.plist_base.specs.Events.{PlainEvent, event_of}
-use Rattle.plist_base.specs.Faults.{Fault, FaultKind, Io, OutOfMemory, UnclosedString, IncompleteComment, InvalidUtf8AsciiStream, InvalidOctalString, InvalidUtf16String, fault_at, fault_nowhere}
+use Rattle.plist_base.specs.Faults.{Fault, FaultKind, Io, OutOfMemory, UnclosedString, IncompleteComment, InvalidUtf8AsciiStream, InvalidOctalString, InvalidUtf16String, fault_at, fault_without_offset}
 use Rattle.plist_ascii.specs.Kinds.{IsTextEvent}
 use Rattle.plist_ascii.specs.declared.fault.TokenFault.{TokenFault}
 use Rattle.plist_ascii.specs.declared.fault.TokenFault.TheVariants as fault
@@ -21,7 +21,7 @@ kind_in_bytes fault.InvalidUtf16 = Some InvalidUtf16String
 -- the error that a fault becomes after this number of bytes
 abbrev pub fault_after : TokenFault → ℕ → Fault
 fault_after fault.Io place = fault_at Io place
-fault_after fault.OutOfMemory place = fault_nowhere OutOfMemory
+fault_after fault.OutOfMemory place = fault_without_offset OutOfMemory
 fault_after fault.UnclosedString place = fault_at UnclosedString place
 fault_after fault.IncompleteComment place = fault_at IncompleteComment place
 fault_after fault.InvalidUtf8 place = fault_at InvalidUtf8AsciiStream place

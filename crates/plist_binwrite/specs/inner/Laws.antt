@@ -3,7 +3,7 @@ use Rattle.std.proofs.Common.{◌≡◌, ◌⊎◌, inl, inr, ℕ, Bool, true, f
 use Rattle.std.specs.declared.io.traits.Write.{Ghosts}
 use Rattle.plist_base.specs.Bracketing.{without_length}
 use Rattle.plist_base.specs.Events.{PlainEvent}
-use Rattle.plist_base.specs.Faults.{FaultKind, fault_nowhere, UnexpectedEventType, ExpectedEndOfEventStream, Io, OutOfMemory, WriterFailed, PlistTooLarge}
+use Rattle.plist_base.specs.Faults.{FaultKind, fault_without_offset, UnexpectedEventType, ExpectedEndOfEventStream, Io, OutOfMemory, WriterFailed, PlistTooLarge}
 use Rattle.plist_base.specs.Trees.{Tree}
 use Rattle.plist_base.specs.Writing.{Answer, MatchKind, AnswersByOrder, IsHeldAfter}
 use Rattle.std.proofs.lemmas.Bool.{true≢false, false≢true}
@@ -58,5 +58,5 @@ module _ {W S : Type 0} {g : Ghosts W} {h : SharingGhosts S} (IsFile : Tree → 
 
   pub takes_failed : (answer : Answer) (after : FileWriter W S g h)
       → IsWriterStep IsFile size contents before event answer after → failed_of before ≡ true
-      → (answer ≡ Err (fault_nowhere WriterFailed)) × (after ≡ before)
+      → (answer ≡ Err (fault_without_offset WriterFailed)) × (after ≡ before)
   takes_failed answer after t failed = match_true (failed_of before) _ _ failed t

@@ -2,7 +2,7 @@
 use Rattle.std.specs.Prelude.{◌≡◌, ◌⊎◌, ◌≤◌, ℕ, List, length, Option, Ok, Err}
 use Rattle.std.specs.Io.KnownBytes.{Appends}
 use Rattle.plist_base.specs.Bracketing.{lengthless}
-use Rattle.plist_base.specs.Faults.{Fault, Io, OutOfMemory, PlistTooLarge, fault_nowhere}
+use Rattle.plist_base.specs.Faults.{Fault, Io, OutOfMemory, PlistTooLarge, fault_without_offset}
 use Rattle.plist_base.specs.Prefixes.{AppendsPrefix}
 use Rattle.plist_base.specs.Trees.{Tree}
 use Rattle.plist_base.specs.Writing.{Answer}
@@ -39,14 +39,14 @@ pub record IsFilePlan (given : Classed) (plan : FilePlan) : Type 0 where
 
 -- the file isn't planned: an allocation failed, or it would have 2^64 bytes or more
 abbrev pub IsPlanFault : Classed → Fault → Type 0
-IsPlanFault given fault = (fault ≡ fault_nowhere OutOfMemory)
-    ⊎ ((fault ≡ fault_nowhere PlistTooLarge) × IsOversized (class_in given) (events_in given))
+IsPlanFault given fault = (fault ≡ fault_without_offset OutOfMemory)
+    ⊎ ((fault ≡ fault_without_offset PlistTooLarge) × IsOversized (class_in given) (events_in given))
 
 module _ {W : Type 0} (contents : W → Option (List ℕ)) where
   -- the file is written; or an I/O operation fails, and a prefix of it is
   abbrev pub SendsPlan : Classed → FilePlan → Answer → (old new : W) → Type 0
   SendsPlan given plan (Ok done) old new = (objects : ℕ → Object) → AreObjectsOf given plan objects
       → Appends (contents old) (contents new) (file_of plan objects)
-  SendsPlan given plan (Err fault) old new = (fault ≡ fault_nowhere Io)
+  SendsPlan given plan (Err fault) old new = (fault ≡ fault_without_offset Io)
       × ((objects : ℕ → Object) → AreObjectsOf given plan objects
       → AppendsPrefix (contents old) (contents new) (file_of plan objects))

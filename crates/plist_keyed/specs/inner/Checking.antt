@@ -1,5 +1,5 @@
--- The state of the walk that settles an archive's Uids, and the steps that remain of it. Lists of
--- open Uids have the innermost one first.
+-- The state of the walk that settles an archive's Uids, and its remaining steps. In lists of open
+-- Uids the innermost one is first.
 use Rattle.std.specs.Prelude.{◌≡◌, ◌⊎◌, ℕ, List, [], ◌∷◌, ◌++◌, length, map, Option, Some, None, reverse, nat_eq, slice_get, ⊤}
 use Rattle.indexmap.specs.IndexMap.{get}
 use Rattle.plist_base.specs.Bracketing.{bracketing}
@@ -19,8 +19,8 @@ abbrev pub objects_seen : List Value → List (List PlainEvent)
 objects_seen objects = map bracketing (map tree_of objects)
 
 module _ (objects : List (List PlainEvent)) where
-  -- the steps that remain of the open places: those of the events left of the innermost one, its
-  -- end, and what remains of those below
+  -- the remaining steps of the open objects: those of the remaining events of the innermost one,
+  -- its end, and the remaining steps of the others
   abbrev pub unchecked_steps_in : List Events → (path : List ℕ) → List Step
   unchecked_steps_in [] path = []
   unchecked_steps_in (level ∷ below) [] = []
@@ -28,8 +28,8 @@ module _ (objects : List (List PlainEvent)) where
       steps_of_events (follow_in objects (uid ∷ path)) (remaining_events level)
       ++ None ∷ unchecked_steps_in below path
 
-  -- In each open object the Uids before those taken are settled, and those taken come before what
-  -- is left of it. Of an outer object the next inner one is taken.
+  -- In each open object the Uids before the events that were taken are settled, and the events that
+  -- were taken precede its remaining events. From an outer object the next inner one was taken.
   abbrev pub Covers : (uids : List ℕ) → List Events → (path : List ℕ) → (taken : List PlainEvent)
       → Type 0
   Covers uids [] path taken = ⊤
@@ -40,7 +40,7 @@ module _ (objects : List (List PlainEvent)) where
       × NameOnly before uids)
       × Covers uids below path (ScalarEvent (Uid uid) ∷ [])
 
-  -- the open Uids are a path, with what is left of each, and apart from the settled ones
+  -- the open Uids are a path, each has its remaining events, and none of them is settled
   pub record IsCheckOf (path uids : List ℕ) (levels : List Events) (find : ℕ → Option ℕ)
       (taken : List PlainEvent) : Type 0 where
     pub is_path : IsPath (length objects) path
@@ -63,7 +63,8 @@ check_levels check = reverse check.levels.items
 abbrev pub settled_uids : Check → List ℕ
 settled_uids check = settled_in check.ends
 
--- its parts fit together, where these events were taken of the innermost object and not passed yet
+-- the state is consistent, while these events were taken from the innermost object and aren't
+-- processed yet
 abbrev pub IsCheckAt : Check → (taken : List PlainEvent) → Type 0
 IsCheckAt check taken =
     IsCheckOf (objects_checked check) (open_uids check) (settled_uids check) (check_levels check)
@@ -79,12 +80,12 @@ IsReached check uid = IsIn uid (open_uids check) ⊎ IsIn uid (settled_uids chec
 abbrev pub KeepsReached : (before after : Check) → Type 0
 KeepsReached before after = (uid : ℕ) → IsReached before uid → IsReached after uid
 
--- the steps that remain
+-- the remaining steps
 abbrev pub unchecked_steps : Check → List Step
 unchecked_steps check =
     unchecked_steps_in (objects_checked check) (check_levels check) (open_uids check)
 
--- the steps of a Uid in its place, and those of an event, before what remains
+-- the steps of a Uid, or those of an event, and then the remaining steps
 abbrev pub unchecked_from : Check → ℕ → List Step
 unchecked_from check uid =
     follow_in (objects_checked check) (open_uids check) uid ++ unchecked_steps check
@@ -101,7 +102,8 @@ IsOpened old uid object new =
     × (remaining_events level ≡ bracketing (tree_of object)))
     × (new.ends ≡ old.ends)
 
--- the same state before what is left of the innermost object was taken out of it
+-- the state is consistent with these remaining events of the innermost object, which were removed
+-- from it
 abbrev pub IsCheckWith : Check → (left : Events) → Type 0
 IsCheckWith check left =
     IsCheckOf (objects_checked check) (open_uids check) (settled_uids check)
@@ -111,17 +113,18 @@ abbrev pub unchecked_with : Check → (left : Events) → List Step
 unchecked_with check left =
     unchecked_steps_in (objects_checked check) (left ∷ check_levels check) (open_uids check)
 
--- nothing is left of the innermost object
+-- the innermost object has no remaining events
 abbrev pub IsLeaving : Check → Type 0
 IsLeaving check = (left : Events) × (remaining_events left ≡ []) × IsCheckWith check left
 
--- it is left, and settled
+-- the innermost object is left, and its Uid is settled
 abbrev pub Leaves : (before after : Check) → Type 0
 Leaves before after =
     (uid : ℕ) × (open_uids before ≡ uid ∷ open_uids after)
     × (settled_uids after ≡ uid ∷ settled_uids before) × (after.levels ≡ before.levels)
 
--- the end of a Uid's chain: that of the Uid that its object is, and where that is none the Uid
+-- the end of a Uid's chain: if its object is a Uid, the end of that one, and otherwise the Uid
+-- itself
 abbrev pub HasEnd : Check → (uid end : ℕ) → Type 0
 HasEnd check uid end =
     ((end ≡ uid) × IsNoUid (objects_checked check) uid) ⊎ ((next : ℕ)

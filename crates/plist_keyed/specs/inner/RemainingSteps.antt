@@ -1,40 +1,40 @@
--- The steps that remain of the walk over settled Uids. Levels have the innermost one first.
+-- The remaining steps of the walk over settled Uids. In lists of levels the innermost one is first.
 use Rattle.std.specs.Prelude.{◌≡◌, ℕ, ◌<◌, List, [], ◌∷◌, ◌++◌, length, map, Option, None, Result, Ok, Err, reverse, ⊤}
 use Rattle.std.specs.Option.{option_map}
 use Rattle.plist_base.specs.declared.error.Error.{Error}
 use Rattle.plist_base.specs.declared.event.Event.{Event}
 use Rattle.plist_base.specs.Events.{PlainEvent, Item, event_of}
-use Rattle.plist_base.specs.Faults.{fault_of, fault_nowhere, OutOfMemory}
+use Rattle.plist_base.specs.Faults.{fault_of, fault_without_offset, OutOfMemory}
 use Rattle.plist.specs.declared.stream.events.Events.{Events}
 use Rattle.plist.specs.declared.value.Value.{Value}
 use Rattle.plist.specs.Collecting.{item_by}
 use Rattle.plist.specs.ValueOfItems.{BeginsWith}
 use Rattle.plist.specs.Events.{remaining_events}
-use Rattle.plist_keyed.specs.declared.walk.Move.{Move}
-use Rattle.plist_keyed.specs.declared.walk.Move.TheVariants as move
+use Rattle.plist_keyed.specs.declared.walk.WalkStep.{WalkStep}
+use Rattle.plist_keyed.specs.declared.walk.WalkStep.TheVariants as walk_step
 use Rattle.plist_keyed.specs.declared.walk.Walk.{Walk}
 use Rattle.plist_keyed.specs.inner.Checking.{objects_seen}
 use Rattle.plist_keyed.specs.inner.Settled.{IsSettledIn, NameOnly, settled_in}
 use Rattle.plist_keyed.specs.inner.Walks.{Step, events_given, given_by, steps_from, steps_of_event, steps_of_events}
 
--- the steps that give nothing are taken
+-- one or more steps are done, none of which yields an item
 abbrev pub Skips : (before after : List Step) → Type 0
 Skips before after = (given_by before ≡ given_by after) × (length after < length before)
 
--- the event is given, and nothing before it
+-- the steps that are done yield this event, and nothing else
 abbrev pub GivesEventFirst : (before : List Step) → PlainEvent → (after : List Step) → Type 0
 GivesEventFirst before event after =
     (given_by before ≡ Ok event ∷ given_by after) × (length after < length before)
 
 module _ (objects : List (List PlainEvent)) where
-  -- what remains of the levels: the steps of the events left of the innermost one, its end, and
-  -- what remains of those below
+  -- the remaining steps of the levels: those of the remaining events of the innermost one, its end,
+  -- and the remaining steps of the others
   abbrev pub steps_in_levels : List Events → List Step
   steps_in_levels [] = []
   steps_in_levels (level ∷ below) =
       steps_of_events (steps_from objects) (remaining_events level) ++ None ∷ steps_in_levels below
 
--- the Uids left in each level are among these
+-- the Uids among the remaining events of each level are among these
 abbrev pub AllNameOnly : List Events → (uids : List ℕ) → Type 0
 AllNameOnly [] uids = ⊤
 AllNameOnly (level ∷ levels) uids = NameOnly (remaining_events level) uids × AllNameOnly levels uids
@@ -45,19 +45,19 @@ objects_walked walk = objects_seen walk.objects.now
 abbrev pub walk_levels : Walk → List Events
 walk_levels walk = reverse walk.levels.items
 
--- each Uid that is left in it is settled
+-- each Uid among the remaining events is settled
 abbrev pub IsWalk : Walk → Type 0
 IsWalk walk =
     IsSettledIn (objects_walked walk) walk.ends × AllNameOnly (walk_levels walk) (settled_in walk.ends)
 
--- its archive and the ends of its Uids are the same
+-- the archive and the ends of its Uids are unchanged
 abbrev pub KeepsArchive : (before after : Walk) → Type 0
 KeepsArchive before after = (after.objects ≡ before.objects) × (after.ends ≡ before.ends)
 
 abbrev pub remaining_steps : Walk → List Step
 remaining_steps walk = steps_in_levels (objects_walked walk) (walk_levels walk)
 
--- the steps of a Uid before what remains, and those of an event
+-- the steps of a Uid, or those of an event, and then the remaining steps
 abbrev pub remaining_from : Walk → ℕ → List Step
 remaining_from walk uid = steps_from (objects_walked walk) uid ++ remaining_steps walk
 
@@ -65,23 +65,23 @@ abbrev pub remaining_from_event : Walk → PlainEvent → List Step
 remaining_from_event walk event =
     steps_of_event (steps_from (objects_walked walk)) event ++ remaining_steps walk
 
--- a step is taken, or memory ran out at it
-abbrev pub Yields : (before : List Step) → Result Move Error → (after : List Step) → Type 0
-Yields before (Ok move.Done) after = (before ≡ []) × (after ≡ [])
-Yields before (Ok (move.Gave event)) after = GivesEventFirst before (event_of event) after
-Yields before (Ok move.Passed) after = Skips before after
+-- a step is done, or memory ran out in it
+abbrev pub Yields : (before : List Step) → Result WalkStep Error → (after : List Step) → Type 0
+Yields before (Ok walk_step.End) after = (before ≡ []) × (after ≡ [])
+Yields before (Ok (walk_step.Event event)) after = GivesEventFirst before (event_of event) after
+Yields before (Ok walk_step.Skip) after = Skips before after
 Yields before (Err error) after =
-    (length after < length before) × (fault_of error ≡ fault_nowhere OutOfMemory)
+    (length after < length before) × (fault_of error ≡ fault_without_offset OutOfMemory)
 
--- the items that are to come
+-- the remaining items
 abbrev pub coming_items : Walk → List Item
 coming_items walk = map Ok (events_given (given_by (remaining_steps walk)))
 
--- those of a Uid's walk
+-- the items of the walk from a Uid
 abbrev pub items_at : List Value → (uid : ℕ) → List Item
 items_at objects uid = map Ok (events_given (given_by (steps_from (objects_seen objects) uid)))
 
--- they begin with this one
+-- the remaining items begin with this one
 abbrev pub GivesItemOfUid : Walk → Option (Result Event Error) → Walk → Type 0
 GivesItemOfUid old item new =
     BeginsWith (coming_items old) (option_map (item_by event_of) item) (coming_items new)

@@ -1,5 +1,5 @@
--- Uids that are settled: their objects were walked whole, with all that they lead to, and no fault
--- was met. Lists of settled Uids have the last one first.
+-- Settled Uids: their objects, and all objects that these lead to, were walked completely, and no
+-- fault was found. In lists of settled Uids the last one is first.
 use Rattle.std.specs.Prelude.{◌≡◌, ℕ, ◌≤◌, true, List, [], ◌∷◌, length, reverse, Option, Some, nat_eq, slice_get, ⊤}
 use Rattle.std.specs.List.{list_any}
 use Rattle.indexmap.specs.IndexMap.{IndexMap, get, keys}
@@ -12,7 +12,7 @@ use Rattle.plist_keyed.specs.inner.Walks.{given_by, steps_from, uid_of_event}
 abbrev pub IsIn : (uid : ℕ) → (uids : List ℕ) → Type 0
 IsIn uid uids = list_any (nat_eq uid) uids ≡ true
 
--- the tree is this Uid
+-- the tree is just this Uid
 abbrev pub IsUidTree : Tree → (uid : ℕ) → Type 0
 IsUidTree tree uid = bracketing tree ≡ ScalarEvent (Uid uid) ∷ []
 
@@ -32,24 +32,24 @@ module _ (objects : List (List PlainEvent)) where
   LeadsOnlyTo uid uids =
       (events : List PlainEvent) × (slice_get objects uid ≡ Some events) × NameOnly events uids
 
-  -- each leads only to those that were settled before it, and none is settled twice
+  -- each Uid leads only to those that were settled before it, and none is settled twice
   abbrev pub AreSettled : (uids : List ℕ) → Type 0
   AreSettled [] = ⊤
   AreSettled (uid ∷ uids) = LeadsOnlyTo uid uids × (IsIn uid uids → ⊥) × AreSettled uids
 
-  -- the object of a Uid, if it has one, is no Uid
+  -- the object of the Uid, if it has one, isn't a Uid
   abbrev pub IsNoUid : (uid : ℕ) → Type 0
   IsNoUid uid = (next : ℕ) → slice_get objects uid ≡ Some (ScalarEvent (Uid next) ∷ []) → ⊥
 
-  -- the end's object is no Uid, and following the end gives what following the Uid does, in no more
-  -- steps
+  -- the end's object isn't a Uid, and following the end yields the same items as following the Uid,
+  -- in as many steps or fewer
   abbrev pub IsEndOf : (uids : List ℕ) → (uid end : ℕ) → Type 0
   IsEndOf uids uid end =
       IsIn end uids × IsNoUid end
       × (given_by (steps_from objects uid) ≡ given_by (steps_from objects end))
       × (length (steps_from objects end) ≤ length (steps_from objects uid))
 
-  -- each of these is found with its end
+  -- each of these Uids is found with its end
   abbrev pub AreEnds : (uids : List ℕ) → (find : ℕ → Option ℕ) → Type 0
   AreEnds uids find =
       (uid : ℕ) → IsIn uid uids → (end : ℕ) × (find uid ≡ Some end) × IsEndOf uids uid end
@@ -58,12 +58,12 @@ module _ (objects : List (List PlainEvent)) where
 abbrev pub settled_in : {S : Type 0} → IndexMap ℕ ℕ S → List ℕ
 settled_in ends = reverse (keys ends)
 
--- all in a map are settled, and it has the end of each
+-- all Uids in a map are settled, and the map has the end of each
 abbrev pub IsSettledIn : {S : Type 0} → (objects : List (List PlainEvent)) → IndexMap ℕ ℕ S → Type 0
 IsSettledIn objects ends =
     AreSettled objects (settled_in ends) × AreEnds objects (settled_in ends) (get nat_eq ends)
 
--- the Uid is one of them
+-- all Uids in a map are settled, and this one is among them
 abbrev pub IsSettledBelow : {S : Type 0} → (objects : List (List PlainEvent)) → (uid : ℕ)
     → IndexMap ℕ ℕ S → Type 0
 IsSettledBelow objects uid ends = IsSettledIn objects ends × IsIn uid (settled_in ends)

@@ -1,5 +1,5 @@
 -- The steps of a walk over an archive: the events of its objects, with each Uid in them replaced by
--- the steps of what it finds.
+-- the steps of the object that it names.
 use Rattle.std.specs.Prelude.{◌≡◌, ℕ, zero, suc, ◌-◌, ◌<◌, Bool, true, false, List, [], ◌∷◌, ◌++◌, length, map, Option, Some, None, Result, Ok, Err, nat_eq, slice_get, ⊤}
 use Rattle.std.specs.List.{list_any, flat_map}
 use Rattle.std.specs.Option.{option_map_or}
@@ -8,21 +8,21 @@ use Rattle.plist_keyed.specs.declared.error.WalkError.{WalkError}
 use Rattle.plist_keyed.specs.Archives.{ArchiveFault, UidOutOfRange, RecursiveUid, number_of_uid}
 use Rattle.plist_keyed.specs.Errors.{MatchWalkError}
 
--- an event, or the fault in its place
+-- an event, or the fault that replaces one
 abbrev pub Given : Type 0
 Given = Result PlainEvent ArchiveFault
 
--- a step gives one of these, or it enters or leaves an object and gives nothing
+-- a step yields an event or a fault; or it enters or leaves an object, and yields nothing
 abbrev pub Step : Type 0
 Step = Option Given
 
--- what some steps give
+-- what these steps yield
 abbrev pub given_by : List Step → List Given
 given_by [] = []
 given_by (Some given ∷ steps) = given ∷ given_by steps
 given_by (None ∷ steps) = given_by steps
 
--- the events among it
+-- the events among what steps yield
 abbrev pub events_given : List Given → List PlainEvent
 events_given [] = []
 events_given (Ok event ∷ more) = event ∷ events_given more
@@ -33,7 +33,7 @@ abbrev pub uid_of_event : PlainEvent → Option ℕ
 uid_of_event (ScalarEvent scalar) = number_of_uid scalar
 uid_of_event event = None
 
--- the steps of an event, where a Uid is followed
+-- the steps of an event, which are those of the object if it is a Uid
 abbrev pub steps_of_event : (follow : ℕ → List Step) → PlainEvent → List Step
 steps_of_event follow (ScalarEvent scalar) =
     option_map_or follow (number_of_uid scalar) (Some (Ok (ScalarEvent scalar)) ∷ [])
@@ -42,7 +42,7 @@ steps_of_event follow event = Some (Ok event) ∷ []
 abbrev pub steps_of_events : (follow : ℕ → List Step) → List PlainEvent → List Step
 steps_of_events follow es = flat_map (steps_of_event follow) es
 
--- the steps of what a Uid finds
+-- the steps of the object that a Uid names
 abbrev pub steps_found : (found : Option (List PlainEvent)) (is_open : Bool) (uid : ℕ)
     → (List PlainEvent → List Step) → List Step
 steps_found None is_open uid steps = Some (Err (UidOutOfRange uid)) ∷ []
@@ -61,17 +61,17 @@ module _ (objects : List (List PlainEvent)) where
   abbrev pub follow_in : (path : List ℕ) → ℕ → List Step
   follow_in path uid = steps_at (length objects - length path) path uid
 
-  -- the steps of a Uid where nothing is open
+  -- the steps of a Uid while no object is open
   abbrev pub steps_from : ℕ → List Step
   steps_from uid = follow_in [] uid
 
--- some events are given, and no fault, before what remains
+-- one or more steps are done, which yield events and no fault
 abbrev pub PassesEvents : (before after : List Step) → Type 0
 PassesEvents before after =
     (length after < length before)
     × ((events : List PlainEvent) × (given_by before ≡ map Ok events ++ given_by after))
 
--- no fault is given
+-- the steps yield no fault
 abbrev pub IsFaultless : List Step → Type 0
 IsFaultless steps = (events : List PlainEvent) × (given_by steps ≡ map Ok events)
 

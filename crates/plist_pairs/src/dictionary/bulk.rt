@@ -80,7 +80,7 @@ impl<V> Pairs<V> {
         Ok(())
     }
 
-    /// Makes a dictionary from these pairs, inserted in their order.
+    /// Makes a `Pairs` from these pairs, inserted in their order.
     ///
     /// # Errors
     ///

@@ -2,7 +2,7 @@
 
 ghost use Rattle.std.specs.Prelude.{◌≡◌, take};
 
-/// A type with a call that drops its values, since a value may be too deep for a recursive drop.
+/// A type whose values are dropped by a call, since a value may be too deep for a recursive drop.
 pub trait Discard: Drop {
     /// Drops the value.
     fn discard(self);

@@ -84,7 +84,7 @@ impl<V> Pairs<V> {
     }
 
     /// Returns the number of pairs, whose keys are distinct.
-    #[tactic(auto, using(crate::proofs::Columns::no_keys))]
+    #[tactic(auto, using(crate::proofs::PairColumns::no_keys))]
     pub fn pair_count(&self) -> usize
         ensures count { result ≡ length self.now }
         ensures distinct { IsDistinct bytes_eq (keys_of self.now) }

@@ -68,7 +68,7 @@ impl<'a, V> Iterator for Iter<'a, V> {
     }
 }
 
-#[tactic(auto, using(crate::proofs::Columns::columns))]
+#[tactic(auto, using(crate::proofs::PairColumns::columns))]
 impl<'a, V> ExactSizeIterator for Iter<'a, V> {
     fn len(&self) -> usize {
         self.keys.len()
@@ -236,7 +236,7 @@ impl<V: Drop> Iterator for IntoIter<V> {
     }
 }
 
-#[tactic(auto, using(crate::proofs::Columns::columns))]
+#[tactic(auto, using(crate::proofs::PairColumns::columns))]
 impl<V: Drop> ExactSizeIterator for IntoIter<V> {
     fn len(&self) -> usize {
         self.items.len()

@@ -1,4 +1,4 @@
-//! How pairs are stored: their keys in a set, and their values in a vector beside it.
+//! How pairs are stored: the keys in a set, and the values in a vector.
 
 ghost use Rattle.std.specs.Prelude.{◌≡◌, ◌<◌, ◌++◌, ◌∷◌, [], Some, IfErr, IfOk, MatchOption, OnErr, OnOk, is_some, length, slice_get, string_bytes, swap, take};
 ghost use Rattle.std.specs.Option.{option_copied, option_copied_mut};
@@ -15,7 +15,8 @@ use std::alloc::Global;
 use std::marker::Model;
 use std::mem;
 
-/// Pairs. Contracts see the list of them, with each key as its bytes, and no key twice.
+/// A store of pairs. Contracts see the list of the pairs, with each key as its bytes, and no key
+/// twice.
 #[derive(Drop)]
 pub(crate) struct Store<V> {
     keys: IndexSet<String>,
@@ -38,7 +39,7 @@ impl<V> Model for Store<V> {
         × IsDistinct bytes_eq (map string_bytes a.keys.keys) };
 }
 
-#[tactic(auto, using(crate::proofs::Columns::columns))]
+#[tactic(auto, using(crate::proofs::PairColumns::columns))]
 impl<V> Store<V> {
     ghost use Rattle.std.specs.Borrow.{sem};
     ghost use Rattle.std.specs.List.{IsDistinct};
@@ -46,7 +47,7 @@ impl<V> Store<V> {
     ghost use Rattle.plist_pairs.specs.Keys.{HasNone, IsIndexOf};
     ghost use Rattle.plist_pairs.specs.inner.StoreLends.{StoreLendsAtKey, StoreLendsIndex};
 
-    // Makes a store without pairs, which takes no memory.
+    // Makes a store without pairs, which has no allocation.
     pub(crate) fn new(alloc: Global) -> Store<V>
         ensures { result ≡ [] }
     {
@@ -97,15 +98,15 @@ impl<V> Store<V> {
     }
 
     // Sets the key's value, and returns the value that it had.
-    #[tactic(auto, using(crate::proofs::Rebuilt::inserting))]
+    #[tactic(auto, using(crate::proofs::ColumnAppends::inserting))]
     pub(crate) fn insert(&mut self, key: String, value: V) -> Result<Option<V>, (String, V)>
-        // The answer.
+        // Result.
         ensures old { IfOk result (λ old. old ≡ lookup (bytes_eq (string_bytes key)) self.old) }
         ensures pairs { OnOk result (IsSetAt self.old (string_bytes key) value self.new) }
-        // A refusal.
+        // Errors.
         ensures absent { OnErr result (IsAbsent (string_bytes key) self.old) }
         ensures handed_back { IfErr result (λ back. back ≡ (key, value)) }
-        // The state after it.
+        // State afterwards.
         ensures unchanged { OnErr result (self.new ≡ self.old) }
     {
         match self.keys.insert_full(key) {
@@ -119,7 +120,7 @@ impl<V> Store<V> {
     }
 
     // Adds a pair whose key must not be there.
-    #[tactic(auto, using(crate::proofs::Rebuilt::inserting))]
+    #[tactic(auto, using(crate::proofs::ColumnAppends::inserting))]
     pub(crate) fn push(&mut self, key: String, value: V) -> Result<(), (String, V)>
         requires { IsAbsent (string_bytes key) self.old }
         ensures pairs { OnOk result (self.new ≡ self.old ++ (string_bytes key, value) ∷ []) }

@@ -1,4 +1,4 @@
-//! Events written as words, and what becomes of them.
+//! Events written as words, and checks of their values and writers.
 
 use crate::support::must;
 use plist::{Builder, Value};

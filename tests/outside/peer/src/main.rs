@@ -1,21 +1,22 @@
-//! The Rust crate `plist` on the command line: `peer print FILE` prints a binary property list's events,
-//! `peer items FILE TIMES` only counts them, so many times, `peer events FILE` hands them to a writer
-//! over memory and prints how many bytes it wrote, `peer convert IN OUT` reads a value and writes it.
+//! A program over the Rust crate `plist`. `peer print FILE` prints the events of a binary property
+//! list. `peer items FILE TIMES` only counts them, TIMES times. `peer events FILE` passes them to a
+//! writer over memory, and prints how many bytes it wrote. `peer convert IN OUT` reads a value and
+//! writes it.
 //!
-//! It prints as fast as it can: lines go into one buffer, digits come from tables.
+//! It prints as fast as it can: it writes lines to one buffer, and takes digits from tables.
 use plist::stream::{BinaryReader, BinaryWriter, Event, Writer};
 use plist::Integer;
 use std::io::{Cursor, Write};
 use std::time::{Duration, SystemTime};
 use std::{env, fs, io};
 
-/// Both hexadecimal digits of each byte.
+/// The two hexadecimal digits of each byte.
 static PAIRS: [[u8; 2]; 256] = pairs();
 
-/// Where dates begin, in seconds since 1970.
+/// The start of 2001, in seconds since 1970, from which dates are counted.
 const EPOCH: u64 = 978_307_200;
 
-/// So many bytes of lines go out together.
+/// How many bytes of lines are buffered before they are written.
 const FULL: usize = 1 << 16;
 
 const fn pairs() -> [[u8; 2]; 256] {
@@ -63,7 +64,7 @@ fn push_integer(lines: &mut Vec<u8>, value: Integer) {
     }
 }
 
-// The whole second, rounded down.
+// Rounds down to a whole second.
 fn push_date(lines: &mut Vec<u8>, date: SystemTime) {
     match date.duration_since(SystemTime::UNIX_EPOCH + Duration::from_secs(EPOCH)) {
         Ok(behind) => push_number(lines, behind.as_secs()),

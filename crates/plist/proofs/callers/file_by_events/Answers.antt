@@ -1,7 +1,7 @@
 use Rattle.std.proofs.Common.{Global, List, ℕ, ◌++◌, Some, ap, subst, sym, ◌∙◌}
 use Rattle.std.specs.declared.vec.Vec.{Vec}
 use Rattle.plist.specs.ValueTrees.{tree_of}
-use Rattle.plist.proofs.HandedFiles.{all-sent}
+use Rattle.plist.proofs.WriterFiles.{all-sent}
 use Rattle.plist.proofs.callers.file_by_events.Goals as goal
 
 pub returns : goal.returns

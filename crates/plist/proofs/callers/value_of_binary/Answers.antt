@@ -1,5 +1,5 @@
 use Rattle.plist.specs.Collecting.{built_tree}
-use Rattle.plist.proofs.Shown.{binary_coming, binary-shows, of-binary}
+use Rattle.plist.proofs.RemainingItems.{binary_coming, binary-shows, of-binary}
 use Rattle.plist.proofs.callers.value_of_binary.Goals as goal
 
 pub returns : goal.returns

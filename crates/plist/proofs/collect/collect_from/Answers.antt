@@ -4,7 +4,7 @@ use Rattle.std.proofs.lemmas.Result.{err_from_is_err_and}
 use Rattle.plist_base.specs.Faults.{fault_of}
 use Rattle.plist.specs.Builder.{built_of}
 use Rattle.plist.specs.Collecting.{item_by, IsBuiltFrom}
-use Rattle.plist.proofs.Collected.{TookAll, took-none, took-more, refused-last, finished, seen-more}
+use Rattle.plist.proofs.BuilderItems.{TookAll, took-none, took-more, refused-last, finished, seen-more}
 use Rattle.plist.proofs.collect.collect_from.Goals as goal
 
 pub loop-item-init : goal.loop-item-init

@@ -4,7 +4,7 @@ use Rattle.std.specs.Iterator.{EndsFrom, items_left}
 use Rattle.std.proofs.iter.Next as it
 use Rattle.plist.specs.Builder.{built_of}
 use Rattle.plist.specs.Collecting.{item_by}
-use Rattle.plist.proofs.Collected.{TookAll}
+use Rattle.plist.proofs.BuilderItems.{TookAll}
 use Rattle.plist.proofs.collect.collect_from.Given as goal
 
 abbrev pub invariant-loop-item : goal.invariant-loop-item

@@ -3,9 +3,9 @@ use Rattle.plist.specs.Collecting.{built_tree}
 use Rattle.plist.specs.ValueOfItems.{IsReadBack}
 use Rattle.plist.specs.Events.{remaining_events}
 use Rattle.plist.specs.ValueTrees.{tree_of}
-use Rattle.plist.proofs.Inputs.{back}
-use Rattle.plist.proofs.Itself.{itself}
-use Rattle.plist.proofs.Shown.{events_coming, events-show}
+use Rattle.plist.proofs.ForeseenItems.{back}
+use Rattle.plist.proofs.ValueLastWins.{itself}
+use Rattle.plist.proofs.RemainingItems.{events_coming, events-show}
 use Rattle.plist.proofs.copy.copy.Goals as goal
 
 pub returns-in-Ok : goal.returns-in-Ok

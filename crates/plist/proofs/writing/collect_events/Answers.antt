@@ -3,7 +3,7 @@ use Rattle.plist_base.specs.Bracketing.{bracketing, without_length}
 use Rattle.plist_binwrite.specs.EventTable.{plain_events}
 use Rattle.plist.specs.Events.{remaining_events}
 use Rattle.plist.specs.ValueTrees.{tree_of}
-use Rattle.plist.proofs.Gathered.{gathered_more, gathered_all}
+use Rattle.plist.proofs.EventTables.{gathered_more, gathered_all}
 use Rattle.plist.proofs.writing.collect_events.Goals as goal
 
 pub loop-item-init : goal.loop-item-init

@@ -3,7 +3,7 @@ use Rattle.std.proofs.lemmas.Result.{err_from_is_err_and}
 use Rattle.plist_base.specs.Bracketing.{bracketing}
 use Rattle.plist_base.specs.Faults.{fault_of}
 use Rattle.plist.specs.ValueTrees.{tree_of}
-use Rattle.plist.proofs.Handed.{one-more, refused, all-handed}
+use Rattle.plist.proofs.WriterEvents.{one-more, refused, all-handed}
 use Rattle.plist.proofs.writing.write_value.Goals as goal
 
 pub loop-item-init : goal.loop-item-init

@@ -8,8 +8,8 @@ pub returns : goal.returns
 returns c =
     let f : FitsSigned w64 c.round_down.result = search rules in
     let ranged = simp to_z-of_z at c.in_range.ensures in
-    let floor = c.round_down.ensures (parts_left c.in_ok-small.small.mantissa c.in_ok-small.small.scale)
+    let floor = c.round_down.ensures (parts_left c.in_ok-parts.parts.mantissa c.in_ok-parts.parts.scale)
     c.is_left.ensures in
     ranged ∙ ap if_second_of_date floor
-    ∙ second_is c.args.bits _ _ _ c.in_ok-small.ensures.mantissa c.in_ok-small.ensures.scale
-    c.whole.ensures.is c.in_ok-small.ensures.range
+    ∙ second_is c.args.bits _ _ _ c.in_ok-parts.ensures.mantissa c.in_ok-parts.ensures.scale
+    c.whole.ensures.is c.in_ok-parts.ensures.range

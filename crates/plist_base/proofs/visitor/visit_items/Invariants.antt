@@ -1,7 +1,7 @@
 use Rattle.std.proofs.Common.{List}
 use Rattle.std.specs.Iterator.{EndsFrom, items_left}
 use Rattle.plist_base.specs.Events.{PlainEvent}
-use Rattle.plist_base.specs.Visits.{GivesPlain, HandsOverAll}
+use Rattle.plist_base.specs.Visits.{YieldsPlain, HandsOverAll}
 use Rattle.plist_base.proofs.visitor.visit_items.Given as goal
 
 -- the iterator may be asked on, and these events were handed over
@@ -10,7 +10,7 @@ invariant-loop-item g l = record {
   callable : g.I.Iterator.can_next l.items;
   ending : EndsFrom g.I.Iterator.remaining l.items;
   handed : (events : List PlainEvent)
-      × HandsOverAll (GivesPlain g.I.Iterator.next_gives) g.V.EventVisitor.step
+      × HandsOverAll (YieldsPlain g.I.Iterator.next_gives) g.V.EventVisitor.step
       (l.initial.items, l.initial.visitor) events (l.items, l.visitor);
 }
 

@@ -28,7 +28,7 @@ returns-clause-answers g c = (
   buffered_events c.hold_source.new.collector.pending,
   c.in_ok-hold_source.ensures.answers,
   ends_sent _ c.in_ok-hold_source.field-0 c.send_events.result c.if-not-branch.false
-      c.send_events.ensures.wrote c.send_events.ensures.nowhere,
+      c.send_events.ensures.wrote c.send_events.ensures.without_offset,
 )
 
 pub returns-then-not-branch-clause-answers : goal.returns-then-not-branch-clause-answers

@@ -6,7 +6,7 @@ use Rattle.plist_commands.specs.Items.{failures_in}
 use Rattle.plist_commands.specs.Holding.{collected}
 use Rattle.plist_commands.specs.ReaderRuns.{StepsReader}
 use Rattle.plist_commands.proofs.Collected.{Concludes, concludes, held_first}
-use Rattle.plist_commands.proofs.Coming.{IsOpen, reader_comes, reader_counts}
+use Rattle.plist_commands.proofs.SourceItems.{IsOpen, reader_comes, reader_counts}
 use Rattle.plist_commands.proofs.convert.hold_any.Goals as goal
 use Rattle.plist_commands.proofs.convert.hold_any.Goals.{After-answer}
 

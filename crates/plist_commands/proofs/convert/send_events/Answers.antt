@@ -33,8 +33,8 @@ returns-in_err-complete-clause-refused g c =
     (λ tree alike. (c.in_ok-repeats_key.ensures.once tree alike).0 c.if-branch.false)
     c.in_err-complete.ensures))
 
-pub returns-in_err-repeats_key-clause-nowhere : goal.returns-in_err-repeats_key-clause-nowhere
-returns-in_err-repeats_key-clause-nowhere g c =
+pub returns-in_err-repeats_key-clause-without_offset : goal.returns-in_err-repeats_key-clause-without_offset
+returns-in_err-repeats_key-clause-without_offset g c =
     let f = err_from_is_err_and c.from_residual.result c.from_residual.ensures.1 in
     rw (f.1, f.2) (ap (λ (fault : Fault). fault.offset) c.in_err-repeats_key.ensures.memory)
 

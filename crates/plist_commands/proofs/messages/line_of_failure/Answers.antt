@@ -1,4 +1,4 @@
-use Rattle.plist_commands.proofs.Said.{line_written}
+use Rattle.plist_commands.proofs.ErrorMessages.{line_written}
 use Rattle.plist_commands.proofs.messages.line_of_failure.Goals as goal
 
 pub returns-in-Ok : goal.returns-in-Ok

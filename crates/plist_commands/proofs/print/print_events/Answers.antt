@@ -6,7 +6,7 @@ use Rattle.plist_format.specs.Unfolding.{items_of_file}
 use Rattle.plist_commands.specs.Converting.{items_left}
 use Rattle.plist_commands.specs.EscapedLines.{lines_of}
 use Rattle.plist_commands.specs.Printing.{PrintsFileUntil, PrintsItemsUntil, PrintsAll, PrintsUntil}
-use Rattle.plist_commands.proofs.HeldBack.{of_file}
+use Rattle.plist_commands.proofs.PendingBytes.{of_file}
 use Rattle.plist_commands.proofs.print.print_events.Goals as goal
 
 pub returns-clause-printed : goal.returns-clause-printed

@@ -1,7 +1,7 @@
 use Rattle.plist_binread.specs.BinaryReader.{binary_source}
 use Rattle.plist_commands.specs.Converting.{items_left}
 use Rattle.plist_commands.specs.ReaderRuns.{StepsBinary}
-use Rattle.plist_commands.proofs.Coming.{binary_comes, run_counted, run_front, run_printed, run_unchanged, run_until}
+use Rattle.plist_commands.proofs.SourceItems.{binary_comes, run_counted, run_front, run_printed, run_unchanged, run_until}
 use Rattle.plist_commands.proofs.print.print_reader.Goals as goal
 
 pub returns-clause-printed : goal.returns-clause-printed

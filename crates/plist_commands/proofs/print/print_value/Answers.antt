@@ -1,14 +1,14 @@
 use Rattle.std.proofs.lemmas.Result.{on_ok_weaker}
-use Rattle.plist_base.specs.Visits.{GivesPlain}
+use Rattle.plist_base.specs.Visits.{YieldsPlain}
 use Rattle.plist.specs.Events.{GivesEvent}
 use Rattle.plist_commands.specs.Items.{items_of_events}
-use Rattle.plist_commands.proofs.Coming.{events_come, run_front, run_printed, value_error}
+use Rattle.plist_commands.proofs.SourceItems.{events_come, run_front, run_printed, value_error}
 use Rattle.plist_commands.proofs.print.print_value.Goals as goal
 
 pub returns-clause-printed : goal.returns-clause-printed
 returns-clause-printed g c =
     on_ok_weaker c.print_source.result (λ printed. rw c.events-events.ensures.items at printed.1)
-    (run_printed (GivesPlain GivesEvent) items_of_events events_come c.events-events.result
+    (run_printed (YieldsPlain GivesEvent) items_of_events events_come c.events-events.result
     c.print_source.new.source c.print_source.result (g.W.Write.contents c.args.writer.now)
     (g.W.Write.contents c.print_source.new.writer) c.print_source.ensures)
 
@@ -20,7 +20,7 @@ returns-clause-fault g c =
 
 pub returns-clause-prefix : goal.returns-clause-prefix
 returns-clause-prefix g c =
-    let front = run_front (GivesPlain GivesEvent) items_of_events events_come
+    let front = run_front (YieldsPlain GivesEvent) items_of_events events_come
     c.events-events.result c.print_source.new.source c.print_source.result
     (g.W.Write.contents c.args.writer.now) (g.W.Write.contents c.print_source.new.writer)
     c.print_source.ensures in rw c.events-events.ensures.items at front

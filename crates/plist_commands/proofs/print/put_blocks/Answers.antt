@@ -1,5 +1,5 @@
 use Rattle.std.proofs.Common.{arith, length, ◌/◌}
-use Rattle.plist_commands.proofs.Passing.{block_put, block_refused, no_block_put, rest_put}
+use Rattle.plist_commands.proofs.LineParts.{block_put, block_refused, no_block_put, rest_put}
 use Rattle.plist_commands.proofs.print.put_blocks.Goals as goal
 
 pub loop-block-init : goal.loop-block-init

@@ -5,7 +5,7 @@ use Rattle.plist_keyed.specs.inner.Checking.{objects_seen}
 use Rattle.plist_keyed.specs.inner.RemainingSteps.{items_at}
 use Rattle.plist_keyed.specs.inner.Settled.{settled_in}
 use Rattle.plist_keyed.specs.inner.Walks.{IsFaultless, steps_from}
-use Rattle.plist_keyed.proofs.Settling.{settled-faultless}
+use Rattle.plist_keyed.proofs.SettledUids.{settled-faultless}
 use Rattle.plist_keyed.proofs.walk.value_at.Goals as goal
 
 pub returns-in-Ok-clause-read : goal.returns-in-Ok-clause-read

@@ -5,7 +5,7 @@ use Rattle.plist_base.specs.Faults.{fault_of}
 use Rattle.plist.specs.Collecting.{built_tree}
 use Rattle.plist.specs.ValueOfItems.{IsValueOf}
 use Rattle.plist_keyed.specs.inner.RemainingSteps.{IsWalk, coming_items, items_at}
-use Rattle.plist_keyed.proofs.Walked.{begun, first-walk, only-memory}
+use Rattle.plist_keyed.proofs.WalkSteps.{begun, first-walk, only-memory}
 use Rattle.plist_keyed.proofs.walk.value_below.Goals as goal
 
 pub returns-clause-read : goal.returns-clause-read

@@ -1,4 +1,4 @@
-use Rattle.plist_pairs.proofs.Extended.{list-added}
+use Rattle.plist_pairs.proofs.Inserts.{list-added}
 use Rattle.plist_pairs.proofs.callers.insert_each.Goals as goal
 
 pub returns : goal.returns

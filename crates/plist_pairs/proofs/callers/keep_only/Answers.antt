@@ -1,5 +1,5 @@
 use Rattle.std.proofs.Common.{◌∙◌, ap, bytes_eq}
-use Rattle.plist_pairs.proofs.Retained.{where_true}
+use Rattle.plist_pairs.proofs.RetainLoop.{where_true}
 use Rattle.plist_pairs.proofs.callers.keep_only.Goals as goal
 
 pub returns : goal.returns

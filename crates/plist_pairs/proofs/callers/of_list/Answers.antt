@@ -1,5 +1,5 @@
 use Rattle.std.proofs.lemmas.Result.{IfOk-weaker}
-use Rattle.plist_pairs.proofs.Extended.{list-made}
+use Rattle.plist_pairs.proofs.Inserts.{list-made}
 use Rattle.plist_pairs.proofs.callers.of_list.Goals as goal
 
 pub returns : goal.returns

@@ -1,20 +1,20 @@
-use Rattle.plist_reader.proofs.Giving.{io-items, io-kind, io-place, other-source, refused-gives, xml-counts, xml-items, xml-kind, xml-place}
+use Rattle.plist_reader.proofs.ReaderItems.{io-items, io-kind, io-place, other-source, refused-gives, xml-counts, xml-items, xml-kind, xml-place}
 use Rattle.plist_reader.proofs.reader.begin.Goals as goal
 
-pub returns-in-Ok-Binary-clause-gives : goal.returns-in-Ok-Binary-clause-gives
-returns-in-Ok-Binary-clause-gives g c =
+pub returns-in-Ok-Binary-clause-yields : goal.returns-in-Ok-Binary-clause-yields
+returns-in-Ok-Binary-clause-yields g c =
     other-source g.R.Source.known g.R.Source.failures c.args.source c.format_of.new.source
     c.args.limits c.args.dialect _ _ c.format_of.ensures.unchanged c.in-Ok-Binary.ensures.failures
-    (c.begin_binary.ensures.gives c.args.dialect)
+    (c.begin_binary.ensures.yields c.args.dialect)
 
-pub returns-in-Ok-Ascii-clause-gives : goal.returns-in-Ok-Ascii-clause-gives
-returns-in-Ok-Ascii-clause-gives g c =
+pub returns-in-Ok-Ascii-clause-yields : goal.returns-in-Ok-Ascii-clause-yields
+returns-in-Ok-Ascii-clause-yields g c =
     other-source g.R.Source.known g.R.Source.failures c.args.source c.format_of.new.source
     c.args.limits c.args.dialect _ _ c.format_of.ensures.unchanged c.in-Ok-Ascii.ensures.failures
-    c.begin_ascii.ensures.gives
+    c.begin_ascii.ensures.yields
 
-pub returns-in-Ok-Xml-clause-gives : goal.returns-in-Ok-Xml-clause-gives
-returns-in-Ok-Xml-clause-gives g c =
+pub returns-in-Ok-Xml-clause-yields : goal.returns-in-Ok-Xml-clause-yields
+returns-in-Ok-Xml-clause-yields g c =
     let place = c.in-Ok-Xml.place in
     let error = c.with_byte_offset.result in
     let known = g.R.Source.known c.args.source in
@@ -26,8 +26,8 @@ returns-in-Ok-Xml-clause-gives g c =
     (xml-counts place _ _ error c.with_byte_offset.ensures.fault c.in-Ok-Xml.ensures.failures)
     (xml-place place error c.with_byte_offset.ensures.fault)
 
-pub returns-in-Err-clause-gives : goal.returns-in-Err-clause-gives
-returns-in-Err-clause-gives g c =
+pub returns-in-Err-clause-yields : goal.returns-in-Err-clause-yields
+returns-in-Err-clause-yields g c =
     let error = c.in-Err.error in
     refused-gives g.R.Source.known g.R.Source.failures c.args.source c.format_of.new.source
     c.args.limits c.args.dialect error

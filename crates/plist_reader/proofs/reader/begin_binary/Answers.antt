@@ -1,8 +1,8 @@
-use Rattle.plist_reader.proofs.BinaryGiving.{begun-binary}
+use Rattle.plist_reader.proofs.BinaryItems.{begun-binary}
 use Rattle.plist_reader.proofs.reader.begin_binary.Goals as goal
 
-pub returns-clause-gives : goal.returns-clause-gives
-returns-clause-gives g c dialect =
+pub returns-clause-yields : goal.returns-clause-yields
+returns-clause-yields g c dialect =
     begun-binary g.R.Source.known g.R.Source.failures c.args.source c.args.limits dialect
     c.binary_reader-reader.result c.next-item.new.self c.next-item.result c.binary_reader-reader.ensures.source
     c.binary_reader-reader.ensures.new c.binary_reader-reader.ensures.limited c.requires

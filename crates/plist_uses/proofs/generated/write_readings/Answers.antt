@@ -1,7 +1,7 @@
 use Rattle.std.proofs.Common.{◌+◌, drop, get_or, map, refl, arith}
 use Rattle.std.proofs.lemmas.List.{drop_all, drop_more}
 use Rattle.plist_uses.specs.Generated.{reading_tree}
-use Rattle.plist_uses.proofs.Handed.{none, number, item-more}
+use Rattle.plist_uses.proofs.WriterRuns.{none, number, item-more}
 use Rattle.plist_uses.proofs.generated.write_readings.Goals as goal
 
 pub loop-reading-init : goal.loop-reading-init

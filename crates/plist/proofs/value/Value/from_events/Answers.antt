@@ -1,6 +1,6 @@
 use Rattle.plist_base.proofs.OneTree.{one_tree}
-use Rattle.plist.proofs.Itself.{itself}
-use Rattle.plist.proofs.LastOnes.{are-last-values}
+use Rattle.plist.proofs.ValueLastWins.{itself}
+use Rattle.plist.proofs.LastValues.{are-last-values}
 use Rattle.plist.proofs.value.Value.from_events.Goals as goal
 
 pub returns-clause-one_tree : goal.returns-clause-one_tree

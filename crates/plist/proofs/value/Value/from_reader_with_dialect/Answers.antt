@@ -1,7 +1,7 @@
 use Rattle.plist_reader.specs.Reader.{items_of_dialect, reader_items}
 use Rattle.plist.specs.Collecting.{built_tree}
 use Rattle.plist.proofs.ReadFaults.{reader-tells}
-use Rattle.plist.proofs.Shown.{of-items, reader-shows, reads-back}
+use Rattle.plist.proofs.RemainingItems.{of-items, reader-shows, reads-back}
 use Rattle.plist.proofs.value.Value.from_reader_with_dialect.Goals as goal
 
 pub returns-clause-value : goal.returns-clause-value

@@ -4,8 +4,8 @@ use Rattle.std.proofs.Common.{ap, ◌∙◌, option_map}
 use Rattle.plist_reader.specs.Reader.{Gives, items_of_input, limited_input, reader_items}
 use Rattle.plist.specs.Collecting.{built_tree}
 use Rattle.plist.proofs.ReadFaults.{limited-tells}
-use Rattle.plist.proofs.Shown.{joined, of-items, reader-shows}
-use Rattle.plist.proofs.Limiting.{built-within, limited-shows}
+use Rattle.plist.proofs.RemainingItems.{joined, of-items, reader-shows}
+use Rattle.plist.proofs.LimitedValues.{built-within, limited-shows}
 use Rattle.plist.proofs.value.Value.from_reader_with_limits.Goals as goal
 
 pub returns-clause-value : goal.returns-clause-value

@@ -6,8 +6,8 @@ use Rattle.plist_reader.specs.Reader.{Gives, items_of_input, limited_input, read
 use Rattle.plist.specs.Collecting.{built_tree}
 use Rattle.plist.specs.FromReader.{LimitedReader, budgeted_input}
 use Rattle.plist.proofs.ReadFaults.{budgeted-tells}
-use Rattle.plist.proofs.Shown.{joined, of-items, reader-shows}
-use Rattle.plist.proofs.Limiting.{budget-shows, built-within-budget, limited-shows}
+use Rattle.plist.proofs.RemainingItems.{joined, of-items, reader-shows}
+use Rattle.plist.proofs.LimitedValues.{budget-shows, built-within-budget, limited-shows}
 use Rattle.plist.proofs.value.Value.from_reader_within.Goals as goal
 
 pub returns-clause-value : goal.returns-clause-value

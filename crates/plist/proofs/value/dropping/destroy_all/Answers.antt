@@ -1,5 +1,5 @@
 use Rattle.std.proofs.Common.{ap, ◌∙◌, ◌++◌, option_to_list}
-use Rattle.plist.proofs.Dropping.{less-by-one, less-by-joining}
+use Rattle.plist.proofs.DropWeights.{less-by-one, less-by-joining}
 use Rattle.plist.proofs.value.dropping.destroy_all.Goals as goal
 
 pub loop-value-smaller-in-None : goal.loop-value-smaller-in-None

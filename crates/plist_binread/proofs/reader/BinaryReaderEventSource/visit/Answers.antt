@@ -1,6 +1,6 @@
 use Rattle.std.proofs.Common.{◌≡◌, Ok, ◌∷◌, ◌++◌, [], rules}
 use Rattle.std.specs.declared.ops.ControlFlow.TheVariants.{Continue, Break}
-use Rattle.plist_base.proofs.Visiting.{hands_more}
+use Rattle.plist_base.proofs.Visits.{hands_more}
 use Rattle.plist_binread.proofs.reader.BinaryReaderEventSource.visit.Goals as goal
 
 pub loop-turn-preserved : goal.loop-turn-preserved

@@ -1,7 +1,7 @@
 use Rattle.std.proofs.Common.{ap, refl, sym, ◌∙◌}
 use Rattle.std.proofs.lemmas.Result.{err_from_is_err_and}
 use Rattle.plist_base.specs.Events.{event_of}
-use Rattle.plist_base.specs.Faults.{UnexpectedEventType, fault_nowhere}
+use Rattle.plist_base.specs.Faults.{UnexpectedEventType, fault_without_offset}
 use Rattle.plist_binwrite.specs.EventBuffers.{buffered_events, expected_instead}
 use Rattle.plist_binwrite.proofs.Buffered.{can_take, cannot_take}
 use Rattle.plist_binwrite.proofs.event_buffer.EventBuffer.try_push.Goals as goal
@@ -10,7 +10,7 @@ pub returns-in-Refused-clause-refused : goal.returns-in-Refused-clause-refused
 returns-in-Refused-clause-refused c = rw c.error_of_kind.ensures (
   (
     cannot_take c.args.self.now _ c.requires.still (sym c.change_on-change.ensures ∙ c.in-Refused.is),
-    ap (λ found. fault_nowhere (UnexpectedEventType (expected_instead
+    ap (λ found. fault_without_offset (UnexpectedEventType (expected_instead
         (buffered_events c.args.self.now)) found)) c.of_event.ensures,
   ),
   refl,

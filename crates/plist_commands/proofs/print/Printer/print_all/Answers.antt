@@ -9,12 +9,12 @@ use Rattle.plist_commands.proofs.print.Printer.print_all.Goals as goal
 pub returns-in-Ok-Ended-clause-ran : goal.returns-in-Ok-Ended-clause-ran
 returns-in-Ok-Ended-clause-ran g c =
     let is : c.visit.result ≡ Ok Ended = search rules in
-    let (left, last, run, same) = visited_ended g.I.EventSource.gives g.W.Write.contents
+    let (left, last, run, same) = visited_ended g.I.EventSource.yields g.W.Write.contents
     (c.args.source.now, c.args.self.now) (c.visit.new.self, c.visit.new.visitor) c.requires.empty
     (rw is at c.visit.ensures) in
     let done = empties g.W.Write.contents (sink_of c.visit.new.visitor) (sink_of c.finish.new.self)
     c.finish.result c.finish.ensures.put c.finish.ensures.empty in
-    run_ended g.I.EventSource.gives c.args.source.now left c.visit.new.self
+    run_ended g.I.EventSource.yields c.args.source.now left c.visit.new.self
     (g.W.Write.contents c.args.self.now.writer.now)
     (g.W.Write.contents c.visit.new.visitor.writer.now)
     (g.W.Write.contents c.finish.new.self.writer.now) _ c.finish.result run last
@@ -23,7 +23,7 @@ returns-in-Ok-Ended-clause-ran g c =
 pub returns-in-Ok-Ended-clause-same : goal.returns-in-Ok-Ended-clause-same
 returns-in-Ok-Ended-clause-same g c =
     let is : c.visit.result ≡ Ok Ended = search rules in
-    let (left, last, run, same) = visited_ended g.I.EventSource.gives g.W.Write.contents
+    let (left, last, run, same) = visited_ended g.I.EventSource.yields g.W.Write.contents
     (c.args.source.now, c.args.self.now) (c.visit.new.self, c.visit.new.visitor) c.requires.empty
     (rw is at c.visit.ensures) in
     same_then same c.finish.ensures.put.same
@@ -32,13 +32,13 @@ pub returns-in-Ok-Stopped-clause-ran : goal.returns-in-Ok-Stopped-clause-ran
 returns-in-Ok-Stopped-clause-ran g c =
     let is : c.visit.result ≡ Ok Stopped = search rules in
     rw (c.take_failure.ensures.failure, c.take_failure.ensures.writer)
-    (visited_stopped g.I.EventSource.gives g.W.Write.contents (c.args.source.now, c.args.self.now)
+    (visited_stopped g.I.EventSource.yields g.W.Write.contents (c.args.source.now, c.args.self.now)
     (c.visit.new.self, c.visit.new.visitor) c.requires.empty (rw is at c.visit.ensures)).0
 
 pub returns-in-Ok-Stopped-clause-same : goal.returns-in-Ok-Stopped-clause-same
 returns-in-Ok-Stopped-clause-same g c =
     let is : c.visit.result ≡ Ok Stopped = search rules in
-    let same = (visited_stopped g.I.EventSource.gives g.W.Write.contents
+    let same = (visited_stopped g.I.EventSource.yields g.W.Write.contents
     (c.args.source.now, c.args.self.now) (c.visit.new.self, c.visit.new.visitor) c.requires.empty
     (rw is at c.visit.ensures)).1 in
     same_then same c.take_failure.ensures.same
@@ -46,10 +46,10 @@ returns-in-Ok-Stopped-clause-same g c =
 pub returns-in-Err-clause-ran : goal.returns-in-Err-clause-ran
 returns-in-Err-clause-ran g c =
     let is : c.visit.result ≡ Err c.in-Err.error = search rules in
-    let (left, last, run, same) = visited_error g.I.EventSource.gives g.W.Write.contents
+    let (left, last, run, same) = visited_error g.I.EventSource.yields g.W.Write.contents
     (c.args.source.now, c.args.self.now) (c.visit.new.self, c.visit.new.visitor) c.in-Err.error
     c.requires.empty (rw is at c.visit.ensures) in
-    run_faulted g.I.EventSource.gives c.args.source.now left c.visit.new.self
+    run_faulted g.I.EventSource.yields c.args.source.now left c.visit.new.self
     (g.W.Write.contents c.args.self.now.writer.now)
     (g.W.Write.contents c.visit.new.visitor.writer.now)
     (g.W.Write.contents c.finish_before.new.self.writer.now) _ c.in-Err.error
@@ -59,7 +59,7 @@ returns-in-Err-clause-ran g c =
 pub returns-in-Err-clause-same : goal.returns-in-Err-clause-same
 returns-in-Err-clause-same g c =
     let is : c.visit.result ≡ Err c.in-Err.error = search rules in
-    let (left, last, run, same) = visited_error g.I.EventSource.gives g.W.Write.contents
+    let (left, last, run, same) = visited_error g.I.EventSource.yields g.W.Write.contents
     (c.args.source.now, c.args.self.now) (c.visit.new.self, c.visit.new.visitor) c.in-Err.error
     c.requires.empty (rw is at c.visit.ensures) in
     same_then same c.finish_before.ensures.same

@@ -1,5 +1,5 @@
 use Rattle.std.proofs.Common.{refl}
-use Rattle.plist_keyed.proofs.Opened.{no_objects, no_names}
+use Rattle.plist_keyed.proofs.NotArchives.{no_objects, no_names}
 use Rattle.plist_keyed.proofs.archive.Archive.open.Goals as goal
 
 pub returns-in_default-array_at-clause-refused : goal.returns-in_default-array_at-clause-refused

@@ -1,6 +1,6 @@
 use Rattle.plist.specs.ValueTrees.{tree_of}
 use Rattle.plist_keyed.specs.Contents.{objects_of}
-use Rattle.plist_keyed.proofs.Answered.{tree-read, error-read}
+use Rattle.plist_keyed.proofs.WalkValues.{tree-read, error-read}
 use Rattle.plist_keyed.proofs.archive.Archive.tree.Goals as goal
 
 pub returns-in-Ok-clause-value : goal.returns-in-Ok-clause-value

@@ -3,8 +3,8 @@ use Rattle.std.specs.Option.{option_copied}
 use Rattle.std.proofs.lemmas.Option.{same_Some}
 use Rattle.plist_keyed.specs.inner.Checking.{objects_checked}
 use Rattle.plist_keyed.specs.inner.Settled.{settled_in}
-use Rattle.plist_keyed.proofs.Checked.{no-member, seen_at}
-use Rattle.plist_keyed.proofs.Settling.{named-member}
+use Rattle.plist_keyed.proofs.CheckSteps.{no-member, seen_at}
+use Rattle.plist_keyed.proofs.SettledUids.{named-member}
 use Rattle.plist_keyed.proofs.check.Check.end_of.Goals as goal
 
 pub returns-in_default-uid_in : goal.returns-in_default-uid_in

@@ -4,7 +4,7 @@ use Rattle.indexmap.specs.IndexMap.{get}
 use Rattle.plist_base.specs.Bracketing.{bracketing}
 use Rattle.plist.specs.ValueTrees.{tree_of}
 use Rattle.plist_keyed.specs.inner.Checking.{check_levels, objects_checked, open_uids, settled_uids, unchecked_steps}
-use Rattle.plist_keyed.proofs.Checked.{any_reversed, fault-missing, fault-open, member, no-member, opened-checks, opened-passes, passes-settled, seen_at, settled-check}
+use Rattle.plist_keyed.proofs.CheckSteps.{any_reversed, fault-missing, fault-open, member, no-member, opened-checks, opened-passes, passes-settled, seen_at, settled-check}
 use Rattle.plist_keyed.proofs.check.Check.follow.Goals as goal
 
 pub returns-then-contains_key-clause-passed : goal.returns-then-contains_key-clause-passed

@@ -1,5 +1,5 @@
 use Rattle.std.proofs.Common.{refl}
-use Rattle.plist_keyed.proofs.Checked.{added}
+use Rattle.plist_keyed.proofs.CheckSteps.{added}
 use Rattle.plist_keyed.proofs.check.Check.open.Goals as goal
 
 pub returns-clause-opened : goal.returns-clause-opened

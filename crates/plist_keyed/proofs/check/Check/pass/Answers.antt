@@ -3,7 +3,7 @@ use Rattle.indexmap.specs.IndexMap.{get}
 use Rattle.plist_base.specs.Events.{event_of}
 use Rattle.plist_keyed.specs.inner.Checking.{check_levels, objects_checked, open_uids, settled_uids, unchecked_steps}
 use Rattle.plist_keyed.specs.inner.Walks.{follow_in}
-use Rattle.plist_keyed.proofs.Checked.{passes-plain, plain-check}
+use Rattle.plist_keyed.proofs.CheckSteps.{passes-plain, plain-check}
 use Rattle.plist_keyed.proofs.check.Check.pass.Goals as goal
 
 pub returns-in-None-clause-passed : goal.returns-in-None-clause-passed

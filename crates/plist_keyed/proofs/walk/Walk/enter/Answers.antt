@@ -4,8 +4,8 @@ use Rattle.indexmap.specs.IndexMap.{get}
 use Rattle.plist.specs.Events.{remaining_events}
 use Rattle.plist_keyed.specs.inner.RemainingSteps.{AllNameOnly, Skips, objects_walked, remaining_from, steps_in_levels, walk_levels}
 use Rattle.plist_keyed.specs.inner.Settled.{IsEndOf, settled_in}
-use Rattle.plist_keyed.proofs.Checked.{reverse-snoc, seen_at}
-use Rattle.plist_keyed.proofs.Walked.{end-found, end-within, seen-length, skips-entered}
+use Rattle.plist_keyed.proofs.CheckSteps.{reverse-snoc, seen_at}
+use Rattle.plist_keyed.proofs.WalkSteps.{end-found, end-within, seen-length, skips-entered}
 use Rattle.plist_keyed.proofs.walk.Walk.enter.Goals as goal
 
 pub object_at-object-requires : goal.object_at-object-requires

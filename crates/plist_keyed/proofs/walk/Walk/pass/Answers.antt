@@ -2,7 +2,7 @@ use Rattle.std.proofs.Common.{◌∙◌, sym}
 use Rattle.std.proofs.lemmas.Result.{err_from_is_err_and}
 use Rattle.plist_base.specs.Events.{event_of}
 use Rattle.plist_keyed.specs.inner.RemainingSteps.{objects_walked, remaining_steps}
-use Rattle.plist_keyed.proofs.Walked.{shorter}
+use Rattle.plist_keyed.proofs.WalkSteps.{shorter}
 use Rattle.plist_keyed.proofs.walk.Walk.pass.Goals as goal
 
 pub returns-in_err-enter-in-Some-clause-yields : goal.returns-in_err-enter-in-Some-clause-yields

@@ -2,7 +2,7 @@ use Rattle.std.proofs.Common.{refl, ◌∙◌, subst, sym, String, Global}
 use Rattle.std.proofs.lemmas.Result.{err_from_is_err_and}
 use Rattle.std.proofs.iter.Next as it
 use Rattle.plist_pairs.specs.Bulk.{ExtendsBy}
-use Rattle.plist_pairs.proofs.Extended.{inserted-more}
+use Rattle.plist_pairs.proofs.Inserts.{inserted-more}
 use Rattle.plist_pairs.proofs.dictionary.Pairs.extend.Goals as goal
 
 pub loop-key-init : goal.loop-key-init

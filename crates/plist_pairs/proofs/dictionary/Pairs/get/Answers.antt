@@ -1,7 +1,7 @@
 use Rattle.std.proofs.Common.{◌≡◌, rules, bytes_eq}
 use Rattle.std.specs.Map.{lookup}
 use Rattle.std.specs.Option.{option_copied}
-use Rattle.plist_pairs.proofs.Among.{among}
+use Rattle.plist_pairs.proofs.PairValues.{among}
 use Rattle.plist_pairs.proofs.dictionary.Pairs.get.Goals as goal
 
 pub returns-clause-member : goal.returns-clause-member

@@ -1,5 +1,5 @@
 use Rattle.std.proofs.Common.{rules, bytes_eq}
-use Rattle.plist_pairs.proofs.Among.{among_mut}
+use Rattle.plist_pairs.proofs.PairValues.{among_mut}
 use Rattle.plist_pairs.proofs.dictionary.Pairs.get_mut.Goals as goal
 
 pub returns-in-Some : goal.returns-in-Some

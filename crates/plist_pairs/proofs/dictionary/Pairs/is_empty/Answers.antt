@@ -1,5 +1,5 @@
 use Rattle.std.proofs.Common.{refl}
-use Rattle.plist_pairs.proofs.Columns.{empty_or_not}
+use Rattle.plist_pairs.proofs.PairColumns.{empty_or_not}
 use Rattle.plist_pairs.proofs.dictionary.Pairs.is_empty.Goals as goal
 
 pub returns : goal.returns

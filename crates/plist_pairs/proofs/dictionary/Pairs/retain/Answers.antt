@@ -1,6 +1,6 @@
 use Rattle.std.proofs.Common.{◌≡◌, List, ℕ, string_bytes, refl, subst, ◌∙◌, arith}
 use Rattle.plist_pairs.specs.Bulk.{AnswersAtPair}
-use Rattle.plist_pairs.proofs.Retained.{kept-none, kept-all, step-one, step-other, key-of}
+use Rattle.plist_pairs.proofs.RetainLoop.{kept-none, kept-all, step-one, step-other, key-of}
 use Rattle.plist_pairs.proofs.dictionary.Pairs.retain.Goals.{then-keep, else-keep}
 use Rattle.plist_pairs.proofs.dictionary.Pairs.retain.Goals as goal
 

@@ -1,5 +1,5 @@
 use Rattle.plist_pairs.specs.Bulk.{AnswersAtPair}
-use Rattle.plist_pairs.proofs.Retained.{KeptSoFar}
+use Rattle.plist_pairs.proofs.RetainLoop.{KeptSoFar}
 use Rattle.plist_pairs.proofs.dictionary.Pairs.retain.Given as goal
 
 abbrev pub invariant-loop-i : goal.invariant-loop-i

@@ -4,8 +4,8 @@ use Rattle.std.proofs.lemmas.List.{length-map}
 use Rattle.std.proofs.lemmas.Map.Made.{keys_of-map_values}
 use Rattle.indexmap.specs.IndexMap.{insert_entry}
 use Rattle.plist_pairs.specs.Copies.{with_shown}
-use Rattle.plist_pairs.proofs.Keeping.{values-insert, next-last}
-use Rattle.plist_pairs.proofs.Columns.{get-map}
+use Rattle.plist_pairs.proofs.DistinctKeys.{values-insert, next-last}
+use Rattle.plist_pairs.proofs.PairColumns.{get-map}
 use Rattle.plist_pairs.proofs.dictionary.copy.copy_pairs.Goals as goal
 
 pub loop-i-init : goal.loop-i-init

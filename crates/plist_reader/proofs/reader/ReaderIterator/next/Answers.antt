@@ -1,8 +1,8 @@
 use Rattle.std.proofs.Common.{sym, subst}
 use Rattle.plist_reader.specs.Reader.{StateGives}
 use Rattle.plist_reader.specs.declared.reader.State.TheVariants.{Binary, Ascii, Limited}
-use Rattle.plist_reader.proofs.BinaryGiving.{binary-gives}
-use Rattle.plist_reader.proofs.AsciiGiving.{ascii-gives, limited-gives}
+use Rattle.plist_reader.proofs.BinaryItems.{binary-gives}
+use Rattle.plist_reader.proofs.AsciiItems.{ascii-gives, limited-gives}
 use Rattle.plist_reader.proofs.reader.ReaderIterator.next.Goals as goal
 
 pub returns-in-Binary-clause-steps : goal.returns-in-Binary-clause-steps
@@ -30,4 +30,4 @@ pub returns-in-Unread-clause-steps : goal.returns-in-Unread-clause-steps
 returns-in-Unread-clause-steps g c =
     subst (λ s. StateGives g.R.Source.known g.R.Source.failures s c.first.result
     c.first.new.self.state) (sym c.in-Unread.is)
-    (c.first.ensures.gives c.in-Unread.field-0 c.in-Unread.field-1 c.in-Unread.field-2 c.in-Unread.is)
+    (c.first.ensures.yields c.in-Unread.field-0 c.in-Unread.field-1 c.in-Unread.field-2 c.in-Unread.is)

@@ -1,6 +1,6 @@
 use Rattle.std.proofs.Common.{sym, reverse}
 use Rattle.plist_base.specs.Events.{event_of}
-use Rattle.plist.proofs.Itself.{carry}
+use Rattle.plist.proofs.ValueLastWins.{carry}
 use Rattle.plist.proofs.stream.builder.Builder.take.Goals as goal
 
 pub returns-in-Ok-clause-step : goal.returns-in-Ok-clause-step

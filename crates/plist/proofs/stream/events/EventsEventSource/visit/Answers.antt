@@ -2,7 +2,7 @@ use Rattle.std.proofs.Common.{◌≡◌, None, Some, Ok, Err, [], ◌∷◌, ◌
 use Rattle.std.proofs.iter.Next as it
 use Rattle.std.specs.declared.ops.ControlFlow.TheVariants.{Continue, Break}
 use Rattle.plist_base.specs.Events.{event_of}
-use Rattle.plist_base.proofs.Visiting.{hands_more}
+use Rattle.plist_base.proofs.Visits.{hands_more}
 use Rattle.plist.specs.Events.{GivesEvent}
 use Rattle.plist.proofs.stream.events.EventsEventSource.visit.Goals as goal
 

@@ -1,6 +1,6 @@
 use Rattle.std.proofs.Common.{List, length}
 use Rattle.plist_base.specs.Events.{PlainEvent}
-use Rattle.plist_base.specs.Visits.{GivesPlain, HandsOverAll}
+use Rattle.plist_base.specs.Visits.{YieldsPlain, HandsOverAll}
 use Rattle.plist.specs.Events.{GivesEvent, remaining_events}
 use Rattle.plist.proofs.stream.events.EventsEventSource.visit.Given as goal
 
@@ -8,7 +8,7 @@ use Rattle.plist.proofs.stream.events.EventsEventSource.visit.Given as goal
 abbrev pub invariant-loop-item : goal.invariant-loop-item
 invariant-loop-item g l =
     (events : List PlainEvent)
-    × HandsOverAll (GivesPlain GivesEvent) g.V.EventVisitor.step (l.fn.self, l.fn.visitor) events
+    × HandsOverAll (YieldsPlain GivesEvent) g.V.EventVisitor.step (l.fn.self, l.fn.visitor) events
     (l.self, l.visitor)
 
 abbrev pub decreases-loop-item : goal.decreases-loop-item

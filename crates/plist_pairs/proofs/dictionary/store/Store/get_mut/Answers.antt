@@ -2,7 +2,7 @@ use Rattle.std.proofs.Common.{sym, ap, ◌∙◌, arith, inr, bytes_eq}
 use Rattle.std.specs.Option.{ghost_name_of}
 use borrow.Follows.Closed.{read_of}
 use Rattle.std.specs.Map.{lookup, set_value}
-use Rattle.plist_pairs.proofs.Columns.{found_value, lost, set_rows, lent_item}
+use Rattle.plist_pairs.proofs.PairColumns.{found_value, lost, set_rows, lent_item}
 use Rattle.plist_pairs.proofs.dictionary.store.Store.get_mut.Goals as goal
 
 pub returns-in-None : goal.returns-in-None

@@ -2,8 +2,8 @@ use Rattle.std.proofs.Common.{length, string_bytes, sym, ap, ◌∙◌, arith, r
 use Rattle.std.specs.Map.{lookup}
 use Rattle.std.proofs.lemmas.Option.{slice_get_read}
 use Rattle.indexmap.specs.IndexMap.{insert_entry}
-use Rattle.plist_pairs.proofs.Columns.{rows, found_value, rows-old}
-use Rattle.plist_pairs.proofs.Rebuilt.{old-keys, old-index, popped-key, new-absent, undone}
+use Rattle.plist_pairs.proofs.PairColumns.{rows, found_value, rows-old}
+use Rattle.plist_pairs.proofs.ColumnAppends.{old-keys, old-index, popped-key, new-absent, undone}
 use Rattle.plist_pairs.proofs.dictionary.store.Store.insert.Goals as goal
 
 pub returns-in-Ok-default-false : goal.returns-in-Ok-default-false

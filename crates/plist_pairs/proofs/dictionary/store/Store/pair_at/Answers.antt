@@ -1,6 +1,6 @@
 use Rattle.std.proofs.Common.{length, refl, sym, ap, ◌∙◌, slice_get, Some}
 use Rattle.std.proofs.lemmas.Option.{slice_get_read}
-use Rattle.plist_pairs.proofs.Columns.{item-there, key-read, key-there, pair-rows}
+use Rattle.plist_pairs.proofs.PairColumns.{item-there, key-read, key-there, pair-rows}
 use Rattle.plist_pairs.proofs.dictionary.store.Store.pair_at.Goals as goal
 
 pub returns : goal.returns

@@ -1,6 +1,6 @@
 use Rattle.std.proofs.Common.{ap, ◌∙◌, bytes_eq}
 use Rattle.indexmap.specs.IndexMap.{swap_remove_entry}
-use Rattle.plist_pairs.proofs.Columns.{rows-removed}
+use Rattle.plist_pairs.proofs.PairColumns.{rows-removed}
 use Rattle.plist_pairs.proofs.dictionary.store.Store.remove.Goals as goal
 
 pub returns-clause-pairs : goal.returns-clause-pairs

@@ -1,5 +1,5 @@
 use Rattle.std.proofs.Common.{◌≡◌, arith, swap_remove}
-use Rattle.plist_pairs.proofs.Columns.{item-there, rows-taken, item_given, distinct-bytes}
+use Rattle.plist_pairs.proofs.PairColumns.{item-there, rows-taken, item_given, distinct-bytes}
 use Rattle.plist_pairs.proofs.dictionary.store.Store.swap_remove_at.Goals as goal
 
 pub invariant_of-self : goal.invariant_of-self

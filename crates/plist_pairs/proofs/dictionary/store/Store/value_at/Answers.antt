@@ -3,7 +3,7 @@ use Rattle.std.specs.Map.{values_of}
 use Rattle.std.proofs.lemmas.Option.{slice_get_read}
 use Rattle.indexmap.specs.IndexMap.{set_value_at}
 use Rattle.std_collections.proofs.Zip.{zip-set_value}
-use Rattle.plist_pairs.proofs.Columns.{item-there, values-rows}
+use Rattle.plist_pairs.proofs.PairColumns.{item-there, values-rows}
 use Rattle.plist_pairs.proofs.dictionary.store.Store.value_at.Goals as goal
 
 pub returns : goal.returns

@@ -1,6 +1,6 @@
 use Rattle.std.proofs.Common.{ap, arith, length, length-append, map, ◌∙◌, ◌++◌, ◌∷◌, []}
 use Rattle.plist_pairs.specs.Shown.{shown_owned_pair}
-use Rattle.plist_pairs.proofs.Rebuilt.{row-moved}
+use Rattle.plist_pairs.proofs.ColumnAppends.{row-moved}
 use Rattle.plist_pairs.proofs.dictionary.store.sorted.rows_of.Goals as goal
 
 pub loop-row-init : goal.loop-row-init

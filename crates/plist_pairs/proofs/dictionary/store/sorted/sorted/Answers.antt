@@ -2,7 +2,7 @@ use Rattle.std.proofs.Common.{ap, refl, subst, sym, is_lt, IsPermutation, string
 use Rattle.std.specs.String.{string_cmp_total}
 use Rattle.std.proofs.lemmas.Fn.{always_returns_same}
 use Rattle.std.proofs.lemmas.List.MinMax.{ranks_by}
-use Rattle.plist_pairs.proofs.Rebuilt.{sorted-rows, moved-rows, still-distinct}
+use Rattle.plist_pairs.proofs.ColumnAppends.{sorted-rows, moved-rows, still-distinct}
 use Rattle.plist_pairs.proofs.dictionary.store.sorted.sorted.Goals as goal
 
 pub returns-clause-sorted : goal.returns-clause-sorted

@@ -1,6 +1,6 @@
 use Rattle.std.proofs.Common.{◌≡◌, length, ap, arith, length-append, ◌∷◌, []}
 use Rattle.std.specs.Vec.Iter.{into_iter_items}
-use Rattle.plist_pairs.proofs.Rebuilt.{so-far, then-put}
+use Rattle.plist_pairs.proofs.ColumnAppends.{so-far, then-put}
 use Rattle.plist_pairs.proofs.dictionary.store.sorted.store_of.Goals as goal
 
 pub loop-key-preserved-in-Ok : goal.loop-key-preserved-in-Ok

@@ -1,0 +1,83 @@
+-- The events of a value are collected, and their file is written.
+use Rattle.std.proofs.Common.{◌≡◌, ℕ, List, ◌∷◌, [], ◌++◌, Option, Some, Result, Ok, Err, map, refl, sym, ap, ◌∙◌, subst, append_assoc, append-nil, None, IfErr}
+use Rattle.plist_base.specs.Bracketing.{bracketing, without_length, lengthless, AreAlike, AreTreeEvents}
+use Rattle.plist_base.specs.declared.error.Error.{Error}
+use Rattle.plist_base.specs.declared.event.Event.{Event}
+use Rattle.plist_base.specs.Events.{PlainEvent, event_of}
+use Rattle.plist_base.specs.Faults.{FaultKind, Fault, Io, OutOfMemory, PlistTooLarge, fault_without_offset, fault_of}
+use Rattle.plist_base.specs.Trees.{Tree}
+use Rattle.plist_base.specs.Writing.{Answer, answer_of}
+use Rattle.plist_base.proofs.Grammar.{alike_without_length}
+use Rattle.plist_base.proofs.Stacks.{lengthless-is}
+use Rattle.plist_binwrite.specs.Sending.{Sends, FailsWith}
+use Rattle.plist.specs.declared.stream.events.Events.{Events}
+use Rattle.plist.specs.Events.{GivesEvent, remaining_events}
+use Rattle.plist.specs.SendingValues.{StopsSending, SendsTree}
+
+-- what was collected, followed by what remains, both without lengths
+abbrev pub GatheredSoFar : List PlainEvent → (held : List PlainEvent) → (left : Events) → Type 0
+GatheredSoFar all held left = held ++ map without_length (remaining_events left)
+    ≡ map without_length all
+
+-- one more event
+pub gathered_more : (all held new : List PlainEvent) (before after : Events)
+    (item : Result Event Error) (event : Event) → GatheredSoFar all held before
+    → GivesEvent before (Some item) after → item ≡ Ok event
+    → new ≡ held ++ without_length (event_of event) ∷ [] → GatheredSoFar all new after
+gathered_more all held new before after item event so gives is grown =
+    let given = (subst (λ i. GivesEvent before (Some i) after) is gives).0 in
+    ap (λ l. l ++ map without_length (remaining_events after)) grown
+    ∙ append_assoc held (without_length (event_of event) ∷ []) (map without_length
+    (remaining_events after))
+    ∙ ap (λ l. held ++ map without_length l) (sym given) ∙ so
+
+-- no events remain
+pub gathered_all : (tree : Tree) (held left : List PlainEvent)
+    → held ++ map without_length left ≡ map without_length (bracketing tree) → left ≡ []
+    → held ≡ lengthless tree
+gathered_all tree held left so none =
+    cc (append-nil _, lengthless-is _)
+
+pub gathered_alike : (tree : Tree) (es : List PlainEvent) → es ≡ lengthless tree
+    → AreAlike es (bracketing tree)
+gathered_alike tree es is =
+    ap (map _) (is ∙ sym (lengthless-is _)) ∙ alike_without_length _
+
+-- ---- writing them
+
+module _ (tree : Tree) (es : List PlainEvent) (alike : AreAlike es (bracketing tree)) where
+  pub whole_tree : AreTreeEvents es
+  whole_tree = (tree, alike)
+
+  module _ {W : Type 0} (contents : W → Option (List ℕ)) (old new : W) where
+    stops : (kind : FaultKind) → FailsWith contents kind es old new
+        → StopsSending contents kind tree old new
+    stops Io f = (f.0, f.1.1 _ alike, f.2)
+    stops PlistTooLarge f = (f.0.1 _ alike, f.1)
+    stops OutOfMemory f = (tt, f)
+    stops kind f = absurd f
+
+    pub sends_tree : (answer : Answer) → Sends contents es answer old new
+        → SendsTree contents tree answer old new
+    sends_tree (Ok done) s = (s.0, s.1.1 _ alike, s.2)
+    sends_tree (Err fault) s = (s.0, stops _ s.1)
+
+pub wants_memory : {W : Type 0} (contents : W → Option (List ℕ)) (tree : Tree) (fault : Fault)
+    (w : W) → fault ≡ fault_without_offset OutOfMemory → SendsTree contents tree (Err fault) w w
+wants_memory contents tree fault w is =
+    rw is (refl, (tt, refl))
+
+-- an I/O error after the whole file was written
+stops_behind : {W : Type 0} (contents : W → Option (List ℕ)) (tree : Tree) (fault : Fault)
+    (old new : W) → SendsTree contents tree (Ok tt) old new → fault ≡ fault_without_offset Io
+    → (fault.offset ≡ None) × StopsSending contents fault.kind tree old new
+stops_behind contents tree fault old new sent is =
+    rw is (refl, (sent.0, sent.1, (sent.0, [], sent.2, sym (append-nil _))))
+
+pub stored : {W : Type 0} (contents : W → Option (List ℕ)) (tree : Tree)
+    (answer : Result (Unit {0}) Error) (old new : W) → SendsTree contents tree (Ok tt) old new
+    → IfErr answer (λ error. fault_of error ≡ fault_without_offset Io)
+    → SendsTree contents tree (answer_of answer) old new
+stored contents tree (Ok done) old new sent is = sent
+stored contents tree (Err error) old new sent is =
+    stops_behind contents _ (fault_of error) old new sent is

@@ -1,0 +1,109 @@
+-- Pairs of values whose comparison is deferred.
+use Rattle.std.specs.Prelude.{◌≡◌, ◌≤◌, ℕ, ◌+◌, ◌-◌, Bool, true, false, ◌&&◌, Option, None, Some, List, [], ◌∷◌, ◌++◌, MatchOption, drop, bytes_eq}
+use Rattle.std.specs.Map.{lookup, values_of}
+use Rattle.std.specs.Option.{option_eq}
+use Rattle.std.specs.declared.alloc.Global.{Global}
+use Rattle.std.specs.declared.vec.Vec.{Vec}
+use Rattle.plist.specs.declared.equal.DeferredPairs.{DeferredPairs}
+use Rattle.plist.specs.declared.equal.Pair.{Pair}
+use Rattle.plist.specs.declared.value.Value.{Value}
+use Rattle.plist.specs.Equal.{same, same_items, same_members}
+use Rattle.plist_pairs.specs.Equal.{same_pairs}
+use Rattle.plist.specs.ValueTrees.{item_trees, pair_trees, tree_of}
+use Rattle.plist.specs.inner.Weights.{weight, weights}
+
+-- equality of values
+abbrev pub same_values : Value → Value → Bool
+same_values value other = same (tree_of value) (tree_of other)
+
+-- equality of pairs, whatever their order
+abbrev pub same_values_at : (pairs others : List (List ℕ × Value)) → Bool
+same_values_at pairs others = same_pairs same_values pairs others
+
+-- all these pairs are equal
+abbrev pub are_same : List Pair → Bool
+are_same [] = true
+are_same (pair ∷ pairs) = same_values pair.value.now pair.other.now && are_same pairs
+
+-- the number of values to compare
+abbrev pub to_compare : List Pair → ℕ
+to_compare [] = 0
+to_compare (pair ∷ pairs) = weight pair.value.now + to_compare pairs
+
+abbrev pub listed : Option (Vec Pair Global) → List Pair
+listed None = []
+listed (Some pairs) = pairs.items
+
+-- the deferred pairs
+abbrev pub waiting : DeferredPairs → List Pair
+waiting later = listed later.pairs
+
+-- each key of these pairs has an equal value in the others
+abbrev pub are_covered : (pairs others : List (List ℕ × Value)) → Bool
+are_covered [] others = true
+are_covered (pair ∷ pairs) others =
+    option_eq same_values (Some pair.1) (lookup (bytes_eq pair.0) others)
+    && are_covered pairs others
+
+-- Once the deferred pairs are compared, the result is this one; no more than `most` values were
+-- deferred.
+abbrev pub Compares : (equal : Bool) → (most : ℕ) → (before : DeferredPairs) → (answer : Bool)
+    → (after : DeferredPairs) → Type 0
+Compares equal most before answer after =
+    (answer && are_same (waiting after) ≡ equal && are_same (waiting before))
+    × (to_compare (waiting after) ≤ to_compare (waiting before) + most)
+
+-- the pair is deferred, or nothing changed
+abbrev pub PutsOff : (value other : Value) → (before : DeferredPairs) → (done : Bool) → (after : DeferredPairs)
+    → Type 0
+PutsOff value other before true after =
+    (are_same (waiting after) ≡ same_values value other && are_same (waiting before))
+    × (to_compare (waiting after) ≡ weight value + to_compare (waiting before))
+PutsOff value other before false after = waiting after ≡ waiting before
+
+-- the items of arrays, or the pairs of dictionaries, are compared
+abbrev pub ComparesItems : (items others : List Value) → (before : DeferredPairs) → (answer : Bool)
+    → (after : DeferredPairs) → Type 0
+ComparesItems items others before answer after =
+    Compares (same_items (item_trees items) (item_trees others)) (weights items) before answer after
+
+abbrev pub ComparesPairs : (pairs others : List (List ℕ × Value)) → (before : DeferredPairs)
+    → (answer : Bool) → (after : DeferredPairs) → Type 0
+ComparesPairs pairs others before answer after =
+    Compares (same_members (pair_trees pairs) (pair_trees others)) (weights (values_of pairs))
+    before answer after
+
+-- the items from an index on, and the deferred pairs, decide whether the arrays are equal
+abbrev pub ItemsLeft : (items others : List Value) → (start : DeferredPairs) → (place : ℕ) → (now : DeferredPairs)
+    → Type 0
+ItemsLeft items others start place now =
+    (same_items (item_trees (drop place items)) (item_trees (drop place others))
+    && are_same (waiting now)
+    ≡ same_items (item_trees items) (item_trees others) && are_same (waiting start))
+    × (to_compare (waiting now) + weights (drop place items)
+    ≤ to_compare (waiting start) + weights items)
+
+-- the pairs from an index on, and the deferred pairs, decide whether the dictionaries are equal
+abbrev pub PairsLeft : (pairs others : List (List ℕ × Value)) → (start : DeferredPairs) → (place : ℕ)
+    → (now : DeferredPairs) → Type 0
+PairsLeft pairs others start place now =
+    (are_covered (drop place pairs) others && are_same (waiting now)
+    ≡ are_covered pairs others && are_same (waiting start))
+    × (to_compare (waiting now) + weights (values_of (drop place pairs))
+    ≤ to_compare (waiting start) + weights (values_of pairs))
+
+-- the pair that was deferred last is taken, or no pair is deferred
+abbrev pub TakesLast : (before : DeferredPairs) → Option Pair → (after : DeferredPairs) → Type 0
+TakesLast before found after = MatchOption found (waiting before ≡ [])
+    (λ pair. waiting before ≡ waiting after ++ pair ∷ [])
+
+-- two values, which may be deferred themselves, or their contents are compared
+abbrev pub ComparesValues : (value other : Value) → (before : DeferredPairs) → (answer : Bool)
+    → (after : DeferredPairs) → Type 0
+ComparesValues value other before answer after =
+    Compares (same_values value other) (weight value) before answer after
+
+abbrev pub ComparesContent : (value other : Value) → (before : DeferredPairs) → (answer : Bool)
+    → (after : DeferredPairs) → Type 0
+ComparesContent value other before answer after =
+    Compares (same_values value other) (weight value - 1) before answer after

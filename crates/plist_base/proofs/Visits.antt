@@ -1,0 +1,41 @@
+-- Events that are handed over to a visitor one by one.
+use Rattle.std.proofs.Common.{List, [], ◌∷◌, ◌++◌, Some, Ok, ap, refl, subst, sym}
+use Rattle.std.specs.declared.ops.ControlFlow.TheVariants.{Continue}
+use Rattle.plist_base.specs.Events.{PlainEvent}
+use Rattle.plist_base.specs.Visits.{Flow, YieldsAll, HandsOver, HandsOverAll, PlainItem}
+
+module _ {I V : Type 0} (yields : I → PlainItem → I → Type 0)
+    (step : V → PlainEvent → Flow → V → Type 0) where
+  -- one event more
+  pub hands_more : (old now new : I × V) (events : List PlainEvent) (event : PlainEvent)
+      → HandsOverAll yields step old events now → HandsOver yields step now event (Continue tt) new
+      → HandsOverAll yields step old (events ++ event ∷ []) new
+  hands_more old now new [] event is more =
+      (new, subst (λ now. HandsOver yields step now event (Continue tt) new) is more, refl)
+  hands_more old now new (first ∷ events) event (next, one, others) more =
+      (next, one, hands_more next now new events event others more)
+
+  -- what is handed over is given
+  pub given_all : (old new : I × V) (events : List PlainEvent) → HandsOverAll yields step old events new
+      → YieldsAll yields old.0 events new.0
+  given_all old new [] is = ap (λ p. p.0) is
+  given_all old new (event ∷ events) (next, one, others) =
+      (next.0, one.given, given_all next new events others)
+
+  -- what each event keeps is kept
+  pub kept_all : (P : I × V → Type 0) → ((now new : I × V) (event : PlainEvent) → P now
+      → HandsOver yields step now event (Continue tt) new → P new)
+      → (old new : I × V) (events : List PlainEvent) → P old
+      → HandsOverAll yields step old events new → P new
+  kept_all P keeps old new [] here is = subst P (sym is) here
+  kept_all P keeps old new (event ∷ events) here (next, one, others) =
+      kept_all P keeps next new events (keeps old next event here one) others
+
+-- one event more is given
+pub given_more : {I : Type 0} (yields : I → PlainItem → I → Type 0) (old now new : I)
+    (events : List PlainEvent) (event : PlainEvent) → YieldsAll yields old events now
+    → yields now (Some (Ok event)) new → YieldsAll yields old (events ++ event ∷ []) new
+given_more yields old now new [] event is more =
+    (new, subst (λ now. yields now (Some (Ok event)) new) is more, refl)
+given_more yields old now new (first ∷ events) event (next, one, others) more =
+    (next, one, given_more yields next now new events event others more)

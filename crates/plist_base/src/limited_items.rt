@@ -1,0 +1,131 @@
+//! An iterator that yields the items of another iterator up to the first that isn't allowed.
+
+ghost use Rattle.std.specs.Prelude.{◌≡◌, false, OnOk};
+ghost use Rattle.plist_base.specs.Allowances.{AdmitsEvent, Passes, RefusesEvent, iterator_of};
+ghost use Rattle.plist_base.specs.Budgets.{items_within_budget, within_bytes};
+ghost use Rattle.plist_base.specs.Events.{event_of};
+ghost use Rattle.plist_base.specs.Limits.{items_admitted, limited_items};
+ghost use Rattle.plist_base.specs.Outcomes.{IfFault};
+
+use crate::{ByteBudget, Error, Event, LimitCounter, Limits, OwnedEvent};
+
+/// Admits the events of a property list one after another, up to the first that isn't allowed.
+///
+/// A [`LimitCounter`] counts events and open collections, a [`ByteBudget`] the bytes of strings and
+/// data.
+pub trait Allowance: Drop {
+    ghost use Rattle.std.specs.Prelude.{List};
+    ghost use Rattle.plist_base.specs.Events.{Item};
+    ghost use Rattle.plist_base.specs.Faults.{Fault};
+
+    // the items that the allowance leaves of these
+    ghost lets: { Self → List Item → List Item };
+
+    // the faults that may replace an event
+    ghost may_reach: { Fault → Type 0 };
+
+    /// Admits an event.
+    ///
+    /// # Errors
+    ///
+    /// The error that replaces the event, if the event isn't allowed.
+    fn admit(&mut self, event: &Event<'_>) -> Result<(), Error>
+        ensures admitted { OnOk result (AdmitsEvent lets self.old (event_of event.now) self.new) }
+        ensures refused { IfFault result (RefusesEvent lets may_reach self.old
+            (event_of event.now)) };
+}
+
+/// Yields the items of another iterator, up to its first error or the first event that isn't
+/// allowed by [`Limits`] ([`LimitedItems::new`]) or by a budget of bytes
+/// ([`LimitedItems::within_bytes`]).
+///
+/// The first event that isn't allowed is replaced by an error without an offset. An error of the
+/// other iterator is yielded unchanged. After either of them, and after the other iterator's
+/// `None`, this iterator has ended, and the other isn't called again.
+#[derive(Drop)]
+pub struct LimitedItems<I, A = LimitCounter> {
+    inner: I,
+    limiter: A,
+    // Whether an error was yielded, or the other iterator returned `None`.
+    ended: bool,
+}
+
+impl<I> LimitedItems<I, LimitCounter> {
+    /// Limits the number of items and the depth: the first event that is one too many, or else
+    /// opens one collection too many, is replaced by `LimitReached`.
+    pub fn new(inner: I, limits: Limits) -> Self
+        ensures items { items_admitted result ≡ limited_items limits }
+        ensures inner { iterator_of result ≡ inner }
+    {
+        LimitedItems {
+            inner,
+            limiter: LimitCounter::new(limits),
+            ended: false,
+        }
+    }
+}
+
+impl<I> LimitedItems<I, ByteBudget> {
+    /// Limits the bytes that all strings, including keys, and data have together: the first event
+    /// that exceeds the budget is replaced by `OutOfMemory`, since the memory that the caller
+    /// allows is used up. A string counts by its bytes in UTF-8.
+    pub fn within_bytes(inner: I, bytes: u64) -> Self
+        ensures items { items_within_budget result ≡ within_bytes bytes }
+        ensures inner { iterator_of result ≡ inner }
+    {
+        LimitedItems {
+            inner,
+            limiter: ByteBudget::new(bytes),
+            ended: false,
+        }
+    }
+}
+
+impl<I, A: Allowance> LimitedItems<I, A> {
+    // Decides what to yield for an item of the inner iterator.
+    fn pass(&mut self, item: Result<OwnedEvent, Error>) -> Result<OwnedEvent, Error>
+        requires going { self.old.ended ≡ false }
+        ensures passes { Passes A.lets A.may_reach self.old.limiter item.entry result
+            self.new.limiter self.new.ended }
+        ensures inner { self.new.inner ≡ self.old.inner }
+    {
+        match item {
+            Ok(event) => match self.limiter.admit(&event) {
+                Ok(()) => Ok(event),
+                Err(reached) => {
+                    self.ended = true;
+                    Err(reached)
+                }
+            },
+            Err(error) => {
+                self.ended = true;
+                Err(error)
+            }
+        }
+    }
+}
+
+impl<I: Iterator<Item = Result<OwnedEvent, Error>>, A: Allowance> Iterator for LimitedItems<I, A> {
+    type Item = Result<OwnedEvent, Error>;
+
+    ghost use Rattle.plist_base.specs.Allowances.{GivesAllowed};
+
+    ghost can_next = { λ s. I.can_next s.inner };
+
+    ghost next_gives = { GivesAllowed A.lets A.may_reach I.next_gives };
+
+    ghost remaining = { λ s. I.remaining s.inner };
+
+    fn next(&mut self) -> Option<Result<OwnedEvent, Error>> {
+        if self.ended {
+            return None;
+        }
+        match self.inner.next() {
+            Some(item) => Some(self.pass(item)),
+            None => {
+                self.ended = true;
+                None
+            }
+        }
+    }
+}

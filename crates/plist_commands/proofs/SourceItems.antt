@@ -1,0 +1,302 @@
+-- What comes of a source, as items that are taken in turn.
+use Rattle.std.proofs.Common.{◌≡◌, inl, inr, ℕ, Bool, true, List, [], ◌∷◌, ◌++◌, Option, None, Some, IfErr, IfSome, OnOk, Result, Ok, Err, map, option_map, refl, sym, ap, ◌∙◌, subst, append-nil, append_assoc}
+use Rattle.std.specs.Prelude.{is_some, ⊤}
+use Rattle.std.proofs.lemmas.Option.{IfSome_then}
+use Rattle.plist_base.specs.declared.error.Error.{Error}
+use Rattle.plist_base.specs.declared.event.Event.{Event}
+use Rattle.plist_base.specs.declared.source.Source.{Ghosts}
+use Rattle.plist_base.specs.Events.{PlainEvent, Item}
+use Rattle.plist_base.specs.Faults.{Fault, Io, OutOfMemory, error_kind_of, fault_without_offset, fault_of, kind_of}
+use Rattle.plist_base.specs.Prefixes.{AppendsPrefix}
+use Rattle.plist_base.specs.Sources.{ItemCountsIo}
+use Rattle.plist_base.specs.Visits.{YieldsAll, YieldsPlain, PlainItem, plain_item}
+use Rattle.plist_base.proofs.WriterBytes.{Appends-at}
+use Rattle.plist_base.proofs.Refusals.{MatchFault-at, MatchFault-weaker}
+use Rattle.plist_binread.specs.BinaryReader.{GivesAs, binary_source, is_new, items_to_come}
+use Rattle.plist_reader.specs.Reader.{BinaryReaderOf, GivesIfKnown, HoldsSource, reader_items, reader_source}
+use Rattle.plist_reader.specs.declared.reader.Reader.{Reader}
+use Rattle.plist.specs.Events.{GivesEvent, remaining_events}
+use Rattle.plist.specs.declared.stream.events.Events.{Events}
+use Rattle.plist_commands.specs.Converting.{items_left}
+use Rattle.plist_commands.specs.EscapedLines.{first_fault, lines_of, lines_of_events}
+use Rattle.plist_commands.specs.Items.{ComesIfKnown, GivesNext, failures_if_held, failures_in, items_of_events}
+use Rattle.plist_commands.specs.Printing.{CountsReads, IsWriterError, PrintsAll, PrintsUntil}
+use Rattle.plist_commands.specs.ReaderRuns.{IsAskedOnce, PrintsRun, StepsBinary, StepsReader, StopsPrinting}
+<<<<<<< HEAD:crates/plist_commands/proofs/Coming.antt
+use Rattle.plist_base.proofs.SinkSteps.{prefix_more}
+use Rattle.plist_commands.proofs.PendingBytes.{device_own, fault_counts, memory_own, own_counts, own_ends}
+=======
+use Rattle.plist_commands.proofs.PendingBytes.{device_own, fault_counts, front_longer, memory_own, own_counts, own_ends}
+>>>>>>> 9e1deb0b76883adec8e46303bbef9a4b9c80c62a:crates/plist_commands/proofs/SourceItems.antt
+
+-- ---- a binary reader
+
+given_next : (fresh : Bool) (before after : List Item) (item : PlainItem)
+    → GivesAs (λ event. event) fresh before item after → GivesNext before item after
+given_next fresh before after None h = h.0
+given_next fresh before after (Some (Ok event)) h = h
+given_next fresh before after (Some (Err error)) h =
+    MatchFault-weaker (kind_of (error_kind_of error)) (λ _. tt) (λ _. tt)
+    (λ w. w ∙ ap (λ l. Err (fault_of error) ∷ l) (sym h.0)) h.1
+
+given_comes : (k l : Option (List ℕ)) (before after : List ℕ → List Item) (fresh : Bool)
+    (item : PlainItem) → l ≡ k
+    → IfSome k (λ bytes. GivesAs (λ event. event) fresh (before bytes) item (after bytes))
+    → ComesIfKnown (option_map before k) item (option_map after l)
+given_comes None l before after fresh item e h = tt
+given_comes (Some bytes) l before after fresh item e h =
+    (after bytes, ap (option_map after) e, given_next fresh (before bytes) (after bytes) item h)
+
+pub binary_comes : {S : Type 0} {g : Ghosts S} (known : S → Option (List ℕ)) (failed : S → ℕ)
+    (old : BinaryReaderOf S g) (item : PlainItem) (new : BinaryReaderOf S g)
+    → StepsBinary known failed old item new
+    → ComesIfKnown (items_left known old) item (items_left known new)
+binary_comes known failed old item new step =
+    given_comes (known (binary_source old)) (known (binary_source new))
+    (λ bytes. items_to_come bytes old) (λ bytes. items_to_come bytes new) (is_new old) item
+    step.yields.unchanged step.yields.items
+
+-- ---- a reader of either format
+
+plain_comes : (before after : Option (List Item)) (given : Option (Result Event Error))
+    → GivesIfKnown before given after → ComesIfKnown before (plain_item given) after
+plain_comes None after given h = tt
+plain_comes (Some all) after None (left, is, none) = (left, is, none.0)
+plain_comes (Some all) after (Some (Ok event)) h = h
+plain_comes (Some all) after (Some (Err error)) (left, is, yields) = (
+  left,
+  is,
+  MatchFault-weaker (kind_of (error_kind_of error)) (λ _. tt) (λ _. tt) (λ same. same) yields,
+)
+
+pub reader_comes : {S : Type 0} {g : Ghosts S} (known : S → Option (List ℕ)) (failed : S → ℕ)
+    (old : Reader S g) (item : PlainItem) (new : Reader S g) → StepsReader known failed old item new
+    → ComesIfKnown (reader_items known old) item (reader_items known new)
+reader_comes known failed old item new (given, yields, is) =
+    rw is (plain_comes (reader_items known old) (reader_items known new) given yields.items)
+
+-- its source is held
+abbrev pub IsOpen : {S : Type 0} {g : Ghosts S} → Reader S g → Type 0
+IsOpen reader = is_some (reader_source reader) ≡ true
+
+source_counts : {S : Type 0} (failures : S → ℕ) (old new : Option S)
+    (given : Option (Result Event Error)) → is_some old ≡ true → HoldsSource failures old given new
+    → ItemCountsIo (plain_item given) (failures_if_held failures old)
+    (failures_if_held failures new) × (is_some new ≡ true)
+source_counts failures None new given some h = absurd (cc)
+source_counts failures (Some source) None given some h = absurd h
+source_counts failures (Some source) (Some kept) None some h = (h, refl)
+source_counts failures (Some source) (Some kept) (Some (Ok event)) some h = (h, refl)
+source_counts failures (Some source) (Some kept) (Some (Err error)) some h = (h, refl)
+
+pub reader_counts : {S : Type 0} {g : Ghosts S} (known : S → Option (List ℕ)) (failed : S → ℕ)
+    (old : Reader S g) (item : PlainItem) (new : Reader S g) → IsOpen old
+    → StepsReader known failed old item new
+    → ItemCountsIo item (failures_in failed old) (failures_in failed new) × IsOpen new
+reader_counts known failed old item new some (given, yields, is) =
+    rw is (source_counts failed (reader_source old) (reader_source new) given some yields.failures)
+
+-- ---- the events of a value
+
+events_given : (old : Events) (given : Option (Result Event Error)) (new : Events)
+    → GivesEvent old given new
+    → GivesNext (map Ok (remaining_events old)) (plain_item given) (map Ok (remaining_events new))
+events_given old None new h = ap (map Ok) h.0
+events_given old (Some (Ok event)) new h = ap (map Ok) h.0
+events_given old (Some (Err error)) new h =
+    MatchFault-at (kind_of (error_kind_of error)) OutOfMemory ⊤ ⊤ _
+    (ap (λ (f : Fault). f.kind) h.0) tt
+
+pub events_come : (old : Events) (item : PlainItem) (new : Events)
+    → YieldsPlain GivesEvent old item new
+    → ComesIfKnown (items_of_events old) item (items_of_events new)
+events_come old item new (given, yields, is) =
+    (map Ok (remaining_events new), refl, rw is (events_given old given new yields))
+
+events_error : (given : Option (Result Event Error)) (error : Error) (old new : Events)
+    → ◌≡◌ {A = PlainItem} (Some (Err error)) (plain_item given) → GivesEvent old given new
+    → fault_of error ≡ fault_without_offset OutOfMemory
+events_error None error old new is h = absurd (cc)
+events_error (Some (Ok event)) error old new is h = absurd (cc)
+events_error (Some (Err other)) error old new is h =
+    let same : error ≡ other = cc in ap fault_of same ∙ h.0
+
+-- each error of a value's events is one of memory
+pub value_error : (old new : Events) (answer : Result (Unit {0}) Error)
+    (before after : Option (List ℕ)) → PrintsRun (YieldsPlain GivesEvent) old answer new before after
+    → IfErr answer IsWriterError
+value_error old new (Ok done) before after run = tt
+value_error old new (Err error) before after
+    (events, left, through, inl ((given, yields, is), sent)) =
+    memory_own error (events_error given error left new is yields)
+value_error old new (Err error) before after (events, left, through, inr (inl (io, asked), front)) =
+    device_own error io
+value_error old new (Err error) before after
+    (events, left, through, inr (inr (memory, same), front)) = memory_own error memory
+
+-- ---- all that came
+
+lines_front : (events : List PlainEvent) (rest : List Item)
+    → lines_of (map Ok events ++ rest) ≡ lines_of_events events ++ lines_of rest
+lines_front [] rest = refl
+lines_front (event ∷ events) rest = simp (append_assoc, lines_front events rest)
+
+faults_front : (events : List PlainEvent) (rest : List Item)
+    → first_fault (map Ok events ++ rest) ≡ first_fault rest
+faults_front [] rest = refl
+faults_front (event ∷ events) rest = faults_front events rest
+
+here : (o p : Option (List Item)) → p ≡ o
+    → IfSome o (λ all. (left : List Item) × (p ≡ Some left) × (all ≡ left))
+here None p is = tt
+here (Some all) p is = (all, is, refl)
+
+-- a beginning of the lines
+front_of : (before after : Option (List ℕ)) (events : List PlainEvent) (all rest : List Item)
+    → all ≡ map Ok events ++ rest → AppendsPrefix before after (lines_of_events events)
+    → AppendsPrefix before after (lines_of all)
+front_of before after events all rest is front =
+    subst (λ l. AppendsPrefix before after l)
+    (sym (ap lines_of is ∙ lines_front events rest))
+    (prefix_more before after (lines_of_events events) (lines_of rest) front)
+
+stops_own : {I : Type 0} (yields : I → PlainItem → I → Type 0) (error : Error) (left new : I)
+    → StopsPrinting yields error left new → IsWriterError error
+stops_own yields error left new (inl (io, asked)) = device_own error io
+stops_own yields error left new (inr (memory, same)) = memory_own error memory
+
+module _ {I : Type 0} (yields : I → PlainItem → I → Type 0) (coming : I → Option (List Item))
+    (comes : (old : I) (item : PlainItem) (new : I) → yields old item new
+    → ComesIfKnown (coming old) item (coming new)) where
+  pub all_came : (old new : I) (events : List PlainEvent) → YieldsAll yields old events new
+      → IfSome (coming old) (λ all. (left : List Item) × (coming new ≡ Some left)
+      × (all ≡ map Ok events ++ left))
+  all_came old new [] is = here (coming old) (coming new) (ap coming is)
+  all_came old new (event ∷ events) (next, one, others) =
+      IfSome_then (coming old) (comes old (Some (Ok event)) next one) (λ all (mid, to, is).
+      let (left, last, same) = rw to at (all_came next new events others) in
+      (left, last, is ∙ ap (λ l. Ok event ∷ l) same))
+
+  -- what came at the end
+  came_last : (old left new : I) (events : List PlainEvent) (item : PlainItem)
+      → YieldsAll yields old events left → yields left item new
+      → IfSome (coming old) (λ all. (rest : List Item) × (more : List Item)
+      × (all ≡ map Ok events ++ rest) × GivesNext rest item more)
+  came_last old left new events item through last =
+      IfSome_then (coming old) (all_came old left events through) (λ all (rest, to, is).
+      let (more, after, next) = rw to at (comes left item new last) in (rest, more, is, next))
+
+  pub run_printed : (old new : I) (answer : Result (Unit {0}) Error)
+      (before after : Option (List ℕ)) → PrintsRun yields old answer new before after
+      → OnOk answer (IfSome (coming old) (λ all. PrintsAll all before after))
+  run_printed old new (Ok done) before after (events, left, through, (last, sent)) =
+      IfSome_then (coming old) (came_last old left new events None through last)
+      (λ all (rest, more, is, none). (
+        ap first_fault is ∙ faults_front events rest ∙ ap first_fault none,
+        Appends-at before after _ _ (sym (ap lines_of is ∙ lines_front events rest
+            ∙ ap (λ l. lines_of_events events ++ lines_of l) none
+            ∙ append-nil (lines_of_events events))) sent,
+      ))
+  run_printed old new (Err error) before after run = tt
+
+  pub run_until : (old new : I) (answer : Result (Unit {0}) Error)
+      (before after : Option (List ℕ)) → PrintsRun yields old answer new before after
+      → IfErr answer (λ error. IfSome (coming old) (λ all. PrintsUntil error all before after))
+  run_until old new (Ok done) before after run = tt
+  run_until old new (Err error) before after (events, left, through, inl (last, sent)) =
+      IfSome_then (coming old) (came_last old left new events (Some (Err error)) through last)
+      (λ all (rest, more, is, next).
+      MatchFault-weaker (kind_of (error_kind_of error)) (λ _. tt) (λ _. tt) (λ fault. (
+        ap first_fault is ∙ faults_front events rest ∙ ap first_fault fault,
+        Appends-at before after _ _ (sym (ap lines_of is ∙ lines_front events rest
+            ∙ ap (λ l. lines_of_events events ++ lines_of l) fault
+            ∙ append-nil (lines_of_events events))) sent,
+      )) next)
+  run_until old new (Err error) before after (events, left, through, inr (stops, front)) =
+      own_ends (coming old) error before after (stops_own yields error left new stops)
+
+  pub run_front : (old new : I) (answer : Result (Unit {0}) Error)
+      (before after : Option (List ℕ)) → PrintsRun yields old answer new before after
+      → IfSome (coming old) (λ all. AppendsPrefix before after (lines_of all))
+  run_front old new (Ok done) before after (events, left, through, (last, sent)) =
+      IfSome_then (coming old) (all_came old left events through) (λ all (rest, to, is).
+      front_of before after events all rest is
+      (lines_of_events events, [], sent, sym (append-nil (lines_of_events events))))
+  run_front old new (Err error) before after (events, left, through, inl (last, sent)) =
+      IfSome_then (coming old) (all_came old left events through) (λ all (rest, to, is).
+      front_of before after events all rest is
+      (lines_of_events events, [], sent, sym (append-nil (lines_of_events events))))
+  run_front old new (Err error) before after (events, left, through, inr (stops, front)) =
+      IfSome_then (coming old) (all_came old left events through) (λ all (rest, to, is).
+      front_of before after events all rest is front)
+
+-- ---- what a source keeps
+
+module _ {I K : Type 0} (yields : I → PlainItem → I → Type 0) (known : I → K)
+    (keeps : (old : I) (item : PlainItem) (new : I) → yields old item new → known new ≡ known old)
+  where
+    all_kept : (old new : I) (events : List PlainEvent) → YieldsAll yields old events new
+        → known new ≡ known old
+    all_kept old new [] is = ap known is
+    all_kept old new (event ∷ events) (next, one, others) =
+        all_kept next new events others ∙ keeps old (Some (Ok event)) next one
+
+    once_kept : (old new : I) → IsAskedOnce yields old new → known new ≡ known old
+    once_kept old new (inl same) = ap known same
+    once_kept old new (inr (item, one)) = keeps old item new one
+
+    pub run_unchanged : (old new : I) (answer : Result (Unit {0}) Error)
+        (before after : Option (List ℕ)) → PrintsRun yields old answer new before after
+        → known new ≡ known old
+    run_unchanged old new (Ok done) before after (events, left, through, (last, sent)) =
+        keeps left None new last ∙ all_kept old left events through
+    run_unchanged old new (Err error) before after (events, left, through, inl (last, sent)) =
+        keeps left (Some (Err error)) new last ∙ all_kept old left events through
+    run_unchanged old new (Err error) before after
+        (events, left, through, inr (inl (io, asked), front)) =
+        once_kept left new asked ∙ all_kept old left events through
+    run_unchanged old new (Err error) before after
+        (events, left, through, inr (inr (memory, same), front)) =
+        ap known same ∙ all_kept old left events through
+
+-- ---- how many reads failed
+
+module _ {I : Type 0} (yields : I → PlainItem → I → Type 0) (failures : I → ℕ)
+    (counts : (old : I) (item : PlainItem) (new : I) → yields old item new
+    → ItemCountsIo item (failures old) (failures new)) where
+  all_counted : (old new : I) (events : List PlainEvent) → YieldsAll yields old events new
+      → failures new ≡ failures old
+  all_counted old new [] is = ap failures is
+  all_counted old new (event ∷ events) (next, one, others) =
+      all_counted next new events others ∙ counts old (Some (Ok event)) next one
+
+  once_counted : (error : Error) (first : ℕ) (old new : I)
+      → fault_of error ≡ fault_without_offset Io → failures old ≡ first → IsAskedOnce yields old new
+      → CountsReads {A = Unit {0}} (Err error) first (failures new)
+  once_counted error first old new io is (inl same) =
+      own_counts error first (failures new) (device_own error io) (ap failures same ∙ is)
+  once_counted error first old new io is (inr (None, one)) =
+      own_counts error first (failures new) (device_own error io) (counts old None new one ∙ is)
+  once_counted error first old new io is (inr (Some (Ok event), one)) =
+      own_counts error first (failures new) (device_own error io)
+      (counts old (Some (Ok event)) new one ∙ is)
+  once_counted error first old new io is (inr (Some (Err other), one)) =
+      fault_counts {A = Unit {0}} other error first (failures old) (failures new) is
+      (counts old (Some (Err other)) new one) (inr io)
+
+  pub run_counted : (old new : I) (answer : Result (Unit {0}) Error)
+      (before after : Option (List ℕ)) → PrintsRun yields old answer new before after
+      → CountsReads answer (failures old) (failures new)
+  run_counted old new (Ok done) before after (events, left, through, (last, sent)) =
+      counts left None new last ∙ all_counted old left events through
+  run_counted old new (Err error) before after (events, left, through, inl (last, sent)) =
+      fault_counts {A = Unit {0}} error error (failures old) (failures left) (failures new)
+      (all_counted old left events through) (counts left (Some (Err error)) new last)
+      (inl (refl, tt))
+  run_counted old new (Err error) before after
+      (events, left, through, inr (inl (io, asked), front)) =
+      once_counted error (failures old) left new io (all_counted old left events through) asked
+  run_counted old new (Err error) before after
+      (events, left, through, inr (inr (memory, same), front)) =
+      own_counts error (failures old) (failures new) (memory_own error memory)
+      (ap failures same ∙ all_counted old left events through)

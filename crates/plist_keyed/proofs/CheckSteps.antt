@@ -1,0 +1,500 @@
+-- What remains of the walk that settles Uids, and that its parts fit together, as objects are
+-- entered and left and events taken.
+use Rattle.std.proofs.Common.{◌≡◌, ℕ, suc, ◌<◌, Bool, true, false, ◌||◌, nat_eq, cond, inl, inr, List, [], ◌∷◌, ◌++◌, length, map, reverse, Option, Some, None, Result, Ok, Err, OnOk, refl, ap, sym, ◌∙◌, append_assoc, append-nil, arith, true≢false, subst, is_some}
+use Rattle.std.specs.Prelude.{slice_get, option_map, ◌⊎◌, if◌then◌else◌}
+use Rattle.std.specs.List.{list_any, IsDistinct}
+use Rattle.std.specs.Map.{keys_of, lookup}
+use Rattle.std.specs.Option.{option_map_or}
+use Rattle.indexmap.specs.IndexMap.{IndexMap, get, insert_entry}
+use Rattle.indexmap.specs.IndexSet.{insert_key}
+use Rattle.indexmap.proofs.CallerLemmas.{insert_entry-new}
+use Rattle.std.proofs.lemmas.Bool.{eq-eqb, or_left, or_right}
+use Rattle.std.proofs.lemmas.Bool.Decides.{eqb_tells}
+use Rattle.std.proofs.lemmas.List.{length-append, length-reverse, reverse-append, map-append}
+use Rattle.std.proofs.lemmas.List.Folds.{list_any-append}
+use Rattle.std.proofs.lemmas.Option.{none-some, same_Some, slice_get-map, slice_get_within}
+use Rattle.plist_base.specs.Bracketing.{bracketing}
+use Rattle.plist_base.specs.Events.{PlainEvent, StartArray, StartDictionary, EndCollection, ScalarEvent}
+use Rattle.plist_base.specs.Trees.{Uid}
+use Rattle.plist_base.specs.inner.Paths.{IsPath}
+use Rattle.plist_base.proofs.Paths.{any_none, path_none, path_push, path_pop}
+use Rattle.plist.specs.declared.stream.events.Events.{Events}
+use Rattle.plist.specs.declared.value.Value.{Value}
+use Rattle.plist.specs.Events.{remaining_events}
+use Rattle.plist.specs.ValueTrees.{tree_of}
+use Rattle.plist_keyed.specs.declared.check.Check.{Check}
+use Rattle.plist_keyed.specs.declared.error.WalkError.{WalkError}
+use Rattle.plist_keyed.specs.declared.error.WalkError.TheVariants as walk
+use Rattle.plist_keyed.specs.inner.Checking.{Covers, IsCheck, IsCheckAt, IsCheckOf, IsOpened, IsReached, KeepsReached, Leaves, objects_checked, objects_seen, open_uids, settled_uids, unchecked_from, unchecked_steps, unchecked_steps_in, unchecked_with}
+use Rattle.plist_keyed.specs.inner.Settled.{AreSettled, IsEndOf, IsIn, IsNoUid, LeadsOnlyTo, NameOnly, settled_in}
+use Rattle.plist_keyed.specs.inner.Walks.{Given, Step, IsFirstFaultOf, PassesEvents, follow_in, given_by, steps_from, steps_of_event, steps_of_events, uid_of_event}
+use Rattle.plist_keyed.proofs.TreeItems.{given_by-append}
+use Rattle.plist_keyed.proofs.SettledUids.{more-ends, more-named, named-append, named-member, opened_in, out_of_range, own-end, further-end, recursive, settled-faultless, settled-same, some_step}
+
+-- ---- lists
+
+or_comm : (a b : Bool) → a || (b || false) ≡ b || a
+or_comm true true = refl
+or_comm true false = refl
+or_comm false true = refl
+or_comm false false = refl
+
+-- the test of the code, over the Uids as they are kept
+pub any_reversed : (p : ℕ → Bool) (xs : List ℕ) → list_any p (reverse xs) ≡ list_any p xs
+any_reversed p [] = refl
+any_reversed p (x ∷ xs) =
+    rw (reverse-append (x ∷ []) xs, list_any-append p (reverse xs) (x ∷ []), any_reversed p xs)
+    (or_comm (list_any p xs) (p x))
+
+pub reverse-snoc : {A : Type 0} → (xs : List A) (x : A) → reverse (xs ++ x ∷ []) ≡ x ∷ reverse xs
+reverse-snoc xs x = reverse-append xs (x ∷ [])
+
+-- a key that isn't there goes last
+pub added : (keys new : List ℕ) (uid : ℕ) → new ≡ insert_key nat_eq keys uid
+    → list_any (nat_eq uid) keys ≡ false → new ≡ keys ++ uid ∷ []
+added keys new uid is absent = is ∙ ap (λ b. if b then keys else keys ++ uid ∷ []) absent
+
+-- a map has a key where its keys do
+pub found-key : (entries : List (ℕ × ℕ)) (uid : ℕ)
+    → is_some (lookup (nat_eq uid) entries) ≡ list_any (nat_eq uid) (keys_of entries)
+found-key [] uid = refl
+found-key (e ∷ entries) uid = by (nat_eq uid e.0) (found-key entries uid)
+  where
+    by : (b : Bool)
+        → is_some (lookup (nat_eq uid) entries) ≡ list_any (nat_eq uid) (keys_of entries)
+        → is_some (cond b (Some e.1) (lookup (nat_eq uid) entries))
+        ≡ b || list_any (nat_eq uid) (keys_of entries)
+    by true h = refl
+    by false h = h
+
+-- an object as it is seen
+pub seen_at : (objects : List Value) (uid : ℕ) (answer found : Option Value)
+    → answer ≡ slice_get objects uid → answer ≡ found
+    → slice_get (objects_seen objects) uid ≡ option_map (λ v. bracketing (tree_of v)) found
+seen_at objects uid answer found is same =
+    rw (
+      slice_get-map bracketing (map tree_of objects) uid,
+      slice_get-map tree_of objects uid,
+      ← is,
+      same,
+    ) (twice found)
+  where
+    twice : (o : Option Value) → option_map bracketing (option_map tree_of o)
+        ≡ option_map (λ v. bracketing (tree_of v)) o
+    twice None = refl
+    twice (Some v) = refl
+
+-- ---- an event
+
+pub uid_steps : (f : ℕ → List Step) (e : PlainEvent) (uid : ℕ) → uid_of_event e ≡ Some uid
+    → steps_of_event f e ≡ f uid
+uid_steps f (ScalarEvent x) uid h =
+    ap (λ found. option_map_or f found (Some (Ok (ScalarEvent x)) ∷ [])) h
+uid_steps f e uid h = cc
+
+pub plain_steps : (f : ℕ → List Step) (e : PlainEvent) → uid_of_event e ≡ None
+    → steps_of_event f e ≡ Some (Ok e) ∷ []
+plain_steps f (StartArray n) h = refl
+plain_steps f (StartDictionary n) h = refl
+plain_steps f EndCollection h = refl
+plain_steps f (ScalarEvent x) h =
+    ap (λ found. option_map_or f found (Some (Ok (ScalarEvent x)) ∷ [])) h
+
+-- the event of a Uid is its own
+pub uid_event : (e : PlainEvent) (uid : ℕ) → uid_of_event e ≡ Some uid → e ≡ ScalarEvent (Uid uid)
+uid_event (ScalarEvent (Uid u)) uid h = ap (λ n. ScalarEvent (Uid n)) (same_Some u uid h)
+uid_event (ScalarEvent x) uid h = absurd (cc)
+uid_event e uid h = absurd (cc)
+
+-- a Uid that was opened isn't open below
+off : {count : ℕ} (uid : ℕ) (path : List ℕ) → IsPath count (uid ∷ path) → IsIn uid path → ⊥
+unfolding IsDistinct
+off uid path o member = true≢false (sym member ∙ any_none uid path o.distinct.0)
+
+module _ (objects : List (List PlainEvent)) where
+  -- events that are passed come before those that are left
+  pub covers-passed : (uids : List ℕ) (levels : List Events) (path : List ℕ) (e : PlainEvent)
+      → NameOnly (e ∷ []) uids → Covers objects uids levels path (e ∷ [])
+      → Covers objects uids levels path []
+  covers-passed uids [] path e names h = tt
+  covers-passed uids (level ∷ below) [] e names h = tt
+  covers-passed uids (level ∷ below) (uid ∷ path) e names ((before, at, named), h) = (
+    (
+      before ++ e ∷ [],
+      at ∙ ap Some (sym (append_assoc before (e ∷ []) (remaining_events level))),
+      named-append before (e ∷ []) uids named names,
+    ),
+    h,
+  )
+
+  pub covers-more : (uids : List ℕ) (levels : List Events) (path : List ℕ)
+      (taken : List PlainEvent) (uid : ℕ) → Covers objects uids levels path taken
+      → Covers objects (uid ∷ uids) levels path taken
+  covers-more uids [] path taken u h = tt
+  covers-more uids (level ∷ below) [] taken u h = tt
+  covers-more uids (level ∷ below) (uid ∷ path) taken u ((before, at, named), h) = (
+    (before, at, more-named before uids u named),
+    covers-more uids below path (ScalarEvent (Uid uid) ∷ []) u h,
+  )
+
+  -- an event is taken of the innermost level
+  pub covers-taken : (uids : List ℕ) (left after : Events) (below : List Events) (path : List ℕ)
+      (e : PlainEvent) → remaining_events left ≡ e ∷ remaining_events after
+      → Covers objects uids (left ∷ below) path [] → Covers objects uids (after ∷ below) path (e ∷ [])
+  covers-taken uids left after below [] e is h = tt
+  covers-taken uids left after below (uid ∷ path) e is ((before, at, named), h) =
+      ((before, at ∙ ap (λ l. Some (before ++ l)) is, named), h)
+
+  -- ---- entering an object
+
+  -- the steps of a settled Uid are passed
+  pub passes-settled : (path uids : List ℕ) (levels : List Events) (find : ℕ → Option ℕ)
+      (taken : List PlainEvent) (uid : ℕ) (rest : List Step)
+      → IsCheckOf objects path uids levels find taken → IsIn uid uids
+      → PassesEvents (follow_in objects path uid ++ rest) rest
+  passes-settled path uids levels find taken uid rest o member =
+      let (es, is) = settled-faultless objects uids o.are_settled uid member in
+      let same = settled-same objects uids o.are_settled uid member path o.is_path o.are_apart in
+      let some : 0 < length (follow_in objects path uid) = some_step objects _ path uid in (
+        rw (length-append (follow_in objects path uid) rest) (omega (arith, some)),
+        (
+          es,
+          given_by-append (follow_in objects path uid) rest
+              ∙ ap (λ l. given_by l ++ given_by rest) same ∙ ap (λ l. l ++ given_by rest) is,
+        ),
+      )
+
+  pub settled-check : (path uids : List ℕ) (levels : List Events) (find : ℕ → Option ℕ) (uid : ℕ)
+      → IsCheckOf objects path uids levels find (ScalarEvent (Uid uid) ∷ []) → IsIn uid uids
+      → IsCheckOf objects path uids levels find []
+  settled-check path uids levels find uid o member = record {
+    is_path = o.is_path;
+    each_left = o.each_left;
+    are_settled = o.are_settled;
+    are_apart = o.are_apart;
+    is_covered = covers-passed uids levels path (ScalarEvent (Uid uid))
+        ((λ u p. subst (λ n. IsIn n uids) (same_Some uid u p) member), tt) o.is_covered;
+    are_ends = o.are_ends;
+  }
+
+  pub plain-check : (path uids : List ℕ) (levels : List Events) (find : ℕ → Option ℕ)
+      (e : PlainEvent) → uid_of_event e ≡ None → IsCheckOf objects path uids levels find (e ∷ [])
+      → IsCheckOf objects path uids levels find []
+  plain-check path uids levels find e none o = record {
+    is_path = o.is_path;
+    each_left = o.each_left;
+    are_settled = o.are_settled;
+    are_apart = o.are_apart;
+    is_covered = covers-passed uids levels path e ((λ u p. absurd (none-some u (sym none ∙ p))), tt)
+        o.is_covered;
+    are_ends = o.are_ends;
+  }
+
+  -- an object is opened
+  pub passes-opened : (levels : List Events) (path : List ℕ) (uid : ℕ) (level : Events)
+      (es : List PlainEvent) → IsPath (length objects) path → slice_get objects uid ≡ Some es
+      → list_any (nat_eq uid) path ≡ false → remaining_events level ≡ es
+      → PassesEvents (follow_in objects path uid ++ unchecked_steps_in objects levels path)
+      (unchecked_steps_in objects (level ∷ levels) (uid ∷ path))
+  passes-opened levels path uid level es o at new left =
+      let rest = unchecked_steps_in objects levels path in
+      let inside = steps_of_events (follow_in objects (uid ∷ path)) es in
+      let is : follow_in objects path uid ++ rest ≡ None ∷ (inside ++ None ∷ rest) =
+      ap (λ l. l ++ rest) (opened_in objects path uid es o at new)
+      ∙ ap (λ l. None ∷ l) (append_assoc inside (None ∷ []) rest) in
+      rw (is, left) (omega arith, ([], refl))
+
+  pub opened-check : (path uids : List ℕ) (levels : List Events) (find : ℕ → Option ℕ) (uid : ℕ)
+      (level : Events) (es : List PlainEvent)
+      → IsCheckOf objects path uids levels find (ScalarEvent (Uid uid) ∷ [])
+      → slice_get objects uid ≡ Some es → list_any (nat_eq uid) path ≡ false
+      → (IsIn uid uids → ⊥) → remaining_events level ≡ es
+      → IsCheckOf objects (uid ∷ path) uids (level ∷ levels) find []
+  opened-check path uids levels find uid level es o at new out left = record {
+    is_path = path_push uid o.is_path (slice_get_within objects uid es at) new;
+    each_left = ap suc o.each_left;
+    are_settled = o.are_settled;
+    are_apart = λ u p q. elim (eqb_tells u uid) [
+      | inl e ↦ out (subst (λ n. IsIn n uids) e.1 q)
+      | inr e ↦ o.are_apart u (rw e.0 at p) q
+    ];
+    is_covered = (([], at ∙ ap Some (sym left), tt), o.is_covered);
+    are_ends = o.are_ends;
+  }
+
+  -- ---- leaving one
+
+  -- an object of which nothing is left leads only to settled Uids
+  pub left-leads : (path uids : List ℕ) (levels : List Events) (find : ℕ → Option ℕ) (uid : ℕ)
+      (level : Events) → remaining_events level ≡ []
+      → IsCheckOf objects (uid ∷ path) uids (level ∷ levels) find [] → LeadsOnlyTo objects uid uids
+  left-leads path uids levels find uid level none o =
+      let ((before, at, named), covered) = o.is_covered in
+      (before, at ∙ ap (λ l. Some (before ++ l)) none ∙ ap Some (append-nil before), named)
+
+  pub left-check : (path uids : List ℕ) (levels : List Events) (find found : ℕ → Option ℕ)
+      (uid end : ℕ) (level : Events) → remaining_events level ≡ []
+      → IsCheckOf objects (uid ∷ path) uids (level ∷ levels) find []
+      → (((end ≡ uid) × IsNoUid objects uid) ⊎ ((next : ℕ)
+      × (slice_get objects uid ≡ Some (ScalarEvent (Uid next) ∷ [])) × (find next ≡ Some end)))
+      → ((u : ℕ) → found u ≡ cond (nat_eq uid u) (Some end) (find u))
+      → IsCheckOf objects path (uid ∷ uids) levels found []
+  left-check path uids levels find found uid end level none o is finds =
+      let out : IsIn uid uids → ⊥ = (λ q. o.are_apart uid (or_left _ _ (eq-eqb uid uid refl)) q) in
+      let leads = left-leads path uids levels find uid level none o in
+      let settled : AreSettled objects (uid ∷ uids) = (leads, out, o.are_settled) in
+      let member : IsIn uid (uid ∷ uids) = or_left _ _ (eq-eqb uid uid refl) in
+      let own : IsEndOf objects (uid ∷ uids) uid end = elim is [
+        | inl (e, plain) ↦ subst (λ n. IsEndOf objects (uid ∷ uids) uid n) (sym e)
+            (own-end objects (uid ∷ uids) uid member plain)
+        | inr (next, at_next, p) ↦
+            let (other, q, of) =
+            o.are_ends next (named-member objects uid uids next leads at_next) in
+            further-end objects uids uid next end settled at_next
+            (subst (λ n. IsEndOf objects uids next n) (same_Some other end (sym q ∙ p)) of)
+      ] in
+      record {
+        is_path = path_pop uid path o.is_path;
+        each_left = omega (arith, o.each_left);
+        are_settled = settled;
+        are_apart = λ u p q. elim (eqb_tells u uid) [
+          | inl e ↦ off uid path o.is_path (subst (λ n. IsIn n path) e.1 p)
+          | inr e ↦ o.are_apart u (or_right (nat_eq u uid) _ p) (rw e.0 at q)
+        ];
+        is_covered = covers-passed (uid ∷ uids) levels path (ScalarEvent (Uid uid))
+            ((λ u p. subst (λ n. IsIn n (uid ∷ uids)) (same_Some uid u p) member), tt)
+            (covers-more uids levels path (ScalarEvent (Uid uid) ∷ []) uid o.is_covered.1);
+        are_ends = λ u q. elim (eqb_tells uid u) [
+          | inl t ↦ (
+            end,
+            finds u ∙ ap (λ b. cond b (Some end) (find u)) t.0,
+            subst (λ n. IsEndOf objects (uid ∷ uids) n end) t.1 own,
+          )
+          | inr t ↦
+              let old : IsIn u uids = elim (eqb_tells u uid) [
+                | inl e ↦ absurd (t.1 (sym e.1))
+                | inr e ↦ rw e.0 at q
+              ] in
+              let (other, p, of) = o.are_ends u old in (
+                other,
+                finds u ∙ ap (λ b. cond b (Some end) (find u)) t.0 ∙ p,
+                more-ends objects uids u other uid of,
+              )
+        ];
+      }
+
+  -- ---- faults
+
+  pub fault-missing : (path : List ℕ) (uid : ℕ) (rest : List Step) → slice_get objects uid ≡ None
+      → IsFirstFaultOf (follow_in objects path uid ++ rest) (walk.MissingObject uid)
+  fault-missing path uid rest none =
+      rw (out_of_range objects _ path uid none) ([], given_by rest, refl)
+
+  pub fault-open : (path : List ℕ) (uid : ℕ) (rest : List Step) (es : List PlainEvent)
+      → slice_get objects uid ≡ Some es → list_any (nat_eq uid) path ≡ true
+      → IsFirstFaultOf (follow_in objects path uid ++ rest) (walk.OpenObject uid)
+  fault-open path uid rest es at on =
+      rw (recursive objects _ path uid es at on) ([], given_by rest, refl)
+
+  -- ---- the beginning
+
+  pub first-check : (uid : ℕ) (find : ℕ → Option ℕ)
+      → IsCheckOf objects [] [] [] find (ScalarEvent (Uid uid) ∷ [])
+  first-check uid find = record {
+    is_path = path_none _;
+    each_left = refl;
+    are_settled = tt;
+    are_apart = λ u p q. absurd (cc);
+    is_covered = tt;
+    are_ends = λ u q. absurd (cc);
+  }
+
+-- ---- the state of the code
+
+-- a Uid is settled where the map has it
+pub member : {S : Type 0} (ends : IndexMap ℕ ℕ S) (uid : ℕ)
+    → is_some (get nat_eq ends uid) ≡ true → IsIn uid (settled_in ends)
+member ends uid has =
+    any_reversed (nat_eq uid) (keys_of ends.entries) ∙ sym (found-key ends.entries uid) ∙ has
+
+pub no-member : {S : Type 0} (ends : IndexMap ℕ ℕ S) (uid : ℕ)
+    → is_some (get nat_eq ends uid) ≡ false → IsIn uid (settled_in ends) → ⊥
+no-member ends uid has h =
+    true≢false (sym h ∙ any_reversed (nat_eq uid) (keys_of ends.entries)
+    ∙ sym (found-key ends.entries uid) ∙ has)
+
+-- a Uid is settled last
+pub settles : {S : Type 0} (ends new : IndexMap ℕ ℕ S) (uid end : ℕ)
+    → (IsIn uid (settled_in ends) → ⊥) → new.entries ≡ insert_entry nat_eq ends.entries uid end
+    → settled_in new ≡ uid ∷ settled_in ends
+settles ends new uid end out is =
+    ap (λ es. reverse (keys_of es)) (is ∙ insert_entry-new nat_eq ends uid end (by _ refl))
+    ∙ ap reverse (map-append (λ e. e.0) ends.entries ((uid, end) ∷ []))
+    ∙ reverse-snoc (keys_of ends.entries) uid
+  where
+    by : (found : Option ℕ) → get nat_eq ends uid ≡ found → get nat_eq ends uid ≡ None
+    by None p = p
+    by (Some e) p = absurd (out (member ends uid (ap is_some p)))
+
+module _ (old new : Check) (uid : ℕ) (object : Value)
+    (o : IsCheckAt old (ScalarEvent (Uid uid) ∷ []))
+    (at : slice_get (objects_checked old) uid ≡ Some (bracketing (tree_of object)))
+    (closed : list_any (nat_eq uid) old.path.keys ≡ false)
+    (out : IsIn uid (settled_uids old) → ⊥) where
+  off_path : list_any (nat_eq uid) (open_uids old) ≡ false
+  off_path = any_reversed (nat_eq uid) old.path.keys ∙ closed
+
+  pub opened-passes : {A : Type 0} (r : Result A WalkError) → OnOk r (IsOpened old uid object new)
+      → OnOk r (PassesEvents (unchecked_from old uid) (unchecked_steps new))
+  opened-passes (Ok a) (same, keys, (level, items, is), ends) =
+      rw (same, keys, reverse-snoc old.path.keys uid, items, reverse-snoc old.levels.items level)
+      (passes-opened (objects_checked old) _ (open_uids old) uid level _ o.is_path at off_path is)
+  opened-passes (Err e) h = tt
+
+  pub opened-checks : {A : Type 0} (r : Result A WalkError) → OnOk r (IsOpened old uid object new)
+      → OnOk r (IsCheck new)
+  opened-checks (Ok a) (same, keys, (level, items, is), ends) =
+      rw (
+        same,
+        keys,
+        reverse-snoc old.path.keys uid,
+        items,
+        reverse-snoc old.levels.items level,
+        ends,
+      )
+      (opened-check (objects_checked old) (open_uids old) (settled_uids old) _ _ uid level _ o at
+      off_path out is)
+  opened-checks (Err e) h = tt
+
+  pub opened-reached : {A : Type 0} (r : Result A WalkError) → OnOk r (IsOpened old uid object new)
+      → OnOk r (IsReached new uid)
+  opened-reached (Ok a) (same, keys, level, ends) =
+      inl (rw (keys, reverse-snoc old.path.keys uid) (or_left _ _ (eq-eqb uid uid refl)))
+  opened-reached (Err e) h = tt
+
+  pub opened-keeps : {A : Type 0} (r : Result A WalkError) → OnOk r (IsOpened old uid object new)
+      → OnOk r (KeepsReached old new)
+  opened-keeps (Ok a) (same, keys, level, ends) = λ u is. elim is [
+    | inl p ↦ inl (rw (keys, reverse-snoc old.path.keys uid) (or_right (nat_eq u uid) _ p))
+    | inr p ↦ inr (rw ends p)
+  ]
+  opened-keeps (Err e) h = tt
+
+-- ---- the walk of one Uid
+
+module _ (start : Check) (uid : ℕ) (keys : start.path.keys ≡ []) (levels : start.levels.items ≡ [])
+  where
+    pub begins-checked : start.ends.entries ≡ [] → IsCheckAt start (ScalarEvent (Uid uid) ∷ [])
+    begins-checked entries =
+        rw (keys, levels, entries) (first-check (objects_checked start) uid (λ u. None))
+
+    pub begins-with : given_by (unchecked_from start uid)
+        ≡ given_by (steps_from (objects_checked start) uid)
+    begins-with = rw (keys, levels) (ap given_by (append-nil (steps_from (objects_checked start) uid)))
+
+not-in-empty : (uids : List ℕ) (uid : ℕ) → length uids ≡ 0 → IsIn uid uids → ⊥
+not-in-empty [] uid h p = cc
+not-in-empty (x ∷ uids) uid h p = omega (arith, h)
+
+-- each Uid that was reached is settled once no level is left
+pub nothing-open : (check : Check) → IsCheck check → length check.levels.items ≡ 0 → (uid : ℕ)
+    → IsReached check uid → IsIn uid (settled_uids check)
+nothing-open check o none uid reached =
+    let closed : length (open_uids check) ≡ 0 =
+    sym o.each_left ∙ length-reverse check.levels.items ∙ none in
+    elim reached [
+      | inl p ↦ absurd (not-in-empty (open_uids check) uid closed p)
+      | inr p ↦ p
+    ]
+
+-- the innermost level is taken out
+pub with-left : (check : Check) (below : List Events) (left : Events)
+    → check.levels.items ≡ below ++ left ∷ [] → IsCheck check
+    → IsCheckOf (objects_checked check) (open_uids check) (settled_uids check)
+    (left ∷ reverse below) (get nat_eq check.ends) []
+with-left check below left had o = rw (ap reverse had ∙ reverse-snoc below left) at o
+
+pub steps-with : (check : Check) (below : List Events) (left : Events)
+    → check.levels.items ≡ below ++ left ∷ []
+    → unchecked_steps check ≡ unchecked_steps_in (objects_checked check) (left ∷ reverse below)
+    (open_uids check)
+steps-with check below left had =
+    ap (λ l. unchecked_steps_in (objects_checked check) l (open_uids check))
+    (ap reverse had ∙ reverse-snoc below left)
+
+-- ---- leaving an object
+
+module _ (old new : Check) where
+  pub left-passes : (left : Events) → remaining_events left ≡ []
+      → {A : Type 0} (r : Result A WalkError) → OnOk r (Leaves old new)
+      → OnOk r (new.objects ≡ old.objects)
+      → OnOk r (PassesEvents (unchecked_with old left) (unchecked_steps new))
+  left-passes left none (Ok a) (uid, open_before, settled_after, levels) same =
+      rw (open_before, none, levels, same) (omega arith, ([], refl))
+  left-passes left none (Err e) h same = tt
+
+  pub left-keeps : {A : Type 0} (r : Result A WalkError) → OnOk r (Leaves old new)
+      → OnOk r (KeepsReached old new)
+  left-keeps (Ok a) (uid, open_before, settled_after, levels) = λ u is. elim is [
+    | inl p ↦ elim (eqb_tells u uid) [
+      | inl e ↦ inr (rw (settled_after, e.1) (or_left _ _ (eq-eqb uid uid refl)))
+      | inr e ↦ inl (rw e.0 at (rw open_before at p))
+    ]
+    | inr p ↦ inr (rw settled_after (or_right (nat_eq u uid) _ p))
+  ]
+  left-keeps (Err e) h = tt
+
+-- ---- an event of the innermost object
+
+-- it is taken
+pub takes : (objects : List (List PlainEvent)) (left after : Events) (below : List Events)
+    (path : List ℕ) (e : PlainEvent)
+    → length (left ∷ below) ≡ length path → remaining_events left ≡ e ∷ remaining_events after
+    → unchecked_steps_in objects (left ∷ below) path ≡ steps_of_event (follow_in objects path) e
+    ++ unchecked_steps_in objects (after ∷ below) path
+takes objects left after below [] e n is = absurd (omega (arith, n))
+takes objects left after below (uid ∷ path) e n is =
+    rw is (append_assoc (steps_of_event (follow_in objects (uid ∷ path)) e) _ _)
+
+pub taken-check : (objects : List (List PlainEvent)) (path uids : List ℕ) (below : List Events)
+    (find : ℕ → Option ℕ) (left after : Events) (e : PlainEvent)
+    → remaining_events left ≡ e ∷ remaining_events after
+    → IsCheckOf objects path uids (left ∷ below) find []
+    → IsCheckOf objects path uids (after ∷ below) find (e ∷ [])
+taken-check objects path uids below find left after e is o = record {
+  is_path = o.is_path;
+  each_left = o.each_left;
+  are_settled = o.are_settled;
+  are_apart = o.are_apart;
+  is_covered = covers-taken objects uids left after below path e is o.is_covered;
+  are_ends = o.are_ends;
+}
+
+-- an event that is no Uid's is passed
+pub passes-plain : (f : ℕ → List Step) (e : PlainEvent) (rest : List Step) → uid_of_event e ≡ None
+    → PassesEvents (steps_of_event f e ++ rest) rest
+passes-plain f e rest none = rw (plain_steps f e none) (omega arith, (e ∷ [], refl))
+
+after_events : (first before : List Step) (events more : List PlainEvent) (rest : List Given)
+    → given_by first ≡ map Ok events ++ given_by before → given_by before ≡ map Ok more ++ rest
+    → given_by first ≡ map Ok (events ++ more) ++ rest
+after_events first before events more rest is p =
+    is ∙ ap (λ l. map Ok events ++ l) p ∙ sym (append_assoc (map Ok events) (map Ok more) rest)
+    ∙ ap (λ l. l ++ rest) (sym (map-append Ok events more))
+
+-- some that were passed before go on
+pub passes-on : (first before after : List Step) (events : List PlainEvent)
+    → given_by first ≡ map Ok events ++ given_by before → PassesEvents before after
+    → (all : List PlainEvent) × (given_by first ≡ map Ok all ++ given_by after)
+passes-on first before after events is (shorter, (more, p)) =
+    (events ++ more, after_events first before events more (given_by after) is p)
+
+-- and the first fault is the first of all
+pub fault-on : (first before : List Step) (events : List PlainEvent) (error : WalkError)
+    → given_by first ≡ map Ok events ++ given_by before → IsFirstFaultOf before error
+    → IsFirstFaultOf first error
+fault-on first before events (walk.MissingObject uid) is (more, left, p) =
+    (events ++ more, left, after_events first before events more _ is p)
+fault-on first before events (walk.OpenObject uid) is (more, left, p) =
+    (events ++ more, left, after_events first before events more _ is p)
+fault-on first before events walk.OutOfMemory is h = tt

@@ -1,0 +1,134 @@
+-- What remains of the walk over settled Uids, as objects are entered and left and events taken.
+use Rattle.std.proofs.Common.{◌≡◌, ℕ, ◌<◌, List, [], ◌∷◌, ◌++◌, length, map, reverse, Option, Some, None, Ok, Err, refl, ap, sym, ◌∙◌, append_assoc, append-nil, arith, subst}
+use Rattle.std.specs.Prelude.{slice_get}
+use Rattle.std.specs.Option.{unwrap_or}
+use Rattle.std.proofs.lemmas.List.{length-append, length-map}
+use Rattle.std.proofs.lemmas.Option.{slice_get_within}
+use Rattle.plist_base.specs.Events.{PlainEvent, Item}
+use Rattle.plist_base.specs.Faults.{Fault, OutOfMemory, fault_without_offset}
+use Rattle.plist.specs.ValueOfItems.{IsValueOf}
+use Rattle.plist.specs.declared.stream.events.Events.{Events}
+use Rattle.plist.specs.declared.value.Value.{Value}
+use Rattle.plist.specs.Events.{remaining_events}
+use Rattle.plist.specs.ValueTrees.{tree_of}
+use Rattle.plist_base.specs.Bracketing.{bracketing}
+use Rattle.plist_keyed.specs.declared.walk.Walk.{Walk}
+use Rattle.plist_keyed.specs.inner.Checking.{objects_seen}
+use Rattle.plist_keyed.specs.inner.RemainingSteps.{AllNameOnly, Skips, IsWalk, coming_items, items_at, objects_walked, remaining_from, remaining_steps, steps_in_levels, walk_levels}
+use Rattle.plist_keyed.specs.inner.Settled.{AreEnds, AreSettled, IsEndOf, IsIn, IsSettledIn, NameOnly}
+use Rattle.plist_keyed.specs.inner.Walks.{Step, events_given, given_by, steps_from, steps_of_event, steps_of_events, uid_of_event}
+use Rattle.plist_keyed.proofs.TreeItems.{given_by-append}
+use Rattle.plist_keyed.proofs.CheckSteps.{reverse-snoc, uid_steps}
+use Rattle.plist_keyed.proofs.SettledUids.{settled-unfolds, some_step}
+
+-- as many objects are seen as there are
+pub seen-length : (objects : List Value) (n : ℕ) → n < length (objects_seen objects)
+    → n < length objects
+seen-length objects n h =
+    omega (arith, h, length-map (map tree_of objects) bracketing, length-map objects tree_of)
+
+module _ (objects : List (List PlainEvent)) where
+  abbrev from : ℕ → List Step
+  from = steps_from objects
+
+  -- the end that is found
+  pub end-found : (uids : List ℕ) (find : ℕ → Option ℕ) → AreEnds objects uids find → (uid : ℕ)
+      → IsIn uid uids → IsEndOf objects uids uid (unwrap_or (find uid) uid)
+  end-found uids find ends uid member = let (end, is, of) = ends uid member in rw is of
+
+  -- there is an object at the end
+  pub end-within : (uids : List ℕ) → AreSettled objects uids → (uid end : ℕ)
+      → IsEndOf objects uids uid end → end < length objects
+  end-within uids s uid end (member, plain, same, fewer) =
+      let (es, at, names, is) = settled-unfolds objects uids s end member in
+      slice_get_within objects end es at
+
+  -- it is entered
+  pub skips-entered : (uids : List ℕ) (s : AreSettled objects uids) (uid end : ℕ)
+      → IsEndOf objects uids uid end → (levels : List Events) (level : Events)
+      → slice_get objects end ≡ Some (remaining_events level)
+      → Skips (from uid ++ steps_in_levels objects levels) (steps_in_levels objects (level ∷ levels))
+      × NameOnly (remaining_events level) uids
+  skips-entered uids s uid end (member, plain, same, fewer) levels level at =
+      let (es, found, names, is) = settled-unfolds objects uids s end member in
+      let e : es ≡ remaining_events level = cc in
+      let rest = steps_in_levels objects levels in
+      let inside = steps_of_events from (remaining_events level) in
+      let into : from end ≡ None ∷ (inside ++ None ∷ []) = rw e at is in
+      let give : given_by (from uid) ≡ given_by inside =
+      same ∙ ap given_by into ∙ given_by-append inside (None ∷ []) ∙ append-nil (given_by inside) in (
+        (
+          given_by-append (from uid) rest ∙ ap (λ l. l ++ given_by rest) give
+              ∙ sym (given_by-append inside (None ∷ rest)),
+          rw (length-append inside (None ∷ rest), length-append (from uid) rest)
+              (omega (arith, (rw (into, length-append inside (None ∷ [])) at fewer))),
+        ),
+        subst (λ l. NameOnly l uids) e names,
+      )
+
+  -- the next event of a level is taken
+  pub takes : (left after : Events) (below : List Events) (e : PlainEvent)
+      → remaining_events left ≡ e ∷ remaining_events after
+      → steps_in_levels objects (left ∷ below) ≡ steps_of_event from e
+      ++ steps_in_levels objects (after ∷ below)
+  takes left after below e is = rw is (append_assoc (steps_of_event from e) _ _)
+
+  -- the step of a Uid takes at least one
+  pub shorter : (e : PlainEvent) (uid : ℕ) (rest left : List Step) → uid_of_event e ≡ Some uid
+      → left ≡ rest → length left < length (steps_of_event from e ++ rest)
+  shorter e uid rest left is same =
+      let some : 0 < length (from uid) = some_step objects _ [] uid in
+      rw (same, uid_steps from e uid is, length-append (from uid) rest) (omega (arith, some))
+
+module _ (walk : Walk) (items below : List Events) (left : Events)
+    (had : walk.levels.items ≡ below ++ left ∷ []) where
+  first : walk_levels walk ≡ left ∷ reverse below
+  first = ap reverse had ∙ reverse-snoc below left
+
+  -- an event of the innermost level is taken
+  pub taken-steps : (after : Events) (e : PlainEvent) → items ≡ below ++ after ∷ []
+      → remaining_events left ≡ e ∷ remaining_events after
+      → remaining_steps walk ≡ steps_of_event (steps_from (objects_walked walk)) e
+      ++ steps_in_levels (objects_walked walk) (reverse items)
+  taken-steps after e has is =
+      rw (first, has, reverse-snoc below after)
+      (takes (objects_walked walk) left after (reverse below) e is)
+
+  pub taken-names : (after : Events) (e : PlainEvent) (uids : List ℕ)
+      → items ≡ below ++ after ∷ [] → remaining_events left ≡ e ∷ remaining_events after
+      → AllNameOnly (walk_levels walk) uids
+      → NameOnly (e ∷ []) uids × AllNameOnly (reverse items) uids
+  taken-names after e uids has is names =
+      let (these, others) = (rw first at names) in
+      let (one, more) = (rw is at these) in
+      ((one, tt), rw (has, reverse-snoc below after) (more, others))
+
+  -- the innermost level is left, and nothing was left of it
+  pub left-skips : remaining_events left ≡ []
+      → Skips (remaining_steps walk) (steps_in_levels (objects_walked walk) (reverse below))
+  left-skips none = rw (first, none) (refl, omega arith)
+
+  pub left-names : (uids : List ℕ) → AllNameOnly (walk_levels walk) uids
+      → AllNameOnly (reverse below) uids
+  left-names uids names = (rw first at names).1
+
+-- what is to come of a walk that began with a Uid
+pub begun : (start walk : Walk) (objects : List Value) (uid : ℕ) → start.objects.now ≡ objects
+    → start.levels.items ≡ [] → Skips (remaining_from start uid) (remaining_steps walk)
+    → coming_items walk ≡ items_at objects uid
+begun start walk objects uid seen none (given, fewer) =
+    let from_start : given_by (remaining_from start uid)
+    ≡ given_by (steps_from (objects_seen objects) uid) =
+    rw (seen, none) (ap given_by (append-nil (steps_from (objects_seen objects) uid))) in
+    ap (λ g. map Ok (events_given g)) (sym given ∙ from_start)
+
+-- nothing is left before its first Uid
+pub first-walk : (start : Walk) (objects : List Value) (ends : _) → start.objects.now ≡ objects
+    → start.ends ≡ ends → start.levels.items ≡ [] → IsSettledIn (objects_seen objects) ends
+    → IsWalk start
+first-walk start objects ends seen same none h = rw (seen, same, none) (h, tt)
+
+-- a value that can't be had for lack of memory may be that of any items
+pub only-memory : (items : List Item) (fault : Fault) → fault ≡ fault_without_offset OutOfMemory
+    → IsValueOf items (Err fault)
+only-memory items fault is = rw is tt

@@ -1,0 +1,243 @@
+//! When the file to which a value or a property list is written is created, and when it is stored.
+
+use crate::support::{
+    FailingCall, Stage, Watched, expect_holds, expect_missing, must, path_of, put, remove,
+};
+use plist::{LazyFile, Value};
+use plist_base::{Error, Limits};
+use plist_commands::{Command, Commands, Failure, convert_file};
+use plist_support::expect_io;
+use std::cell::Cell;
+use std::env::Env;
+use std::io::{ErrorKind, Write};
+use std::process::Abort;
+use std::rt::Files;
+
+// The file of `true`, and that of the string of the ASCII input.
+const TRUTH: &[u8] = b"bplist00\
+    \x09\x08\
+    \0\0\0\0\0\0\x01\x01\0\0\0\0\0\0\0\x01\0\0\0\0\0\0\0\0\0\0\0\0\0\0\0\x09";
+
+const TEXT: &[u8] = b"bplist00\
+    \x51\x61\x08\
+    \0\0\0\0\0\0\x01\x01\0\0\0\0\0\0\0\x01\0\0\0\0\0\0\0\0\0\0\0\0\0\0\0\x0a";
+
+// Where the written value or property list is from.
+#[derive(Clone, Copy)]
+enum Origin<'a> {
+    // The value `true`.
+    Memory,
+    // The property list of the file of this name.
+    File(&'a str),
+}
+
+// Writes the value or the property list to a new file, of which one call may fail. Also returns the
+// stage that the file reached.
+fn write_to(
+    rt: &(impl Abort + AllocGlobal + Env + Files),
+    from: Origin<'_>,
+    is_regular: bool,
+    failure: Option<FailingCall>,
+) -> (Result<(), Error>, Stage) {
+    remove(rt, "stored");
+    let to = path_of(rt, "stored");
+    let stage = Cell::new(Stage::Untouched);
+    let watched = Watched {
+        rt,
+        stage: &stage,
+        opened: &Cell::new(0),
+        failure,
+        is_regular,
+    };
+    let answer = match from {
+        Origin::Memory => Value::Boolean(true).to_file_binary(&watched, rt.alloc(), to.as_str()),
+        Origin::File(name) => {
+            let path = path_of(rt, name);
+            convert_file(&watched, rt.alloc(), path.as_str(), to.as_str())
+        }
+    };
+    (answer, stage.get())
+}
+
+// Checks that the file is created once, after the last read, then written and flushed, and then
+// stored. If a pipe or a terminal can't be stored, that isn't an error.
+fn expect_stored(rt: &(impl Abort + AllocGlobal + Env + Files), from: Origin<'_>, wanted: &[u8]) {
+    let failed_sync = Some(FailingCall {
+        stage: Stage::Stored,
+        kind: ErrorKind::InvalidInput,
+    });
+    for (is_regular, failure) in [(true, None), (false, None), (false, failed_sync)] {
+        let (answer, stage) = write_to(rt, from, is_regular, failure);
+        must(rt, answer);
+        assert_eq!(rt; stage, Stage::Stored);
+        expect_holds(rt, "stored", wanted);
+    }
+}
+
+// Each call of the file that can fail. `InvalidInput` is a failure if the file can be stored.
+const FAILURES: [(Stage, ErrorKind); 8] = [
+    (Stage::Made, ErrorKind::PermissionDenied),
+    (Stage::Made, ErrorKind::Interrupted),
+    (Stage::Written, ErrorKind::StorageFull),
+    (Stage::Written, ErrorKind::Interrupted),
+    (Stage::Flushed, ErrorKind::Interrupted),
+    (Stage::Stored, ErrorKind::InvalidInput),
+    (Stage::Stored, ErrorKind::Interrupted),
+    (Stage::Stored, ErrorKind::TimedOut),
+];
+
+// Checks that the result is the failure, with its own message, and that no call follows it.
+fn expect_failures(rt: &(impl Abort + AllocGlobal + Env + Files), from: Origin<'_>) {
+    for (failing, kind) in FAILURES {
+        let failure = Some(FailingCall {
+            stage: failing,
+            kind,
+        });
+        let (answer, stage) = write_to(rt, from, true, failure);
+        must(rt, expect_io(answer, kind, None));
+        assert_eq!(rt; stage, failing);
+    }
+}
+
+#[test]
+fn makes_its_file_once(rt: HostRuntime) {
+    expect_stored(&rt, Origin::Memory, TRUTH);
+    put(&rt, "to_be_streamed", TRUTH);
+    expect_stored(&rt, Origin::File("to_be_streamed"), TRUTH);
+    put(&rt, "to_be_read", b"a");
+    expect_stored(&rt, Origin::File("to_be_read"), TEXT);
+}
+
+// A property list with a repeated key has to be read as a value, so the first file is read twice.
+// The other file is created once.
+#[test]
+fn goes_no_further_than_a_failure(rt: HostRuntime) {
+    expect_failures(&rt, Origin::Memory);
+    put(&rt, "unstored", TRUTH);
+    expect_failures(&rt, Origin::File("unstored"));
+    put(&rt, "unstored_value", b"{ a = 1; a = 2; }");
+    expect_failures(&rt, Origin::File("unstored_value"));
+}
+
+// Returns the error of a property list for which a command failed.
+fn error_of(answer: Result<(), Failure>) -> Result<(), Error> {
+    match answer {
+        Err(Failure::Plist(error)) => Err(error),
+        _ => Ok(()),
+    }
+}
+
+// The failure of a call that opens or reads a file, and its offset.
+#[derive(Clone, Copy)]
+struct Unread<'a> {
+    path: &'a str,
+    offset: Option<u64>,
+}
+
+impl<'a> Unread<'a> {
+    // Checks that the result is the device's error.
+    fn expect<T: Drop>(&self, rt: &impl Abort, answer: Result<T, Error>) {
+        must(
+            rt,
+            expect_io(answer, ErrorKind::PermissionDenied, self.offset),
+        );
+    }
+
+    // Checks that each call opens its file once, and returns the device's error.
+    fn expect_of_calls<R: Files>(&self, rt: &(impl Abort + AllocGlobal), watched: &Watched<'_, R>) {
+        let (alloc, path, other) = (rt.alloc(), self.path, "no_such_folder/out");
+        self.expect(rt, Value::from_file(watched, alloc, path));
+        let limits = Limits { depth: 9, items: 9 };
+        self.expect(
+            rt,
+            Value::from_file_with_limits(watched, alloc, path, limits),
+        );
+        self.expect(rt, convert_file(watched, alloc, path, other));
+        let commands = [
+            Command::Print(path),
+            Command::Convert(path, other),
+            Command::Keyed(path, "root"),
+        ];
+        for command in commands {
+            let mut out = Vec::new(alloc);
+            self.expect(rt, error_of(watched.perform(alloc, command, &mut out)));
+            assert!(rt; out.is_empty());
+        }
+        assert_eq!(rt; watched.opened.get(), 6);
+    }
+}
+
+// The file can't be opened, or can't be read.
+#[test]
+fn opens_no_file_again(rt: HostRuntime) {
+    put(&rt, "unread", &[0; 64]);
+    let path = path_of(&rt, "unread");
+    for (stage, offset) in [(Stage::Untouched, None), (Stage::Read, Some(0))] {
+        let watched = Watched {
+            rt: &rt,
+            stage: &Cell::new(Stage::Untouched),
+            opened: &Cell::new(0),
+            failure: Some(FailingCall {
+                stage,
+                kind: ErrorKind::PermissionDenied,
+            }),
+            is_regular: true,
+        };
+        let unread = Unread {
+            path: path.as_str(),
+            offset,
+        };
+        unread.expect_of_calls(&rt, &watched);
+    }
+}
+
+// A flush before the first write creates no file. The file that a write creates stays open, even if
+// the write fails.
+#[test]
+fn an_output_makes_its_file_once(rt: HostRuntime) {
+    let (stage, opened) = (Cell::new(Stage::Untouched), Cell::new(0));
+    let watched = Watched {
+        rt: &rt,
+        stage: &stage,
+        opened: &opened,
+        failure: Some(FailingCall {
+            stage: Stage::Written,
+            kind: ErrorKind::TimedOut,
+        }),
+        is_regular: true,
+    };
+    let path = path_of(&rt, "output");
+    let mut output = LazyFile::new(&watched, path.as_str());
+    must(&rt, output.flush());
+    assert_eq!(rt; opened.get(), 0);
+    assert!(rt; output.write(b"a").is_err());
+    assert!(rt; output.write(b"a").is_err());
+    assert_eq!(rt; opened.get(), 1);
+}
+
+// A blank at the end of a name is a part of it.
+#[test]
+fn a_name_may_end_in_a_blank(rt: HostRuntime) {
+    remove(&rt, "blank");
+    let path = path_of(&rt, "blank ");
+    let path = path.as_str();
+    must(
+        &rt,
+        Value::Boolean(true).to_file_binary(&rt, rt.alloc(), path),
+    );
+    expect_holds(&rt, "blank ", TRUTH);
+    must(&rt, Value::from_file(&rt, rt.alloc(), path));
+    let limits = Limits { depth: 9, items: 9 };
+    must(
+        &rt,
+        Value::from_file_with_limits(&rt, rt.alloc(), path, limits),
+    );
+    must(&rt, convert_file(&rt, rt.alloc(), path, path));
+    expect_holds(&rt, "blank ", TRUTH);
+    let mut out = Vec::new(rt.alloc());
+    must(&rt, rt.perform(rt.alloc(), Command::Print(path), &mut out));
+    assert_eq!(rt; out.as_slice(), b"Boolean true\n".as_slice());
+    let answer = rt.perform(rt.alloc(), Command::Keyed(path, "root"), &mut out);
+    assert!(rt; matches!(answer, Err(Failure::Keyed(_))));
+    expect_missing(&rt, "blank");
+}

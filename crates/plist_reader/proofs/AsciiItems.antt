@@ -1,0 +1,376 @@
+-- What the reader of ASCII yields as the chosen one, with limits or without.
+use Rattle.std.proofs.Common.{◌≡◌, ℕ, ◌-◌, ◌^◌, Bool, true, false, cond, List, [], ◌∷◌, ◌++◌, Option, None, Some, Ok, Err, IfSome, MatchBool, refl, ap, sym, ◌∙◌, subst, arith}
+use Rattle.std.specs.Option.{option_map}
+use Rattle.std.proofs.lemmas.List.{take-take}
+use Rattle.plist_base.specs.declared.source.Source.{Ghosts}
+use Rattle.plist_reader.specs.declared.bytes.BufferedSource.{BufferedSource}
+use Rattle.plist_base.specs.Events.{Item, PlainEvent, event_of}
+use Rattle.std.specs.Prelude.{⊤}
+use Rattle.plist_base.specs.declared.limited_items.LimitedItems.{LimitedItems}
+use Rattle.plist_base.specs.declared.limits.Limit.{Limit}
+use Rattle.plist_base.specs.declared.limits.Limits.{Limits}
+use Rattle.plist_base.specs.declared.limits.LimitCounter.{LimitCounter}
+use Rattle.plist_base.specs.Allowances.{PassesNext as PassesAllowed, iterator_of}
+use Rattle.plist_base.specs.Limits.{GivesLimited, IsLimitReached, items_admitted, event_or_limit, limited_items, limited_by}
+use Rattle.plist_base.specs.Faults.{FaultKind, Fault, Io, OutOfMemory, InvalidUtf16String, UnclosedString, IncompleteComment, InvalidUtf8AsciiStream, InvalidOctalString, LimitReached, MatchFault, fault_without_offset, kind_of, error_kind_of, fault_of}
+use Rattle.plist_base.specs.Sequential.{from_place}
+use Rattle.plist_reader.specs.Streams.{stream_bytes_left, stream_source, stream_place, held}
+use Rattle.plist_base.specs.Sources.{ItemCountsIo}
+use Rattle.plist_base.proofs.Refusals.{MatchFault-weaker}
+use Rattle.plist_binread.specs.FaultOffsets.{HasOffset}
+use Rattle.plist_binread.specs.Remaining.{SomeRemain}
+use Rattle.plist_ascii.specs.Ascii.{items_of_ascii, items_in, BeginsWithText}
+use Rattle.plist_ascii.specs.AsciiReader as ascii
+use Rattle.plist_ascii.specs.Kinds.{IsAsciiFault, IsAsciiItem, IsFaultOfBytes}
+use Rattle.plist_ascii.specs.Incoming as incoming
+use Rattle.plist_ascii.specs.declared.dialect.Dialect.{Dialect}
+use Rattle.plist_ascii.specs.Texts.{ends_bare}
+use Rattle.plist_reader.specs.declared.reader.State.{State}
+use Rattle.plist_reader.specs.declared.reader.State.TheVariants as state
+use Rattle.plist_reader.specs.Reader.{MatchText, AsciiReaderOf, AsciiGives, state_items, input_within, items_in_format, items_of_dialect, ascii_items_to_come, GivesItem, GivesIfKnown, EndsAfter, IsReaderFault, IsReaderItem, StateGives, ItemHasOffset, FaultHasOffset, MatchOffset}
+use Rattle.plist_reader.specs.declared.format.Format.TheVariants as format
+use Rattle.plist_reader.specs.Formats.{format_of, input_front}
+use Rattle.plist_reader.proofs.ReaderItems.{Given, chosen-gives, one-remain, text-or-all}
+
+-- ---- `OutOfMemory` is yielded only if something remains
+
+text-remain : (before : List Item) → BeginsWithText before → SomeRemain before
+text-remain [] h = absurd h
+text-remain (x ∷ xs) h = one-remain x xs
+
+-- ---- one call
+
+none-left : (stops : ℕ → Bool) (bytes : List ℕ) (q : ℕ) → bytes ≡ []
+    → items_of_ascii stops bytes q ≡ []
+unfolding items_in
+none-left stops bytes q e = ap (λ l. items_of_ascii stops l q) e
+
+ascii-item : (stops : ℕ → Bool) (bytes rest : List ℕ) (p q : ℕ) (item : Given)
+    → ascii.GivesAsciiItem stops bytes p item rest q
+    → GivesItem (items_of_ascii stops bytes p) item (items_of_ascii stops rest q)
+ascii-item stops bytes rest p q None h = (h.0, none-left stops rest q h.1)
+ascii-item stops bytes rest p q (Some (Ok event)) h = h.items
+ascii-item stops bytes rest p q (Some (Err error)) h =
+    MatchFault-weaker (kind_of (error_kind_of error)) (λ e. none-left stops rest q e)
+    (λ m. (none-left stops rest q m.0, text-remain (items_of_ascii stops bytes p) m.1))
+    (λ b. b.items) h
+
+pub ascii-goes : (stops : ℕ → Bool) (k l : Option (List ℕ)) (p q : ℕ) (item : Given)
+    → ((bytes : List ℕ) → k ≡ Some bytes → (rest : List ℕ) × (l ≡ Some rest)
+    × ascii.GivesAsciiItem stops bytes p item rest q)
+    → GivesIfKnown (option_map (λ bytes. items_of_ascii stops bytes p) k) item
+    (option_map (λ bytes. items_of_ascii stops bytes q) l)
+ascii-goes stops None l p q item h = tt
+ascii-goes stops (Some bytes) l p q item h =
+    let r = h _ refl in (
+      items_of_ascii _ r.0 q,
+      ap
+          (option_map (λ b. items_of_ascii _ b q)) r.1,
+      ascii-item _ _ r.0 p q _ r.2,
+    )
+
+ascii-ends : (E : Type 0) (item : Given) → ascii.EndsAfterIoOrMemory item E → IsAsciiItem item
+    → EndsAfter item E
+ascii-ends E None h k = h
+ascii-ends E (Some (Ok event)) h k = tt
+ascii-ends E (Some (Err error)) h k = by (kind_of (error_kind_of error)) h k
+  where
+    by : (kind : FaultKind) → MatchFault kind E E ⊤ → IsAsciiFault kind → MatchText kind ⊤ E
+    by Io h k = h
+    by OutOfMemory h k = h
+    by UnclosedString h k = tt
+    by IncompleteComment h k = tt
+    by InvalidUtf8AsciiStream h k = tt
+    by InvalidOctalString h k = tt
+    by InvalidUtf16String h k = tt
+    by kind h k = absurd k
+
+-- ---- which faults there are, and their offsets
+
+ascii-kinds : (limited : Bool) (item : Given) → IsAsciiItem item → IsReaderItem limited item
+ascii-kinds limited None h = tt
+ascii-kinds limited (Some (Ok event)) h = tt
+ascii-kinds limited (Some (Err error)) h = by (kind_of (error_kind_of error)) h
+  where
+    by : (kind : FaultKind) → IsAsciiFault kind → IsReaderFault limited kind
+    by Io h = tt
+    by OutOfMemory h = tt
+    by UnclosedString h = tt
+    by IncompleteComment h = tt
+    by InvalidUtf8AsciiStream h = tt
+    by InvalidOctalString h = tt
+    by InvalidUtf16String h = tt
+    by kind h = absurd h
+
+same-count : (a b : ℕ) → Some b ≡ Some a → b ≡ a
+same-count a b e = cc
+
+some-place : (offset : Option ℕ) (place : ℕ) → offset ≡ Some place → HasOffset offset
+some-place offset place is = rw is tt
+
+ascii-placed : (place : ℕ) (item : Given) → ascii.FaultIsAt item place → ItemHasOffset item
+ascii-placed place None h = tt
+ascii-placed place (Some (Ok event)) h = tt
+ascii-placed place (Some (Err error)) h = placed _ _ h
+  where
+    placed : (kind : FaultKind) (offset : Option ℕ)
+        → MatchFault kind (offset ≡ Some place) (offset ≡ None)
+        (IsFaultOfBytes kind × (offset ≡ Some place))
+        → MatchOffset kind (offset ≡ None) (HasOffset offset)
+    placed Io offset p = some-place offset place p
+    placed OutOfMemory offset p = p
+    placed UnclosedString offset p = some-place offset place p.1
+    placed IncompleteComment offset p = some-place offset place p.1
+    placed InvalidUtf8AsciiStream offset p = some-place offset place p.1
+    placed InvalidOctalString offset p = some-place offset place p.1
+    placed InvalidUtf16String offset p = some-place offset place p.1
+    placed kind offset p = absurd p.0
+
+-- a count of failures that exists
+counted-failures : (a b : ℕ) (item : Given) → incoming.ItemCountsIoIfCounted item (Some a) (Some b)
+    → ItemCountsIo item a b
+counted-failures a b None h = same-count a b h
+counted-failures a b (Some (Ok event)) h = same-count a b h
+counted-failures a b (Some (Err error)) h =
+    MatchFault-weaker (kind_of (error_kind_of error)) (λ r. r) (same-count a b) (same-count a b) h
+
+-- ---- the items that remain before the first call
+
+take-twice : (bytes : List ℕ) → input_front (input_front bytes) ≡ input_front bytes
+take-twice bytes = take-take (2 ^ 64 - 1) (2 ^ 64 - 1) bytes (omega arith)
+
+ascii-items : (dialect : Dialect) (k l : Option (List ℕ)) → l ≡ k
+    → IfSome k (λ bytes. format.Ascii ≡ format_of bytes)
+    → option_map (λ bytes. items_of_ascii (ends_bare dialect) bytes 0)
+    (option_map input_front (option_map (λ bytes. [] ++ from_place 0 bytes) l))
+    ≡ option_map (items_of_dialect dialect) k
+ascii-items dialect None l e is = rw e refl
+ascii-items dialect (Some bytes) l e is =
+    rw (e, take-twice bytes) (ap (λ f. Some (items_in_format dialect f bytes)) is)
+
+-- ---- under limits
+
+abbrev PassesNext : (old : LimitCounter) (asked item : Given) (new : LimitCounter) (ended : Bool) → Type 0
+PassesNext = PassesAllowed limited_by IsLimitReached
+
+abbrev come : Bool → LimitCounter → List Item → List Item
+come ended limiter items = cond ended [] (limited_by limiter items)
+
+limit-other : (kind : FaultKind) (limit : Limit) (X Y Z : Type 0) → kind ≡ LimitReached limit → Z
+    → MatchFault kind X Y Z
+limit-other kind limit X Y Z is z = rw is z
+
+reached-remain : (reached : Option Limit) (event : PlainEvent) (behind : List Item)
+    → SomeRemain (event_or_limit reached event behind)
+reached-remain None event behind = one-remain {A = Item} (Ok event) behind
+reached-remain (Some limit) event behind =
+    one-remain {A = Item} (Err (fault_without_offset (LimitReached limit))) []
+
+limits-remain : (limiter : LimitCounter) (items : List Item) → SomeRemain items
+    → SomeRemain (limited_by limiter items)
+limits-remain limiter [] h = h
+limits-remain limiter (Ok event ∷ items) h = reached-remain _ _ _
+limits-remain limiter (Err fault ∷ items) h = one-remain {A = Item} (Err fault) []
+
+limited-item : (was now : Bool) (old new : LimitCounter) (before after : List Item) (asked item : Given)
+    → was ≡ false → GivesItem before asked after → PassesNext old asked item new now
+    → GivesItem (come was old before) item (come now new after)
+limited-item was now old new before after None item w g p =
+    rw (p.0, w, g.0, p.2) (refl, refl)
+limited-item was now old new before after (Some (Ok asked)) None w g p = absurd p
+limited-item was now old new before after (Some (Ok asked)) (Some (Ok passed)) w g p =
+    rw (w, p.2) (ap (limited_by old) g ∙ p.1 after
+    ∙ ap (λ v. Ok (event_of v) ∷ limited_by new after) (sym p.0))
+limited-item was now old new before after (Some (Ok asked)) (Some (Err error)) w g p =
+    rw (w, p.1) (limit-other (fault_of error).kind p.0.0.0 _ _ _ (ap (λ (f : Fault). f.kind) p.0.0.1)
+    (ap (limited_by old) g ∙ p.0.1 after))
+limited-item was now old new before after (Some (Err fault)) None w g p = absurd p
+limited-item was now old new before after (Some (Err fault)) (Some given) w g p =
+    rw (p.0, w, p.1) (MatchFault-weaker (kind_of (error_kind_of fault)) (λ _. refl)
+    (λ m. (refl, limits-remain old before m.1)) (λ b. ap (limited_by old) b) g)
+
+limited-goes : (was now : Bool) (old new : LimitCounter) (k l : Option (List Item)) (asked item : Given)
+    → was ≡ false → GivesIfKnown k asked l → PassesNext old asked item new now
+    → GivesIfKnown (option_map (come was old) k) item (option_map (come now new) l)
+limited-goes was now old new None l asked item w g p = tt
+limited-goes was now old new (Some all) l asked item w g p = (
+  come now new g.0,
+  ap (option_map (come now new)) g.1,
+  limited-item was now old new all g.0 asked item w g.2 p,
+)
+
+module _ (now : Bool) (old new : LimitCounter) where
+  passes-count : (asked item : Given) (a b : ℕ) → ItemCountsIo asked a b
+      → PassesNext old asked item new now → ItemCountsIo item a b
+  passes-count None item a b h p = rw p.0 h
+  passes-count (Some (Ok asked)) None a b h p = absurd p
+  passes-count (Some (Ok asked)) (Some (Ok passed)) a b h p = h
+  passes-count (Some (Ok asked)) (Some (Err error)) a b h p =
+      limit-other (fault_of error).kind p.0.0.0 _ _ _ (ap (λ (f : Fault). f.kind) p.0.0.1) h
+  passes-count (Some (Err fault)) None a b h p = absurd p
+  passes-count (Some (Err fault)) (Some given) a b h p = rw p.0 h
+
+  passes-placed : (asked item : Given) → ItemHasOffset asked → PassesNext old asked item new now
+      → ItemHasOffset item
+  passes-placed None item h p = rw p.0 tt
+  passes-placed (Some (Ok asked)) None h p = absurd p
+  passes-placed (Some (Ok asked)) (Some (Ok passed)) h p = tt
+  passes-placed (Some (Ok asked)) (Some (Err error)) h p = subst FaultHasOffset (sym p.0.0.1) refl
+  passes-placed (Some (Err fault)) None h p = absurd p
+  passes-placed (Some (Err fault)) (Some given) h p = rw p.0 h
+
+  passes-kinds : (asked item : Given) → IsReaderItem true asked
+      → PassesNext old asked item new now → IsReaderItem true item
+  passes-kinds None item h p = rw p.0 tt
+  passes-kinds (Some (Ok asked)) None h p = absurd p
+  passes-kinds (Some (Ok asked)) (Some (Ok passed)) h p = tt
+  passes-kinds (Some (Ok asked)) (Some (Err error)) h p =
+      rw (ap (λ (f : Fault). f.kind) p.0.0.1) refl
+  passes-kinds (Some (Err fault)) None h p = absurd p
+  passes-kinds (Some (Err fault)) (Some given) h p = rw p.0 h
+
+  passes-ends : (asked item : Given) → PassesNext old asked item new now
+      → EndsAfter item (now ≡ true)
+  passes-ends None item p = rw p.0 p.2
+  passes-ends (Some (Ok asked)) None p = absurd p
+  passes-ends (Some (Ok asked)) (Some (Ok passed)) p = tt
+  passes-ends (Some (Ok asked)) (Some (Err error)) p = text-or-all _ (now ≡ true) p.1
+  passes-ends (Some (Err fault)) None p = absurd p
+  passes-ends (Some (Err fault)) (Some given) p = rw p.0 (text-or-all _ (now ≡ true) p.1)
+
+-- a reader of ASCII that has yielded nothing has all items of its source left
+fresh-text : {R : Type 0} (known : R → Option (List ℕ)) (dialect : Dialect) (source : R) (sequence : BufferedSource R) (reader : AsciiReaderOf R)
+    → stream_source sequence ≡ source → stream_place sequence ≡ 0 → held sequence ≡ []
+    → IfSome (known source) (λ bytes. format.Ascii ≡ format_of bytes)
+    → ascii.untaken_bytes (stream_bytes_left known) reader
+    ≡ option_map input_front (stream_bytes_left known sequence)
+    → ascii.place_of reader ≡ 0 → ascii.dialect_of reader ≡ dialect
+    → ascii_items_to_come known reader ≡ option_map (items_of_dialect dialect) (known source)
+fresh-text known dialect source sequence reader from at none is bytes place chosen =
+    ap (λ d. option_map (λ b. items_of_ascii (ends_bare d) b (ascii.place_of reader))
+    (ascii.untaken_bytes (stream_bytes_left known) reader)) chosen
+    ∙ (λ i. option_map (λ b. items_of_ascii (ends_bare dialect) b (place i)) (bytes i))
+    ∙ ap (λ p. option_map (λ b. items_of_ascii (ends_bare dialect) b 0)
+    (option_map input_front (option_map (λ bytes. held sequence ++ from_place p bytes)
+    (known (stream_source sequence))))) at
+    ∙ ap (λ w. option_map (λ b. items_of_ascii (ends_bare dialect) b 0)
+    (option_map input_front (option_map (λ bytes. w ++ from_place 0 bytes)
+    (known (stream_source sequence))))) none
+    ∙ ascii-items dialect _ (known (stream_source sequence)) (ap known from) is
+
+joined : (limits : Limits) (dialect : Dialect) (k : Option (List ℕ))
+    → option_map (limited_items limits) (option_map (items_of_dialect dialect) k)
+    ≡ option_map (input_within dialect (Some limits)) k
+joined limits dialect None = refl
+joined limits dialect (Some bytes) = refl
+
+module _ {R : Type 0} {g : Ghosts R} (known : R → Option (List ℕ)) (failed : R → ℕ) where
+  pub ascii-gives : (old new : AsciiReaderOf R) (item : Given)
+      → AsciiGives known failed old item new
+      → StateGives {R = R} {g = g} known failed (state.Ascii old) item (state.Ascii new)
+  ascii-gives old new item h = record {
+    items = subst (λ d. GivesIfKnown ((let before : State R g = state.Ascii old in state_items known
+        before))
+        item (option_map (λ bytes. items_of_ascii (ends_bare d) bytes (ascii.place_of new))
+        (ascii.untaken_bytes (stream_bytes_left known) new))) (sym h.dialect)
+        (ascii-goes (ascii.stops_of old) (ascii.untaken_bytes (stream_bytes_left known) old)
+        (ascii.untaken_bytes (stream_bytes_left known) new) (ascii.place_of old)
+        (ascii.place_of new) item
+        h.items);
+    failures = counted-failures (failed (stream_source (ascii.device_of old)))
+        (failed (stream_source (ascii.device_of new))) item h.failures;
+    offset = ascii-placed (ascii.place_of new) item h.offset;
+    ended = h.ended;
+    ends = ascii-ends (ascii.HasEndedAscii new) item h.ends h.kinds;
+    kinds = ascii-kinds false item h.kinds;
+    limits = λ none. refl;
+    inside = (new, refl, h);
+  }
+
+  -- the reader has ended
+  over-gives : (old : LimitedItems (AsciiReaderOf R) LimitCounter) → old.ended ≡ true
+      → StateGives {R = R} {g = g} known failed (state.Limited old) None (state.Limited old)
+  over-gives old over = record {
+    items = stays (ascii_items_to_come known (iterator_of old));
+    failures = refl;
+    offset = tt;
+    ended = λ _. refl;
+    ends = over;
+    kinds = tt;
+    limits = λ none. none;
+    inside = (old, refl, rw over (refl, refl));
+  }
+    where
+      stays : (k : Option (List Item))
+          → GivesIfKnown (option_map (items_admitted old) k) None (option_map (items_admitted old) k)
+      stays None = tt
+      stays (Some all) = (items_admitted old all, refl, rw over (refl, refl))
+
+  pub limited-gives : (old new : LimitedItems (AsciiReaderOf R) LimitCounter) (item : Given)
+      → GivesLimited (AsciiGives known failed) old item new
+      → StateGives {R = R} {g = g} known failed (state.Limited old) item (state.Limited new)
+  limited-gives old new item h = by old.ended refl h
+    where
+      by : (b : Bool) → old.ended ≡ b → MatchBool b ((item ≡ None) × (new ≡ old))
+          ((asked : Given) × AsciiGives known failed old.inner asked new.inner
+          × PassesNext old.limiter asked item new.limiter new.ended)
+          → StateGives {R = R} {g = g} known failed (state.Limited old) item (state.Limited new)
+      by true over (none, same) = rw (same, none) (over-gives old over)
+      by false going (asked, gave, passes) =
+          let inner = ascii-gives old.inner new.inner asked gave in
+          record {
+            items = limited-goes old.ended new.ended old.limiter new.limiter
+                (ascii_items_to_come known old.inner) (ascii_items_to_come known new.inner) asked
+                item going inner.items passes;
+            failures = passes-count new.ended old.limiter new.limiter asked item
+                (failed (stream_source (ascii.device_of old.inner)))
+                (failed (stream_source (ascii.device_of new.inner))) inner.failures passes;
+            offset = passes-placed new.ended old.limiter new.limiter asked item inner.offset passes;
+            ended = λ over. (let no : false ≡ true → item ≡ None = λ q. cc in no (cc));
+            ends = passes-ends new.ended old.limiter new.limiter asked item passes;
+            kinds = passes-kinds new.ended old.limiter new.limiter asked item
+                (ascii-kinds true asked gave.kinds) passes;
+            limits = λ none. none;
+            inside = (new, refl, h);
+          }
+
+  pub begun-ascii : (source : R) (dialect : Dialect) (sequence : BufferedSource R) (old new : AsciiReaderOf R) (item : Given)
+      → stream_source sequence ≡ source → ascii.device_of old ≡ sequence → stream_place sequence ≡ 0
+      → held sequence ≡ [] → IfSome (known source) (λ bytes. format.Ascii ≡ format_of bytes)
+      → ascii.untaken_bytes (stream_bytes_left known) old ≡ option_map input_front
+      (stream_bytes_left known sequence)
+      → ascii.place_of old ≡ 0 → ascii.dialect_of old ≡ dialect
+      → AsciiGives known failed old item new
+      → StateGives {R = R} {g = g} known failed (state.Unread source None dialect) item
+      (state.Ascii new)
+  begun-ascii source dialect sequence old new item from inside at none is bytes place chosen h =
+      chosen-gives {g = g} known failed source None dialect (state.Ascii old) (state.Ascii new) item
+      (fresh-text known dialect source sequence old from at none is bytes place chosen) refl
+      (subst (λ n. ItemCountsIo item n (failed (stream_source (ascii.device_of new))))
+      (ap (λ s. failed (stream_source s)) inside ∙ ap failed from)
+      (counted-failures _ _ item h.failures))
+      (old, place, chosen, refl, h) (ascii-gives old new item h)
+
+  pub begun-limited : (source : R) (limits : Limits) (dialect : Dialect) (sequence : BufferedSource R) (fresh : AsciiReaderOf R)
+      (old new : LimitedItems (AsciiReaderOf R) LimitCounter) (item : Given) → items_admitted old ≡ limited_items limits
+      → iterator_of old ≡ fresh → stream_source sequence ≡ source → ascii.device_of fresh ≡ sequence
+      → stream_place sequence ≡ 0 → held sequence ≡ []
+      → IfSome (known source) (λ bytes. format.Ascii ≡ format_of bytes)
+      → ascii.untaken_bytes (stream_bytes_left known) fresh
+      ≡ option_map input_front (stream_bytes_left known sequence)
+      → ascii.place_of fresh ≡ 0 → ascii.dialect_of fresh ≡ dialect
+      → GivesLimited (AsciiGives known failed) old item new
+      → StateGives {R = R} {g = g} known failed (state.Unread source (Some limits) dialect) item
+      (state.Limited new)
+  begun-limited source limits dialect sequence fresh old new item come is-fresh from inside at none
+      is bytes place chosen h =
+      let gives = limited-gives old new item h in
+      chosen-gives {g = g} known failed source (Some limits) dialect (state.Limited old) (state.Limited new) item
+      ((λ i. option_map (come i) (ascii_items_to_come known (is-fresh i)))
+      ∙ ap (option_map (limited_items limits))
+      (fresh-text known dialect source sequence fresh from at none is bytes place chosen)
+      ∙ joined limits dialect (known source)) refl
+      (subst (λ n. ItemCountsIo item n (failed (stream_source (ascii.device_of (iterator_of new)))))
+      (ap (λ r. failed (stream_source (ascii.device_of r))) is-fresh
+      ∙ ap (λ s. failed (stream_source s)) inside ∙ ap failed from) gives.failures)
+      (old, ap ascii.place_of is-fresh ∙ place, ap ascii.dialect_of is-fresh ∙ chosen, refl, h) gives

@@ -1,0 +1,165 @@
+-- What the reader of the binary format yields as the chosen one.
+use Rattle.std.proofs.Common.{◌≡◌, ℕ, ◌^◌, Bool, true, false, List, [], ◌∷◌, Option, None, Some, Ok, Err, IfSome, OnErr, MatchBool, MatchOption, refl, ap, sym, ◌∙◌, subst}
+use Rattle.std.specs.Option.{is_some, option_map}
+use Rattle.plist_base.specs.declared.source.Source.{Ghosts}
+use Rattle.plist_base.specs.Events.{Item}
+use Rattle.plist_base.specs.declared.limits.Limits.{Limits}
+use Rattle.plist_base.specs.Limits.{limited_items}
+use Rattle.plist_base.specs.Faults.{FaultKind, Io, UnexpectedEof, OutOfMemory, InvalidMagic, InvalidTrailerObjectOffsetSize, InvalidTrailerObjectReferenceSize, ObjectOffsetTooLarge, ObjectReferenceTooLarge, RecursiveObject, NullObjectUnimplemented, FillObjectUnimplemented, UnknownObjectType, IntegerOutOfRange, OverflowOrNanDate, InvalidUtf8String, InvalidUtf16String, LimitReached, kind_of, error_kind_of, fault_of}
+use Rattle.plist_base.specs.Sources.{ItemCountsIo, IsOffsetWithin}
+use Rattle.plist_base.proofs.Refusals.{MatchFault-weaker}
+use Rattle.plist_binread.specs.BinaryReader as binary
+use Rattle.plist_binread.specs.FaultOffsets.{HasOffset, MatchGiven, ItemGivenWithin}
+use Rattle.plist_binread.specs.Remaining.{SomeRemain, AllocatesFirst}
+use Rattle.plist_ascii.specs.declared.dialect.Dialect.{Dialect}
+use Rattle.plist_reader.specs.declared.reader.State.TheVariants as state
+use Rattle.plist_reader.specs.Reader.{BinaryGives, BinaryReaderOf, file_within, input_within, items_in_format, GivesItem, GivesIfKnown, EndsAfter, IsReaderFault, IsReaderItem, StateGives, ItemHasOffset, MatchOffset}
+use Rattle.plist_reader.specs.declared.format.Format.TheVariants as format
+use Rattle.plist_reader.specs.Formats.{format_of}
+use Rattle.plist_reader.proofs.Fronts.{within-placed}
+use Rattle.plist_reader.proofs.ReaderItems.{Given, chosen-gives, one-remain, same-items, text-or-all}
+
+-- ---- `OutOfMemory` is yielded only if something remains
+
+wants-remain : (before : List Item) → AllocatesFirst before → SomeRemain before
+wants-remain [] h = absurd h
+wants-remain (x ∷ xs) h = one-remain x xs
+
+either-remain : (new : Bool) (before : List Item) → MatchBool new (SomeRemain before)
+    (AllocatesFirst before)
+    → SomeRemain before
+either-remain true before h = h
+either-remain false before h = wants-remain _ h
+
+-- ---- one call
+
+binary-item : (new : Bool) (before after : List Item) (item : Given)
+    → binary.GivesBinaryItem new before item after → GivesItem before item after
+binary-item new before after None h = h
+binary-item new before after (Some (Ok event)) h = h
+binary-item new before after (Some (Err error)) h =
+    MatchFault-weaker (kind_of (error_kind_of error)) (λ _. h.0)
+    (λ m. (h.0, either-remain new before m))
+    (λ e. e ∙ ap (λ l. Err (fault_of error) ∷ l) (sym h.0)) h.1
+
+binary-goes : (k l : Option (List ℕ)) (f g : List ℕ → List Item) (new : Bool) (item : Given) → l ≡ k
+    → IfSome k (λ bytes. binary.GivesBinaryItem new (f bytes) item (g bytes))
+    → GivesIfKnown (option_map f k) item (option_map g l)
+binary-goes None l f g new item e h = tt
+binary-goes (Some bytes) l f g new item e h =
+    (g _, ap (option_map g) e, binary-item _ _ _ _ h)
+
+-- the errors that end it
+over-ends : (E : Type 0) (item : Given) → MatchOption item E (λ answer. OnErr answer E)
+    → EndsAfter item E
+over-ends E None h = h
+over-ends E (Some (Ok event)) h = tt
+over-ends E (Some (Err error)) h = text-or-all _ E h
+
+-- ---- which faults there are, and their offsets
+
+binary-kinds : (limited : Bool) (item : Given) → ItemGivenWithin 0 (2 ^ 64) limited item
+    → IsReaderItem limited item
+binary-kinds limited None h = tt
+binary-kinds limited (Some (Ok event)) h = tt
+binary-kinds limited (Some (Err error)) h =
+    by (kind_of (error_kind_of error)) (fault_of error).offset h.placed
+  where
+    by : (kind : FaultKind) (offset : Option ℕ)
+        → MatchGiven kind (IsOffsetWithin 0 (2 ^ 64) offset) (offset ≡ None) (HasOffset offset)
+        ((limited ≡ true) × (offset ≡ None)) → IsReaderFault limited kind
+    by (LimitReached limit) offset h = h.0
+    by Io offset h = tt
+    by UnexpectedEof offset h = tt
+    by OutOfMemory offset h = tt
+    by InvalidMagic offset h = tt
+    by InvalidTrailerObjectOffsetSize offset h = tt
+    by InvalidTrailerObjectReferenceSize offset h = tt
+    by ObjectOffsetTooLarge offset h = tt
+    by ObjectReferenceTooLarge offset h = tt
+    by RecursiveObject offset h = tt
+    by NullObjectUnimplemented offset h = tt
+    by FillObjectUnimplemented offset h = tt
+    by (UnknownObjectType marker) offset h = tt
+    by IntegerOutOfRange offset h = tt
+    by OverflowOrNanDate offset h = tt
+    by InvalidUtf8String offset h = tt
+    by InvalidUtf16String offset h = tt
+    by kind offset h = absurd h
+
+binary-placed : (limited : Bool) (item : Given) → ItemGivenWithin 0 (2 ^ 64) limited item
+    → ItemHasOffset item
+binary-placed limited None h = tt
+binary-placed limited (Some (Ok event)) h = tt
+binary-placed limited (Some (Err error)) h = placed _ _ h.placed
+  where
+    placed : (kind : FaultKind) (offset : Option ℕ)
+        → MatchGiven kind (IsOffsetWithin 0 (2 ^ 64) offset) (offset ≡ None) (HasOffset offset)
+        ((limited ≡ true) × (offset ≡ None)) → MatchOffset kind (offset ≡ None) (HasOffset offset)
+    placed (LimitReached limit) offset p = p.1
+    placed Io offset p = within-placed 0 (2 ^ 64) offset p
+    placed UnexpectedEof offset p = within-placed 0 (2 ^ 64) offset p
+    placed OutOfMemory offset p = p
+    placed InvalidMagic offset p = p
+    placed InvalidTrailerObjectOffsetSize offset p = p
+    placed InvalidTrailerObjectReferenceSize offset p = p
+    placed ObjectOffsetTooLarge offset p = p
+    placed ObjectReferenceTooLarge offset p = p
+    placed RecursiveObject offset p = p
+    placed NullObjectUnimplemented offset p = p
+    placed FillObjectUnimplemented offset p = p
+    placed (UnknownObjectType marker) offset p = p
+    placed IntegerOutOfRange offset p = p
+    placed OverflowOrNanDate offset p = p
+    placed InvalidUtf8String offset p = p
+    placed InvalidUtf16String offset p = p
+    placed kind offset p = absurd p
+
+-- ---- the items that remain before the first call
+
+file-input : (limits : Option Limits) (dialect : Dialect) (bytes : List ℕ)
+    → format.Binary ≡ format_of bytes → file_within limits bytes ≡ input_within dialect limits bytes
+file-input None dialect bytes is = ap (λ f. items_in_format dialect f bytes) is
+file-input (Some limits) dialect bytes is =
+    ap (λ f. limited_items limits (items_in_format dialect f bytes)) is
+
+module _ {R : Type 0} {g : Ghosts R} (known : R → Option (List ℕ)) (failed : R → ℕ) where
+  pub binary-gives : (old new : BinaryReaderOf R g) (item : Given) → BinaryGives {g = g} known failed old item new
+      → StateGives known failed (state.Binary old) item (state.Binary new)
+  binary-gives old new item h = record {
+    items = binary-goes (known (binary.binary_source old)) (known (binary.binary_source new))
+        (λ bytes. binary.items_to_come bytes old) (λ bytes. binary.items_to_come bytes new)
+        (binary.is_new old)
+        item h.unchanged h.items;
+    failures = h.failures;
+    offset = binary-placed (binary.has_limits old) item h.faults;
+    ended = h.ended;
+    ends = over-ends (binary.HasEndedBinary new) item h.ends;
+    kinds = binary-kinds (binary.has_limits old) item h.faults;
+    limits = λ none. h.kept.0 ∙ none;
+    inside = (new, refl, h);
+  }
+
+  binary-items : (limits : Option Limits) (dialect : Dialect) (k : Option (List ℕ)) (reader : BinaryReaderOf R g)
+      → IfSome k (λ bytes. format.Binary ≡ format_of bytes)
+      → IfSome k (λ bytes. binary.items_to_come bytes reader ≡ file_within limits bytes)
+      → IfSome k (λ bytes. binary.items_to_come bytes reader ≡ input_within dialect limits bytes)
+  binary-items limits dialect None reader is h = tt
+  binary-items limits dialect (Some bytes) reader is h = h ∙ file-input limits dialect bytes is
+
+  pub begun-binary : (source : R) (limits : Option Limits) (dialect : Dialect) (old new : BinaryReaderOf R g) (item : Given)
+      → binary.binary_source old ≡ source → binary.is_new old ≡ true
+      → binary.has_limits old ≡ is_some limits
+      → IfSome (known source) (λ bytes. format.Binary ≡ format_of bytes)
+      → IfSome (known source) (λ bytes. binary.items_to_come bytes old ≡ file_within limits bytes)
+      → BinaryGives {g = g} known failed old item new
+      → StateGives known failed (state.Unread source limits dialect) item (state.Binary new)
+  begun-binary source limits dialect old new item at fresh limited is begins h =
+      chosen-gives {g = g} known failed source limits dialect (state.Binary old) (state.Binary new) item
+      (same-items (known source) (known (binary.binary_source old))
+      (λ bytes. binary.items_to_come bytes old)
+      (input_within dialect limits) (ap known at) (binary-items limits dialect (known source) old is begins))
+      limited
+      (subst (λ n. ItemCountsIo item n (failed (binary.binary_source new)))
+      (ap failed at) h.failures)
+      (old, fresh, limited, h) (binary-gives old new item h)

@@ -1,8 +1,0 @@
-use Rattle.std.proofs.Common.{take}
-use Rattle.plist_reader.proofs.Streams.{several_there}
-use Rattle.plist_reader.proofs.bytes.SourceBytesByteReader.consume.Goals as goal
-
-pub returns-clause-bytes : goal.returns-clause-bytes
-returns-clause-bytes g c =
-    several_there (g.R.Source.known c.args.self.now.source) c.args.self.now.place
-    c.args.self.now.from c.args.count (take c.args.self.now.end c.args.self.now.window)
