@@ -1,5 +1,5 @@
 -- Putting bytes into a sink, one part after the other.
-use Rattle.std.proofs.Common.{◌≡◌, ◌≤◌, ℕ, List, [], ◌++◌, length, Option, Result, Ok, Err, refl, sym, ap, ◌∙◌, append_assoc, append-nil, arith}
+use Rattle.std.proofs.Common.{◌≡◌, ℕ, List, [], ◌++◌, Option, Result, Ok, Err, refl, sym, ap, ◌∙◌, append_assoc, append-nil}
 use Rattle.std.specs.Result.{IsErrAnd, OnOk}
 use Rattle.std.specs.Io.KnownBytes.{Appends}
 use Rattle.std.proofs.KnownBytes.{Appends-trans, Appends-nil}
@@ -9,7 +9,7 @@ use Rattle.plist_base.specs.Faults.{Fault, Io, fault_without_offset, fault_of}
 use Rattle.plist_base.specs.Outcomes.{OnlyDevice}
 use Rattle.plist_base.specs.Writing.{Answer, answer_of}
 use Rattle.plist_base.specs.Prefixes.{AppendsPrefix}
-use Rattle.plist_base.specs.Sinks.{IsSameSink, PutsBytes, PutsNothing, pending, sink_capacity, written}
+use Rattle.plist_base.specs.Sinks.{IsSameSink, PutsBytes, PutsNothing, pending, written}
 
 -- ---- lists
 

@@ -1,11 +1,9 @@
 -- Words for the numbers that buffered events have so far, and for how a call changes them.
-use Rattle.std.specs.Prelude.{◌≡◌, ℕ, ◌-◌, ◌^◌, false, List, length, get_or, replicate}
+use Rattle.std.specs.Prelude.{◌≡◌, ℕ, ◌-◌, ◌^◌, List, length, get_or, replicate}
 use Rattle.std.specs.List.{AllByRecursion}
-use Rattle.plist_base.specs.Bracketing.{lengthless}
-use Rattle.plist_base.specs.Trees.{Tree}
 use Rattle.plist_binwrite.specs.Children.{children_of}
 use Rattle.plist_binwrite.specs.EventClasses.{IsListed, class_in, events_in}
-use Rattle.plist_binwrite.specs.EventTable.{is_end, event_at, AllNumbered, IsNumbered, KeepsNumbering}
+use Rattle.plist_binwrite.specs.EventTable.{AllNumbered, IsNumbered, KeepsNumbering}
 use Rattle.plist_binwrite.specs.declared.children.Half.{Half}
 use Rattle.plist_binwrite.specs.declared.children.Half.TheVariants.{Keys, Values}
 use Rattle.plist_binwrite.specs.declared.classes.Classed.{Classed}

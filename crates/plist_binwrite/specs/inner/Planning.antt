@@ -1,5 +1,5 @@
 -- What is planned for the events of a tree.
-use Rattle.std.specs.Prelude.{◌≡◌, ◌≤◌, ℕ, List, length, get_or}
+use Rattle.std.specs.Prelude.{◌≡◌, ℕ, List, length}
 use Rattle.plist_base.specs.Events.{PlainEvent}
 use Rattle.plist_binwrite.specs.Classes.{AreClasses}
 use Rattle.plist_binwrite.specs.EventClasses.{IsListed, class_in, events_in}

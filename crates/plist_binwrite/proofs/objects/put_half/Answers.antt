@@ -1,4 +1,4 @@
-use Rattle.std.proofs.Common.{◌≡◌, ◌∷◌, ℕ, List, arith, map, sym, ap, subst}
+use Rattle.std.proofs.Common.{◌≡◌, ◌∷◌, ℕ, List, map, sym, ap, subst}
 use Rattle.std.specs.List.{AllByRecursion}
 use Rattle.plist_base.proofs.SinkSteps.{puts_as, puts_none, puts_then, puts_refused}
 use Rattle.plist_binwrite.specs.Children.{children_of, indices_left}

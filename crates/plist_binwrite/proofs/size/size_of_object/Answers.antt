@@ -1,11 +1,11 @@
 use Rattle.std.proofs.Common.{◌∙◌, ap, arith, refl, subst, sym}
-use Rattle.plist_binwrite.specs.EventTable.{IfScalar, entry_kind_of, plain_events, scalars_of}
+use Rattle.plist_binwrite.specs.EventTable.{entry_kind_of, plain_events, scalars_of}
 use Rattle.plist_binwrite.specs.Forms.{IsWritableScalar}
 use Rattle.plist_binwrite.specs.declared.children.Half.TheVariants.{Values}
 use Rattle.plist_binwrite.specs.inner.Entries.{is_leaf}
 use Rattle.plist_binwrite.proofs.ChildIndices.{few_children}
 use Rattle.plist_binwrite.proofs.HeldEntries.{long_shown}
-use Rattle.plist_binwrite.proofs.TreeObjects.{count_items, count_pairs, dictionary_told, of_array, of_dictionary, of_nothing, of_scalar, scalar_is}
+use Rattle.plist_binwrite.proofs.TreeObjects.{count_items, count_pairs, dictionary_told, of_array, of_dictionary, of_nothing, of_scalar}
 use Rattle.plist_binwrite.proofs.size.size_of_object.Goals as goal
 
 pub overflow_mul-count : goal.overflow_mul-count
@@ -47,8 +47,8 @@ returns-in-Some-clause-size c =
 
 pub returns-in-Some-clause-writable : goal.returns-in-Some-clause-writable
 returns-in-Some-clause-writable c = λ x is.
-    subst (λ d. IfScalar d IsWritableScalar) (scalar_is _ x (sym c.in-Some.ensures.some ∙ is))
-    c.length_of_scalar.ensures.writable
+    let same = sym c.in-Some.ensures.some ∙ is in
+    subst IsWritableScalar (cc same) c.length_of_scalar.ensures.writable
 
 pub returns-in-None-clause-size : goal.returns-in-None-clause-size
 returns-in-None-clause-size c =

@@ -1,7 +1,7 @@
 use Rattle.std.proofs.Common.{◌≡◌, arith, ap, refl, length, false}
 use Rattle.plist_binwrite.specs.Children.{last_at}
 use Rattle.plist_binwrite.specs.EventTable.{plain_events, event_at, is_end}
-use Rattle.plist_binwrite.proofs.ChildIndices.{none_left, none_whole, one_left}
+use Rattle.plist_binwrite.proofs.ChildIndices.{one_left}
 use Rattle.plist_binwrite.proofs.children.ChildrenIterator.next.Goals as goal
 
 pub returns-clause-steps : goal.returns-clause-steps

@@ -1,6 +1,6 @@
 use Rattle.std.proofs.Common.{◌≡◌, ◌<◌, get_or, arith}
 use Rattle.plist_binwrite.specs.inner.Planning.{count_of}
-use Rattle.plist_binwrite.proofs.Placing.{keeps_more, marked_more, order_more}
+use Rattle.plist_binwrite.proofs.Placing.{order_more}
 use Rattle.plist_binwrite.proofs.layout.FileLayout.put.Goals as goal
 use Rattle.plist_binwrite.proofs.layout.FileLayout.put.Goals.{After-number-number as Found}
 

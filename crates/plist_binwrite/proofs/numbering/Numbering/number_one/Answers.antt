@@ -1,6 +1,6 @@
-use Rattle.std.proofs.Common.{◌≡◌, ◌<◌, ◌≤◌, ◌+◌, ◌^◌, ◌++◌, ◌∷◌, [], length, arith, get_or, set, refl, ap, ◌∙◌, subst, length-append}
+use Rattle.std.proofs.Common.{◌≡◌, ◌<◌, ◌≤◌, ◌+◌, ◌^◌, ◌++◌, ◌∷◌, [], length, arith, get_or, set, ap, ◌∙◌, subst, length-append}
 use Rattle.std.proofs.Math.Seq.{get_or-append_seam}
-use Rattle.plist_binwrite.specs.EventClasses.{class_in, events_in}
+use Rattle.plist_binwrite.specs.EventClasses.{class_in}
 use Rattle.plist_binwrite.specs.inner.PlansBy.{number_by}
 use Rattle.plist_binwrite.proofs.PlannedBy.{keeps_self, keeps_new, numbered_new, plan_new}
 use Rattle.plist_binwrite.proofs.numbering.Numbering.number_one.Goals as goal
