@@ -8,7 +8,7 @@ use Rattle.plist_binwrite.specs.declared.kinds.EntryKind.{EntryKind}
 use Rattle.plist_binwrite.specs.declared.kinds.EntryKind.TheVariants as kind
 use Rattle.plist_base.specs.Trees.{Tree, Leaf, Array, Dictionary, Trees, NoTrees, TreeAnd, Members, NoMembers, MemberAnd}
 use Rattle.plist_base.specs.Bracketing.{without_length, lengthless}
-use Rattle.plist_binwrite.specs.StoredScalars.{scalar_event}
+use Rattle.plist_binwrite.specs.StoredScalars.{event_of_scalar}
 use Rattle.plist_binwrite.specs.Occurrences.{event_count, OccursAt}
 use Rattle.plist_binwrite.specs.Numberings.{object_of}
 use Rattle.plist_binwrite.specs.inner.Entries.{events_of_entries, event_of_entry}
@@ -20,7 +20,7 @@ plain_event event = without_length (event_of event)
 
 -- the different scalars, in the order of their first occurrence
 abbrev pub scalars_of : EventTable → List PlainEvent
-scalars_of held = map scalar_event held.scalars.keys
+scalars_of held = map event_of_scalar held.scalars.keys
 
 -- the events
 abbrev pub plain_events : EventTable → List PlainEvent

@@ -32,5 +32,5 @@ scalar_of (stored.BorrowedData bytes) = Data bytes.now
 scalar_of (stored.OwnedData bytes) = Data bytes.items
 
 -- its event
-abbrev pub scalar_event : StoredScalar → PlainEvent
-scalar_event scalar = ScalarEvent (scalar_of scalar)
+abbrev pub event_of_scalar : StoredScalar → PlainEvent
+event_of_scalar scalar = ScalarEvent (scalar_of scalar)

@@ -32,7 +32,7 @@ pub struct EventTable<'e> {
 }
 
 impl<'e> EventTable<'e> {
-    ghost use Rattle.plist_binwrite.specs.StoredScalars.{scalar_event, scalar_of_ref};
+    ghost use Rattle.plist_binwrite.specs.StoredScalars.{event_of_scalar, scalar_of_ref};
     ghost use Rattle.std.specs.Prelude.{◌≤◌, [], None, Some, false, slice_get, IfSome, ◌+◌};
     ghost use Rattle.plist_binwrite.specs.EventTable.{plain_event, plain_events, scalars_of, entry_kind_of, event_at, GrowsBy, HasItem, IsScalarAt, LacksItem, table_event, entry_event};
     ghost use Rattle.plist_binwrite.specs.inner.Columns.{scalar_named};
@@ -209,7 +209,7 @@ impl<'e> EventTable<'e> {
     #[inline(always)]
     fn find(&self, scalar: &StoredScalar<'_>) -> Option<usize>
         ensures { IfSome result (λ index. slice_get (scalars_of self.now) index
-            ≡ Some (scalar_event scalar.now)) }
+            ≡ Some (event_of_scalar scalar.now)) }
     {
         self.scalars.get_index_of(scalar)
     }
@@ -229,7 +229,7 @@ impl<'e> EventTable<'e> {
     // Appends a scalar: the index of an equal one among the different ones, or a new one. A new one
     // is removed again if there is no memory for its entry.
     fn scalar(&mut self, scalar: StoredScalar<'e>) -> Result<(), AllocError>
-        ensures events { OnOk result (GrowsBy self.old (scalar_event scalar.entry) self.new) }
+        ensures events { OnOk result (GrowsBy self.old (event_of_scalar scalar.entry) self.new) }
         ensures unchanged { OnErr result (plain_events self.new ≡ plain_events self.old) }
     {
         let before = self.scalars.len();

@@ -217,11 +217,11 @@ impl Eq for StoredScalar<'_> {
 /// Writes what an [`Event`] of the scalar writes.
 impl Hash for StoredScalar<'_> {
     ghost use Rattle.plist_base.specs.Scalars.{writes_of_scalar};
-    ghost use Rattle.plist_binwrite.specs.inner.StoredEquality.{same_writes};
+    ghost use Rattle.plist_binwrite.specs.inner.StoredEquality.{equal_stored_write_same};
 
     ghost hash_input = { λ scalar. writes_of_scalar (scalar_of scalar) };
 
-    ghost respects_eq = { λ a b. same_writes (scalar_of a) (scalar_of b) };
+    ghost respects_eq = { λ a b. equal_stored_write_same (scalar_of a) (scalar_of b) };
 
     fn hash<H: Hasher>(&self, state: &mut H) {
         match self {

@@ -14,8 +14,8 @@ use Rattle.plist_commands.specs.declared.print.Printer.{Printer}
 use Rattle.plist_commands.specs.EscapedLines.{line_of}
 
 -- the sink into which a printer puts its lines
-abbrev pub sink_of : {W : Type 0} → Printer W → Sink W
-sink_of printer = record { writer = printer.writer; buffer = printer.buffer }
+abbrev pub printer_sink : {W : Type 0} → Printer W → Sink W
+printer_sink printer = record { writer = printer.writer; buffer = printer.buffer }
 
 -- the lines that are pending
 abbrev pub pending_lines : {W : Type 0} → Printer W → List ℕ
@@ -23,7 +23,7 @@ pending_lines printer = buffered printer.buffer.now
 
 -- the printer has the same writer and the same buffer
 abbrev pub IsSamePrinter : {W : Type 0} → (old new : Printer W) → Type 0
-IsSamePrinter old new = IsSameSink (sink_of old) (sink_of new)
+IsSamePrinter old new = IsSameSink (printer_sink old) (printer_sink new)
 
 -- a printer that goes on has put its bytes, and one that stops keeps why it couldn't
 abbrev pub answer_of_flow : Flow → (failure : Error) → Answer
@@ -38,7 +38,7 @@ module _ {W : Type 0} (contents : W → Option (List ℕ)) where
   -- the bytes follow the lines that were pending, as those that are put into the sink
   abbrev pub PrintsBytes : (old : Printer W) → (bytes : List ℕ) → Flow → (new : Printer W) → Type 0
   PrintsBytes old bytes flow new =
-      PutsBytes contents (sink_of old) bytes (answer_of_flow flow new.failure) (sink_of new)
+      PutsBytes contents (printer_sink old) bytes (answer_of_flow flow new.failure) (printer_sink new)
 
   -- what taking an event does
   abbrev pub PrintsLine : (old : Printer W) → PlainEvent → Flow → (new : Printer W) → Type 0

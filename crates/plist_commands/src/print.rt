@@ -106,7 +106,7 @@ pub(crate) struct Printer<'p, W> {
 
 impl<'p, W: Write> Printer<'p, W> {
     ghost use Rattle.std.specs.declared.ops.ControlFlow.TheVariants.{Continue};
-    ghost use Rattle.plist_commands.specs.Printers.{FailsAfterLines, IsSamePrinter, PrintsBytes, PrintsLine, pending_lines, printed, sink_of};
+    ghost use Rattle.plist_commands.specs.Printers.{FailsAfterLines, IsSamePrinter, PrintsBytes, PrintsLine, pending_lines, printed, printer_sink};
 
     // Creates a printer. The lines in the buffer are pending.
     fn new(buffer: &'p mut FixedBuffer, writer: &'p mut W) -> Printer<'p, W>
@@ -241,7 +241,7 @@ impl<'p, W: Write> Printer<'p, W> {
 
     // Writes the lines that are pending, at the end.
     fn finish(&mut self) -> Result<(), Error>
-        ensures put { Puts W.contents (sink_of self.old) [] result (sink_of self.new) }
+        ensures put { Puts W.contents (printer_sink self.old) [] result (printer_sink self.new) }
         ensures empty { OnOk result (pending_lines self.new ≡ []) }
     {
         match self.write_pending() {
@@ -253,7 +253,7 @@ impl<'p, W: Write> Printer<'p, W> {
     // Writes the lines that are pending before an error, and returns that error, or the one of the
     // write.
     fn finish_before(&mut self, error: Error) -> Error
-        ensures { FailsAfterLines W.contents (sink_of self.old) error result (sink_of self.new) }
+        ensures { FailsAfterLines W.contents (printer_sink self.old) error result (printer_sink self.new) }
     {
         match self.finish() {
             Ok(()) => error,

@@ -4,7 +4,7 @@ use Rattle.std.specs.Prelude.{◌≡◌, ℕ, ◌+◌, ◌<◌, ◌==◌, Bool, 
 use Rattle.std.specs.List.{list_any}
 use Rattle.plist_base.specs.Bracketing.{without_length}
 use Rattle.plist_base.specs.Events.{PlainEvent, StartArray, StartDictionary, EndCollection, ScalarEvent}
-use Rattle.plist_binwrite.specs.StoredScalars.{scalar_event}
+use Rattle.plist_binwrite.specs.StoredScalars.{event_of_scalar}
 use Rattle.plist_binwrite.specs.declared.stored_scalar.StoredScalar.{StoredScalar}
 use Rattle.plist_binwrite.specs.inner.UnclosedStarts.{unclosed_after, skip_after}
 use Rattle.plist_binwrite.specs.declared.entries.EventEntry.{EventEntry}
@@ -92,4 +92,4 @@ pub record IsValidTable (scalars : List PlainEvent) (entries : List EventEntry)
 
 -- what is always true, for events that are the different scalars
 abbrev pub AreValidEntries : List StoredScalar → List EventEntry → (unclosed : List ℕ) → Type 0
-AreValidEntries scalars entries unclosed = IsValidTable (map scalar_event scalars) entries unclosed
+AreValidEntries scalars entries unclosed = IsValidTable (map event_of_scalar scalars) entries unclosed

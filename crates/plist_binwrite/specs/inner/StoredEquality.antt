@@ -5,7 +5,7 @@ use Rattle.plist_base.specs.Events.{ScalarEvent}
 use Rattle.plist_base.specs.Scalars.{scalar_eq, scalar_is, scalar_refl, writes_of_scalar}
 use Rattle.plist_base.specs.Trees.{Scalar}
 use Rattle.plist_binwrite.specs.declared.stored_scalar.StoredScalar.{StoredScalar}
-use Rattle.plist_binwrite.specs.StoredScalars.{scalar_of, scalar_event}
+use Rattle.plist_binwrite.specs.StoredScalars.{scalar_of, event_of_scalar}
 
 -- ---- scalars
 
@@ -21,8 +21,8 @@ scalars_equiv = record {
   congr = λ a b c h. ap (λ d. scalar_eq d c) (scalar_is a b h);
 }
 
-pub same_writes : (a b : Scalar) → scalar_eq a b ≡ true → writes_of_scalar a ≡ writes_of_scalar b
-same_writes a b h = ap writes_of_scalar (scalar_is a b h)
+pub equal_stored_write_same : (a b : Scalar) → scalar_eq a b ≡ true → writes_of_scalar a ≡ writes_of_scalar b
+equal_stored_write_same a b h = ap writes_of_scalar (scalar_is a b h)
 
 -- ---- stored scalars
 
@@ -30,9 +30,9 @@ abbrev pub stored_eq : StoredScalar → StoredScalar → Bool
 stored_eq a b = scalar_eq (scalar_of a) (scalar_of b)
 
 -- equal ones have the same event
-pub stored_same : (a b : StoredScalar) → stored_eq a b ≡ true → scalar_event a ≡ scalar_event b
+pub stored_same : (a b : StoredScalar) → stored_eq a b ≡ true → event_of_scalar a ≡ event_of_scalar b
 stored_same a b h = ap ScalarEvent (scalar_is (scalar_of a) (scalar_of b) h)
 
 -- and ones with the same event are equal
-pub same_stored : (a b : StoredScalar) → scalar_event a ≡ scalar_event b → stored_eq a b ≡ true
+pub same_stored : (a b : StoredScalar) → event_of_scalar a ≡ event_of_scalar b → stored_eq a b ≡ true
 same_stored a b h = eq_from_is (scalar_of a) (scalar_of b) (cc)

@@ -1,6 +1,6 @@
 use Rattle.std.proofs.Common.{◌≡◌, ℕ, List, Option, None, Some, map, position, sym}
 use Rattle.std.specs.Prelude.{IfSome, slice_get}
-use Rattle.plist_binwrite.specs.StoredScalars.{scalar_event}
+use Rattle.plist_binwrite.specs.StoredScalars.{event_of_scalar}
 use Rattle.plist_binwrite.specs.declared.stored_scalar.StoredScalar.{StoredScalar}
 use Rattle.plist_binwrite.specs.inner.StoredEquality.{stored_eq, stored_same}
 use Rattle.plist_binwrite.proofs.Keyed.{key_found}
@@ -8,10 +8,10 @@ use Rattle.plist_binwrite.proofs.event_table.EventTable.find.Goals as goal
 
 there : (keys : List StoredScalar) (x : StoredScalar) (r : Option ℕ)
     → r ≡ position (stored_eq x) keys
-    → IfSome r (λ index. slice_get (map scalar_event keys) index ≡ Some (scalar_event x))
+    → IfSome r (λ index. slice_get (map event_of_scalar keys) index ≡ Some (event_of_scalar x))
 there keys x None e = tt
 there keys x (Some i) e =
-    key_found stored_eq scalar_event (stored_eq x) (scalar_event x) (stored_same x) keys i (sym e)
+    key_found stored_eq event_of_scalar (stored_eq x) (event_of_scalar x) (stored_same x) keys i (sym e)
 
 pub returns : goal.returns
 returns c =

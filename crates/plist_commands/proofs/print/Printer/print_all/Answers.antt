@@ -1,7 +1,7 @@
 use Rattle.std.proofs.Common.{◌≡◌, Ok, Err, rules}
 use Rattle.plist_base.specs.declared.visitor.Visited.TheVariants.{Ended, Stopped}
 use Rattle.plist_base.proofs.SinkSteps.{same_then}
-use Rattle.plist_commands.specs.Printers.{sink_of}
+use Rattle.plist_commands.specs.Printers.{printer_sink}
 use Rattle.plist_commands.proofs.Printers.{empties, visited_ended, visited_error, visited_stopped}
 use Rattle.plist_commands.proofs.Runs.{run_ended, run_faulted}
 use Rattle.plist_commands.proofs.print.Printer.print_all.Goals as goal
@@ -12,7 +12,7 @@ returns-in-Ok-Ended-clause-ran g c =
     let (left, last, run, same) = visited_ended g.I.EventSource.yields g.W.Write.contents
     (c.args.source.now, c.args.self.now) (c.visit.new.self, c.visit.new.visitor) c.requires.empty
     (rw is at c.visit.ensures) in
-    let done = empties g.W.Write.contents (sink_of c.visit.new.visitor) (sink_of c.finish.new.self)
+    let done = empties g.W.Write.contents (printer_sink c.visit.new.visitor) (printer_sink c.finish.new.self)
     c.finish.result c.finish.ensures.put c.finish.ensures.empty in
     run_ended g.I.EventSource.yields c.args.source.now left c.visit.new.self
     (g.W.Write.contents c.args.self.now.writer.now)
