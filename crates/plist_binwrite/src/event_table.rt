@@ -31,7 +31,7 @@ fn is_content(event: &Event<'_>) -> bool {
 }
 
 impl<'e> EventTable<'e> {
-    ghost use Rattle.std.specs.Prelude.{◌≤◌, [], None, Some, false, slice_get, IfSome, ◌+◌};
+    ghost use Rattle.std.specs.Prelude.{[], None, Some, false, slice_get, IfSome, ◌+◌};
     ghost use Rattle.plist_binwrite.specs.EventTable.{plain_event, plain_events, scalars_of, entry_kind_of, event_at, GrowsBy, HasItem, IsScalarAt, LacksItem, table_event, entry_event};
     ghost use Rattle.plist_binwrite.specs.inner.Columns.{scalar_named};
     ghost use Rattle.plist_binwrite.specs.inner.Entries.{entry_at, is_start, IsUnclosed};
