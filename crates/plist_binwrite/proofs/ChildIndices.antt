@@ -83,7 +83,8 @@ module _ (child : Child) (es : List PlainEvent) where
 
 -- the children are items
 child_is : (child : Child) (es : List PlainEvent) (q : ℕ) → is_end (event_at es q) ≡ false
-    → is_end (event_at es (last_at child q)) ≡ false → is_end (event_at es (child_at child q)) ≡ false
+    → is_end (event_at es (last_at child q)) ≡ false
+    → is_end (event_at es (child_at child q)) ≡ false
 child_is Item es q e f = e
 child_is Key es q e f = e
 child_is Value es q e f = f
@@ -134,14 +135,16 @@ module _ (es : List PlainEvent) where
   few_children =
       any_children (λ l. length l ≤ length es) (omega arith) (few_within (length es))
 
-  pub are_items : (half : Half) (index : ℕ) → AllByRecursion (HasItem es) (children_of es half index)
+  pub are_items : (half : Half) (index : ℕ)
+      → AllByRecursion (HasItem es) (children_of es half index)
   are_items = any_children (AllByRecursion (HasItem es)) tt (items_within (length es))
 
   -- ---- the children of a tree
 
   no_item : (child : Child) (q : ℕ) {rest : List PlainEvent} → drop q es ≡ EndCollection ∷ rest
       → children_from child es q ≡ []
-  no_item child q {rest} e = none_left child es q (ap is_end (first_event es q EndCollection rest e))
+  no_item child q {rest} e =
+      none_left child es q (ap is_end (first_event es q EndCollection rest e))
 
   items_left : (ts : Trees) (q : ℕ) → ItemsOccurAt es ts q
       → children_from Item es q ≡ item_indices ts q

@@ -75,7 +75,8 @@ module _ {es : List PlainEvent} {class : ℕ → ℕ} {by_class firsts : List �
       number
 
   -- the objects of a plan have as many bytes as the classes
-  pub planned_size : (w : ℕ) (objects : ℕ → Object) → Describes es (number_by class by_class) objects
+  pub planned_size : (w : ℕ) (objects : ℕ → Object)
+      → Describes es (number_by class by_class) objects
       → (order : List ℕ) → AllOnce (length firsts) order
       → length (object_table w objects order) ≡ objects_by class w whole
   planned_size w objects describes order all =
@@ -90,4 +91,5 @@ module _ {es : List PlainEvent} {class : ℕ → ℕ} {by_class firsts : List �
       ≡ object_size w one.1) (Stands es)
       (λ one s. ap (λ o. length (form w o)) (describes one.1 one.0 s)
       ∙ form_size w (number_by class by_class) one.1 one.0)
-      (representatives class whole) (all_unique (Stands es) (same_class class) (positions whole 0) stand))
+      (representatives class whole)
+      (all_unique (Stands es) (same_class class) (positions whole 0) stand))

@@ -31,7 +31,8 @@ Differ es [] = ⊤
 Differ es (k ∷ keys) = LacksEvent es (event_at es k) keys × Differ es keys
 
 -- the event has the stamp
-abbrev pub IsStamped : (scalars : List PlainEvent) (mark : ℕ) (stamps : List ℕ) → PlainEvent → Type 0
+abbrev pub IsStamped : (scalars : List PlainEvent) (mark : ℕ) (stamps : List ℕ) → PlainEvent
+    → Type 0
 IsStamped scalars mark stamps e =
     (s : ℕ) × (slice_get scalars s ≡ Some e) × (get_or stamps s 0 ≡ mark)
 

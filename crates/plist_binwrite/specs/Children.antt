@@ -42,4 +42,5 @@ children_of es half index = children_after (event_at es index) half es (index + 
 
 -- those that an iterator has still to yield
 abbrev pub indices_left : Children → List ℕ
-indices_left children = children_from children.child (plain_events children.events.now) children.next
+indices_left children =
+    children_from children.child (plain_events children.events.now) children.next

@@ -33,7 +33,7 @@ pub struct EventTable<'e> {
 
 impl<'e> EventTable<'e> {
     ghost use Rattle.plist_binwrite.specs.StoredScalars.{event_of_scalar, scalar_of_ref};
-    ghost use Rattle.std.specs.Prelude.{◌≤◌, [], None, Some, false, slice_get, IfSome, ◌+◌};
+    ghost use Rattle.std.specs.Prelude.{[], None, Some, false, slice_get, IfSome, ◌+◌};
     ghost use Rattle.plist_binwrite.specs.EventTable.{plain_event, plain_events, scalars_of, entry_kind_of, event_at, GrowsBy, HasItem, IsScalarAt, LacksItem, table_event, entry_event};
     ghost use Rattle.plist_binwrite.specs.inner.Columns.{scalar_named};
     ghost use Rattle.plist_binwrite.specs.inner.Entries.{entry_at, is_start, IsUnclosed};

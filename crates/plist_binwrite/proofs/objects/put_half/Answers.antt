@@ -21,7 +21,8 @@ items g c = subst (AllByRecursion (HasItem _)) c.in-Some.ensures.steps c.loop-ch
 pub loop-child-init : goal.loop-child-init
 loop-child-init g c = record {
   put = λ answer d p. p;
-  items = subst (AllByRecursion (HasItem _)) (sym (begun g (goal.at.loop-child-init g c).After-into_iter-child-iterator))
+  items = subst (AllByRecursion (HasItem _))
+      (sym (begun g (goal.at.loop-child-init g c).After-into_iter-child-iterator))
       (are_items _ c.args.half c.args.index);
 }
 
@@ -36,7 +37,8 @@ number-requires-clause-class g c =
 
 -- the remaining references, with the next one
 abbrev rest : (g : _) (c : Next g) → List ℕ → List ℕ
-rest g c l = table_form c.args.plan.now.width (map (number_in c.args.given.now c.args.plan.now.numbering) l)
+rest g c l = table_form c.args.plan.now.width
+    (map (number_in c.args.given.now c.args.plan.now.numbering) l)
 
 pub loop-child-preserved : goal.loop-child-preserved
 loop-child-preserved g c =

@@ -11,7 +11,8 @@ use Rattle.plist_binwrite.proofs.objects.put_half.Given as goal
 abbrev pub invariant-loop-child : goal.invariant-loop-child
 invariant-loop-child g l = record {
   put : PutsRest g.W.Write.contents (number_in l.given l.plan.numbering) l.plan.width l.initial.sink
-      (table_form l.plan.width (map (number_in l.given l.plan.numbering) (indices_left l.initial.child-iterator)))
+      (table_form l.plan.width
+      (map (number_in l.given l.plan.numbering) (indices_left l.initial.child-iterator)))
       l.sink (indices_left l.child-iterator);
   items : AllByRecursion (HasItem (events_in l.given)) (indices_left l.child-iterator);
 }

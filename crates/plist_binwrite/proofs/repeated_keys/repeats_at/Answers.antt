@@ -35,7 +35,8 @@ loop-key-init c =
       newer = λ i h. omega (arith, c.requires.older i h);
       tells = tells_start c.args.start refl c.requires.long c.requires.older _;
       items = subst (AllByRecursion (HasItem _)) (sym is) (are_items _ Keys c.args.start);
-      leaves = λ ms s. subst (AllByRecursion _) (sym (is ∙ keys_are_in _ (Dictionary ms) c.args.start s))
+      leaves = λ ms s. subst (AllByRecursion _)
+          (sym (is ∙ keys_are_in _ (Dictionary ms) c.args.start s))
           (keys_leaves ms _ (occurs_pairs s));
     }
 
@@ -82,10 +83,12 @@ loop-key-preserved c =
       newer = rw c.stamp.ensures.stamped
           (below_set (c.args.start + 2) c.loop-key.stamps.items scalar (c.args.start + 1)
           (omega arith) i.newer);
-      tells = rw c.stamp.ensures.stamped (tells_next (tells next) scalar c.args.events.now.kept.apart
+      tells = rw c.stamp.ensures.stamped
+          (tells_next (tells next) scalar c.args.events.now.kept.apart
           c.in-Some-scalar_index.ensures.some (c.stamp.ensures.other c.if-stamp.false) within);
       items = (items next).1;
-      leaves = λ ms s. (subst (AllByRecursion (λ k. is_leaf (event_at (plain_events c.args.events.now)
+      leaves = λ ms s. (subst (AllByRecursion
+          (λ k. is_leaf (event_at (plain_events c.args.events.now)
           k) ≡ true)) c.in-Some.ensures.steps (i.leaves ms s)).1;
     }
 

@@ -9,5 +9,8 @@ returns-clause-class c = λ t s.
     let class = nth_number c.args.classes.now in
     let is = c.in_ok-children.ensures.classes ∙ (λ i. map class (keys_are_in es t c.args.index s i)
     ++ map class (values_are_in es t c.args.index s i)) in
-    let class : c.in_ok-class.class ≡ c.args.base + c.in_ok-found.found = search rules in
-    (c.in_ok-found.found, class, c.in_ok-found.ensures.stored ∙ (λ i. Some (c.begins_dictionary.ensures i, is i)))
+    let class : c.in_ok-class.class ≡ c.args.base + c.in_ok-found.found = search rules in (
+      c.in_ok-found.found,
+      class,
+      c.in_ok-found.ensures.stored ∙ (λ i. Some (c.begins_dictionary.ensures i, is i)),
+    )

@@ -14,4 +14,8 @@ returns-clause-steps c =
 
 pub returns-clause-goes : goal.returns-clause-goes
 returns-clause-goes c =
-    record { on = λ f. (tt, f, omega (arith, ap length (returns-clause-steps c))); keeps = tt; rests = λ f. tt }
+    record {
+      on = λ f. (tt, f, omega (arith, ap length (returns-clause-steps c)));
+      keeps = tt;
+      rests = λ f. tt;
+    }

@@ -6,7 +6,8 @@ use Rattle.plist_binwrite.proofs.layout.FileLayout.put.Goals.{After-number-numbe
 
 low : (c : Found) → c.number-number.result < count_of c.args.numbering.now
 low c =
-    omega (arith, c.number-number.ensures, c.requires.numbered.all _ c.requires.item.0 c.requires.item.1)
+    let item = c.requires.item in
+    omega (arith, c.number-number.ensures, c.requires.numbered.all _ item.0 item.1)
 
 pub returns-clause-order : goal.returns-clause-order
 returns-clause-order c =

@@ -29,7 +29,8 @@ pub returns-clause-all : goal.returns-clause-all
 returns-clause-all c =
     let (t, e) = c.requires.whole in
     let one = IsNumbered _ _ in
-    positions_all (events_in c.args.given.now) one t e (positions_have (events_in c.args.given.now) one
+    let es = events_in c.args.given.now in
+    positions_all es one t e (positions_have es one
     (λ u r s. let o = c.loop-index.invariant.2 r (omega (arith, occurs_in s)) in (
       subst (AllByRecursion one) (keys_are_in _ u r s) o.0,
       subst (AllByRecursion one) (values_are_in _ u r s) o.1,
