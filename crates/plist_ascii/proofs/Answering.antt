@@ -2,13 +2,18 @@
 use Rattle.std.proofs.Common.{◌≡◌, ℕ, ◌+◌, ◌≤◌, None, Some, sym, ap, ◌∙◌, suc, List, [], ◌∷◌, length, drop, Option, Result, Ok, Err, refl, arith}
 use Rattle.std.specs.Prelude.{IfSome}
 use Rattle.std.specs.Option.{option_map}
-use Rattle.std.specs.Result.{IsErrAnd, IfErr}
+use Rattle.std.specs.Result.{IsErrAnd, IfErr, OnOk}
 use Rattle.std.proofs.lemmas.List.{drop-drop}
 use Rattle.plist_base.specs.Faults.{FaultKind, UnclosedString}
 use Rattle.plist_ascii.specs.declared.fault.TokenFault.{TokenFault}
 use Rattle.plist_ascii.specs.Unread.{IfKnown, FirstIsTaken, TakesFront, GivesFront}
 use Rattle.plist_ascii.specs.Taken.{Taken, taken, past_one, past_outcome, followed, front, front_gives, needs}
 use Rattle.plist_ascii.specs.inner.TokenFaults.{kind_in_bytes, said}
+
+-- where a call succeeded, more is so
+pub ok_by : {X E : Type 0} (r : Result X E) (P Q : Type 0) → OnOk r P → (P → Q) → OnOk r Q
+ok_by (Ok x) P Q p h = h p
+ok_by (Err f) P Q p h = tt
 
 -- a fact of what is said, from another one
 pub some_by : {A B : Type 0} (o : Option A) (P : A → Type 0) (f : A → B) (Q : B → Type 0)

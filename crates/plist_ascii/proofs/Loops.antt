@@ -119,6 +119,10 @@ module _ {stop : ℕ → Bool} {old more xs : List ℕ} {p : ℕ} {ys : List ℕ
 pub runs_start : {stop : ℕ → Bool} (old xs : List ℕ) (p : ℕ) → RunsOn stop old old xs p xs p
 runs_start old xs p = record { text = refl; rest = refl; place = refl }
 
+-- no bytes precede those that were added
+pub added : (more part : List ℕ) {all : List ℕ} → all ≡ (more ++ []) ++ part → all ≡ more ++ part
+added more part h = h ∙ ap (λ z. z ++ part) (append-nil more)
+
 -- ---- comments
 
 after_star : (c : ℕ) (xs : List ℕ) (b : Bool) (o : Option ℕ)

@@ -1,4 +1,4 @@
--- What an escape in a quoted text stands for, from the byte after its backslash on:
+-- What an escape in a quoted string stands for, from the byte after its backslash on:
 --
 --     letter                        its byte in `letters`
 --     octal octal octal             the character of that number
@@ -24,7 +24,7 @@ letters =
     ∷ (small_a, bell) ∷ (small_b, backspace) ∷ (small_f, form_feed) ∷ (small_n, line_feed)
     ∷ (small_r, carriage_return) ∷ (small_t, tab) ∷ (small_v, vertical_tab) ∷ []
 
--- what stands beside a letter in such a table
+-- the byte in the row of a letter
 abbrev pub beside : ℕ → List (ℕ × ℕ) → Option ℕ
 beside c [] = None
 beside c (row ∷ rows) = cond (c == row.0) (Some row.1) (beside c rows)

@@ -31,7 +31,7 @@ past_outcome bytes n (Err fault) next = taken n (Err fault)
 abbrev pub followed : {A B : Type 0} → List ℕ → Taken A → (A → List ℕ → Taken B) → Taken B
 followed bytes t next = past_outcome bytes t.bytes t.gives next
 
--- the first n bytes, if there are as many
+-- the first n bytes, or `None` if there are fewer
 abbrev pub front : ℕ → List ℕ → Option (List ℕ)
 front zero bytes = Some []
 front (suc n) [] = None
@@ -53,6 +53,6 @@ abbrev pub after_byte : {A : Type 0} → (ℕ → List ℕ → Taken A) → List
 after_byte next [] = taken 0 (Err UnclosedString)
 after_byte next (c ∷ rest) = past_one (next c rest)
 
--- how many bytes stand before the first stop
+-- the number of bytes before the first stop
 abbrev pub run : (stops : ℕ → Bool) → List ℕ → ℕ
 run stops bytes = prefix_len (λ c. not (stops c)) bytes

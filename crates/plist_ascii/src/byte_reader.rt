@@ -40,7 +40,7 @@ pub trait ByteReader {
         ensures failures { failures self.new ≡ failures self.old };
 }
 
-/// It counts no failures and buffers nothing.
+/// Reads byte by byte. It counts no failures and buffers nothing.
 impl<R: Read> ByteReader for R {
     ghost remaining = { R.remaining };
 

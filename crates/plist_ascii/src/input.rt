@@ -1,6 +1,6 @@
 //! The bytes of a reader, which are taken in turn.
 
-ghost use Rattle.std.specs.Prelude.{◌≡◌, ◌+◌, ◌^◌, ◌<◌, ◌≤◌, [], length, None, Some, true, false, IfOk, IfErr, IfSome, OnOk};
+ghost use Rattle.std.specs.Prelude.{◌≡◌, ◌+◌, ◌++◌, ◌^◌, ◌<◌, ◌≤◌, [], length, None, Some, true, false, IfOk, IfErr, IfSome, OnOk};
 ghost use Rattle.plist_ascii.specs.Unread.{unread};
 ghost use Rattle.plist_base.specs.Faults.{fault_of};
 ghost use Rattle.plist_ascii.specs.inner.TokenFaults.{fault_after};
@@ -235,23 +235,31 @@ impl<R: ByteReader> Input<R> {
         goes_on
     }
 
-    /// Takes the bytes at hand up to a stop, and appends them to a text. Returns whether the run
-    /// may go on after them.
+    /// Appends these bytes to a text, takes the bytes at hand up to a stop, and appends them, too.
+    /// Returns whether the run may go on after them.
     #[inline(always)]
-    pub fn take_part(&mut self, stop: Stop, text: &mut Vec<u8>) -> Result<bool, AllocError>
+    pub fn take_part(
+        &mut self,
+        stop: Stop,
+        front: &[u8],
+        text: &mut Vec<u8>,
+    ) -> Result<bool, AllocError>
         // Result.
-        ensures bytes { OnOk result (AddsPart R.remaining stop self.old text.old.items self.new
-            text.new) }
+        ensures bytes { OnOk result (AddsPart R.remaining stop self.old (text.old.items ++ front.now)
+            self.new text.new) }
         ensures end { IfOk result (λ more. more ≡ false
             → IsAtStop R.remaining stop self.old self.new) }
         // State afterwards.
-        ensures whole { IfOk result (λ more. more ≡ true → TakesHand R.held self.old self.new) }
+        ensures whole { IfOk result (λ more. more ≡ true
+            → TakesHand R.held self.old self.new) }
         ensures place { self.old.taken ≤ self.new.taken }
         ensures failures { R.failures self.new.inner ≡ R.failures self.old.inner }
     {
         let bytes = self.at_hand();
         let count = run_length(stop, bytes);
         let goes_on = count == bytes.len();
+        text.reserve(front.len().saturating_add(count))?;
+        text.extend_from_slice(front)?;
         text.extend_from_slice(&bytes[..count])?;
         self.take_first(count);
         Ok(goes_on)

@@ -13,7 +13,7 @@ ghost use Rattle.std.specs.Char.{is_digit};
 use crate::byte_reader::ByteReader;
 use crate::fault::TokenFault;
 use crate::input::Input;
-use crate::stop::{Stop, run_length};
+use crate::stop::Stop;
 use plist_base::{Event, Integer, OwnedEvent};
 use std::alloc::{AllocError, Global};
 use std::borrow::CowStr;
@@ -110,7 +110,7 @@ impl<R: ByteReader> Input<R> {
         'run: loop {
             match self.peek()? {
                 Some(_byte) => {
-                    if !self.take_part(stop, text)? {
+                    if !self.take_part(stop, &[], text)? {
                         return Ok(());
                     }
                 }
@@ -119,8 +119,7 @@ impl<R: ByteReader> Input<R> {
         }
     }
 
-    // Takes the bytes up to a stop, and stores this byte and them in a text. Most runs are at hand,
-    // so memory is reserved for no more than that.
+    // Appends this byte to a text, takes the bytes up to a stop, and appends them, too.
     #[inline(always)]
     fn take_bare(&mut self, stop: Stop, first: u8, text: &mut Vec<u8>) -> Result<(), TokenFault>
         // Result.
@@ -132,9 +131,9 @@ impl<R: ByteReader> Input<R> {
         ensures place { self.old.taken ≤ self.new.taken }
         ensures failures { CountsFailed R.failures self.old result self.new }
     {
-        let count = run_length(stop, self.at_hand());
-        text.reserve_exact(count.saturating_add(1))?;
-        push_byte(text, first)?;
+        if !self.take_part(stop, &[first], text)? {
+            return Ok(());
+        }
         self.take_run(stop, text)
     }
 

@@ -3,7 +3,7 @@
 ghost use Rattle.std.specs.Prelude.{◌≡◌, None, Some, IfErr, IfOk};
 ghost use Rattle.plist_base.specs.Events.{event_of};
 ghost use Rattle.plist_ascii.specs.Comments.{slash};
-ghost use Rattle.plist_ascii.specs.Ascii.{lead_of, token_by, begins_nothing, is_blank};
+ghost use Rattle.plist_ascii.specs.Ascii.{lead_of, token_by, is_blank};
 ghost use Rattle.plist_ascii.specs.Kinds.{IsTextEvent, IsAsciiEvent};
 ghost use Rattle.plist_ascii.specs.Unread.{stops};
 ghost use Rattle.plist_ascii.specs.inner.Inputs.{CountsFailed, IfCame, token_until, GivesToken, AllocatesForText, StopsAtBracket};
@@ -50,20 +50,12 @@ fn lead_of(byte: u8) -> Lead
     }
 }
 
-// Returns whether this begins no token.
-#[inline(always)]
-fn begins_nothing(lead: Lead) -> bool
-    ensures { result ≡ begins_nothing lead }
-{
-    matches!(lead, Lead::Blank)
-}
-
 /// Returns whether this byte is a separator or white space.
 #[inline(always)]
 pub fn is_blank(byte: u8) -> bool
     ensures { result ≡ is_blank byte }
 {
-    begins_nothing(lead_of(byte))
+    matches!(byte, b',' | b';' | b'=' | b' ' | b'\r' | b'\t' | b'\n')
 }
 
 impl<R: ByteReader> Input<R> {

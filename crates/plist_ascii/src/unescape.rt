@@ -18,7 +18,7 @@ use crate::input::Input;
 pub enum Escaped {
     /// A byte.
     Byte(u8),
-    /// A character's bytes in UTF-8.
+    /// A character, which is stored in UTF-8.
     Char(char),
 }
 

@@ -27,27 +27,24 @@ use Rattle.plist_ascii.specs.inner.Parts.{escaped_bytes, Parts, EndsRun}
 -- ---- failures
 
 module _ {R : Type 0} (failures : R → Option ℕ) (old : Input R) where
-  -- the inner reader's count of failures is unchanged
-  abbrev pub CountsNone : Input R → Type 0
-  CountsNone new = failures new.inner ≡ failures old.inner
-
-  -- the count rose, and the error of the read that failed is stored
+  -- the inner reader's count of failures rose, and the error of the read that failed is stored
   abbrev pub ReadFailed : Input R → Type 0
   ReadFailed new = RisesIfCounted (failures old.inner) (failures new.inner) × IsSome new.failure
 
   -- a read failed if this is the fault
   abbrev pub CountsFault : TokenFault → Input R → Type 0
   CountsFault fault.Io new = ReadFailed new
-  CountsFault other new = CountsNone new
+  CountsFault other new = failures new.inner ≡ failures old.inner
 
   -- the count rose if the fault is `Io`, and otherwise is unchanged
   abbrev pub CountsFailed : {A : Type 0} → Result A TokenFault → Input R → Type 0
-  CountsFailed answer new = MatchResult answer (λ _. CountsNone new) (λ f. CountsFault f new)
+  CountsFailed answer new =
+      MatchResult answer (λ _. failures new.inner ≡ failures old.inner) (λ f. CountsFault f new)
 
   -- the only fault is `Io`, which is counted
   abbrev pub CountsRead : {A : Type 0} → Result A TokenFault → Input R → Type 0
-  CountsRead answer new =
-      MatchResult answer (λ _. CountsNone new) (λ f. (f ≡ fault.Io) × ReadFailed new)
+  CountsRead answer new = MatchResult answer (λ _. failures new.inner ≡ failures old.inner)
+      (λ f. (f ≡ fault.Io) × ReadFailed new)
 
   -- the count rose if the item is `Io`, and otherwise is unchanged
   abbrev pub ItemCountsFailed : {A : Type 0} → Option (Result A Error) → Input R → Type 0

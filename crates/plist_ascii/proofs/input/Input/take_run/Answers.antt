@@ -1,6 +1,6 @@
 use Rattle.std.proofs.Common.{Some, ap, ◌∙◌, arith}
 use Rattle.plist_ascii.proofs.Unread.{none_stops}
-use Rattle.plist_ascii.proofs.Loops.{since_on, runs_part, runs_end}
+use Rattle.plist_ascii.proofs.Loops.{added, since_on, runs_part, runs_end}
 use Rattle.plist_ascii.proofs.input.Input.take_run.Goals as goal
 
 pub run-smaller : goal.run-smaller
@@ -16,7 +16,7 @@ run-preserved g c =
     (omega (arith, c.in_ok-_byte.ensures.place, took.place)) (λ xs ys on u.
     let looked = c.in_ok-_byte.ensures.next ys u in
     let k = took.bytes ys looked.0 in
-    (k.1, k.5, runs_part on k.0 k.1 k.2 k.3 k.4 (omega (arith, k.6, c.in_ok-_byte.ensures.place))))
+    (k.1, k.5, runs_part on k.0 k.1 k.2 k.3 (added c.run.text.items k.0 k.4) (omega (arith, k.6, c.in_ok-_byte.ensures.place))))
 
 pub returns-then-not-branch-clause-value : goal.returns-then-not-branch-clause-value
 returns-then-not-branch-clause-value g c = λ xs e.
@@ -25,7 +25,7 @@ returns-then-not-branch-clause-value g c = λ xs e.
     let looked = c.in_ok-_byte.ensures.next i.0 i.1 in
     let k = took.bytes i.0 looked.0 in
     let stop = took.end c.if-not-branch.true i.0 looked.0 k.1 k.5 in
-    let on = runs_part i.2 k.0 k.1 k.2 k.3 k.4 (omega (arith, k.6, c.in_ok-_byte.ensures.place)) in
+    let on = runs_part i.2 k.0 k.1 k.2 k.3 (added c.run.text.items k.0 k.4) (omega (arith, k.6, c.in_ok-_byte.ensures.place)) in
     let end = runs_end on stop in
     (end.0, k.5 ∙ ap Some end.1, end.2)
 
