@@ -245,8 +245,8 @@ impl<R: ByteReader> Input<R> {
         text: &mut Vec<u8>,
     ) -> Result<bool, AllocError>
         // Result.
-        ensures bytes { OnOk result (AddsPart R.remaining stop self.old (text.old.items ++ front.now)
-            self.new text.new) }
+        ensures bytes { OnOk result (AddsPart R.remaining stop self.old
+            (text.old.items ++ front.now) self.new text.new) }
         ensures end { IfOk result (λ more. more ≡ false
             → IsAtStop R.remaining stop self.old self.new) }
         // State afterwards.
