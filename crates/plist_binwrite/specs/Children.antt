@@ -1,5 +1,5 @@
 -- The indices of a collection's children among buffered events.
-use Rattle.std.specs.Prelude.{ℕ, zero, suc, ◌+◌, if◌then◌else◌, List, [], ◌∷◌, length}
+use Rattle.std.specs.Prelude.{◌≡◌, ℕ, zero, suc, ◌+◌, if◌then◌else◌, List, [], ◌∷◌, length}
 use Rattle.plist_base.specs.Events.{PlainEvent, StartArray, StartDictionary}
 use Rattle.plist_binwrite.specs.EventTable.{plain_events, is_end, event_at}
 use Rattle.plist_binwrite.specs.declared.children.Child.{Child}
@@ -39,6 +39,10 @@ children_after event half es from = []
 -- a half of the children of the collection that begins at an index
 abbrev pub children_of : List PlainEvent → Half → (index : ℕ) → List ℕ
 children_of es half index = children_after (event_at es index) half es (index + 1)
+
+-- no child follows the event at an index
+abbrev pub HasNoChildren : List PlainEvent → (index : ℕ) → Type 0
+HasNoChildren es index = (half : Half) → children_of es half index ≡ []
 
 -- those that an iterator has still to yield
 abbrev pub indices_left : Children → List ℕ

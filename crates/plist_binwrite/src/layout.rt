@@ -4,7 +4,7 @@ ghost use Rattle.std.specs.Prelude.{IfOk};
 ghost use Rattle.plist_binwrite.specs.inner.Laying.{IsOrder, HasAll};
 ghost use Rattle.plist_binwrite.specs.inner.Planning.{IsNumberedBy, count_of};
 
-use crate::children::{Children, Half};
+use crate::children::{Children, Half, begins_collection};
 use crate::classes::Classed;
 use crate::compact_numbers::Numbers;
 use crate::numbering::Numbering;
@@ -72,6 +72,9 @@ impl FileLayout {
             return Ok(());
         }
         self.put(given, numbering, index)?;
+        if !begins_collection(given.events, index) {
+            return Ok(());
+        }
         for key in Children::new(given.events, index, Half::Keys) {
             self.put(given, numbering, key)?;
         }

@@ -5,7 +5,7 @@ ghost use Rattle.plist_binwrite.specs.EventTable.{IsBracketed};
 ghost use Rattle.plist_binwrite.specs.inner.Planning.{IsNumberedBy};
 ghost use Rattle.std.specs.Prelude.{IfOk};
 
-use crate::children::{Children, Half};
+use crate::children::{Children, Half, begins_collection};
 use crate::classes::Classed;
 use crate::compact_numbers::Numbers;
 use std::alloc::{AllocError, Global};
@@ -96,7 +96,8 @@ impl Numbering {
         Ok(())
     }
 
-    // Numbers the keys of the collection that begins at an index, and then its items or values.
+    // Numbers the keys of the collection that begins at an index, and then its items or values. Any
+    // other event has no children.
     fn number_children(&mut self, given: &Classed<'_, '_>, index: usize) -> Result<(), AllocError>
         requires so_far { IsNumberedSoFar given.now self.old }
         requires index { index < length (events_in given.now) }
@@ -104,6 +105,9 @@ impl Numbering {
         ensures keeps { OnOk result (KeepsNumbers given.now self.old self.new) }
         ensures numbered { OnOk result (NumbersChildren given.now index self.new) }
     {
+        if !begins_collection(given.events, index) {
+            return Ok(());
+        }
         self.number_half(given, index, Half::Keys)?;
         self.number_half(given, index, Half::Values)?;
         Ok(())

@@ -38,3 +38,7 @@ loop-key-preserved c =
       marked = one.keeps _ i.marked;
       items = (subst (AllByRecursion (HasItem _)) c.in-Some.ensures.steps i.items).1;
     }
+
+pub returns-then-not-begins_collection-clause-marked
+    : goal.returns-then-not-begins_collection-clause-marked
+returns-then-not-begins_collection-clause-marked c = λ item. c.in_ok-put.ensures.marked

@@ -1,6 +1,19 @@
-use Rattle.plist_binwrite.proofs.PlannedBy.{keeps_then}
+use Rattle.std.proofs.Common.{refl, subst, sym}
+use Rattle.std.specs.List.{AllByRecursion}
+use Rattle.plist_binwrite.specs.declared.children.Half.TheVariants.{Keys, Values}
+use Rattle.plist_binwrite.proofs.PlannedBy.{keeps_self, keeps_then}
 use Rattle.plist_binwrite.proofs.Uniques.{all_from}
 use Rattle.plist_binwrite.proofs.numbering.Numbering.number_children.Goals as goal
+
+pub returns-then-not-begins_collection-clause-keeps
+    : goal.returns-then-not-begins_collection-clause-keeps
+returns-then-not-begins_collection-clause-keeps c = keeps_self
+
+pub returns-then-not-begins_collection-clause-numbered
+    : goal.returns-then-not-begins_collection-clause-numbered
+returns-then-not-begins_collection-clause-numbered c =
+    let none = c.if-not-begins_collection.ensures refl in
+    (subst (AllByRecursion _) (sym (none Keys)) tt, subst (AllByRecursion _) (sym (none Values)) tt)
 
 pub returns-clause-keeps : goal.returns-clause-keeps
 returns-clause-keeps c =
