@@ -5,7 +5,7 @@ use Rattle.std.proofs.lemmas.Bool.Decides.{leb_tells}
 use Rattle.std.proofs.lemmas.List.{get_or_past}
 use Rattle.plist_base.specs.Events.{PlainEvent, StartArray, StartDictionary, EndCollection, ScalarEvent}
 use Rattle.plist_base.specs.Trees.{Tree, Leaf, Array, Dictionary, Trees, NoTrees, TreeAnd, Members, NoMembers, MemberAnd}
-use Rattle.plist_binwrite.specs.Children.{child_at, last_at, children_within, children_from, children_after, children_of}
+use Rattle.plist_binwrite.specs.Children.{child_at, last_at, children_within, children_from, children_after, half_of}
 use Rattle.plist_binwrite.specs.EventTable.{HasItem, is_end, entry_kind_of, event_at, item_indices, key_indices, value_indices, keys_in, values_in}
 use Rattle.plist_binwrite.specs.Occurrences.{event_count, OccursAt, ItemsOccurAt, PairsOccurAt}
 use Rattle.plist_binwrite.specs.declared.children.Child.{Child}
@@ -120,7 +120,7 @@ module _ (es : List PlainEvent) where
   -- what is true of no children and of those of a collection is true of any children
   any_children : (P : List ℕ → Type 0) → P []
       → ((child : Child) (q : ℕ) → P (children_from child es q)) → (half : Half) (index : ℕ)
-      → P (children_of es half index)
+      → P (half_of es half index)
   any_children P none some half index = by (event_at es index) half (index + 1)
     where
       by : (event : PlainEvent) (half : Half) (q : ℕ) → P (children_after event half es q)
@@ -132,12 +132,12 @@ module _ (es : List PlainEvent) where
       by (ScalarEvent x) half q = none
 
   -- there are at most as many children as events, and each is an item
-  pub few_children : (half : Half) (index : ℕ) → length (children_of es half index) ≤ length es
+  pub few_children : (half : Half) (index : ℕ) → length (half_of es half index) ≤ length es
   few_children =
       any_children (λ l. length l ≤ length es) (omega arith) (few_within (length es))
 
   pub are_items : (half : Half) (index : ℕ)
-      → AllByRecursion (HasItem es) (children_of es half index)
+      → AllByRecursion (HasItem es) (half_of es half index)
   are_items = any_children (AllByRecursion (HasItem es)) tt (items_within (length es))
 
   -- ---- the children of a tree
@@ -172,7 +172,7 @@ module _ (es : List PlainEvent) where
       ∙ ap (λ l. (q + 1) ∷ l) (ap (children_from Value es) (skip_ends es t (q + 1) (occurs_value s))
       ∙ values_left ms (q + 1 + event_count t) (occurs_next_pair s))
 
-  pub keys_are_in : (t : Tree) (p : ℕ) → OccursAt es t p → children_of es Keys p ≡ keys_in t p
+  pub keys_are_in : (t : Tree) (p : ℕ) → OccursAt es t p → half_of es Keys p ≡ keys_in t p
   keys_are_in (Leaf x) p s = rw (stands_single s) refl
   keys_are_in (Array ts) p s = rw (starts_array s) refl
   keys_are_in (Dictionary ms) p s =
@@ -180,7 +180,7 @@ module _ (es : List PlainEvent) where
       ∙ keys_left ms (p + 1) (occurs_pairs s)
 
   pub values_are_in : (t : Tree) (p : ℕ) → OccursAt es t p
-      → children_of es Values p ≡ values_in t p
+      → half_of es Values p ≡ values_in t p
   values_are_in (Leaf x) p s = rw (stands_single s) refl
   values_are_in (Array ts) p s =
       ap (λ e. children_after e Values es (p + 1)) (starts_array s)

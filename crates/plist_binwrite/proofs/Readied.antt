@@ -19,7 +19,7 @@ use Rattle.plist_binwrite.specs.Forms.{form, table_form, AllFit}
 use Rattle.plist_binwrite.specs.EventTable.{AllBelow, Describes}
 use Rattle.plist_binwrite.specs.EventClasses.{class_in, events_in}
 use Rattle.plist_binwrite.specs.inner.Laying.{AllOnce, laid_out, with_table_and_trailer, IsOrder, HasAll}
-use Rattle.plist_binwrite.specs.inner.Planning.{IsPlanned, number_in}
+use Rattle.plist_binwrite.specs.inner.Planning.{IsPlanned, object_number}
 use Rattle.plist_binwrite.specs.inner.PlansBy.{number_by}
 use Rattle.plist_binwrite.specs.Occurrences.{positions}
 use Rattle.plist_binwrite.specs.Widths.{reference_width, offset_width}
@@ -278,7 +278,7 @@ sends_end contents given plan old middle new empty (Err error) sent prefix faile
 
 module _ {W : Type 0} (contents : W → Option (List ℕ)) (given : Classed) (old new : W)
     (whole : AreTreeEvents (events_in given)) {plan : FilePlan} (r : IsFilePlan given plan) where
-  of : Numbered (events_in given) (number_in given plan.numbering)
+  of : Numbered (events_in given) (object_number given plan.numbering)
   of = numbered r.numbered.planned
 
   is_file : IsFileAs (IsFileBy (class_in given)) (size_by (class_in given)) (events_in given)

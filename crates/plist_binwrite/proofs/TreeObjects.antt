@@ -11,9 +11,9 @@ use Rattle.plist_binwrite.specs.Numberings.{references, pairs, object_of}
 use Rattle.plist_binwrite.specs.Forms.{big_endian, length_form, units_of, is_ascii_text, text_form, form, key_numbers, value_numbers, IsWritable, IsWritableScalar, AllFit}
 use Rattle.plist_binwrite.specs.EventTable.{is_end, entry_kind_of, event_at, item_indices, key_indices, value_indices, AllNumbered, IsBracketed}
 use Rattle.plist_binwrite.specs.Sizes.{IsSizeOrNone, dictionary_size, marked_size}
-use Rattle.plist_binwrite.specs.Children.{children_of}
+use Rattle.plist_binwrite.specs.Children.{half_of}
 use Rattle.plist_binwrite.specs.declared.children.Half.TheVariants.{Values}
-use Rattle.plist_binwrite.specs.inner.Putting.{collection_of}
+use Rattle.plist_binwrite.specs.inner.Putting.{collection_form}
 use Rattle.plist_binwrite.specs.inner.Entries.{is_leaf}
 use Rattle.plist_binwrite.proofs.Occurring.{occurs_whole, occurs_items, occurs_pairs, occurs_item, occurs_next, occurs_key, occurs_value, occurs_next_pair}
 use Rattle.plist_binwrite.proofs.Skipping.{stands_single, starts_array, starts_dictionary, no_start, begins, occurs_in}
@@ -35,11 +35,11 @@ length-values (MemberAnd k t ms) q = omega (arith, length-values ms (q + 1 + eve
 
 module _ {es : List PlainEvent} {p : ℕ} where
   pub count_items : {ts : Trees} → OccursAt es (Array ts) p
-      → length (children_of es Values p) ≡ number_of_trees ts
+      → length (half_of es Values p) ≡ number_of_trees ts
   count_items {ts} s = ap length (values_are_in es (Array ts) p s) ∙ length-items ts (p + 1)
 
   pub count_pairs : {ms : Members} → OccursAt es (Dictionary ms) p
-      → length (children_of es Values p) ≡ number_of_members ms
+      → length (half_of es Values p) ≡ number_of_members ms
   count_pairs {ms} s = ap length (values_are_in es (Dictionary ms) p s) ∙ length-values ms (p + 1)
 
 -- ---- references fit
@@ -147,7 +147,7 @@ module _ (num : ℕ → ℕ) where
 -- the bytes of a collection are those of its object
 module _ {es : List PlainEvent} (num : ℕ → ℕ) (w : ℕ) {p : ℕ} where
   pub array_is : {ts : Trees} → OccursAt es (Array ts) p
-      → collection_of num w es 0xa p ≡ form w (object_of num (Array ts) p)
+      → collection_form num w es 0xa p ≡ form w (object_of num (Array ts) p)
   array_is {ts} s =
       rw (
         keys_are_in es (Array ts) p s,
@@ -157,7 +157,7 @@ module _ {es : List PlainEvent} (num : ℕ → ℕ) (w : ℕ) {p : ℕ} where
       ) refl
 
   pub dictionary_is : {ms : Members} → OccursAt es (Dictionary ms) p
-      → collection_of num w es 0xd p ≡ form w (object_of num (Dictionary ms) p)
+      → collection_form num w es 0xd p ≡ form w (object_of num (Dictionary ms) p)
   dictionary_is {ms} s =
       rw (
         keys_are_in es (Dictionary ms) p s,

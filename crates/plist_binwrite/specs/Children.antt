@@ -37,12 +37,12 @@ children_after (StartDictionary hint) Values es from = children_from Value es fr
 children_after event half es from = []
 
 -- a half of the children of the collection that begins at an index
-abbrev pub children_of : List PlainEvent → Half → (index : ℕ) → List ℕ
-children_of es half index = children_after (event_at es index) half es (index + 1)
+abbrev pub half_of : List PlainEvent → Half → (index : ℕ) → List ℕ
+half_of es half index = children_after (event_at es index) half es (index + 1)
 
 -- no child follows the event at an index
-abbrev pub HasNoChildren : List PlainEvent → (index : ℕ) → Type 0
-HasNoChildren es index = (half : Half) → children_of es half index ≡ []
+abbrev pub HasNoHalf : List PlainEvent → (index : ℕ) → Type 0
+HasNoHalf es index = (half : Half) → half_of es half index ≡ []
 
 -- those that an iterator has still to yield
 abbrev pub indices_left : Children → List ℕ

@@ -2,7 +2,7 @@
 
 ghost use Rattle.std.specs.Prelude.{IfOk};
 ghost use Rattle.plist_binwrite.specs.inner.Laying.{IsOrder, HasAll};
-ghost use Rattle.plist_binwrite.specs.inner.Planning.{IsNumberedBy, count_of};
+ghost use Rattle.plist_binwrite.specs.inner.Planning.{IsNumberingOfEvents, count_of};
 
 use crate::children::{Children, Half, begins_collection};
 use crate::classes::Classed;
@@ -25,7 +25,7 @@ impl FileLayout {
     ghost use Rattle.plist_binwrite.specs.EventClasses.{events_in};
     ghost use Rattle.plist_binwrite.specs.EventTable.{HasItem};
     ghost use Rattle.plist_binwrite.specs.inner.Laying.{IsOrder, KeepsMarks};
-    ghost use Rattle.plist_binwrite.specs.inner.Planning.{IsNumberedBy, count_of};
+    ghost use Rattle.plist_binwrite.specs.inner.Planning.{IsNumberingOfEvents, count_of};
     ghost use Rattle.plist_binwrite.specs.inner.Sizing.{MarksItem};
 
     // Appends the object of the event at an index to the order, unless it is there already. The
@@ -36,7 +36,7 @@ impl FileLayout {
         numbering: &Numbering,
         index: usize,
     ) -> Result<(), AllocError>
-        requires numbered { IsNumberedBy given.now numbering.now }
+        requires numbered { IsNumberingOfEvents given.now numbering.now }
         requires item { HasItem (events_in given.now) index }
         requires order { IsOrder (count_of numbering.now) self.old.order self.old.places }
         ensures order { OnOk result (IsOrder (count_of numbering.now) self.new.order
@@ -60,7 +60,7 @@ impl FileLayout {
         numbering: &Numbering,
         index: usize,
     ) -> Result<(), AllocError>
-        requires numbered { IsNumberedBy given.now numbering.now }
+        requires numbered { IsNumberingOfEvents given.now numbering.now }
         requires order { IsOrder (count_of numbering.now) self.old.order self.old.places }
         ensures order { OnOk result (IsOrder (count_of numbering.now) self.new.order
             self.new.places) }
@@ -89,7 +89,7 @@ pub fn order_objects(
     given: &Classed<'_, '_>,
     numbering: &Numbering,
 ) -> Result<FileLayout, AllocError>
-    requires numbered { IsNumberedBy given.now numbering.now }
+    requires numbered { IsNumberingOfEvents given.now numbering.now }
     ensures order { IfOk result (λ r. IsOrder (count_of numbering.now) r.order r.places) }
     ensures all { IfOk result (λ r. HasAll (count_of numbering.now) r.order) }
 {

@@ -2,7 +2,7 @@
 
 ghost use Rattle.plist_binwrite.specs.EventClasses.{IsClassed, events_in};
 ghost use Rattle.plist_binwrite.specs.EventTable.{IsBracketed};
-ghost use Rattle.plist_binwrite.specs.inner.Planning.{IsNumberedBy};
+ghost use Rattle.plist_binwrite.specs.inner.Planning.{IsNumberingOfEvents};
 ghost use Rattle.std.specs.Prelude.{IfOk};
 
 use crate::children::{Children, Half, begins_collection};
@@ -24,7 +24,7 @@ impl Numbering {
     ghost use Rattle.plist_binwrite.specs.EventClasses.{IsListed, class_in, events_in};
     ghost use Rattle.plist_binwrite.specs.EventTable.{nth_number, HasItem, IsBracketed};
     ghost use Rattle.plist_binwrite.specs.inner.Numbering.{AreMarks, BeginsAt, IsNumberedSoFar, KeepsNumbers, NumbersAll, NumbersChildren, NumbersHalf, NumbersItem, RootIsFirst};
-    ghost use Rattle.plist_binwrite.specs.inner.Planning.{number_in};
+    ghost use Rattle.plist_binwrite.specs.inner.Planning.{object_number};
 
     // Starts without numbers. Memory for the first index of each class is reserved, since lists
     // that grow would leave gaps between those that are full.
@@ -43,7 +43,7 @@ impl Numbering {
         requires index { index < length (events_in given.now) }
         requires listed { IsListed given.now }
         requires class { class_in given.now index < length self.now.by_class }
-        ensures { result ≡ number_in given.now self.now index }
+        ensures { result ≡ object_number given.now self.now index }
     {
         self.by_class.get(given.class_at(index))
     }
@@ -136,7 +136,7 @@ impl Numbering {
 pub fn number_objects(alloc: Global, given: &Classed<'_, '_>) -> Result<Numbering, AllocError>
     requires whole { IsBracketed (events_in given.now) }
     requires classed { IsClassed given.now }
-    ensures { IfOk result (IsNumberedBy given.now) }
+    ensures { IfOk result (IsNumberingOfEvents given.now) }
 {
     let mut numbering = Numbering::new(alloc, given.bound())?;
     numbering.number_all(given)?;

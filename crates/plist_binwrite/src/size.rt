@@ -3,10 +3,10 @@
 
 ghost use Rattle.std.specs.Prelude.{◌≡◌, ◌+◌, ◌^◌, ◌<◌, ◌≤◌, ℕ, length, true, false, IfOk, IfSome, None, OnOk, Some};
 ghost use Rattle.plist_base.specs.Outcomes.{OnlyMemory};
-ghost use Rattle.plist_binwrite.specs.Children.{children_of};
+ghost use Rattle.plist_binwrite.specs.Children.{half_of};
 ghost use Rattle.plist_binwrite.specs.EventTable.{plain_events};
 ghost use Rattle.plist_binwrite.specs.inner.Laying.{IsOrder};
-ghost use Rattle.plist_binwrite.specs.inner.Planning.{IsNumberedBy, count_of};
+ghost use Rattle.plist_binwrite.specs.inner.Planning.{IsNumberingOfEvents, count_of};
 ghost use Rattle.plist_binwrite.specs.Sizes.{IsSizeOrNone, size_with};
 ghost use Rattle.plist_binwrite.specs.inner.Sizing.{AreLaid, ExceedsWith, FitsWith, IsWritableAt, IsEndOrNone, IsSizeOrNoneAt};
 
@@ -23,7 +23,7 @@ use plist_base::Error;
 /// Counts a half of the children of the collection that begins at an index.
 pub fn count_children(events: &EventTable<'_>, index: usize, half: Half) -> usize
     requires { index < length (plain_events events.now) }
-    ensures { result ≡ length (children_of (plain_events events.now) half index) }
+    ensures { result ≡ length (half_of (plain_events events.now) half index) }
 {
     Children::new(events, index, half).count()
 }
@@ -71,7 +71,7 @@ pub fn place_objects(
     order: &Numbers,
     places: &mut Numbers,
 ) -> Result<Option<u64>, Error>
-    requires numbered { IsNumberedBy given.now numbering.now }
+    requires numbered { IsNumberingOfEvents given.now numbering.now }
     requires fits { count_of numbering.now ≤ 256 ^ width }
     requires order { IsOrder (count_of numbering.now) order.now places.old }
     ensures long { OnOk result (length places.new ≡ count_of numbering.now) }

@@ -3,7 +3,7 @@
 
 ghost use Rattle.std.specs.Prelude.{◌≡◌, ◌+◌, ◌<◌, length, IfOk, OnOk};
 ghost use Rattle.plist_base.specs.Outcomes.{OnlyMemory};
-ghost use Rattle.plist_binwrite.specs.Children.{children_of};
+ghost use Rattle.plist_binwrite.specs.Children.{half_of};
 ghost use Rattle.plist_binwrite.specs.Classes.{AreClasses};
 ghost use Rattle.plist_binwrite.specs.EventTable.{plain_events, AllBelow, nth_number, table_event, entry_kind_of};
 ghost use Rattle.plist_binwrite.specs.inner.Scalars.{AreDistinct};
@@ -62,7 +62,7 @@ fn push_half(
     requires index { index < length (plain_events events.now) }
     requires long { length classes.now ≡ length (plain_events events.now) }
     ensures pushed { OnOk result (AddsClasses found.old classes.now
-        (children_of (plain_events events.now) half index) found.new) }
+        (half_of (plain_events events.now) half index) found.new) }
     ensures memory { OnlyMemory result }
 {
     for child in Children::new(events, index, half) {

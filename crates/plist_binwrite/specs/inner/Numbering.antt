@@ -1,14 +1,14 @@
 -- Words for the numbers that buffered events have so far, and for how a call changes them.
 use Rattle.std.specs.Prelude.{◌≡◌, ℕ, ◌-◌, ◌^◌, List, length, get_or, replicate}
 use Rattle.std.specs.List.{AllByRecursion}
-use Rattle.plist_binwrite.specs.Children.{children_of}
+use Rattle.plist_binwrite.specs.Children.{half_of}
 use Rattle.plist_binwrite.specs.EventClasses.{IsListed, class_in, events_in}
 use Rattle.plist_binwrite.specs.EventTable.{AllNumbered, IsNumbered, KeepsNumbering}
 use Rattle.plist_binwrite.specs.declared.children.Half.{Half}
 use Rattle.plist_binwrite.specs.declared.children.Half.TheVariants.{Keys, Values}
 use Rattle.plist_binwrite.specs.declared.classes.Classed.{Classed}
 use Rattle.plist_binwrite.specs.declared.numbering.Numbering.{Numbering}
-use Rattle.plist_binwrite.specs.inner.Planning.{number_in}
+use Rattle.plist_binwrite.specs.inner.Planning.{object_number}
 use Rattle.plist_binwrite.specs.inner.PlansBy.{IsPlan}
 
 -- this many numbers, all of which are unknown
@@ -28,16 +28,16 @@ module _ (given : Classed) where
   -- what has a number keeps it
   abbrev pub KeepsNumbers : (old new : Numbering) → Type 0
   KeepsNumbers old new =
-      KeepsNumbering (number_in given old) old.firsts (number_in given new) new.firsts
+      KeepsNumbering (object_number given old) old.firsts (object_number given new) new.firsts
 
   -- the event at this index has a number
   abbrev pub NumbersItem : (index : ℕ) → Numbering → Type 0
-  NumbersItem index found = IsNumbered (number_in given found) found.firsts index
+  NumbersItem index found = IsNumbered (object_number given found) found.firsts index
 
   -- a half of the children of the collection that begins at this index have numbers
   abbrev pub NumbersHalf : Half → (index : ℕ) → Numbering → Type 0
-  NumbersHalf half index found = AllByRecursion (IsNumbered (number_in given found) found.firsts)
-      (children_of (events_in given) half index)
+  NumbersHalf half index found = AllByRecursion (IsNumbered (object_number given found) found.firsts)
+      (half_of (events_in given) half index)
 
   -- all of its children have
   abbrev pub NumbersChildren : (index : ℕ) → Numbering → Type 0
@@ -45,8 +45,8 @@ module _ (given : Classed) where
 
   -- each item has a number
   abbrev pub NumbersAll : Numbering → Type 0
-  NumbersAll found = AllNumbered (events_in given) (number_in given found) (length found.firsts)
+  NumbersAll found = AllNumbered (events_in given) (object_number given found) (length found.firsts)
 
   -- the root has the first number
   abbrev pub RootIsFirst : Numbering → Type 0
-  RootIsFirst found = number_in given found 0 ≡ 0
+  RootIsFirst found = object_number given found 0 ≡ 0

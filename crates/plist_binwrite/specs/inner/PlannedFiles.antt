@@ -14,12 +14,12 @@ use Rattle.plist_binwrite.specs.Widths.{reference_width}
 use Rattle.plist_binwrite.specs.declared.classes.Classed.{Classed}
 use Rattle.plist_binwrite.specs.declared.plan.FilePlan.{FilePlan}
 use Rattle.plist_binwrite.specs.inner.Laying.{laid_out, with_table_and_trailer}
-use Rattle.plist_binwrite.specs.inner.Planning.{IsNumberedBy, count_of, number_in}
+use Rattle.plist_binwrite.specs.inner.Planning.{IsNumberingOfEvents, count_of, object_number}
 
 -- the objects of a planned file
 abbrev pub AreObjectsOf : Classed → FilePlan → (ℕ → Object) → Type 0
 AreObjectsOf given plan objects =
-    Describes (events_in given) (number_in given plan.numbering) objects
+    Describes (events_in given) (object_number given plan.numbering) objects
 
 -- the planned file, if its objects are these
 abbrev pub file_of : FilePlan → (ℕ → Object) → List ℕ
@@ -28,7 +28,7 @@ file_of plan objects =
 
 -- the file of the tree with these events is planned, and has less than 2^64 bytes
 pub record IsFilePlan (given : Classed) (plan : FilePlan) : Type 0 where
-  pub numbered : IsNumberedBy given plan.numbering
+  pub numbered : IsNumberingOfEvents given plan.numbering
   pub order : AllBelow (count_of plan.numbering) plan.order
   pub width : plan.width ≡ reference_width (length plan.places)
   pub narrow : plan.width ≤ 8

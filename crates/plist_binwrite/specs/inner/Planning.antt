@@ -18,15 +18,15 @@ pub record IsPlanned (es : List PlainEvent) (class : ℕ → ℕ) (by_class firs
     pub root : number_by class by_class 0 ≡ 0
 
 -- the number of an event's object
-abbrev pub number_in : Classed → Numbering → (index : ℕ) → ℕ
-number_in given numbering = number_by (class_in given) numbering.by_class
+abbrev pub object_number : Classed → Numbering → (index : ℕ) → ℕ
+object_number given numbering = number_by (class_in given) numbering.by_class
 
 -- the number of objects
 abbrev pub count_of : Numbering → ℕ
 count_of numbering = length numbering.firsts
 
 -- all objects of a tree's events have numbers
-pub record IsNumberedBy (given : Classed) (numbering : Numbering) : Type 0 where
+pub record IsNumberingOfEvents (given : Classed) (numbering : Numbering) : Type 0 where
   pub listed : IsListed given
   pub planned : IsPlanned (events_in given) (class_in given) numbering.by_class numbering.firsts
   pub open planned use *

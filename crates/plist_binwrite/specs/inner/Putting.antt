@@ -13,29 +13,29 @@ use Rattle.plist_binwrite.specs.Forms.{form, length_form, table_form}
 use Rattle.plist_binwrite.specs.EventClasses.{events_in}
 use Rattle.plist_binwrite.specs.Numberings.{object_of}
 use Rattle.plist_binwrite.specs.Occurrences.{OccursAt}
-use Rattle.plist_binwrite.specs.Children.{children_of}
+use Rattle.plist_binwrite.specs.Children.{half_of}
 use Rattle.plist_binwrite.specs.declared.children.Half.{Half}
 use Rattle.plist_binwrite.specs.declared.children.Half.TheVariants.{Keys, Values}
 use Rattle.plist_binwrite.specs.Written.{object_table}
 use Rattle.plist_binwrite.specs.declared.classes.Classed.{Classed}
 use Rattle.plist_binwrite.specs.declared.plan.FilePlan.{FilePlan}
 use Rattle.plist_binwrite.specs.inner.PlannedFiles.{AreObjectsOf, SendsPlan, file_of}
-use Rattle.plist_binwrite.specs.inner.Planning.{number_in}
+use Rattle.plist_binwrite.specs.inner.Planning.{object_number}
 
 module _ (number : ℕ → ℕ) (width : ℕ) (es : List PlainEvent) where
   -- the references to a half of the children of the collection that begins at an index
   abbrev pub references_of : Half → (index : ℕ) → List ℕ
-  references_of half index = table_form width (map number (children_of es half index))
+  references_of half index = table_form width (map number (half_of es half index))
 
   -- a collection: its length, and the references to its keys and to its items or values
-  abbrev pub collection_of : (high index : ℕ) → List ℕ
-  collection_of high index = length_form high (length (children_of es Values index))
+  abbrev pub collection_form : (high index : ℕ) → List ℕ
+  collection_form high index = length_form high (length (half_of es Values index))
       ++ (references_of Keys index ++ references_of Values index)
 
 module _ {W : Type 0} (contents : W → Option (List ℕ)) (old : Sink W) (given : Classed)
     (plan : FilePlan) where
   abbrev number : ℕ → ℕ
-  number = number_in given plan.numbering
+  number = object_number given plan.numbering
 
   -- the references to a half of the children of the collection that begins at this index are put
   abbrev pub PutsHalf : Half → (index : ℕ) → Result (Unit {0}) Error → (new : Sink W) → Type 0
@@ -46,7 +46,7 @@ module _ {W : Type 0} (contents : W → Option (List ℕ)) (old : Sink W) (given
   abbrev pub PutsCollection : CountedKind → (index : ℕ) → Result (Unit {0}) Error → (new : Sink W)
       → Type 0
   PutsCollection kind index result new = Puts contents old
-      (collection_of number plan.width (events_in given) (high_half kind) index) result new
+      (collection_form number plan.width (events_in given) (high_half kind) index) result new
 
   -- the object of the tree that begins at this index is put
   abbrev pub PutsObject : (index : ℕ) → Result (Unit {0}) Error → (new : Sink W) → Type 0

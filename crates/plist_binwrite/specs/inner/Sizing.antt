@@ -13,11 +13,11 @@ use Rattle.plist_binwrite.specs.declared.event_table.EventTable.{EventTable}
 use Rattle.plist_binwrite.specs.declared.classes.Classed.{Classed}
 use Rattle.plist_binwrite.specs.declared.numbering.Numbering.{Numbering}
 use Rattle.plist_binwrite.specs.inner.Laying.{laid_out}
-use Rattle.plist_binwrite.specs.inner.Planning.{number_in}
+use Rattle.plist_binwrite.specs.inner.Planning.{object_number}
 
 -- the object of the event at this index has a mark
 abbrev pub MarksItem : Classed → Numbering → (index : ℕ) → (marks : List ℕ) → Type 0
-MarksItem given numbering index marks = get_or marks (number_in given numbering index) 0 ≢ 0
+MarksItem given numbering index marks = get_or marks (object_number given numbering index) 0 ≢ 0
 
 -- a file with this many objects, whose offset table lies at `table`, has less than 2^64 bytes, or
 -- doesn't
@@ -43,11 +43,11 @@ module _ (given : Classed) (numbering : Numbering) (width : ℕ) where
   -- the length of the magic and the objects in this order, or none if it is 2^64 or more
   abbrev pub IsEndOrNone : (order : List ℕ) → Option ℕ → Type 0
   IsEndOrNone order found = (objects : ℕ → Object)
-      → Describes (events_in given) (number_in given numbering) objects
+      → Describes (events_in given) (object_number given numbering) objects
       → IsSizeOrNone found (length (laid_out width objects order))
 
   -- the objects lie at these offsets, if their end is known
   abbrev pub AreLaid : (order places : List ℕ) → (found : Option ℕ) → Type 0
   AreLaid order places found = IfSome found (λ _. (objects : ℕ → Object)
-      → Describes (events_in given) (number_in given numbering) objects
+      → Describes (events_in given) (object_number given numbering) objects
       → Laid width objects places order 8)

@@ -4,7 +4,7 @@ use Rattle.plist_base.specs.Events.{PlainEvent}
 use Rattle.plist_base.specs.Trees.{Tree, Leaf, Array, Dictionary}
 use Rattle.std.specs.declared.alloc.Global.{Global}
 use Rattle.std.specs.declared.vec.Vec.{Vec}
-use Rattle.plist_binwrite.specs.Children.{children_of}
+use Rattle.plist_binwrite.specs.Children.{half_of}
 use Rattle.plist_binwrite.specs.Classes.{AreClasses}
 use Rattle.plist_binwrite.specs.declared.children.Half.TheVariants.{Keys, Values}
 use Rattle.plist_binwrite.specs.EventTable.{AllBelow, table_event, keys_in, entry_kind_of, nth_number, plain_events, values_in}
@@ -75,8 +75,8 @@ AddsClasses old classes indices new = new.items ≡ old.items ++ map (nth_number
 -- the classes of the children of the collection that begins at an index
 abbrev pub AreClassesWithin : EventTable → (classes : List ℕ) → (index : ℕ) → Vec ℕ Global → Type 0
 AreClassesWithin held classes index found =
-    found.items ≡ map (nth_number classes) (children_of (plain_events held) Keys index)
-    ++ map (nth_number classes) (children_of (plain_events held) Values index)
+    found.items ≡ map (nth_number classes) (half_of (plain_events held) Keys index)
+    ++ map (nth_number classes) (half_of (plain_events held) Values index)
 
 -- is it the start of a dictionary?
 abbrev pub is_dictionary : EntryKind → Bool

@@ -1,17 +1,17 @@
 use Rattle.std.proofs.Common.{◌≡◌, ◌∷◌, ℕ, List, map, sym, ap, subst}
 use Rattle.std.specs.List.{AllByRecursion}
 use Rattle.plist_base.proofs.SinkSteps.{puts_as, puts_none, puts_then, puts_refused}
-use Rattle.plist_binwrite.specs.Children.{children_of, indices_left}
+use Rattle.plist_binwrite.specs.Children.{half_of, indices_left}
 use Rattle.plist_binwrite.specs.EventTable.{HasItem}
 use Rattle.plist_binwrite.specs.Forms.{table_form}
-use Rattle.plist_binwrite.specs.inner.Planning.{number_in}
+use Rattle.plist_binwrite.specs.inner.Planning.{object_number}
 use Rattle.plist_binwrite.specs.EventClasses.{events_in}
 use Rattle.plist_binwrite.proofs.ChildIndices.{are_items}
 use Rattle.plist_binwrite.proofs.objects.put_half.Goals as goal
 use Rattle.plist_binwrite.proofs.objects.put_half.Goals.{After-into_iter-child-iterator as Begun, In-Some as Next}
 
 begun : (g : _) (c : Begun g) → indices_left c.into_iter-child-iterator.result
-    ≡ children_of (events_in c.args.given.now) c.args.half c.args.index
+    ≡ half_of (events_in c.args.given.now) c.args.half c.args.index
 begun g c = cc (c.into_iter-child-iterator.ensures.into_iter_gives, c.new-child-items.ensures)
 
 items : (g : _) (c : Next g) → AllByRecursion (HasItem (events_in c.args.given.now))
@@ -38,7 +38,7 @@ number-requires-clause-class g c =
 -- the remaining references, with the next one
 abbrev rest : (g : _) (c : Next g) → List ℕ → List ℕ
 rest g c l = table_form c.args.plan.now.width
-    (map (number_in c.args.given.now c.args.plan.now.numbering) l)
+    (map (object_number c.args.given.now c.args.plan.now.numbering) l)
 
 pub loop-child-preserved : goal.loop-child-preserved
 loop-child-preserved g c =
@@ -62,6 +62,6 @@ returns-in_err-put_next_number g c =
 pub returns : goal.returns
 returns g c =
     let all : List ℕ → List ℕ = λ l. table_form c.args.plan.now.width
-    (map (number_in c.args.given.now c.args.plan.now.numbering) l) in
+    (map (object_number c.args.given.now c.args.plan.now.numbering) l) in
     puts_as (ap all (begun g (goal.at.returns g c).After-into_iter-child-iterator))
     (c.loop-child.invariant.put _ _ (puts_as (ap all (sym c.in-None.ensures.steps.0)) puts_none))

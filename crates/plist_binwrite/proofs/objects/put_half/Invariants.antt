@@ -3,16 +3,16 @@ use Rattle.std.specs.List.{AllByRecursion}
 use Rattle.plist_binwrite.specs.Children.{indices_left}
 use Rattle.plist_binwrite.specs.EventTable.{HasItem}
 use Rattle.plist_binwrite.specs.Forms.{table_form}
-use Rattle.plist_binwrite.specs.inner.Planning.{number_in}
+use Rattle.plist_binwrite.specs.inner.Planning.{object_number}
 use Rattle.plist_binwrite.specs.EventClasses.{events_in}
 use Rattle.plist_binwrite.proofs.Outgoing.{PutsRest}
 use Rattle.plist_binwrite.proofs.objects.put_half.Given as goal
 
 abbrev pub invariant-loop-child : goal.invariant-loop-child
 invariant-loop-child g l = record {
-  put : PutsRest g.W.Write.contents (number_in l.given l.plan.numbering) l.plan.width l.initial.sink
+  put : PutsRest g.W.Write.contents (object_number l.given l.plan.numbering) l.plan.width l.initial.sink
       (table_form l.plan.width
-      (map (number_in l.given l.plan.numbering) (indices_left l.initial.child-iterator)))
+      (map (object_number l.given l.plan.numbering) (indices_left l.initial.child-iterator)))
       l.sink (indices_left l.child-iterator);
   items : AllByRecursion (HasItem (events_in l.given)) (indices_left l.child-iterator);
 }

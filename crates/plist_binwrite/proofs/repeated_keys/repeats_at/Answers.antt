@@ -3,7 +3,7 @@ use Rattle.std.specs.List.{AllByRecursion}
 use Rattle.std.proofs.lemmas.List.{length-set}
 use Rattle.std.proofs.lemmas.Option.{slice_get_within}
 use Rattle.plist_base.specs.Trees.{Dictionary}
-use Rattle.plist_binwrite.specs.Children.{children_of, indices_left}
+use Rattle.plist_binwrite.specs.Children.{half_of, indices_left}
 use Rattle.plist_binwrite.specs.EventTable.{plain_events, event_at, scalars_of, entry_kind_of, HasItem}
 use Rattle.plist_binwrite.specs.declared.children.Half.TheVariants.{Keys}
 use Rattle.plist_binwrite.specs.inner.Entries.{is_leaf}
@@ -15,7 +15,7 @@ use Rattle.plist_binwrite.proofs.repeated_keys.repeats_at.Goals as goal
 use Rattle.plist_binwrite.proofs.repeated_keys.repeats_at.Goals.{After-into_iter-key-iterator as Begun, In-Some as Next}
 
 begun : (c : Begun) → indices_left c.into_iter-key-iterator.result
-    ≡ children_of (plain_events c.args.events.now) Keys c.args.start
+    ≡ half_of (plain_events c.args.events.now) Keys c.args.start
 begun c = cc (c.into_iter-key-iterator.ensures.into_iter_gives, c.new-key-items.ensures)
 
 items : (c : Next) → AllByRecursion (HasItem (plain_events c.args.events.now))

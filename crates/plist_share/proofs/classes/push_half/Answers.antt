@@ -1,13 +1,13 @@
 use Rattle.std.proofs.Common.{◌≡◌, ◌++◌, ◌∷◌, [], arith, ap, map, sym, subst, refl, ◌∙◌, append-nil, append_assoc}
 use Rattle.std.specs.List.{AllByRecursion}
-use Rattle.plist_binwrite.specs.Children.{children_of, indices_left}
+use Rattle.plist_binwrite.specs.Children.{half_of, indices_left}
 use Rattle.plist_binwrite.specs.EventTable.{plain_events, HasItem, nth_number}
 use Rattle.plist_binwrite.proofs.ChildIndices.{are_items}
 use Rattle.plist_share.proofs.classes.push_half.Goals as goal
 use Rattle.plist_share.proofs.classes.push_half.Goals.{After-into_iter-child-iterator as Begun, In-Some as Next}
 
 begun : (c : Begun) → indices_left c.into_iter-child-iterator.result
-    ≡ children_of (plain_events c.args.events.now) c.args.half c.args.index
+    ≡ half_of (plain_events c.args.events.now) c.args.half c.args.index
 begun c = cc (c.into_iter-child-iterator.ensures.into_iter_gives, c.new-child-items.ensures)
 
 items : (c : Next) → AllByRecursion (HasItem (plain_events c.args.events.now))

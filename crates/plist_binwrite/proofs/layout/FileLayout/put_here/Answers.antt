@@ -1,6 +1,6 @@
 use Rattle.std.proofs.Common.{◌≡◌, sym, subst}
 use Rattle.std.specs.List.{AllByRecursion}
-use Rattle.plist_binwrite.specs.Children.{children_of, indices_left}
+use Rattle.plist_binwrite.specs.Children.{half_of, indices_left}
 use Rattle.plist_binwrite.specs.EventClasses.{events_in}
 use Rattle.plist_binwrite.specs.EventTable.{HasItem}
 use Rattle.plist_binwrite.specs.declared.children.Half.TheVariants.{Keys}
@@ -9,7 +9,7 @@ use Rattle.plist_binwrite.proofs.layout.FileLayout.put_here.Goals as goal
 use Rattle.plist_binwrite.proofs.layout.FileLayout.put_here.Goals.{After-into_iter-key-iterator as Begun}
 
 begun : (c : Begun) → indices_left c.into_iter-key-iterator.result
-    ≡ children_of (events_in c.args.given.now) Keys c.args.index
+    ≡ half_of (events_in c.args.given.now) Keys c.args.index
 begun c = cc (c.into_iter-key-iterator.ensures.into_iter_gives, c.new-key-items.ensures)
 
 pub loop-key-init : goal.loop-key-init

@@ -1,16 +1,16 @@
 use Rattle.std.proofs.Common.{◌≡◌, sym, subst}
 use Rattle.std.specs.List.{AllByRecursion}
-use Rattle.plist_binwrite.specs.Children.{children_of, indices_left}
+use Rattle.plist_binwrite.specs.Children.{half_of, indices_left}
 use Rattle.plist_binwrite.specs.EventClasses.{events_in}
 use Rattle.plist_binwrite.specs.EventTable.{HasItem, IsNumbered}
-use Rattle.plist_binwrite.specs.inner.Planning.{number_in}
+use Rattle.plist_binwrite.specs.inner.Planning.{object_number}
 use Rattle.plist_binwrite.proofs.ChildIndices.{are_items}
 use Rattle.plist_binwrite.proofs.PlannedBy.{keeps_self, keeps_then}
 use Rattle.plist_binwrite.proofs.numbering.Numbering.number_half.Goals as goal
 use Rattle.plist_binwrite.proofs.numbering.Numbering.number_half.Goals.{After-into_iter-child-iterator as Begun}
 
 begun : (c : Begun) → indices_left c.into_iter-child-iterator.result
-    ≡ children_of (events_in c.args.given.now) c.args.half c.args.index
+    ≡ half_of (events_in c.args.given.now) c.args.half c.args.index
 begun c = cc (c.into_iter-child-iterator.ensures.into_iter_gives, c.new-child-items.ensures)
 
 pub loop-child-init : goal.loop-child-init
@@ -44,7 +44,7 @@ loop-child-preserved c =
 pub returns-clause-numbered : goal.returns-clause-numbered
 returns-clause-numbered c =
     let found = c.loop-child.self in
-    let Numbers = AllByRecursion (IsNumbered (number_in c.args.given.now found) found.firsts) in
+    let Numbers = AllByRecursion (IsNumbered (object_number c.args.given.now found) found.firsts) in
     subst Numbers (begun (goal.at.returns-clause-numbered c).After-into_iter-child-iterator)
     (c.loop-child.invariant.numbered _ _ keeps_self
     (subst Numbers (sym c.in-None.ensures.steps.0) tt))
