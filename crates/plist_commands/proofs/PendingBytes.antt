@@ -3,17 +3,9 @@ use Rattle.std.proofs.Common.{◌≡◌, ℕ, List, ◌⊎◌, inl, inr, Option,
 use Rattle.std.specs.Prelude.{⊤}
 use Rattle.plist_base.specs.declared.error.Error.{Error}
 use Rattle.plist_base.specs.Events.{Item}
-<<<<<<< HEAD:crates/plist_commands/proofs/HeldBack.antt
 use Rattle.plist_base.specs.Faults.{Fault, FaultKind, Io, MatchFault, OutOfMemory, error_kind_of, fault_without_offset, fault_of, kind_of, offset_of}
 use Rattle.plist_base.specs.Sources.{CountsIo, Rises}
 use Rattle.plist_base.proofs.Refusals.{MatchFault-all, MatchFault-at, MatchFault-weaker}
-=======
-use Rattle.plist_base.specs.Faults.{Fault, FaultKind, Io, MatchFault, OutOfMemory, error_kind_of, fault_without_offset, fault_of, kind_of, offset_of}
-use Rattle.plist_base.specs.Prefixes.{AppendsPrefix}
-use Rattle.plist_base.specs.Sources.{CountsIo, Rises}
-use Rattle.plist_base.proofs.Refusals.{MatchFault-all, MatchFault-at, MatchFault-weaker}
-use Rattle.plist_base.specs.Sinks.{WritesBut}
->>>>>>> 9e1deb0b76883adec8e46303bbef9a4b9c80c62a:crates/plist_commands/proofs/PendingBytes.antt
 use Rattle.plist_commands.specs.Printing.{CountsReads, IsWriterError, PrintsUntil}
 
 -- a fact that holds of an error's call holds where that error is passed on

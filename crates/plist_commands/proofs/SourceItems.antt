@@ -22,12 +22,8 @@ use Rattle.plist_commands.specs.EscapedLines.{first_fault, lines_of, lines_of_ev
 use Rattle.plist_commands.specs.Items.{ComesIfKnown, GivesNext, failures_if_held, failures_in, items_of_events}
 use Rattle.plist_commands.specs.Printing.{CountsReads, IsWriterError, PrintsAll, PrintsUntil}
 use Rattle.plist_commands.specs.ReaderRuns.{IsAskedOnce, PrintsRun, StepsBinary, StepsReader, StopsPrinting}
-<<<<<<< HEAD:crates/plist_commands/proofs/Coming.antt
 use Rattle.plist_base.proofs.SinkSteps.{prefix_more}
 use Rattle.plist_commands.proofs.PendingBytes.{device_own, fault_counts, memory_own, own_counts, own_ends}
-=======
-use Rattle.plist_commands.proofs.PendingBytes.{device_own, fault_counts, front_longer, memory_own, own_counts, own_ends}
->>>>>>> 9e1deb0b76883adec8e46303bbef9a4b9c80c62a:crates/plist_commands/proofs/SourceItems.antt
 
 -- ---- a binary reader
 

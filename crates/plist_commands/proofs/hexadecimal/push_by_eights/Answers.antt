@@ -18,6 +18,10 @@ returns-clause-pushed c =
     blocks_end notation.Hexadecimal 8 (length c.args.bytes.now / 8) c.args.bytes.now
     (buffered c.args.line.now) (buffered c.loop-block.line) (buffered c.push_digits.new.line)
     c.as_chunks.result.1.now c.loop-block.block-index
-    (omega (arith, c.loop-block-test.false, c.loop-block.auto.block-index-end,
-    c.as_chunks.ensures.front_len))
+    (omega (
+      arith,
+      c.loop-block-test.false,
+      c.loop-block.auto.block-index-end,
+      c.as_chunks.ensures.front_len,
+    ))
     c.loop-block.invariant.pushed c.as_chunks.ensures.back c.push_digits.ensures.pushed

@@ -1,10 +1,5 @@
-<<<<<<< HEAD:crates/plist_commands/proofs/plain_bytes/are_many_plain/Answers.antt
 use Rattle.plist_commands.proofs.ScalarLines.{plain_more}
 use Rattle.plist_commands.proofs.plain_bytes.are_many_plain.Goals as goal
-=======
-use Rattle.plist_commands.proofs.ScalarLines.{plain_more}
-use Rattle.plist_commands.proofs.escaped_lines.are_many_plain.Goals as goal
->>>>>>> 9e1deb0b76883adec8e46303bbef9a4b9c80c62a:crates/plist_commands/proofs/escaped_lines/are_many_plain/Answers.antt
 
 pub loop-byte-preserved : goal.loop-byte-preserved
 loop-byte-preserved c =

@@ -5,4 +5,3 @@ pub returns-in_err-buffer : goal.returns-in_err-buffer
 returns-in_err-buffer g c =
     run_unbegun g.I.EventSource.yields c.args.source.now _ c.from_residual.result _
     c.from_residual.ensures.1 c.in_err-buffer.ensures.memory
-

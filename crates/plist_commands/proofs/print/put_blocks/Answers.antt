@@ -23,6 +23,10 @@ pub returns : goal.returns
 returns g c =
     rest_put c.args.notation 4096 (length c.args.bytes.now / 4096) c.args.bytes.now
     c.loop-block.block-index c.loop-block.invariant c.as_chunks.result.1.now c.put_block-2.result
-    (omega (arith, c.loop-block-test.false, c.loop-block.auto.block-index-end,
-    c.as_chunks.ensures.front_len))
+    (omega (
+      arith,
+      c.loop-block-test.false,
+      c.loop-block.auto.block-index-end,
+      c.as_chunks.ensures.front_len,
+    ))
     c.as_chunks.ensures.back c.put_block-2.ensures
