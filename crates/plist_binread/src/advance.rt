@@ -1,4 +1,4 @@
-//! The step from one event of the walk to the next.
+//! Advances the walk by one event.
 
 ghost use Rattle.std.specs.Prelude.{◌≡◌, true, IfSome};
 ghost use Rattle.plist_binread.specs.NextChild.{closes};
@@ -20,7 +20,7 @@ use crate::walk::Walk;
 use plist_base::{EventVisitor, Source};
 use std::ops::ControlFlow;
 
-/// Hands the next event of the walk to a visitor.
+/// Hands the next event of the walk to a visitor. Returns `None` if no collection is open.
 #[inline(always)]
 pub fn advance<S: Source, C: DecodeCounter, V: EventVisitor>(
     source: &mut S,

@@ -9,11 +9,12 @@ use crate::decoder::Decoder;
 use crate::front::decode_front;
 use plist_base::{Source, read_exact_at};
 
-// As many bytes as any object needs but a long string or data: a marker, a length of nine bytes,
-// and sixteen bytes of content.
+// The number of bytes that is enough for any object except a long string or long data: a marker, a
+// length of nine bytes, and sixteen bytes of content.
 const FRONT: usize = 26;
 
-// Reads the first bytes of the object at an offset, and decodes it.
+// Reads the first bytes of the object at an offset, and decodes it. If the read fails, the slot
+// stores the error.
 #[cold]
 #[inline(never)]
 fn read_front<S: Source, C: DecodeCounter>(
