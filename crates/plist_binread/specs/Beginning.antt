@@ -27,7 +27,7 @@ abbrev pub CachesRoot : {A : Type 0} → Result A Error → (event : PlainEvent)
 CachesRoot answer event walk bytes =
     IsCurrentCached (root_with (head_of bytes)) (Some answer) event walk.tags.items
 
--- the walk has as many objects as the head of the file counts
+-- the walk has as many objects as the head counts, unless a read or an allocation failed
 abbrev pub CountsRoot : {A : Type 0} → Result A StepError → FaultSlot → Walk → List ℕ → Type 0
 CountsRoot answer slot walk bytes =
     CountsObjects bytes (answer_in answer slot) (walk_objects walk)

@@ -24,7 +24,7 @@ use Rattle.plist_binread.specs.NextChild.{upcoming_number, IsCachedIfSmall, is_f
 abbrev pub objects_in_head : List ℕ → ℕ
 objects_in_head bytes = length (places_of bytes)
 
--- the item is the first that remained, or replaces it by `Io` or `OutOfMemory`; `after` remains
+-- the item is the first that remained, or `Io` or `OutOfMemory` in its place; `after` remains
 abbrev pub GivesAs : {A : Type 0} → (shown : A → PlainEvent) → (new : Bool) (before : List Item)
     → Option (Result A Error) → (after : List Item) → Type 0
 GivesAs shown new before item after =
@@ -38,7 +38,7 @@ abbrev pub GivesBinaryItem : (new : Bool) (before : List Item) → Option (Resul
     → (after : List Item) → Type 0
 GivesBinaryItem new before item after = GivesAs event_of new before item after
 
--- each list of the reader has at most `count` elements
+-- each of these lists has at most `count` elements
 abbrev pub AreListsWithin : (count : ℕ) → (tags contents : List ℕ) → List Frame → Type 0
 AreListsWithin count tags contents frames =
     (length tags ≤ count) × (length contents ≤ count) × (length frames ≤ count)
@@ -127,7 +127,7 @@ module _ {R C : Type 0} {g : Ghosts R} {h : CounterGhosts C} where
   binary_steps reader =
       steps_left reader.state (length reader.walk.tags.items) reader.walk.frames
 
-  -- if the bytes are known, their items remain
+  -- if the bytes are known, all items that `items` returns for them remain
   abbrev pub WillGive : (known : Option (List ℕ)) → (items : List ℕ → List Item)
       → BinaryReader R C g h → Type 0
   WillGive known items reader = IfSome known (λ bytes. items_to_come bytes reader ≡ items bytes)
@@ -138,7 +138,7 @@ module _ {R C : Type 0} {g : Ghosts R} {h : CounterGhosts C} where
   ObjectsMatchHead known item reader = IfSome known (λ bytes. MatchOption item ⊤ (λ answer.
       CountsObjects bytes answer (objects_in_file reader)))
 
-  -- the limits are kept, and the number of objects is kept once an item was yielded
+  -- whether there are limits is kept, and the number of objects once an item was yielded
   abbrev pub KeepsCounts : (old new : BinaryReader R C g h) → Type 0
   KeepsCounts old new =
       (has_limits new ≡ has_limits old) × (is_new old ≡ false → objects_in_file new

@@ -10,7 +10,7 @@ use Rattle.plist_binread.specs.Decoding.{children_in}
 use Rattle.plist_format.specs.Object.{object_in}
 use Rattle.plist_format.specs.Unfolding.{until_fault}
 
--- the index of a child's reference; a dictionary has all keys before the values, an array no pairs
+-- the index of a child's reference; `pairs` is 0 for an array, and all keys precede the values
 abbrev pub reference_index : (pairs index : ℕ) → ℕ
 reference_index pairs index =
     cond (nat_eq pairs 0) index (cond (nat_eq (index % 2) 0) (index / 2) (pairs + index / 2))
@@ -38,7 +38,7 @@ AreReferences bytes bounds references =
 abbrev pub YieldsCurrent : List Item → (current : PlainEvent) → List Item → Type 0
 YieldsCurrent before current after = until_fault before ≡ Ok current ∷ until_fault after
 
--- like `YieldsCurrent`, or the result is an error that the remaining items explain
+-- like `YieldsCurrent`, or the result is an error that may replace the first item
 abbrev pub YieldsAnswer : {A : Type 0} → List Item → Result A Error → (current : PlainEvent)
     → List Item
     → Type 0

@@ -127,7 +127,7 @@ remaining_now bytes Ended bounds frames = []
 abbrev pub SomeRemain : List Item → Type 0
 SomeRemain items = 0 < length items
 
--- the first item needs memory: it is a start, a string, data, or a string's or limit's error
+-- the first item needs memory: a start, a string, data, or the error of a string or of a limit
 abbrev pub AllocatesFirst : List Item → Type 0
 AllocatesFirst [] = ⊥
 AllocatesFirst (Ok (StartArray length) ∷ items) = ⊤
@@ -143,7 +143,7 @@ AllocatesFirst (Err fault ∷ items) = IsTextOrLimitFault fault.kind
     IsTextOrLimitFault (LimitReached limit) = ⊤
     IsTextOrLimitFault kind = ⊥
 
--- the error is `Io`, or `OutOfMemory` if the first item needs memory, or the only item
+-- the error is `Io`, `OutOfMemory` where the first item needs memory, or the only item
 abbrev pub Explains : List Item → Error → Type 0
 Explains before error =
     MatchFault (kind_of (error_kind_of error)) (SomeRemain before) (AllocatesFirst before)

@@ -62,13 +62,13 @@ abbrev pub IsFoundAt : (number : ℕ) → Walk → Known → Type 0
 IsFoundAt number walk found = IsFound (get_or walk.tags.items number 0)
     (get_or walk.contents.items number 0) found
 
--- the error in the slot is that of each child of the collection at this offset
+-- no child of the collection at this offset can be read, because of the error in the slot
 abbrev pub RefusesEach : (known : Option (List ℕ)) → Bounds → (place : ℕ) → FaultSlot → StepError
     → Type 0
 RefusesEach known bounds place slot refused =
     (index : ℕ) → ReadsChildAt (Err slot.fault) known bounds place index
 
--- the error in the slot is that of entering the object of this number
+-- the object of this number can't be entered, because of the error in the slot
 abbrev pub RefusesEntering : Walk → (at number : ℕ) → FaultSlot → StepError → Type 0
 RefusesEntering walk at number slot refused =
     (bytes : List ℕ) (bounds : Bounds) → IsWalkOf bytes bounds walk →
@@ -120,7 +120,7 @@ abbrev pub CachesEntered : {A : Type 0} → (known : Option (List ℕ)) → (num
 CachesEntered known number answer event walk = IfSome known (λ _.
     IsCurrentCached (Some number) (Some answer) event walk.tags.items)
 
--- the event is the first item of the object, or the result is an error in its place
+-- the event is the first item of the object, or the result is an error that replaces it
 abbrev pub EntersObject : {A : Type 0} → (known : Option (List ℕ)) → Bounds → (old : Walk)
     → Reference → Result A Error → (event : PlainEvent) → (new : Walk) → Type 0
 EntersObject known bounds old reference answer event new = IfSome known (λ bytes.

@@ -42,9 +42,10 @@ pub fn begin<S: Source, C: DecodeCounter, V: EventVisitor>(
     requires counted { C.counts → C.count decoder.old.counter ≡ cached_in walk.old }
     // Result.
     ensures handed { Hands V.step visitor.old visitor.new result (λ event.
-        IfSome (S.known source.old) (GivesRoot (answer_in result decoder.new.slot) event decoder.new.bounds
-        walk.new)
-        × IfSome (S.known source.old) (CachesRoot (answer_in result decoder.new.slot) event walk.new)) }
+        IfSome (S.known source.old) (GivesRoot (answer_in result decoder.new.slot) event
+        decoder.new.bounds walk.new)
+        × IfSome (S.known source.old) (CachesRoot (answer_in result decoder.new.slot) event
+        walk.new)) }
     // Errors.
     ensures fault { ErrWithin 0 (2 ^ 64) (answer_in result decoder.new.slot) }
     // State afterwards.

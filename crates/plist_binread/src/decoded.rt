@@ -43,7 +43,7 @@ pub struct Content {
     pub kind: ContentKind,
     /// The number of bytes from the object's offset to the content.
     pub start: u8,
-    /// The number of elements: of units for a string in UTF-16, and otherwise of bytes.
+    /// The number of elements, which are units for a string in UTF-16, and bytes otherwise.
     pub count: u64,
 }
 

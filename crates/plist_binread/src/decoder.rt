@@ -1,4 +1,4 @@
-//! Groups what the decoding of objects needs, except for the source.
+//! Groups everything that is needed to decode objects, except for the source.
 
 ghost use Rattle.std.specs.Prelude.{◌≡◌};
 

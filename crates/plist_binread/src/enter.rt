@@ -22,7 +22,7 @@ use crate::walk::Walk;
 use plist_base::{ErrorKind, EventVisitor, Source};
 use std::ops::ControlFlow;
 
-// Stores the error of the reference at offset `at`, whose number is that of no object.
+// Stores the error of the reference at offset `at`, because no object has its number.
 #[cold]
 #[inline(never)]
 fn refuse_number(slot: &mut FaultSlot, at: u64) -> StepError

@@ -24,7 +24,8 @@ fn read_front<S: Source, C: DecodeCounter>(
 ) -> Decoded
     requires place { place < decoder.old.bounds.trailer }
     // Result.
-    ensures decoded { DecodesAt (S.known source.old) decoder.old.bounds place result decoder.new.slot }
+    ensures decoded { DecodesAt (S.known source.old) decoder.old.bounds place result
+        decoder.new.slot }
     ensures fits { is_unread result ≡ false → FitsBefore decoder.old.bounds.trailer place result }
     // Errors.
     ensures fault { FailsUnread place decoder.old.bounds.trailer result decoder.new.slot }
@@ -33,7 +34,8 @@ fn read_front<S: Source, C: DecodeCounter>(
         result }
     ensures bounds { decoder.new.bounds ≡ decoder.old.bounds }
     ensures unchanged { S.known source.new ≡ S.known source.old }
-    ensures failures { CountsUnread result decoder.new.slot (S.failures source.old) (S.failures source.new) }
+    ensures failures { CountsUnread result decoder.new.slot (S.failures source.old)
+        (S.failures source.new) }
 {
     let bounds = decoder.bounds;
     let to_trailer = bounds.trailer - place;
@@ -65,7 +67,8 @@ pub fn decode<S: Source, C: DecodeCounter>(
     place: u64,
 ) -> Decoded
     // Result.
-    ensures decoded { DecodesAt (S.known source.old) decoder.old.bounds place result decoder.new.slot }
+    ensures decoded { DecodesAt (S.known source.old) decoder.old.bounds place result
+        decoder.new.slot }
     ensures fits { is_unread result ≡ false → FitsBefore decoder.old.bounds.trailer place result }
     // Errors.
     ensures fault { FailsUnread place decoder.old.bounds.trailer result decoder.new.slot }
@@ -74,7 +77,8 @@ pub fn decode<S: Source, C: DecodeCounter>(
         result }
     ensures bounds { decoder.new.bounds ≡ decoder.old.bounds }
     ensures unchanged { S.known source.new ≡ S.known source.old }
-    ensures failures { CountsUnread result decoder.new.slot (S.failures source.old) (S.failures source.new) }
+    ensures failures { CountsUnread result decoder.new.slot (S.failures source.old)
+        (S.failures source.new) }
 {
     let bounds = decoder.bounds;
     if place >= bounds.trailer {

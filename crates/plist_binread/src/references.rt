@@ -163,8 +163,8 @@ fn reference_place(references: &References, index: u64, width: usize) -> Option<
         .checked_add(references.start.checked_add(behind)?)
 }
 
-// Reads a reference that isn't buffered. If the read fails, it returns `None`, and the slot stores
-// the error.
+// Reads a reference that isn't buffered. If the read fails, the slot stores the error, and the
+// result is `None`.
 #[cold]
 #[inline(never)]
 fn read_reference<S: Source>(
@@ -196,9 +196,9 @@ fn read_reference<S: Source>(
 
 /// Reads the references of collections.
 ///
-/// It stores the location of the last collection's references, and copies of the bytes around the
-/// references that it read last. The references to consecutive children are read from these copies
-/// without asking the source again.
+/// The reader stores the location of the last collection's references, and copies of the bytes
+/// around the references that were read last. The references to consecutive children are read from
+/// these copies without asking the source again.
 #[derive(Clone, Copy)]
 pub struct ReferenceReader {
     /// The location of the last collection's references.

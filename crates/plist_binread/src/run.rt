@@ -64,7 +64,8 @@ impl Run {
     /// the run.
     #[inline(always)]
     pub fn bytes_from(&self, place: u64) -> &[u8]
-        ensures { (known : Option (List ℕ)) → IsRunOf known self.now → LieAt known place result.now }
+        ensures { (known : Option (List ℕ)) → IsRunOf known self.now
+            → LieAt known place result.now }
     {
         match place.checked_sub(self.at) {
             Some(skipped) if skipped <= self.len as u64 => &self.bytes[skipped as usize..self.len],
@@ -86,10 +87,9 @@ impl Run {
         Some(number_from(&found[..width]))
     }
 
-    /// Returns the number of `width` bytes at an offset. If the run doesn't contain the number, it
-    /// is filled again from what the source has buffered.
+    /// Returns the number of `width` bytes at an offset, or `None` if it isn't buffered.
     ///
-    /// Returns `None` if the source hasn't buffered the number either.
+    /// If the run doesn't contain the number, the run is filled again from the source's buffer.
     #[inline(always)]
     pub fn read<S: Source>(&mut self, source: &S, place: u64, width: usize) -> Option<u64>
         requires width { width ≤ 8 }

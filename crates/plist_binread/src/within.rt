@@ -7,7 +7,7 @@ use std::ops::ControlFlow;
 
 /// Passes events on to another visitor as long as the limits admit them.
 ///
-/// It stops the walk at the first event that isn't admitted.
+/// This visitor stops the walk at the first event that isn't admitted.
 #[derive(Drop)]
 pub struct Within<'v, V> {
     limiter: &'v mut LimitCounter,

@@ -75,7 +75,7 @@ IsHeadBefore trailer bytes head =
     length bytes ≡ trailer + 32
     → head_with bytes trailer (trailer_in (drop trailer bytes)) ≡ Ok (head_seen head)
 
--- if the bytes end with a trailer at this offset, their head has this error; `Io` may occur too
+-- if the bytes end with a trailer at this offset, this is their head's error or a failed read's
 abbrev pub IsFaultBefore : (trailer : ℕ) → List ℕ → Fault → Type 0
 IsFaultBefore trailer bytes fault =
     length bytes ≡ trailer + 32 → MatchFault fault.kind ⊤ ⊤
