@@ -1,4 +1,4 @@
--- What is decoded of an object, and what is wrong with one.
+-- What is decoded from an object, and how an object can be faulty.
 use Rattle.std.proofs.Common.{◌≡◌, ℕ, suc, inl, inr, ◌+◌, ◌-◌, ◌*◌, ◌<◌, ◌≤◌, Bool, true, false, List, ◌∷◌, ◌++◌, length, take, drop, get_or, replicate, Option, None, Some, Result, Ok, Err, IfSome, refl, ap, sym, subst, ◌∙◌, arith}
 use Rattle.std.specs.Prelude.{⊤, OnOk, if◌then◌else◌}
 use Rattle.std.proofs.lemmas.Bool.{cases_lt, false≢true, le-leb}

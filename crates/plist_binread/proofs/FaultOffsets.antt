@@ -1,4 +1,4 @@
--- Where the faults of a reader are.
+-- The offsets of a reader's errors.
 use Rattle.std.proofs.Common.{◌≡◌, ℕ, ◌+◌, ◌≤◌, Option, None, Some, Result, Ok, Err, arith, ap}
 use Rattle.std.specs.Prelude.{⊤, IsErrAnd}
 use Rattle.plist_base.specs.declared.error.Error.{Error}

@@ -1,4 +1,4 @@
--- A length, and what lies after it.
+-- The length of an object, and the bytes that follow it.
 use Rattle.std.proofs.Common.{◌≡◌, ℕ, suc, ◌-◌, ◌*◌, ◌%◌, ◌^◌, ◌<◌, ◌≤◌, List, [], ◌∷◌, ◌++◌, length, take, drop, None, Some, refl, ap, ◌∙◌, arith}
 use Rattle.std.proofs.lemmas.Bool.{le-leb}
 use Rattle.std.proofs.lemmas.List.{append-nil, length-append, length-drop, take_all, take-append-le, drop-append-le}

@@ -1,4 +1,4 @@
--- Numbers that stand one after the other.
+-- Numbers that lie one after the other.
 use Rattle.std.proofs.Common.{◌≡◌, ℕ, suc, ◌+◌, ◌-◌, ◌*◌, ◌/◌, ◌<◌, ◌≤◌, List, [], ◌∷◌, ◌++◌, length, take, drop, map, ap, sym, ◌∙◌, arith, zero-add, Option, IfSome}
 use Rattle.std.proofs.Math.Nat.{add-mul, mul-le-mul_right, mul-div_cancel}
 use Rattle.std.specs.List.{range_with_len}

@@ -1,4 +1,4 @@
--- Which objects are open, and how many; how many are cached.
+-- Which objects are open, and how many are open or cached.
 use Rattle.std.proofs.Common.{◌≡◌, ℕ, zero, suc, ◌+◌, ◌<◌, ◌≤◌, inl, inr, Bool, true, false, cond, ◌||◌, nat_eq, nat_lt, List, [], ◌∷◌, length, get_or, reverse, replicate, refl, ap, sym, ◌∙◌, arith}
 use Rattle.std.specs.List.{list_any, IsDistinct}
 use Rattle.std.proofs.lemmas.Bool.Decides.{eqb_tells}

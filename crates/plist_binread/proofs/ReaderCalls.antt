@@ -1,4 +1,4 @@
--- What a call of a reader leaves behind.
+-- What is true of a reader after each call.
 use Rattle.std.proofs.Common.{◌≡◌, ℕ, ◌≤◌, arith, false, List, [], length, Option, None, Some, IfSome, MatchOption, refl, sym}
 use Rattle.std.proofs.lemmas.List.{length-reverse}
 use Rattle.plist_base.specs.declared.source.Source.{Ghosts}

@@ -1,4 +1,4 @@
--- What limits make of one call.
+-- How limits change the result of one call.
 use Rattle.std.proofs.Common.{◌≡◌, ℕ, Bool, true, false, List, [], ◌∷◌, length, Option, None, Some, Ok, Err, IfSome, MatchBool, refl, ap, ◌∙◌, arith}
 use Rattle.std.specs.Option.{is_some}
 use Rattle.plist_base.specs.declared.error.Error.{Error}

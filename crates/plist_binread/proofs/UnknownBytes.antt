@@ -1,4 +1,4 @@
--- Facts over bytes that may be unknown.
+-- Facts about bytes that may be unknown.
 use Rattle.std.proofs.Common.{Option, None, Some, IfSome}
 
 -- what holds of any bytes

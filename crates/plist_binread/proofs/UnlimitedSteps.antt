@@ -1,4 +1,4 @@
--- One step of a reader that knows no limits.
+-- One step of a reader, without regard to limits.
 use Rattle.std.proofs.Common.{◌≡◌, ℕ, ◌^◌, ◌<◌, true, List, Option, None, Some, Result, Ok, Err, IfSome, refl, ap, sym, arith}
 use Rattle.std.specs.Option.{is_some}
 use Rattle.std.specs.Prelude.{OnOk}

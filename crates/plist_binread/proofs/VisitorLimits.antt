@@ -1,4 +1,4 @@
--- What a visitor within limits took.
+-- Which events a visitor within limits takes.
 use Rattle.std.proofs.Common.{◌≡◌, inl, inr, Option, None, Some, Result, Ok, Err, subst, sym}
 use Rattle.plist_base.specs.declared.error.Error.{Error}
 use Rattle.plist_base.specs.Events.{PlainEvent}

@@ -1,4 +1,4 @@
--- What one step of the walk yields of what remains.
+-- What one step of the walk yields of the remaining items.
 use Rattle.std.proofs.Common.{◌≡◌, ℕ, zero, suc, ◌+◌, ◌-◌, ◌*◌, ◌^◌, ◌<◌, ◌≤◌, true, false, nat_eq, List, [], ◌∷◌, ◌++◌, length, reverse, Option, Some, None, Ok, Err, refl, ap, sym, ◌∙◌, arith, append_assoc, add-zero}
 use Rattle.std.specs.List.{list_any, flat_map, slice_get}
 use Rattle.std.proofs.lemmas.List.{reverse-append}

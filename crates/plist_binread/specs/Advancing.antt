@@ -11,12 +11,12 @@ use Rattle.plist_binread.specs.declared.counter.DecodeCounter.{Ghosts as Counter
 use Rattle.plist_binread.specs.declared.within.Within.{Within}
 use Rattle.plist_binread.specs.BinaryReader.{GivesAs, GivesBinaryBy, HasEndedBinary, has_limits, binary_steps, items_to_come, unlimited_items}
 
--- as `GivesBinaryItem`, of this event
+-- like `GivesBinaryItem`, where the event is `current`
 abbrev pub GivesCurrent : {A : Type 0} → (new : Bool) (before : List Item) → Option (Result A Error)
     → (current : PlainEvent) → (after : List Item) → Type 0
 GivesCurrent new before item current after = GivesAs (λ _. current) new before item after
 
--- the item, with this event where it has one
+-- the item, in which a value is replaced by this event
 abbrev pub item_with : {A : Type 0} → Option (Result A Error) → PlainEvent → PlainItem
 item_with None event = None
 item_with (Some (Ok value)) event = Some (Ok event)
@@ -24,22 +24,22 @@ item_with (Some (Err error)) event = Some (Err error)
 
 module _ {R C : Type 0} {g : Ghosts R} {h : CounterGhosts C} (known : R → Option (List ℕ))
     (failed : R → ℕ) (counts : Type 0) (count : C → ℕ) (old : BinaryReader R C g h) where
-  -- One step: an event, an error in the place of one, or nothing. Fewer items are to come then.
-  -- `coming` is what is to come, and `limited` whether there are limits.
+  -- one step yields an item as `GivesBinaryBy` says, and fewer items remain after it
   pub record StepsBy (coming : List ℕ → BinaryReader R C g h → List Item)
       (limited : BinaryReader R C g h → Bool) (item : PlainItem) (new : BinaryReader R C g h) : Type 0
     where
       pub gives : GivesBinaryBy known failed counts count old (λ event. event) coming limited item new
       pub falls : IfSome item (λ _. binary_steps new < binary_steps old)
 
+  -- one step of the reader, within its limits
   abbrev pub Steps : PlainItem → (new : BinaryReader R C g h) → Type 0
   Steps item new = StepsBy items_to_come has_limits item new
 
-  -- a step of the walk, which knows no limits
+  -- one step of the walk, without regard to limits
   abbrev pub Walks : PlainItem → (new : BinaryReader R C g h) → Type 0
   Walks item new = StepsBy unlimited_items (λ _. false) item new
 
--- the reader has ended, and is otherwise as it was
+-- the reader has ended, and everything else in it is unchanged
 pub record EndsThere {R C : Type 0} {g : Ghosts R} {h : CounterGhosts C} (old new : BinaryReader R C g h)
     : Type 0 where
   pub ended : HasEndedBinary new
@@ -48,7 +48,7 @@ pub record EndsThere {R C : Type 0} {g : Ghosts R} {h : CounterGhosts C} (old ne
   pub walk : new.walk ≡ old.walk
   pub limiter : new.limiter ≡ old.limiter
 
--- the reader has ended there if this is an error, and else it is as it was
+-- the reader has ended if the result is an error, and is unchanged otherwise
 abbrev pub EndsOnError : {R C A : Type 0} {g : Ghosts R} {h : CounterGhosts C} → Result A Error
     → (old new : BinaryReader R C g h) → Type 0
 EndsOnError answer old new = MatchResult answer (λ _. new ≡ old) (λ _. EndsThere old new)
@@ -56,14 +56,14 @@ EndsOnError answer old new = MatchResult answer (λ _. new ≡ old) (λ _. EndsT
 -- ---- limits
 
 module _ {V : Type 0} (step : V → PlainEvent → Flow → V → Type 0) where
-  -- the event is admitted, and the visitor takes it
+  -- the limits admit the event, and the inner visitor takes it
   pub record TakesAdmitted (old : Within V) (event : PlainEvent) (flow : Flow) (new : Within V)
       : Type 0 where
     pub admitted : Admits old.limiter.now event new.limiter.now
     pub reached : new.reached.now ≡ old.reached.now
     pub taken : step old.visitor.now event flow new.visitor.now
 
-  -- the event reaches a limit, and the visitor doesn't get it
+  -- the event exceeds a limit, and the inner visitor doesn't receive it
   pub record ReachesLimit (old : Within V) (event : PlainEvent) (flow : Flow) (new : Within V)
       : Type 0 where
     pub error : Error
@@ -71,7 +71,7 @@ module _ {V : Type 0} (step : V → PlainEvent → Flow → V → Type 0) where
     pub reached : new.reached.now ≡ Err error
     pub untaken : new.visitor.now ≡ old.visitor.now
 
-  -- what a visitor within limits does
+  -- a visitor within limits passes an event on, or reports the limit that the event exceeds
   pub record TakesWithin (old : Within V) (event : PlainEvent) (flow : Flow) (new : Within V) : Type 0
     where
       pub limiter : new.limiter.ghost_name ≡ old.limiter.ghost_name

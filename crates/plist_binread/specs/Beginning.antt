@@ -1,4 +1,4 @@
--- What the first step of a reader makes of known bytes.
+-- What the first step of a reader does over known bytes.
 use Rattle.std.specs.Prelude.{◌≡◌, ℕ, ◌≤◌, List, [], ◌∷◌, length, Option, Some, Result, Ok, Err, IfSome, MatchResult}
 use Rattle.plist_base.specs.declared.error.Error.{Error}
 use Rattle.plist_base.specs.Faults.{MatchFault, kind_of, error_kind_of, fault_of}
@@ -18,7 +18,7 @@ use Rattle.plist_binread.specs.declared.walk.Walk.{Walk}
 abbrev pub IsBounded : Walk → List ℕ → Type 0
 IsBounded walk bytes = walk_objects walk ≤ length (places_of bytes)
 
--- it is a walk over the file, where its bytes are known
+-- if the bytes are known, this is a walk over their file
 abbrev pub IsKnownWalk : (known : Option (List ℕ)) → Bounds → Walk → Type 0
 IsKnownWalk known bounds walk = IfSome known (λ bytes. IsWalkOf bytes bounds walk)
 
@@ -27,17 +27,17 @@ abbrev pub CachesRoot : {A : Type 0} → Result A Error → (event : PlainEvent)
 CachesRoot answer event walk bytes =
     IsCurrentCached (root_with (head_of bytes)) (Some answer) event walk.tags.items
 
--- the walk has as many objects as the head counts
+-- the walk has as many objects as the head counts, unless a read or an allocation failed
 abbrev pub CountsRoot : {A : Type 0} → Result A StepError → FaultSlot → Walk → List ℕ → Type 0
 CountsRoot answer slot walk bytes =
     CountsObjects bytes (answer_in answer slot) (walk_objects walk)
 
--- the file's first item is refused
+-- the error is the only item of the file, or that of a failed read or allocation
 abbrev pub RefusesFirst : List ℕ → Error → Type 0
 RefusesFirst bytes e = MatchFault (kind_of (error_kind_of e)) (SomeRemain (items_of_file bytes))
     (SomeRemain (items_of_file bytes)) (items_of_file bytes ≡ Err (fault_of e) ∷ [])
 
--- it is this event, and the others remain
+-- the event is the first item of the file and the others remain, or the first step failed
 abbrev pub GivesRoot : {A : Type 0} → Result A Error → (event : PlainEvent) → Bounds → Walk → List ℕ
     → Type 0
 GivesRoot answer event bounds walk bytes = MatchResult answer

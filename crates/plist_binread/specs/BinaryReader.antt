@@ -1,4 +1,4 @@
--- What contracts see of a reader: the items that it has still to give, and how much it holds open.
+-- What contracts say about a reader: its remaining items, its open collections and its cache.
 use Rattle.std.specs.Prelude.{◌≡◌, ℕ, ◌^◌, ◌≤◌, Bool, true, false, List, [], ◌∷◌, length, reverse, Option, None, Result, Ok, Err, MatchBool, MatchOption, MatchResult, OnErr, IfSome, ⊤}
 use Rattle.plist_base.specs.declared.error.Error.{Error}
 use Rattle.plist_base.specs.declared.event.Event.{Event}
@@ -20,14 +20,11 @@ use Rattle.plist_binread.specs.declared.counter.DecodeCounter.{Ghosts as Counter
 use Rattle.plist_binread.specs.Remaining.{MarksOpenPath, remaining_now, cached_count, places_of, AreBoundsOf, CountsObjects, SomeRemain, AllocatesFirst, steps_left}
 use Rattle.plist_binread.specs.NextChild.{upcoming_number, IsCachedIfSmall, is_fresh, is_walking}
 
--- how many objects the head of these bytes counts
+-- the number of objects that the head of these bytes counts
 abbrev pub objects_in_head : List ℕ → ℕ
 objects_in_head bytes = length (places_of bytes)
 
--- The item is the first of those that were to come, and the others are to come then. There is none
--- only where none was to come. After a fault none is to come. A device's fault comes only where one
--- was to come, and so does lack of memory at the first call; later that comes only in the place of
--- a start, of a text, or of the fault of a text or of a limit.
+-- the item is the first that remained, or `Io` or `OutOfMemory` in its place; `after` remains
 abbrev pub GivesAs : {A : Type 0} → (shown : A → PlainEvent) → (new : Bool) (before : List Item)
     → Option (Result A Error) → (after : List Item) → Type 0
 GivesAs shown new before item after =
@@ -36,116 +33,118 @@ GivesAs shown new before item after =
     (λ error. (after ≡ []) × MatchFault (kind_of (error_kind_of error)) (SomeRemain before)
     (MatchBool new (SomeRemain before) (AllocatesFirst before)) (before ≡ Err (fault_of error) ∷ [])))
 
+-- like `GivesAs`, for owned events
 abbrev pub GivesBinaryItem : (new : Bool) (before : List Item) → Option (Result Event Error)
     → (after : List Item) → Type 0
 GivesBinaryItem new before item after = GivesAs event_of new before item after
 
--- none of the reader's lists is longer than there are objects
+-- each of these lists has at most `count` elements
 abbrev pub AreListsWithin : (count : ℕ) → (tags contents : List ℕ) → List Frame → Type 0
 AreListsWithin count tags contents frames =
     (length tags ≤ count) × (length contents ≤ count) × (length frames ≤ count)
 
--- a file's items under these limits, and what a limiter makes of them
+-- the items of a file, cut by these limits
 abbrev pub limited_file : Limits → List ℕ → List Item
 limited_file limits bytes = limited_items limits (items_of_file bytes)
 
+-- the items of a file, cut by the limits if there are any
 abbrev pub file_under : Option LimitCounter → List ℕ → List Item
 file_under limiter bytes = limited_by_any limiter (items_of_file bytes)
 
 module _ {R C : Type 0} {g : Ghosts R} {h : CounterGhosts C} where
-  -- the source inside
+  -- the source of the reader
   abbrev pub binary_source : BinaryReader R C g h → R
   binary_source reader = reader.source
 
-  -- the items of the file that are still to come, were there no limits
+  -- the items of the file that remain, without regard to limits
   abbrev pub unlimited_items : List ℕ → BinaryReader R C g h → List Item
   unlimited_items bytes reader = remaining_now bytes reader.state reader.decoder.bounds reader.walk.frames
 
-  -- the items still to come, where these are the file's bytes
+  -- the items that remain if these are the bytes of the file
   abbrev pub items_to_come : List ℕ → BinaryReader R C g h → List Item
   items_to_come bytes reader = limited_by_any reader.limiter (unlimited_items bytes reader)
 
-  -- are there limits?
+  -- whether the reader has limits
   abbrev pub has_limits : BinaryReader R C g h → Bool
   has_limits reader = is_some reader.limiter
 
-  -- has no item been asked for?
+  -- whether no item has been requested yet
   abbrev pub is_new : BinaryReader R C g h → Bool
   is_new reader = is_fresh reader.state
 
-  -- the reader gives nothing more
+  -- the reader has ended, and no item remains
   abbrev pub HasEndedBinary : BinaryReader R C g h → Type 0
   HasEndedBinary reader = reader.state ≡ Ended
 
-  -- how many collections are open
+  -- the number of open collections
   abbrev pub open_collections : BinaryReader R C g h → ℕ
   open_collections reader = length reader.walk.frames
 
-  -- how many objects the file has, as far as that has been read
+  -- the number of objects in the file, or 0 if the reader hasn't read it
   abbrev pub objects_in_file : BinaryReader R C g h → ℕ
   objects_in_file reader = length reader.walk.tags.items
 
-  -- the number of the object whose item comes next, or none where that is an end
+  -- the number of the object that is entered next, or `None` if the next item is an end
   abbrev pub number_to_come : List ℕ → BinaryReader R C g h → Option ℕ
   number_to_come bytes reader = upcoming_number bytes reader.state reader.decoder.bounds reader.walk.frames
 
-  -- a reader that has begun and not ended holds the head of these bytes
+  -- a reader that has begun and hasn't ended stores the head of these bytes
   abbrev pub HoldsHead : List ℕ → BinaryReader R C g h → Type 0
   HoldsHead bytes reader =
       is_walking reader.state ≡ true → AreBoundsOf (head_of bytes) reader.decoder.bounds
       × (objects_in_file reader ≡ objects_in_head bytes)
 
-  -- after a fault, and where nothing comes, the reader has ended
+  -- the reader has ended if the item is an error or there is none
   abbrev pub EndsAfterFault : {A : Type 0} → Option (Result A Error) → BinaryReader R C g h → Type 0
   EndsAfterFault item after = MatchOption item (HasEndedBinary after) (λ answer. OnErr answer
       (HasEndedBinary after))
 
-  -- the counter inside
+  -- the counter of the reader
   abbrev pub counter_of : BinaryReader R C g h → C
   counter_of reader = reader.decoder.counter
 
-  -- how many objects are cached
+  -- the number of cached objects
   abbrev pub cached_objects : BinaryReader R C g h → ℕ
   cached_objects reader = cached_count reader.walk.tags.items
 
-  -- the marks stand exactly on the objects that are open, none of which is cached
+  -- exactly the open objects are marked, and none of them is cached
   abbrev pub MarksItsPath : BinaryReader R C g h → Type 0
   MarksItsPath reader = MarksOpenPath reader.walk.tags.items (reverse reader.walk.frames)
 
-  -- the object of this number is cached in a reader that gave this item, if that is small
+  -- the object of this number is cached if the item is the event of a small scalar
   abbrev pub CachesItem : {A : Type 0} → (shown : A → PlainEvent) → Option ℕ
       → Option (Result A Error) → BinaryReader R C g h → Type 0
   CachesItem shown number item reader =
       IsCachedIfSmall shown number item reader.walk.tags.items
 
-  -- no list of this reader is longer than the count
+  -- each list of this reader has at most `count` elements
   abbrev pub ListsAreWithin : (count : ℕ) → BinaryReader R C g h → Type 0
   ListsAreWithin count reader =
       AreListsWithin count reader.walk.tags.items reader.walk.contents.items reader.walk.frames
 
-  -- at most how many items are still to come
+  -- an upper bound on the number of items that remain
   abbrev pub binary_steps : BinaryReader R C g h → ℕ
   binary_steps reader =
       steps_left reader.state (length reader.walk.tags.items) reader.walk.frames
 
-  -- where the bytes are known, all their items are still to come
+  -- if the bytes are known, all items that `items` returns for them remain
   abbrev pub WillGive : (known : Option (List ℕ)) → (items : List ℕ → List Item)
       → BinaryReader R C g h → Type 0
   WillGive known items reader = IfSome known (λ bytes. items_to_come bytes reader ≡ items bytes)
 
-  -- a reader that gave this item has as many objects as the head of known bytes counts
+  -- after this item, the reader counts as many objects as the head of known bytes
   abbrev pub ObjectsMatchHead : {A : Type 0} → (known : Option (List ℕ)) → Option (Result A Error)
       → BinaryReader R C g h → Type 0
   ObjectsMatchHead known item reader = IfSome known (λ bytes. MatchOption item ⊤ (λ answer.
       CountsObjects bytes answer (objects_in_file reader)))
 
-  -- limits stay, and so does the number of objects once the first item came
+  -- whether there are limits is kept, and the number of objects once an item was yielded
   abbrev pub KeepsCounts : (old new : BinaryReader R C g h) → Type 0
   KeepsCounts old new =
       (has_limits new ≡ has_limits old) × (is_new old ≡ false → objects_in_file new
       ≡ objects_in_file old)
 
-  -- what a call leaves behind, whatever came of it
+  -- what is true of a reader after each call, whatever the call returned
   pub record KeepsInvariant (known : R → Option (List ℕ)) (counts : Type 0) (count : C → ℕ)
       (old new : BinaryReader R C g h) : Type 0 where
     pub nested : MatchOption (known (binary_source old)) (open_collections new
@@ -158,8 +157,7 @@ module _ {R C : Type 0} {g : Ghosts R} {h : CounterGhosts C} where
 
 module _ {R C : Type 0} {g : Ghosts R} {h : CounterGhosts C} (known : R → Option (List ℕ))
     (failed : R → ℕ) (counts : Type 0) (count : C → ℕ) (old : BinaryReader R C g h) where
-  -- One call for an item: known bytes stay as they are, and the item is the first of those to come.
-  -- `shown` is an answer's event, `coming` what is to come, `limited` whether there are limits.
+  -- one call yields an item; `shown` returns the event of a value, `coming` the remaining items
   pub record GivesBinaryBy {A : Type 0} (shown : A → PlainEvent)
       (coming : List ℕ → BinaryReader R C g h → List Item) (limited : BinaryReader R C g h → Bool)
       (item : Option (Result A Error)) (new : BinaryReader R C g h) : Type 0 where
@@ -178,6 +176,6 @@ module _ {R C : Type 0} {g : Ghosts R} {h : CounterGhosts C} (known : R → Opti
     pub objects : ObjectsMatchHead (known (binary_source old)) item new
     pub kept : KeepsCounts old new
 
-  -- one call of `next`
+  -- one call of `next` yields an item
   abbrev pub GivesBinary : Option (Result Event Error) → (new : BinaryReader R C g h) → Type 0
   GivesBinary item new = GivesBinaryBy event_of items_to_come has_limits item new

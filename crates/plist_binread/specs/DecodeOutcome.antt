@@ -1,4 +1,4 @@
--- What a step yields of the items that remain, and where the references of a collection stand.
+-- What a step yields of the remaining items, and where the references of a collection lie.
 use Rattle.std.specs.Prelude.{◌≡◌, ℕ, ◌+◌, ◌*◌, ◌/◌, ◌%◌, ◌<◌, ◌≤◌, List, [], ◌∷◌, Option, Result, Ok, MatchOption, MatchResult, length, take, drop, get_or, cond, nat_eq}
 use Rattle.plist_base.specs.declared.error.Error.{Error}
 use Rattle.plist_base.specs.Events.{PlainEvent, EndCollection, Item}
@@ -10,18 +10,17 @@ use Rattle.plist_binread.specs.Decoding.{children_in}
 use Rattle.plist_format.specs.Object.{object_in}
 use Rattle.plist_format.specs.Unfolding.{until_fault}
 
--- the number of a child's reference among all those of its collection, where that has this many
--- pairs, or none since it is an array
+-- the index of a child's reference; `pairs` is 0 for an array, and all keys precede the values
 abbrev pub reference_index : (pairs index : ℕ) → ℕ
 reference_index pairs index =
     cond (nat_eq pairs 0) index (cond (nat_eq (index % 2) 0) (index / 2) (pairs + index / 2))
 
--- where the reference of a child stands
+-- the offset of the reference to a child
 abbrev pub reference_place : References → (index width : ℕ) → ℕ
 reference_place references index width =
     references.place + (references.start + reference_index references.pairs index * width)
 
--- the references of the children of the object at the front of these bytes stand from `start` on
+-- the references to the children of the object in these bytes begin at `start`
 abbrev pub AreReferencesAt : (width : ℕ) (object : List ℕ) (start pairs : ℕ) → Type 0
 AreReferencesAt width object start pairs =
     (index : ℕ) → index < length (children_in (object_in width object))
@@ -29,18 +28,17 @@ AreReferencesAt width object start pairs =
     × (number_at object (start + reference_index pairs index * width) width
     ≡ get_or (children_in (object_in width object)) index 0)
 
--- the references to the children of the collection at this offset lie where these say
+-- the references of the collection in these bytes lie where `references` says
 abbrev pub AreReferences : (bytes : List ℕ) → Bounds → References → Type 0
 AreReferences bytes bounds references =
     AreReferencesAt bounds.reference_width (drop references.place (take bounds.trailer bytes))
     references.start references.pairs
 
--- what remained begins with the current event, and goes on with what remains afterwards
+-- the current event is the first item that remained, and the others remain
 abbrev pub YieldsCurrent : List Item → (current : PlainEvent) → List Item → Type 0
 YieldsCurrent before current after = until_fault before ≡ Ok current ∷ until_fault after
 
--- what remained begins with the event of this result and goes on with what remains afterwards, or
--- the result is an error and some items remained
+-- like `YieldsCurrent`, or the result is an error that may replace the first item
 abbrev pub YieldsAnswer : {A : Type 0} → List Item → Result A Error → (current : PlainEvent)
     → List Item
     → Type 0
@@ -48,14 +46,14 @@ YieldsAnswer before answer current after = MatchResult answer
     (λ _. YieldsCurrent before current after)
     (λ error. Explains (until_fault before) error)
 
--- and of an item, or nothing where nothing remained
+-- like `YieldsAnswer`, or there is no item because none remained
 abbrev pub YieldsNext : {A : Type 0} → List Item → Option (Result A Error) → (current : PlainEvent)
     → List Item → Type 0
 YieldsNext before item current after =
     MatchOption item ((before ≡ []) × (after ≡ [])) (λ answer. YieldsAnswer before answer current
     after)
 
--- the current event is an end
+-- the item isn't an error, and the current event is the end of a collection
 abbrev pub IsCurrentEnd : {A E : Type 0} → Option (Result A E) → (current : PlainEvent) → Type 0
 IsCurrentEnd item current =
     MatchOption item ⊥ (λ answer. MatchResult answer (λ _. current ≡ EndCollection) (λ error. ⊥))

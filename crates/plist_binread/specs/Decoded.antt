@@ -1,4 +1,4 @@
--- What is decoded of an object by the bytes at its front, whatever lies after them.
+-- What is decoded from the bytes at an object's front, whatever follows them.
 use Rattle.std.specs.Prelude.{◌≡◌, ℕ, ◌+◌, ◌*◌, ◌^◌, ◌<◌, ◌≤◌, Bool, true, false, List, ◌∷◌, ◌++◌, length, take, drop, Option, None, Some, Result, IfSome, MatchResult, OnOk, ⊤}
 use Rattle.plist_base.specs.declared.error.Error.{Error}
 use Rattle.plist_base.specs.Events.{PlainEvent, StartArray, StartDictionary, ScalarEvent}
@@ -22,9 +22,9 @@ use Rattle.plist_binread.specs.declared.decoded.ObjectFault.{ObjectFault}
 use Rattle.plist_binread.specs.declared.decoded.ObjectFault.TheVariants as fault
 use Rattle.plist_binread.specs.declared.head.Bounds.{Bounds}
 
--- ---- what is wrong
+-- ---- faults of an object
 
--- the kind of an object's fault
+-- the kind of error that reports an object's fault
 abbrev pub kind_of_object_fault : ObjectFault → FaultKind
 kind_of_object_fault fault.Overrun = ObjectOffsetTooLarge
 kind_of_object_fault fault.Null = NullObjectUnimplemented
@@ -36,32 +36,32 @@ kind_of_object_fault fault.NotUtf8 = InvalidUtf8String
 kind_of_object_fault fault.NotUtf16 = InvalidUtf16String
 kind_of_object_fault fault.NoMemory = OutOfMemory
 
--- the object is this fault, or memory for it ran out
+-- the object has this fault, or an allocation for it failed
 abbrev pub IsObjectFault : Object → ObjectFault → Type 0
 IsObjectFault object fault.NoMemory = Allocates object
 IsObjectFault object other = object ≡ Faulty (kind_of_object_fault other)
 
 -- ---- what is decoded
 
--- how many bytes a content has
+-- the number of bytes in a content
 abbrev pub content_size : Content → ℕ
 content_size content = content.count * unit_size content.kind
 
--- a text or data of so many elements isn't small, as far as their number tells
+-- a string or data of this many elements isn't small, or isn't known to be small
 abbrev pub IsLongCount : ContentKind → (count : ℕ) → Type 0
 IsLongCount content_kind.Data count = 8 < count
 IsLongCount content_kind.Text count = 8 < count
 IsLongCount content_kind.WideText count = ⊤
 
--- this content isn't small
+-- this content isn't known to be small
 abbrev pub IsLong : Content → Type 0
 IsLong content = IsLongCount content.kind content.count
 
--- a content of this kind that has these bytes isn't small
+-- a content of this kind with these bytes isn't known to be small
 abbrev pub IsLongBytes : ContentKind → List ℕ → Type 0
 IsLongBytes kind bytes = IsLongCount kind (length bytes)
 
--- the object whose bytes up to the trailer these are is this
+-- the object, whose bytes up to the trailer are these, was decoded as this
 abbrev pub IsDecodedAs : (bytes : List ℕ) → Object → Decoded → Type 0
 IsDecodedAs bytes object (decoded.Small kind content) =
     (scalar : trees.Scalar) × (object ≡ Scalar scalar) × (unpacked kind content ≡ Some scalar)
@@ -77,79 +77,79 @@ IsDecodedAs bytes object (decoded.Dictionary count) =
 IsDecodedAs bytes object (decoded.Faulty fault) = IsObjectFault object fault
 IsDecodedAs bytes object decoded.Unread = ⊥
 
--- its bytes weren't read
+-- whether the object's bytes couldn't be read
 abbrev pub is_unread : Decoded → Bool
 is_unread decoded.Unread = true
 is_unread other = false
 
--- it has no event: it is faulty, or its bytes weren't read
+-- whether the object has no event: it is faulty, or its bytes couldn't be read
 abbrev pub is_refused : Decoded → Bool
 is_refused (decoded.Faulty fault) = true
 is_refused decoded.Unread = true
 is_refused other = false
 
--- an object is decoded by the bytes that are seen of it, whatever lies after them before the trailer
+-- the object that begins with these bytes is decoded, whatever follows them before the trailer
 abbrev pub DecodesSeen : (to_trailer : ℕ) → (List ℕ → Object) → (seen : List ℕ)
     → Decoded → Type 0
 DecodesSeen to_trailer object seen decoded = (more : List ℕ) → length (seen ++ more) ≡ to_trailer
     → IsDecodedAs (seen ++ more) (object (seen ++ more)) decoded
 
--- an object is decoded by the bytes that are seen after its first byte, whatever that byte is
+-- like `DecodesSeen`, for an object whose first byte precedes `rest`
 abbrev pub DecodesAfter : (to_trailer : ℕ) → (List ℕ → Object) → (rest : List ℕ)
     → Decoded → Type 0
 DecodesAfter to_trailer object rest decoded = (first : ℕ) (more : List ℕ)
     → length (rest ++ more) ≡ to_trailer
     → IsDecodedAs (first ∷ (rest ++ more)) (object (rest ++ more)) decoded
 
--- an object of this fixed size, whose content means this, is decoded by the bytes after its first
+-- like `DecodesAfter`, for an object of a fixed size
 abbrev pub DecodesFixed : (to_trailer size : ℕ) → (List ℕ → Object) → (rest : List ℕ)
     → Decoded → Type 0
 DecodesFixed to_trailer size meaning rest decoded =
     DecodesAfter to_trailer (meaning_of_front size meaning) rest decoded
 
--- 1 where a small scalar was decoded, else 0
+-- 1 if a small scalar was decoded, or else 0
 abbrev pub small_count : Decoded → ℕ
 small_count (decoded.Small kind content) = 1
 small_count other = 0
 
--- the counter rises by what was decoded
+-- the counter rises by one if a small scalar was decoded
 abbrev pub CountsSmall : {C : Type 0} → (counts : Type 0) → (count : C → ℕ) → (old new : C)
     → Decoded → Type 0
 CountsSmall counts count old new decoded = counts → count new ≡ count old + small_count decoded
 
--- a text of units is decoded, unless it has more than eight bytes
+-- the string is decoded, or there is no result because it has more than eight bytes
 abbrev pub DecodesIfShort : Object → Option Decoded → Type 0
 DecodesIfShort object answer =
     IfSome answer (λ decoded. (bytes : List ℕ) → IsDecodedAs bytes object decoded)
 
--- ---- at a place
+-- ---- at an offset
 
--- the bytes of the object at a place, up to the trailer
+-- the bytes from the offset of an object up to the trailer
 abbrev pub bytes_at : Bounds → (place : ℕ) → List ℕ → List ℕ
 bytes_at bounds place bytes = drop place (take bounds.trailer bytes)
 
--- the object is decoded, or the error is kept of bytes that weren't read
+-- the object was decoded, or the slot stores the error because its bytes couldn't be read
 abbrev pub IsDecodedOrUnread : (bytes : List ℕ) → Object → (place : ℕ) → Decoded → FaultSlot → Type 0
 IsDecodedOrUnread bytes object place decoded.Unread slot = IsRefusedAs object place slot.fault
 IsDecodedOrUnread bytes object place decoded slot = IsDecodedAs bytes object decoded
 
--- the object at a place is decoded, or refused
+-- if the bytes are known, the object at this offset was decoded or couldn't be read
 abbrev pub DecodesAt : (known : Option (List ℕ)) → Bounds → (place : ℕ) → Decoded → FaultSlot
     → Type 0
 DecodesAt known bounds place decoded slot = IfSome known (λ bytes. bounds.trailer ≤ length bytes
     → IsDecodedOrUnread (bytes_at bounds place bytes) (object_at bounds place bytes) place decoded slot)
 
--- the error of bytes that weren't read is within the object
+-- if the object's bytes couldn't be read, the error's offset lies between `start` and `end`
 abbrev pub FailsUnread : (start end : ℕ) → Decoded → FaultSlot → Type 0
 FailsUnread start end decoded slot =
     is_unread decoded ≡ true → FailsWithin start end (fault_of slot.fault)
 
--- only bytes that weren't read raise the count of failures
+-- the count of failures changes only if the object's bytes couldn't be read
 abbrev pub CountsUnread : Decoded → FaultSlot → (old new : ℕ) → Type 0
 CountsUnread decoded.Unread slot old new = CountsIo slot.fault old new
 CountsUnread decoded slot old new = new ≡ old
 
--- what was decoded at a place lies before the trailer, and a text or data isn't small
+-- what was decoded at an offset ends before the trailer and has sizes in range
 abbrev pub FitsBefore : (trailer place : ℕ) → Decoded → Type 0
 FitsBefore trailer place (decoded.Small kind content) = FitsContent kind
 FitsBefore trailer place (decoded.Date content) = ⊤
@@ -160,7 +160,7 @@ FitsBefore trailer place (decoded.Dictionary count) = 2 * count ≤ trailer
 FitsBefore trailer place (decoded.Faulty fault) = ⊤
 FitsBefore trailer place decoded.Unread = ⊥
 
--- a walk can take it: its tag and its number of children have their widths
+-- the walk can store what was decoded: the tag and the number of children aren't too large
 abbrev pub FitsWalk : Decoded → Type 0
 FitsWalk (decoded.Small kind content) = FitsContent kind
 FitsWalk (decoded.Dictionary count) = 2 * count < 2 ^ 64
@@ -168,24 +168,24 @@ FitsWalk other = ⊤
 
 -- ---- the event of an object
 
--- what comes first of an object: its start, or the event of a scalar
+-- the first event of an object, which is its start or its scalar, or `None` if it is faulty
 abbrev pub event_of_object : Object → Option PlainEvent
 event_of_object (Scalar scalar) = Some (ScalarEvent scalar)
 event_of_object (Array items) = Some (StartArray (Some (length items)))
 event_of_object (Dictionary pairs) = Some (StartDictionary (Some (length pairs)))
 event_of_object (Faulty kind) = None
 
--- the event of the object at a place is the current one, or the object is refused
+-- the current event is the first one of the object, or the result is an error of the object
 abbrev pub SetsEvent : {A : Type 0} → Object → (place : ℕ) → Result A Error → (current : PlainEvent)
     → Type 0
 SetsEvent object place answer current =
     MatchResult answer (λ _. event_of_object object ≡ Some current) (IsRefusedAs object place)
 
--- its end has a place
+-- the offset of the content's end is less than 2^64
 abbrev pub EndsIn64Bits : (place : ℕ) → Content → Type 0
 EndsIn64Bits place content = place + content.start + content_size content < 2 ^ 64
 
--- where all of a content is there, its event is set
+-- if the content lies within known bytes, the current event is that of its object
 abbrev pub SetsContentAt : {A : Type 0} → (known : Option (List ℕ)) → (place : ℕ) → Content
     → Result A Error → (current : PlainEvent) → Type 0
 SetsContentAt known place content answer current = IfSome known (λ bytes.
@@ -193,7 +193,7 @@ SetsContentAt known place content answer current = IfSome known (λ bytes.
     → SetsEvent (content_means content.kind
     (take (content_size content) (drop (place + content.start) bytes))) place answer current)
 
--- or made
+-- if the content lies within known bytes, the result is the event of its object
 abbrev pub ReadsContent : (known : Option (List ℕ)) → (place : ℕ) → Content → Result Event Error
     → Type 0
 ReadsContent known place content answer = IfSome known (λ bytes.
@@ -201,12 +201,12 @@ ReadsContent known place content answer = IfSome known (λ bytes.
     → Decodes (content_means content.kind
     (take (content_size content) (drop (place + content.start) bytes))) place answer)
 
--- a read that fails there fails within the object
+-- if a read fails, the error's offset lies between the object's offset and the content's end
 abbrev pub FailsInContent : {A : Type 0} → (place : ℕ) → Content → Result A Error → Type 0
 FailsInContent place content answer =
     ErrWithin place (place + content.start + content_size content) answer
 
--- the event of what was decoded at a place is set
+-- over known bytes, the current event is the first one of the object that was decoded
 abbrev pub SetsDecoded : {A : Type 0} → (known : Option (List ℕ)) → Bounds → (place : ℕ) → Decoded
     → Result A Error → (current : PlainEvent) → Type 0
 SetsDecoded known bounds place decoded answer current = IfSome known (λ bytes.
@@ -214,7 +214,7 @@ SetsDecoded known bounds place decoded answer current = IfSome known (λ bytes.
     → IsDecodedAs (bytes_at bounds place bytes) (object_at bounds place bytes) decoded
     → SetsEvent (object_at bounds place bytes) place answer current)
 
--- an event that was set is small where the object was decoded as small
+-- the current event is that of a small scalar only if the object was decoded as one
 abbrev pub SetsAsSmall : {A E : Type 0} → Decoded → Result A E → (current : PlainEvent) → Type 0
 SetsAsSmall decoded answer current =
     OnOk answer (is_small_event current ≡ true → small_count decoded ≡ 1)

@@ -1,11 +1,10 @@
--- Where the faults of a reader are.
+-- The offsets of a reader's errors.
 use Rattle.std.specs.Prelude.{◌≡◌, ℕ, Bool, true, false, Option, None, Some, Result, IfErr, MatchOption, ⊤}
 use Rattle.plist_base.specs.declared.error.Error.{Error}
 use Rattle.plist_base.specs.Faults.{FaultKind, Fault, LimitReached, UnexpectedEof, InvalidMagic, InvalidTrailerObjectOffsetSize, InvalidTrailerObjectReferenceSize, ObjectOffsetTooLarge, ObjectReferenceTooLarge, RecursiveObject, NullObjectUnimplemented, FillObjectUnimplemented, UnknownObjectType, IntegerOutOfRange, OverflowOrNanDate, InvalidUtf8String, InvalidUtf16String, Io, OutOfMemory, fault_of}
 use Rattle.plist_base.specs.Sources.{IsOffsetWithin}
 
--- a fact for the fault of a read, one for lack of memory, and one for every other fault of a reader
--- of binary property lists, which has no further ones
+-- the fact that belongs to the kind of error, which is false if a reader never returns this kind
 abbrev pub MatchReader : FaultKind → (read memory other : Type 0) → Type 0
 MatchReader Io read memory other = read
 MatchReader UnexpectedEof read memory other = read
@@ -25,36 +24,35 @@ MatchReader InvalidUtf8String read memory other = other
 MatchReader InvalidUtf16String read memory other = other
 MatchReader kind read memory other = ⊥
 
--- there is an offset
+-- the error has an offset
 abbrev pub HasOffset : Option ℕ → Type 0
 HasOffset None = ⊥
 HasOffset (Some place) = ⊤
 
--- the same, and one fact more for the fault of a limit
+-- like `MatchReader`, with a further fact for `LimitReached`
 abbrev pub MatchGiven : FaultKind → (read memory other limit : Type 0) → Type 0
 MatchGiven (LimitReached reached) read memory other limit = limit
 MatchGiven kind read memory other limit = MatchReader kind read memory other
 
--- A fault that a reader gives. What lies from `start` on and before `end` was not read: one of the
--- reads there failed or gave nothing, and the fault's offset is the place of that read. Or memory
--- was wanted, and the fault has no offset. Or a limit was reached, where there are limits: that
--- fault has none. Or it is another fault of a reader, and has one.
+-- a failed read lies within the range, `OutOfMemory` and limits have no offset, others have one
 pub record IsGivenWithin (start end : ℕ) (limited : Bool) (fault : Fault) : Type 0 where
   pub placed : MatchGiven fault.kind (IsOffsetWithin start end fault.offset) (fault.offset ≡ None)
       (HasOffset fault.offset) ((limited ≡ true) × (fault.offset ≡ None))
 
--- if the item is an error, its offset is as `IsGivenWithin` says
+-- if the item is an error, it has an offset as `IsGivenWithin` says
 abbrev pub ItemGivenWithin : {A : Type 0} → (start end : ℕ) → (limited : Bool)
     → Option (Result A Error) → Type 0
 ItemGivenWithin start end limited item =
     MatchOption item ⊤ (λ answer. IfErr answer (λ e. IsGivenWithin start end limited (fault_of e)))
 
--- and where there are no limits: of a fault, of an answer, and of an item
+-- like `IsGivenWithin`, for an error without limits
 abbrev pub FailsWithin : (start end : ℕ) → Fault → Type 0
 FailsWithin start end fault = IsGivenWithin start end false fault
 
+-- if the result is an error, it has an offset as `FailsWithin` says
 abbrev pub ErrWithin : {A : Type 0} → (start end : ℕ) → Result A Error → Type 0
 ErrWithin start end answer = IfErr answer (λ e. FailsWithin start end (fault_of e))
 
+-- if the item is an error, it has an offset as `FailsWithin` says
 abbrev pub ItemWithin : {A : Type 0} → (start end : ℕ) → Option (Result A Error) → Type 0
 ItemWithin start end item = ItemGivenWithin start end false item

@@ -1,4 +1,4 @@
--- What a visitor keeps that wants one event.
+-- What is kept by the visitor that wants one event.
 use Rattle.std.specs.Prelude.{◌≡◌, MatchResult}
 use Rattle.std.specs.declared.ops.ControlFlow.TheVariants.{Break}
 use Rattle.plist_base.specs.Events.{IsTextOrDataEvent, PlainEvent, event_of}
@@ -6,7 +6,7 @@ use Rattle.plist_base.specs.Faults.{OutOfMemory, fault_without_offset, fault_of}
 use Rattle.plist_base.specs.Visits.{Flow}
 use Rattle.plist_binread.specs.declared.first_event.FirstEvent.{FirstEvent}
 
--- the event is kept, or no memory was found for its text or data
+-- the visitor stores the event, or an allocation for its string or data failed
 abbrev pub KeepsEvent : PlainEvent → Flow → FirstEvent → Type 0
 KeepsEvent event flow visitor = (flow ≡ Break tt) × MatchResult visitor.kept
     (λ owned. event_of owned ≡ event)

@@ -1,27 +1,28 @@
--- The open collections as they are kept, and what comes next of the innermost one.
+-- How the open collections are stored, and what is next in the innermost one.
 use Rattle.std.specs.Prelude.{◌≡◌, ℕ, ◌+◌, ◌<◌, ◌≤◌, List, [], ◌∷◌, ◌++◌, Option, None, Some}
 use Rattle.plist_binread.specs.declared.frames.Frame.{Frame}
 use Rattle.plist_binread.specs.declared.frames.NarrowFrame.{NarrowFrame}
 use Rattle.plist_binread.specs.declared.frames.NextChild.{NextChild}
 use Rattle.plist_binread.specs.declared.frames.NextChild.TheVariants as child
 
+-- the frame with these fields
 abbrev pub frame_of : (object next count : ℕ) → Frame
 frame_of object next count = record { object = object; next = next; count = count }
 
--- the collection that is kept in few bytes
+-- the frame with the numbers of a narrow frame
 abbrev pub widened : NarrowFrame → Frame
 widened narrow = frame_of narrow.object narrow.next narrow.count
 
--- the outer ones, and after them the innermost one, if there is any
+-- the outer collections, followed by the innermost one if there is one
 abbrev pub with_innermost : (outer : List Frame) → Option Frame → List Frame
 with_innermost outer None = outer
 with_innermost outer (Some frame) = outer ++ frame ∷ []
 
--- it was the last one and is gone, or there was none
+-- the last frame was removed, or there was none
 abbrev pub PopsLast : (old : List Frame) → Option Frame → (new : List Frame) → Type 0
 PopsLast old last new = (old ≡ with_innermost new last) × (last ≡ None → new ≡ [])
 
--- what is next in the innermost one of these, which is first, and those that are open afterwards
+-- the next child of the innermost frame, which is the first one, and the frames afterwards
 abbrev pub NextOf : (old : List Frame) → NextChild → (new : List Frame) → Type 0
 NextOf old child.Nothing new = (old ≡ []) × (new ≡ [])
 NextOf old (child.End object) new =

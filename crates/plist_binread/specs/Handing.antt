@@ -8,34 +8,36 @@ use Rattle.plist_base.specs.Visits.{Flow}
 use Rattle.plist_binread.specs.Packed.{MayAllocate, scalar_event}
 use Rattle.plist_binread.specs.declared.fault_slot.StepError.{StepError}
 
--- the event and the answer that were read, or the error
+-- the event is the one that was read, or the result is the error of the read
 abbrev pub HandsRead : {A : Type 0} → Result Event Error → (answer : Result A Error) → PlainEvent
     → Type 0
 HandsRead (Ok read) answer event = MatchResult answer (λ _. event ≡ event_of read) (λ _. ⊥)
 HandsRead (Err error) answer event = answer ≡ Err error
 
 module _ {V : Type 0} (step : V → PlainEvent → Flow → V → Type 0) (old new : V) where
-  -- the visitor took this event, or it is as it was
+  -- the visitor took this event, or is unchanged after an error
   abbrev pub Takes : Result Flow StepError → PlainEvent → Type 0
   Takes (Ok flow) event = step old event flow new
   Takes (Err refused) event = new ≡ old
 
+  -- the visitor took this event, or is unchanged after an error or if there is no item
   abbrev pub TakesIfAny : Option (Result Flow StepError) → PlainEvent → Type 0
   TakesIfAny None event = new ≡ old
   TakesIfAny (Some answer) event = Takes answer event
 
-  -- the visitor took an event of which this is so; where it took none, any event will do
+  -- an event satisfies `P`, and the visitor took it unless the result is an error
   pub record Hands (answer : Result Flow StepError) (P : PlainEvent → Type 0) : Type 0 where
     pub event : PlainEvent
     pub is : P event
     pub taken : Takes answer event
 
+  -- an event satisfies `P`, and the visitor took it unless there is an error or no item
   pub record HandsItem (item : Option (Result Flow StepError)) (P : PlainEvent → Type 0) : Type 0 where
     pub event : PlainEvent
     pub is : P event
     pub taken : TakesIfAny item event
 
-  -- the visitor took the event of a scalar; or there is none, or it is one that may need memory
+  -- the visitor took the scalar's event, or there is no scalar or one that needs memory
   abbrev pub HandsSmall : Option trees.Scalar → Option Flow → Type 0
   HandsSmall scalar answer = MatchOption answer (MayAllocate scalar × (new ≡ old))
       (λ flow. (event : PlainEvent) × (scalar_event scalar ≡ Some event) × step old event flow new)

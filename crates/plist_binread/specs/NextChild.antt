@@ -1,4 +1,4 @@
--- Which child of the innermost frame comes next, and which object that is.
+-- Which child of the innermost frame is next, and which object it is.
 use Rattle.std.specs.Prelude.{◌≡◌, ℕ, ◌+◌, ◌-◌, ◌<◌, Bool, true, false, not, List, [], ◌∷◌, ◌++◌, length, reverse, nat_lt, get_or, Result, Ok, Err, Option, None, Some, MatchResult, MatchOption, IfOk, IfSome, ⊤}
 use Rattle.std.specs.List.{slice_get}
 use Rattle.plist_base.specs.declared.error.Error.{Error}
@@ -21,6 +21,7 @@ use Rattle.plist_binread.specs.Remaining.{SomeRemain, children_at, entries_of, n
 
 -- ---- the next child of the innermost frame
 
+-- the items of the next child, or an end, are the first of those that remained
 abbrev pub TakesNextChild : List TableEntry → List Frame → NextChild → List Frame → Type 0
 TakesNextChild table old child.Nothing new = (old ≡ []) × (new ≡ [])
 TakesNextChild table old (child.End object) new = remaining_items table old ≡ Ok EndCollection
@@ -33,81 +34,83 @@ TakesNextChild table old (child.Child object index) new =
     × SomeRemain (until_fault (remaining_items table old))
     × (next_number table old ≡ Some (get_or (children_at (slice_get table object)) index 0))
 
+-- the weight falls by 1 for an end, and by the steps below a child for a child
 abbrev pub WeightFalls : (count : ℕ) → List Frame → NextChild → List Frame → Type 0
 WeightFalls count old child.Nothing new = Unit {0}
 WeightFalls count old (child.End object) new = walk_weight count old ≡ walk_weight count new + 1
 WeightFalls count old (child.Child object index) new =
     walk_weight count old ≡ walk_weight count new + walk_steps (count - length new)
 
+-- whether no item has been requested yet
 abbrev pub is_fresh : WalkState → Bool
 is_fresh Fresh = true
 is_fresh Walking = false
 is_fresh Ended = false
 
+-- whether the reader has begun and hasn't ended
 abbrev pub is_walking : WalkState → Bool
 is_walking Fresh = false
 is_walking Walking = true
 is_walking Ended = false
 
--- where a reader stands that has given this item
+-- the state of a reader after it has yielded this item
 abbrev pub state_after : {A E : Type 0} → Option (Result A E) → WalkState
 state_after None = Ended
 state_after (Some (Ok value)) = Walking
 state_after (Some (Err error)) = Ended
 
--- has the innermost collection no child left?
+-- whether the innermost collection has no child left
 abbrev pub closes : List Frame → Bool
 closes [] = false
 closes (frame ∷ below) = not (nat_lt frame.next frame.count)
 
--- the collection was closed
+-- the innermost collection was closed
 abbrev pub IsEnd : NextChild → Type 0
 IsEnd (child.End object) = ⊤
 IsEnd _ = ⊥
 
 -- ---- what is looked up and read
 
--- what is known of an object by its tag and its content: it is a small scalar that is cached, or it
--- lies there
+-- the tag and the content encode this: the object's offset, or a small scalar that is cached
 abbrev pub IsFound : (tag content : ℕ) → Known → Type 0
 IsFound tag content (looked.Small kind packed) =
     (0 < unmarked tag) × (cached tag content ≡ unpacked kind packed)
 IsFound tag content (looked.At place) = (unmarked tag ≡ 0) × (place ≡ content)
 
--- a child's number, where the object has this many
+-- if the object has a child of this index, the result is the child's number or `Io`
 abbrev pub ReadsChild : Object → (index : ℕ) → Result ℕ Error → Type 0
 ReadsChild object index answer =
     index < length (children_in object)
     → MatchResult answer (λ number. number ≡ get_or (children_in object) index 0)
     (λ error. IsIo (kind_of (error_kind_of error)))
 
--- the next child is one of an open object, which isn't cached
+-- the collection that contains the next child isn't cached
 abbrev pub ParentIsUncached : (tags : List ℕ) → NextChild → Type 0
 ParentIsUncached tags (child.Child object index) =
     (object < length tags) × (unmarked (get_or tags object 0) ≡ 0)
 ParentIsUncached tags _ = Unit {0}
 
--- ---- which object comes next
+-- ---- which object is next
 
--- the number of the root of a file with this head
+-- the number of the root in a file with this head, or `None` if the head is invalid
 abbrev pub root_with : Result Head Fault → Option ℕ
 root_with (Ok head) = Some head.root
 root_with (Err fault) = None
 
--- the number of the object that comes next
+-- the number of the object that is entered next, or `None` if there is none
 abbrev pub upcoming_number : List ℕ → WalkState → Bounds → List Frame → Option ℕ
 upcoming_number bytes Fresh bounds frames = root_with (head_of bytes)
 upcoming_number bytes Walking bounds frames = next_number (entries_of bytes bounds) (reverse frames)
 upcoming_number bytes Ended bounds frames = None
 
--- the object is cached if the event that its answer shows is small
+-- the object of this number is cached if the item is the event of a small scalar
 abbrev pub IsCachedIfSmall : {A : Type 0} → (shown : A → PlainEvent) → Option ℕ
     → Option (Result A Error) → (tags : List ℕ) → Type 0
 IsCachedIfSmall shown number item tags = MatchOption item ⊤ (λ answer. IfOk answer (λ value.
     IfSome number (λ number.
     is_small_event (shown value) ≡ true → 0 < unmarked (get_or tags number 0))))
 
--- the object of this number is cached if the current event is small
+-- the object of this number is cached if the current event is that of a small scalar
 abbrev pub IsCurrentCached : {A : Type 0} → Option ℕ → Option (Result A Error)
     → (current : PlainEvent) → (tags : List ℕ) → Type 0
 IsCurrentCached number item current tags = IsCachedIfSmall (λ _. current) number item tags

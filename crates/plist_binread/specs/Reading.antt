@@ -1,5 +1,4 @@
--- Words for what a call makes of known bytes: those of the whole source, those that reach the
--- trailer, and those of one object.
+-- What is read from known bytes: numbers, objects, and the references of collections.
 use Rattle.std.specs.Prelude.{◌≡◌, ℕ, ◌+◌, ◌*◌, ◌<◌, ◌≤◌, List, [], ◌++◌, length, map, take, drop, Option, Some, Result, Err, IfSome, MatchResult}
 use Rattle.std.specs.List.{range_with_len}
 use Rattle.plist_base.specs.declared.error.Error.{Error}
@@ -20,85 +19,88 @@ use Rattle.std.specs.declared.alloc.Global.{Global}
 use Rattle.std.specs.declared.vec.Vec.{Vec}
 use Rattle.plist_binread.specs.declared.head.Bounds.{Bounds}
 
--- ---- what is buffered, and what a read gives
+-- ---- what is buffered, and what a read returns
 
--- something is found, and the bytes are known: this is so of them
+-- if a value was found and the bytes are known, they satisfy `P`
 abbrev pub IfFound : {A : Type 0} → Option A → (known : Option (List ℕ)) → (List ℕ → A → Type 0)
     → Type 0
 IfFound found known P = IfSome found (λ value. IfSome known (λ bytes. P bytes value))
 
--- where all of them are there, a read of `size` bytes from a place on fails by the device, or since
--- memory ran out
+-- if all of the `size` bytes exist, reading them fails only with `Io` or `OutOfMemory`
 abbrev pub IsIoOrMemoryAt : (place size : ℕ) → List ℕ → Fault → Type 0
 IsIoOrMemoryAt place size bytes fault = place + size ≤ length bytes → IsIoOrMemory fault.kind
 
--- this is the number of this width at a place
+-- this is the number of `width` bytes at an offset
 abbrev pub IsNumberAt : (place width : ℕ) → List ℕ → ℕ → Type 0
 IsNumberAt place width bytes number = number ≡ number_at bytes place width
 
--- these are the bytes from a place on
+-- these are the `size` bytes from an offset on
 abbrev pub AreBytesAt : (place size : ℕ) → List ℕ → Vec ℕ Global → Type 0
 AreBytesAt place size bytes found = found.items ≡ take size (drop place bytes)
 
--- these are numbers of one width, one after the other from a place on
+-- these numbers of `width` bytes each lie one after the other from an offset on
 abbrev pub AreFirstNumbers : (known : Option (List ℕ)) → (place width : ℕ) → List ℕ → Type 0
 AreFirstNumbers known place width numbers =
     IfSome known (λ bytes. numbers ≡ map (λ k. number_at bytes (place + k * width) width)
     (range_with_len 0 (length numbers)))
 
--- where all of them are there, these are the numbers of one width from a place on
+-- if all of them exist, these are the `count` numbers of `width` bytes each from an offset on
 abbrev pub AreNumbersAt : (place width count : ℕ) → List ℕ → Vec ℕ Global → Type 0
 AreNumbersAt place width count bytes numbers =
     place + count * width ≤ length bytes
     → numbers.items ≡ numbers_spelled width (take (count * width) (drop place bytes))
 
--- the number of this width at a place is read, or where it is there, the device failed
+-- if the result is a number, it is the one of `width` bytes at an offset
 abbrev pub ReadsNumber : Result ℕ Error → (known : Option (List ℕ)) → (place width : ℕ) → Type 0
 ReadsNumber answer known place width =
     DecodesBy answer known (λ bytes. number_at bytes place width)
 
+-- if all bytes of the number exist, reading it fails only with `Io`
 abbrev pub RefusesNumber : Result ℕ Error → (known : Option (List ℕ)) → (place width : ℕ) → Type 0
 RefusesNumber answer known place width = IfRefused answer known (IsIoWithin place width)
 
 -- ---- what the content of an object of a fixed size means
 
+-- the real that has these four bytes
 abbrev pub short_real : List ℕ → Object
 short_real content = Scalar (Real (Four content))
 
+-- the real that has these eight bytes
 abbrev pub long_real : List ℕ → Object
 long_real content = Scalar (Real (Eight content))
 
+-- the Uid whose number these bytes encode
 abbrev pub uid_of_content : List ℕ → Object
 uid_of_content content = Scalar (Uid (number_of content))
 
--- and that of data
+-- the data that consists of these bytes
 abbrev pub data_of_content : List ℕ → Object
 data_of_content content = Scalar (Data content)
 
 -- ---- an object whose marker was read
 
--- what the bytes after its marker mean
+-- the object that has this marker and these bytes after it
 abbrev pub object_with : (width marker : ℕ) → List ℕ → Object
 object_with width marker rest = object_after_marker marker (layout_of width marker) rest
 
--- what the bytes after the marker mean, if the object has a length, by the low half of its marker
+-- the object of this kind that has these bytes after its marker
 abbrev pub object_counted : (width : ℕ) → CountedKind → (low : ℕ) → List ℕ → Object
 object_counted width kind low rest = object_after_marker low (counted_layout width kind) rest
 
--- the object at a place
+-- the object at an offset
 abbrev pub object_at : Bounds → (place : ℕ) → List ℕ → Object
 object_at bounds place bytes =
     object_in bounds.reference_width (drop place (take bounds.trailer bytes))
 
--- ---- what is made of bytes that reach the trailer
+-- ---- references to children
 
--- a child's number is read, where the object has this many
+-- if the object at an offset has a child of this index, its number is read, or `Io` is returned
 abbrev pub ReadsChildAt : Result ℕ Error → (known : Option (List ℕ)) → Bounds → (place index : ℕ)
     → Type 0
 ReadsChildAt answer known bounds place index = IfSome known (λ bytes.
     bounds.trailer ≤ length bytes → ReadsChild (object_at bounds place bytes) index answer)
 
--- the references of the children of the collection at their place stand there
+-- if the bytes are known, the references of the collection lie where `references` says
 abbrev pub AreReferencesOf : (known : Option (List ℕ)) → Bounds → References → Type 0
 AreReferencesOf known bounds references =
     IfSome known (λ bytes. bounds.trailer ≤ length bytes → AreReferences bytes bounds references)
@@ -109,13 +111,12 @@ abbrev pub FindsReferences : Result References Error → (known : Option (List �
 FindsReferences answer known bounds place = MatchResult answer (AreReferencesOf known bounds)
     (λ error. (index : ℕ) → ReadsChildAt (Err error) known bounds place index)
 
--- the references of the object that begins with these bytes lie there, whatever follows the bytes
+-- the references of the object that begins with these bytes lie where `references` says
 abbrev pub AreReferencesOfSeen : (width : ℕ) → (seen : List ℕ) → References → Type 0
 AreReferencesOfSeen width seen references =
     (more : List ℕ) → AreReferencesAt width (seen ++ more) references.start references.pairs
 
--- an object of this kind and length is a collection of this many pairs, or none since it is an
--- array, and the references of its children stand after the length
+-- an object of this kind and length has this many pairs, and its references follow the length
 abbrev pub HasPairs : CountedKind → (count pairs : ℕ) → Type 0
 HasPairs kind count pairs = (width low start : ℕ) (object rest : List ℕ) → 0 < width
     → start ≤ length object → object_in width object ≡ object_counted width kind low rest
@@ -131,6 +132,6 @@ abbrev pub HasNoChild : (width to_trailer : ℕ) → (seen : List ℕ) → Type 
 HasNoChild width to_trailer seen = (more : List ℕ) → length (seen ++ more) ≡ to_trailer
     → children_in (object_in width (seen ++ more)) ≡ []
 
--- bytes that reach the to_trailer, or have all of a marker and a length
+-- the bytes of the object reach up to the trailer, or are at least 10
 abbrev pub ShowsLength : (to_trailer : ℕ) (seen : List ℕ) → Type 0
 ShowsLength to_trailer seen = length seen < 10 → to_trailer ≤ length seen

@@ -17,13 +17,12 @@ use Rattle.plist_binread.specs.Decoding.{children_in, scalar_in}
 
 -- ---- the path
 
--- the numbers of the objects that are open
+-- the numbers of the open objects
 abbrev pub path_of : List Frame → List ℕ
 path_of [] = []
 path_of (frame ∷ below) = frame.object ∷ path_of below
 
--- No object is open twice, each has a tag, the marks stand exactly on those that are open, and no
--- open object is cached.
+-- exactly the open objects are marked; each is open once, has a tag and isn't cached
 pub record MarksOpenPath (tags : List ℕ) (frames : List Frame) : Type 0 where
   pub distinct : IsDistinct nat_eq (path_of frames)
   pub below : (number : ℕ) → list_any (nat_eq number) (path_of frames) ≡ true → number < length tags
@@ -32,31 +31,30 @@ pub record MarksOpenPath (tags : List ℕ) (frames : List Frame) : Type 0 where
   pub uncached : (number : ℕ) → is_marked (get_or tags number 0) ≡ true
       → unmarked (get_or tags number 0) ≡ 0
 
--- how many objects are cached
+-- the number of cached objects
 abbrev pub cached_count : (tags : List ℕ) → ℕ
 cached_count [] = 0
 cached_count (tag ∷ tags) = cond (nat_lt 0 (unmarked tag)) 1 0 + cached_count tags
 
 -- ---- the remaining items
 
--- the place of what was found in a table
+-- the offset of an entry, or 0 without an entry
 abbrev pub place_at : Option TableEntry → ℕ
 place_at None = 0
 place_at (Some entry) = entry.place
 
--- its children
+-- the numbers of the children of an entry's object
 abbrev pub children_at : Option TableEntry → List ℕ
 children_at None = []
 children_at (Some entry) = children_in entry.object
 
--- what was found, where that is a scalar
+-- the scalar of an entry's object, or `None` if the object isn't a scalar
 abbrev pub scalar_at : Option TableEntry → Option trees.Scalar
 scalar_at None = None
 scalar_at (Some entry) = scalar_in entry.object
 
 module _ (table : List TableEntry) where
-  -- the items that remain of the frames, were there no fault: those of the children of the
-  -- innermost one that are still to come, its end, and what remains of the frames below
+  -- the items of the children that remain in each frame, and its end, without regard to faults
   abbrev pub remaining_items : List Frame → List Item
   remaining_items [] = []
   remaining_items (frame ∷ below) =
@@ -65,35 +63,34 @@ module _ (table : List TableEntry) where
       (drop frame.next (children_at (slice_get table frame.object)))
       ++ Ok EndCollection ∷ remaining_items below
 
--- ---- what is known of the file's bytes
+-- ---- what is known about the file's bytes
 
--- the places of the objects of a file with this head
+-- the offsets of the objects in a file with this head
 abbrev pub places_with : Result Head Fault → List ℕ
 places_with (Ok head) = head.places
 places_with (Err fault) = []
 
--- the places of a file's objects
+-- the offsets of a file's objects
 abbrev pub places_of : List ℕ → List ℕ
 places_of bytes = places_with (head_of bytes)
 
--- as many objects were found as the head of these bytes counts, unless a device failed or memory
--- ran out
+-- `found` is the number of objects in the file, unless a read or an allocation failed
 abbrev pub CountsObjects : {A : Type 0} → List ℕ → Result A Error → (found : ℕ) → Type 0
 CountsObjects bytes answer found = MatchResult answer (λ _. found ≡ length (places_of bytes))
     (λ error. MatchFault (kind_of (error_kind_of error)) ⊤ ⊤ (found ≡ length (places_of bytes)))
 
--- the file's objects, with these bounds
+-- the table of a file's objects, which end before the trailer
 abbrev pub entries_of : List ℕ → Bounds → List TableEntry
 entries_of bytes bounds =
     table_of (take bounds.trailer bytes) bounds.reference_width (places_of bytes)
 
--- a file of this head has these bounds
+-- a file with this head has these bounds
 abbrev pub AreBoundsOf : Result Head Fault → Bounds → Type 0
 AreBoundsOf answer bounds =
     MatchResult answer (λ head. (bounds.trailer ≡ head.trailer)
     × (bounds.reference_width ≡ head.reference_width)) (λ fault. ⊥)
 
--- what is held of an object is its place, or else this scalar
+-- the content is the offset of the entry, or else the entry's object is this scalar
 abbrev pub HoldsPlaceOr : (is_place : Bool) → Option trees.Scalar → (content : ℕ)
     → Option TableEntry
     → Type 0
@@ -101,11 +98,11 @@ HoldsPlaceOr is_place scalar content entry =
     MatchBool is_place (content ≡ place_at entry)
     (MatchOption scalar ⊥ (λ scalar. scalar_at entry ≡ Some scalar))
 
--- a tag and a content hold this object: its place, or all of a small scalar
+-- the tag and the content store the offset of the entry, or its small scalar
 abbrev pub IsHeld : Option TableEntry → (tag content : ℕ) → Type 0
 IsHeld entry tag content = HoldsPlaceOr (nat_eq (unmarked tag) 0) (cached tag content) content entry
 
--- what a reader knows of a file of these bytes once it has read its table
+-- what a reader has stored about the objects is true of the file with these bytes
 pub record MatchesFile (bytes : List ℕ) (bounds : Bounds) (tags contents : List ℕ)
     (frames : List Frame) : Type 0 where
   pub head : AreBoundsOf (head_of bytes) bounds
@@ -117,7 +114,7 @@ pub record MatchesFile (bytes : List ℕ) (bounds : Bounds) (tags contents : Lis
   pub counts : AllByRecursion (λ frame. length
       (children_at (slice_get (entries_of bytes bounds) frame.object)) ≡ frame.count) frames
 
--- the items to come
+-- the items that remain in this state
 abbrev pub remaining_now : List ℕ → WalkState → Bounds → List Frame → List Item
 remaining_now bytes Fresh bounds frames = items_of_file bytes
 remaining_now bytes Walking bounds frames =
@@ -130,8 +127,7 @@ remaining_now bytes Ended bounds frames = []
 abbrev pub SomeRemain : List Item → Type 0
 SomeRemain items = 0 < length items
 
--- memory is needed for the first item that remains: a start, a text, or the fault of a text or
--- of a limit
+-- the first item needs memory: a start, a string, data, or the error of a string or of a limit
 abbrev pub AllocatesFirst : List Item → Type 0
 AllocatesFirst [] = ⊥
 AllocatesFirst (Ok (StartArray length) ∷ items) = ⊤
@@ -147,32 +143,33 @@ AllocatesFirst (Err fault ∷ items) = IsTextOrLimitFault fault.kind
     IsTextOrLimitFault (LimitReached limit) = ⊤
     IsTextOrLimitFault kind = ⊥
 
--- an error that may come where some items remain: a device's fault anywhere, lack of memory where
--- some is needed, and every other fault where that is the one item that remains
+-- the error is `Io`, `OutOfMemory` where the first item needs memory, or the only item
 abbrev pub Explains : List Item → Error → Type 0
 Explains before error =
     MatchFault (kind_of (error_kind_of error)) (SomeRemain before) (AllocatesFirst before)
     (before ≡ Err (fault_of error) ∷ [])
 
--- ---- the falling number
+-- ---- the number that falls with each step
 
--- more than the steps of a walk below an object, where `fuel` objects aren't on its path
+-- an upper bound on the steps below an object, where `fuel` objects aren't open
 unfoldable pub walk_steps : (fuel : ℕ) → ℕ
 walk_steps zero = 1
 walk_steps (suc fuel) = 2 + 2 ^ 64 * walk_steps fuel
 
+-- an upper bound on the steps that remain with these open collections
 abbrev pub walk_weight : (count : ℕ) → List Frame → ℕ
 walk_weight count [] = 0
 walk_weight count (frame ∷ below) =
     (frame.count - frame.next) * walk_steps (count - suc (length below)) + 1 + walk_weight count
     below
 
+-- an upper bound on the steps that remain in this state
 abbrev pub steps_left : WalkState → (count : ℕ) → List Frame → ℕ
 steps_left Fresh count frames = walk_steps (2 ^ 64) + 1
 steps_left Walking count frames = walk_weight count (reverse frames)
 steps_left Ended count frames = 0
 
--- the number of the object whose item comes first of these frames, or none where that is an end
+-- the number of the object that is entered next, or `None` if the next item is an end
 abbrev pub next_number : List TableEntry → List Frame → Option ℕ
 next_number table [] = None
 next_number table (frame ∷ below) =

@@ -10,7 +10,7 @@ use Rattle.plist_binread.specs.declared.head.Bounds.{Bounds}
 use Rattle.plist_binread.specs.declared.run.Run.{Run}
 use Rattle.plist_binread.specs.declared.references.ReferenceReader.{ReferenceReader}
 
--- if the bytes of the source are known, these lie at the offset
+-- if the bytes of the source are known, these bytes lie at the offset
 abbrev pub LieAt : (known : Option (List ℕ)) → (place : ℕ) → List ℕ → Type 0
 LieAt known place found = IfSome known (λ bytes. LiesAt bytes place found)
 
@@ -22,18 +22,19 @@ IsRunOf known run = LieAt known run.at (take run.len run.bytes)
 abbrev pub AreRunsOf : (known : Option (List ℕ)) → ReferenceReader → Type 0
 AreRunsOf known references = IsRunOf known references.near × IsRunOf known references.values
 
--- the references of the last collection are where the reader looks for them, and its runs are
--- copies of bytes of the source
+-- the location of the references is right, and the runs are copies of bytes of the source
 abbrev pub KnowsReferences : (known : Option (List ℕ)) → Bounds → ReferenceReader → Type 0
 KnowsReferences known bounds references =
     AreReferencesOf known bounds references.site × AreRunsOf known references
 
--- ---- an equation between two lists of bytes has at most one proof
+-- ---- equations between lists of bytes
 
+-- two lists of bytes are equal if they aren't different
 bytes_stable : (x y : List ℕ) (same : Bool) → bytes_eq x y ≡ same → Stable (x ≡ y)
 bytes_stable x y true is apart = bytes_is x y is
 bytes_stable x y false is apart =
     absurd (apart (λ p. both_ways _ is (subst (λ z. bytes_eq x z ≡ true) p (bytes_refl x))))
 
+-- an equation between two lists of bytes has at most one proof
 pub bytes_set : IsSet (List ℕ)
 bytes_set = Stable-paths→set (λ x y. bytes_stable x y _ refl)

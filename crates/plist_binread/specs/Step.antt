@@ -1,4 +1,4 @@
--- Words for what a step does to the walk, to the current event and to the remaining items.
+-- What a step does to the walk, to the current event and to the remaining items.
 use Rattle.std.specs.Prelude.{◌≡◌, ℕ, ◌<◌, List, false, get_or, Option, Some, Result, Err, IfSome, OnOk, ⊤}
 use Rattle.std.specs.List.{slice_get}
 use Rattle.plist_base.specs.Events.{PlainEvent}
@@ -25,63 +25,67 @@ use Rattle.plist_binread.specs.declared.walk.Walk.{Walk}
 
 -- ---- the walk
 
--- less is left to do than where an object was about to be entered, or than before a step
+-- fewer steps remain than when the object was about to be entered
 abbrev pub IsLighterEntered : (old new : Walk) → Type 0
 IsLighterEntered old new = walk_weight (walk_objects old) (open_in new) < weight_entering old
 
+-- fewer steps remain than before the step
 abbrev pub IsLighter : (old new : Walk) → Type 0
 IsLighter old new = walk_weight (walk_objects old) (open_in new) < weight_in old
 
--- an item came of those that remained, and less is left to do
+-- an item is yielded only if some steps remained, and fewer steps remain after an event
 abbrev pub LightensNext : {A : Type 0} → (old : Walk) → Option (Result A StepError) → (new : Walk)
     → Type 0
 LightensNext old item new =
     IfSome item (λ answer. (0 < weight_in old) × OnOk answer (IsLighter old new))
 
--- nothing changed
+-- the walk is unchanged
 abbrev pub IsUnchanged : (old new : Walk) → Type 0
 IsUnchanged old new =
     (new.tags.items ≡ old.tags.items) × (new.contents.items ≡ old.contents.items)
     × (new.frames ≡ old.frames)
 
--- the next child is taken of what remains
+-- over the bytes of its file, the walk takes the next child as `TakesNextChild` says
 abbrev pub WalkTakesNextChild : (old : Walk) → NextChild → (new : Walk) → Type 0
 WalkTakesNextChild old child new = (bytes : List ℕ) (bounds : Bounds) → IsWalkOf bytes bounds old →
     TakesNextChild (entries_of bytes bounds) (open_in old) child (open_in new)
     × IsWalkOf bytes bounds new
 
+-- the weight of the walk falls as `WeightFalls` says
 abbrev pub WalkWeightFalls : (old : Walk) → NextChild → (new : Walk) → Type 0
 WalkWeightFalls old child new = (count : ℕ) → WeightFalls count (open_in old) child (open_in new)
 
 -- ---- what is looked up
 
+-- this is what the walk has stored about the object of this number
 abbrev pub IsFoundAt : (number : ℕ) → Walk → Known → Type 0
 IsFoundAt number walk found = IsFound (get_or walk.tags.items number 0)
     (get_or walk.contents.items number 0) found
 
--- the error of each child of a collection that isn't found is held
+-- no child of the collection at this offset can be read, because of the error in the slot
 abbrev pub RefusesEach : (known : Option (List ℕ)) → Bounds → (place : ℕ) → FaultSlot → StepError
     → Type 0
 RefusesEach known bounds place slot refused =
     (index : ℕ) → ReadsChildAt (Err slot.fault) known bounds place index
 
--- the error of a number that isn't entered is held, and no device failed
+-- the object of this number can't be entered, because of the error in the slot
 abbrev pub RefusesEntering : Walk → (at number : ℕ) → FaultSlot → StepError → Type 0
 RefusesEntering walk at number slot refused =
     (bytes : List ℕ) (bounds : Bounds) → IsWalkOf bytes bounds walk →
     Explains (until_fault (remaining_entering bytes bounds walk at number)) slot.fault
 
+-- the error in the slot isn't `Io`
 abbrev pub RefusesWithoutIo : FaultSlot → StepError → Type 0
 RefusesWithoutIo slot refused = MatchFault (kind_of (error_kind_of slot.fault)) ⊥ ⊤ ⊤
 
 -- ---- an object that is opened
 
--- what was decoded is cached if it is small
+-- the object that was decoded is cached if it is a small scalar
 abbrev pub CachesDecoded : Decoded → (number : ℕ) → Walk → Type 0
 CachesDecoded decoded number walk =
     small_count decoded ≡ 1 → 0 < unmarked (get_or walk.tags.items number 0)
 
--- and its first item comes
+-- the object's first event is the first item that remained, and the walk has entered the object
 abbrev pub OpensObject : (number : ℕ) → Decoded → (old new : Walk) → Type 0
 OpensObject number decoded old new = (bytes : List ℕ) (bounds : Bounds) (entry : TableEntry)
     (all : List ℕ) → IsWalkOf bytes bounds old
@@ -92,7 +96,7 @@ OpensObject number decoded old new = (bytes : List ℕ) (bounds : Bounds) (entry
     (remaining_in bytes bounds new))
     × IsWalkOf bytes bounds new
 
--- the same of a collection of so many children, which is open then
+-- the start is the first item that remained, and the collection is open
 abbrev pub OpensCollection : (number count : ℕ) → (old new : Walk) → Type 0
 OpensCollection number count old new = (bytes : List ℕ) (bounds : Bounds) (entry : TableEntry)
     (start : PlainEvent) → IsWalkOf bytes bounds old
@@ -102,7 +106,7 @@ OpensCollection number count old new = (bytes : List ℕ) (bounds : Bounds) (ent
     (remaining_in bytes bounds new))
     × IsWalkOf bytes bounds new
 
--- only a collection needs memory
+-- the start of an array or of a dictionary was decoded
 abbrev pub IsCollectionStart : Decoded → Type 0
 IsCollectionStart (decoded.Array count) = ⊤
 IsCollectionStart (decoded.Dictionary count) = ⊤
@@ -110,25 +114,26 @@ IsCollectionStart other = ⊥
 
 -- ---- over known bytes
 
--- an object that was entered is cached if it is small
+-- the object that was entered is cached if it is a small scalar
 abbrev pub CachesEntered : {A : Type 0} → (known : Option (List ℕ)) → (number : ℕ)
     → Result A Error → (event : PlainEvent) → Walk → Type 0
 CachesEntered known number answer event walk = IfSome known (λ _.
     IsCurrentCached (Some number) (Some answer) event walk.tags.items)
 
--- its first item comes
+-- the event is the first item of the object, or the result is an error that replaces it
 abbrev pub EntersObject : {A : Type 0} → (known : Option (List ℕ)) → Bounds → (old : Walk)
     → Reference → Result A Error → (event : PlainEvent) → (new : Walk) → Type 0
 EntersObject known bounds old reference answer event new = IfSome known (λ bytes.
     YieldsAnswer (remaining_entering bytes bounds old reference.at reference.number) answer event
     (remaining_in bytes bounds new))
 
--- the next item is the first that remained, and cached if it is small
+-- the item is the first that remained, and the others remain
 abbrev pub YieldsItem : {A : Type 0} → (known : Option (List ℕ)) → Bounds → (old : Walk)
     → Option (Result A Error) → (event : PlainEvent) → (new : Walk) → Type 0
 YieldsItem known bounds old item event new = IfSome known (λ bytes.
     YieldsNext (remaining_in bytes bounds old) item event (remaining_in bytes bounds new))
 
+-- the object that was entered next is cached if it is a small scalar
 abbrev pub CachesNext : {A : Type 0} → (known : Option (List ℕ)) → Bounds → (old : Walk)
     → Option (Result A Error) → (event : PlainEvent) → (new : Walk) → Type 0
 CachesNext known bounds old item event new = IfSome known (λ bytes.

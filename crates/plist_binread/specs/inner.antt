@@ -1,2 +1,2 @@
--- What bodies and proofs speak of, and no public clause.
+-- Definitions that only bodies and proofs use, and no public clause.
 pub mod Heads

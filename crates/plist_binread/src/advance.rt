@@ -1,4 +1,4 @@
-//! The step from one event of the walk to the next.
+//! Advances the walk by one event.
 
 ghost use Rattle.std.specs.Prelude.{◌≡◌, true, IfSome};
 ghost use Rattle.plist_binread.specs.NextChild.{closes};
@@ -20,7 +20,7 @@ use crate::walk::Walk;
 use plist_base::{EventVisitor, Source};
 use std::ops::ControlFlow;
 
-/// Hands the next event of the walk to a visitor.
+/// Hands the next event of the walk to a visitor. Returns `None` if no collection is open.
 #[inline(always)]
 pub fn advance<S: Source, C: DecodeCounter, V: EventVisitor>(
     source: &mut S,
@@ -29,20 +29,23 @@ pub fn advance<S: Source, C: DecodeCounter, V: EventVisitor>(
     references: &mut ReferenceReader,
     visitor: &mut V,
 ) -> Option<Result<ControlFlow<()>, StepError>>
-    requires known { IfSome (S.known source.old) (λ bytes. IsWalkOf bytes decoder.old.bounds walk.old) }
+    requires known { IfSome (S.known source.old) (λ bytes.
+        IsWalkOf bytes decoder.old.bounds walk.old) }
     requires counted { C.counts → C.count decoder.old.counter ≡ cached_in walk.old }
     requires references { KnowsReferences (S.known source.old) decoder.old.bounds references.old }
     // Result.
     ensures handed { HandsItem V.step visitor.old visitor.new result (λ event.
-        YieldsItem (S.known source.old) decoder.old.bounds walk.old (item_in result decoder.new.slot) event walk.new
-        × CachesNext (S.known source.old) decoder.old.bounds walk.old (item_in result decoder.new.slot) event
-        walk.new
+        YieldsItem (S.known source.old) decoder.old.bounds walk.old
+        (item_in result decoder.new.slot) event walk.new
+        × CachesNext (S.known source.old) decoder.old.bounds walk.old
+        (item_in result decoder.new.slot) event walk.new
         × (closes (open_in walk.old) ≡ true → IsCurrentEnd result event)) }
     // Errors.
     ensures fault { ItemWithin 0 decoder.old.bounds.trailer (item_in result decoder.new.slot) }
     // State afterwards.
     ensures size { walk_objects walk.new ≡ walk_objects walk.old }
-    ensures known { IfSome (S.known source.old) (λ bytes. IsWalkOf bytes decoder.old.bounds walk.new) }
+    ensures known { IfSome (S.known source.old) (λ bytes.
+        IsWalkOf bytes decoder.old.bounds walk.new) }
     ensures bounds { decoder.new.bounds ≡ decoder.old.bounds }
     ensures counted { C.counts → C.count decoder.new.counter ≡ cached_in walk.new }
     ensures references { KnowsReferences (S.known source.old) decoder.old.bounds references.new }

@@ -1,4 +1,4 @@
-//! The first event of a file.
+//! Reads the head of a file and hands over its first event.
 
 ghost use Rattle.std.specs.Prelude.{◌≡◌, ◌^◌, ◌<◌, Ok, replicate, IfOk, IfSome, OnOk};
 ghost use Rattle.plist_base.specs.Outcomes.{OnlyMemory};
@@ -20,7 +20,7 @@ use plist_base::{Error, EventVisitor, Source};
 use std::alloc::Global;
 use std::ops::ControlFlow;
 
-// Allocates a tag for each object. No object is cached or open.
+// Allocates a tag of zero for each object, since no object is cached or open at first.
 fn no_tags(alloc: Global, count: usize) -> Result<Vec<u8>, Error>
     ensures tags { IfOk result (λ tags. tags.items ≡ replicate count 0) }
     ensures memory { OnlyMemory result }
@@ -29,7 +29,7 @@ fn no_tags(alloc: Global, count: usize) -> Result<Vec<u8>, Error>
     Ok(tags)
 }
 
-/// Reads the head of a file, and hands the first event to a visitor.
+/// Reads the head of a file, and hands the file's first event to a visitor.
 #[cold]
 #[inline(never)]
 pub fn begin<S: Source, C: DecodeCounter, V: EventVisitor>(
@@ -42,9 +42,10 @@ pub fn begin<S: Source, C: DecodeCounter, V: EventVisitor>(
     requires counted { C.counts → C.count decoder.old.counter ≡ cached_in walk.old }
     // Result.
     ensures handed { Hands V.step visitor.old visitor.new result (λ event.
-        IfSome (S.known source.old) (GivesRoot (answer_in result decoder.new.slot) event decoder.new.bounds
-        walk.new)
-        × IfSome (S.known source.old) (CachesRoot (answer_in result decoder.new.slot) event walk.new)) }
+        IfSome (S.known source.old) (GivesRoot (answer_in result decoder.new.slot) event
+        decoder.new.bounds walk.new)
+        × IfSome (S.known source.old) (CachesRoot (answer_in result decoder.new.slot) event
+        walk.new)) }
     // Errors.
     ensures fault { ErrWithin 0 (2 ^ 64) (answer_in result decoder.new.slot) }
     // State afterwards.

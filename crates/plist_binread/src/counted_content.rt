@@ -1,5 +1,7 @@
-//! Objects that have a length. They are decoded from the bytes after their marker: from all bytes
-//! up to the trailer, or from enough of them for anything but a long string or data.
+//! Decodes objects that have a length: strings, data, arrays and dictionaries.
+//!
+//! Each function reads the bytes that follow the marker. These reach up to the trailer, or are at
+//! least 25, which is enough for any object except a long string or long data.
 
 ghost use Rattle.std.specs.Prelude.{ℕ, ◌≡◌, ◌+◌, ◌-◌, ◌*◌, ◌%◌, ◌^◌, ◌<◌, ◌≤◌, List, length, IfNone, IfSome};
 ghost use Rattle.plist_format.specs.declared.marker.CountedKind.TheVariants.{Array as ArrayKind, Dictionary as DictionaryKind};
@@ -19,7 +21,7 @@ use crate::utf8::text_in;
 use plist_format::LowHalf;
 use std::alloc::Global;
 
-// Returns how many bytes a number has, which the low two bits of the byte before it tell.
+// Returns how many bytes a number has. The low two bits of the byte before the number encode this.
 #[inline(always)]
 fn number_width(byte: u64) -> u64
     ensures value { result ≡ 2 ^ (byte % 4) }
@@ -33,7 +35,8 @@ fn number_width(byte: u64) -> u64
     }
 }
 
-/// Returns the length of an object, and the bytes after the length.
+/// Returns the length of an object and the bytes that follow it, or `None` if the length is cut
+/// off.
 #[inline(always)]
 pub fn split_length(low: LowHalf, rest: &[u8]) -> Option<(u64, &[u8])>
     ensures length { IfSome result (IsLength low rest.now) }
@@ -53,8 +56,9 @@ pub fn split_length(low: LowHalf, rest: &[u8]) -> Option<(u64, &[u8])>
     Some((number_from(&behind[..width]), &behind[width..]))
 }
 
-// Returns how many elements of this size an object has, and the bytes after its length, if the
-// object ends before the trailer. `to_trailer` is the number of bytes up to the trailer.
+// Returns the number of elements of an object and the bytes after its length, or `None` if the
+// object doesn't end before the trailer. An element has `size` bytes, and `rest` begins
+// `to_trailer` bytes before the trailer.
 #[inline(always)]
 fn split_count(low: LowHalf, rest: &[u8], to_trailer: u64, size: u64) -> Option<(u64, &[u8])>
     requires to_trailer { length rest.now ≤ to_trailer }
@@ -75,7 +79,8 @@ fn split_count(low: LowHalf, rest: &[u8], to_trailer: u64, size: u64) -> Option<
     }
 }
 
-// Returns the content of a string or data, of which only the length was read.
+// Describes the content of a string or data by its kind, its start and its length, without reading
+// it.
 #[inline(always)]
 fn long_content(kind: ContentKind, rest: &[u8], behind: &[u8], count: u64) -> Decoded
     requires within { length behind.now ≤ length rest.now }
@@ -112,7 +117,7 @@ fn small_text(text: &str) -> Decoded
     )
 }
 
-// Decodes a string in at most eight bytes.
+// Decodes a UTF-8 string of at most eight bytes.
 fn short_text(bytes: &[u8]) -> Decoded
     requires { length bytes.now ≤ 8 }
     ensures { (all : List ℕ) → IsDecodedAs all (text bytes.now) result }
@@ -139,7 +144,8 @@ pub fn decode_text(low: LowHalf, rest: &[u8], to_trailer: u64) -> Decoded
     short_text(&behind[..count as usize])
 }
 
-// Decodes a string of at most eight units, if it has at most eight bytes in UTF-8.
+// Decodes a UTF-16 string of at most eight units. Returns `None` if the string has more than eight
+// bytes in UTF-8, because it can't be packed then.
 fn short_wide_text(alloc: Global, bytes: &[u8]) -> Option<Decoded>
     requires few { length bytes.now ≤ 16 }
     requires units { AreUnits 2 bytes.now }
@@ -180,7 +186,7 @@ pub fn decode_wide_text(alloc: Global, low: LowHalf, rest: &[u8], to_trailer: u6
     }
 }
 
-/// Decodes the start of an array whose references end before the trailer.
+/// Decodes the start of an array. The references of the array have to end before the trailer.
 #[inline(always)]
 pub fn decode_array(low: LowHalf, rest: &[u8], to_trailer: u64, width: usize) -> Decoded
     requires to_trailer { length rest.now ≤ to_trailer }
@@ -194,7 +200,8 @@ pub fn decode_array(low: LowHalf, rest: &[u8], to_trailer: u64, width: usize) ->
     }
 }
 
-/// Decodes the start of a dictionary whose references end before the trailer.
+/// Decodes the start of a dictionary. The references of the dictionary have to end before the
+/// trailer.
 #[inline(always)]
 pub fn decode_dictionary(low: LowHalf, rest: &[u8], to_trailer: u64, width: usize) -> Decoded
     requires to_trailer { length rest.now ≤ to_trailer }

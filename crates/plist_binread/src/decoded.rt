@@ -1,4 +1,4 @@
-//! What an object is decoded to from its first bytes, and what can be wrong with it.
+//! Defines what an object's first bytes decode to, and how an object can be faulty.
 
 ghost use Rattle.std.specs.Prelude.{ℕ, ◌≡◌, ◌<◌, ◌≤◌};
 ghost use Rattle.plist_base.specs.Faults.{fault_of, kind_of};
@@ -12,19 +12,19 @@ ghost use Rattle.plist_binread.specs.CountedContent.{unit_size};
 use crate::packed::PackedKind;
 use plist_base::{Error, ErrorKind};
 
-/// The meaning of the content of a string or data.
+/// How the content of a string or data is encoded.
 #[derive(Clone, Copy)]
 pub enum ContentKind {
-    /// Its bytes are data.
+    /// The bytes are data.
     Data,
-    /// They are a string in UTF-8.
+    /// The bytes are a string in UTF-8.
     Text,
-    /// They are the units of a string in UTF-16, of two bytes each.
+    /// The bytes are a string in UTF-16, whose units have two bytes each.
     WideText,
 }
 
 impl ContentKind {
-    /// Returns how many bytes an element of the content has.
+    /// Returns the size of an element of the content in bytes.
     pub fn unit_size(self) -> u64
         ensures value { result ≡ unit_size self }
         ensures small { (0 < result) × (result ≤ 2) }
@@ -36,29 +36,29 @@ impl ContentKind {
     }
 }
 
-/// The content of a string or data.
+/// Describes the content of a string or data, which hasn't been read yet.
 #[derive(Clone, Copy)]
 pub struct Content {
-    /// Its meaning.
+    /// How the content is encoded.
     pub kind: ContentKind,
-    /// How far after the object's offset it begins.
+    /// The number of bytes from the object's offset to the content.
     pub start: u8,
-    /// How many elements it has.
+    /// The number of elements, which are units for a string in UTF-16, and bytes otherwise.
     pub count: u64,
 }
 
 /// An object that was decoded from its first bytes, or the reason why it can't be decoded.
 ///
-/// Each variant has a few small fields and then at most one `u64`, so that it is passed in two
-/// registers.
+/// Each variant has a few small fields followed by at most one `u64`, so that a value is passed in
+/// two registers.
 #[derive(Clone, Copy)]
 pub enum Decoded {
-    /// A scalar that can be cached.
+    /// A scalar that can be cached. The fields are its kind and its packed content.
     Small(PackedKind, u64),
-    /// The eight bytes of a date, which may be out of range.
+    /// The eight bytes of a date. The date may be out of range.
     Date(u64),
-    /// A string or data that can't be cached, of which only the length was read. The fields are
-    /// those of [`Content`].
+    /// A string or data that can't be cached. Only its length was read, and the fields are those of
+    /// [`Content`].
     Long(ContentKind, u8, u64),
     /// An array of this many items.
     Array(u64),
@@ -66,12 +66,12 @@ pub enum Decoded {
     Dictionary(u64),
     /// An object that can't be decoded.
     Faulty(ObjectFault),
-    /// An object whose bytes couldn't be read. The error is in the slot of the decoder.
+    /// An object whose bytes couldn't be read. The decoder's slot stores the error.
     Unread,
 }
 
 impl Decoded {
-    /// Returns whether the bytes of the object weren't read.
+    /// Returns whether the bytes of the object couldn't be read.
     #[inline(always)]
     pub fn is_unread(self) -> bool
         ensures { result ≡ is_unread self }
@@ -91,17 +91,17 @@ impl Decoded {
 /// Why an object can't be decoded.
 #[derive(Clone, Copy)]
 pub enum ObjectFault {
-    /// It doesn't end before the trailer.
+    /// The object doesn't end before the trailer.
     Overrun,
-    /// It is a null object.
+    /// The object is a null object.
     Null,
-    /// It is a fill byte.
+    /// The object is a fill byte.
     Fill,
     /// No object has this marker.
     Unknown(u8),
-    /// The integer doesn't fit into 64 bits without a sign.
+    /// The integer doesn't fit into a `u64`.
     OutOfRange,
-    /// It isn't a date.
+    /// The date overflows or is NaN.
     NoDate,
     /// The bytes of a string aren't UTF-8.
     NotUtf8,
@@ -112,7 +112,7 @@ pub enum ObjectFault {
 }
 
 impl ObjectFault {
-    // Returns the kind of the error.
+    // Returns the kind of error that reports this fault.
     fn kind(self) -> ErrorKind
         ensures value { kind_of result ≡ kind_of_object_fault self }
     {
@@ -129,7 +129,8 @@ impl ObjectFault {
         }
     }
 
-    /// Returns the error of the object at an offset.
+    /// Returns the error of the object at this offset. `OutOfMemory` is the only error without an
+    /// offset.
     #[cold]
     #[inline(never)]
     pub fn at(self, place: u64) -> Error

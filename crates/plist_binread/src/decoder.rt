@@ -1,4 +1,4 @@
-//! What decoding an object needs beside its source.
+//! Groups everything that is needed to decode objects, except for the source.
 
 ghost use Rattle.std.specs.Prelude.{◌≡◌};
 
@@ -7,19 +7,19 @@ use crate::fault_slot::FaultSlot;
 use crate::head::Bounds;
 use std::alloc::Global;
 
-/// What decoding the objects of a file needs beside its source.
+/// Everything that is needed to decode the objects of a file, except for the source.
 #[derive(Drop)]
 pub struct Decoder<C: DecodeCounter> {
     /// Counts the small objects that are decoded.
     pub counter: C,
     /// Where the objects of the file end, and how wide its references are.
     pub bounds: Bounds,
-    /// Keeps the error of a step that was refused.
+    /// Stores the error of a step that failed.
     pub slot: FaultSlot,
 }
 
 impl<C: DecodeCounter> Decoder<C> {
-    /// Creates a decoder for a file whose head wasn't read yet.
+    /// Creates a decoder for a file whose head hasn't been read yet.
     pub fn new(alloc: Global, counter: C) -> Self
         ensures { result.counter ≡ counter }
     {

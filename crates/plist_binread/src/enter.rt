@@ -1,4 +1,4 @@
-//! Entering an object, whose first event is handed over.
+//! Enters an object: decodes it and hands its first event to a visitor.
 
 ghost use Rattle.std.specs.Prelude.{◌≡◌, ◌+◌, ◌<◌, get_or, true, false, IfOk, IfErr, OnOk, IfSome};
 ghost use Rattle.plist_base.specs.Faults.{ObjectReferenceTooLarge, RecursiveObject, fault_at, fault_of};
@@ -22,7 +22,7 @@ use crate::walk::Walk;
 use plist_base::{ErrorKind, EventVisitor, Source};
 use std::ops::ControlFlow;
 
-// Keeps the error that no object has the number of the reference at `at`.
+// Stores the error of the reference at offset `at`, because no object has its number.
 #[cold]
 #[inline(never)]
 fn refuse_number(slot: &mut FaultSlot, at: u64) -> StepError
@@ -31,7 +31,7 @@ fn refuse_number(slot: &mut FaultSlot, at: u64) -> StepError
     slot.refuse(ErrorKind::ObjectReferenceTooLarge.with_byte_offset(at))
 }
 
-// Keeps the error that the object at an offset is already open.
+// Stores the error of the object at this offset, which is open already and so contains itself.
 #[cold]
 #[inline(never)]
 fn refuse_open(slot: &mut FaultSlot, place: u64) -> StepError
@@ -40,16 +40,16 @@ fn refuse_open(slot: &mut FaultSlot, place: u64) -> StepError
     slot.refuse(ErrorKind::RecursiveObject.with_byte_offset(place))
 }
 
-// What is known of an object that is about to be entered.
+// What the walk has stored about an object that is about to be entered.
 #[derive(Clone, Copy)]
 enum Known {
-    // Its offset.
+    // The offset of the object.
     At(u64),
-    // It is a small scalar, which is cached.
+    // A small scalar that is cached. The fields are its kind and its packed content.
     Small(PackedKind, u64),
 }
 
-// Looks up an object that is about to be entered, to which the reference at `at` refers.
+// Looks up an object that is about to be entered. The reference to the object lies at offset `at`.
 #[inline(always)]
 fn look_up(walk: &Walk, slot: &mut FaultSlot, at: u64, number: u64) -> Result<Known, StepError>
     // Result.
@@ -79,7 +79,7 @@ fn look_up(walk: &Walk, slot: &mut FaultSlot, at: u64, number: u64) -> Result<Kn
     }
 }
 
-// Opens a collection of `count` children. Returns `false` if there is no memory for it.
+// Opens a collection of `count` children. Returns `false` if an allocation fails.
 #[inline(always)]
 fn open(walk: &mut Walk, number: u64, count: u64) -> bool
     requires below { number < walk_objects walk.old }
@@ -101,8 +101,8 @@ fn open(walk: &mut Walk, number: u64, count: u64) -> bool
     }
 }
 
-// Caches a small scalar that was decoded, or opens a collection. If no memory is found for the
-// collection, it returns `false` and changes nothing.
+// Caches a small scalar that was decoded, or opens a collection. If an allocation for the
+// collection fails, this function returns `false` and changes nothing.
 #[inline(always)]
 fn cache_or_open(walk: &mut Walk, number: u64, decoded: Decoded) -> bool
     requires below { number < walk_objects walk.old }
@@ -138,7 +138,7 @@ fn cache_or_open(walk: &mut Walk, number: u64, decoded: Decoded) -> bool
     }
 }
 
-/// Hands the first event of an object over, and opens it if it is a collection.
+/// Hands the first event of an object to a visitor, and opens the object if it is a collection.
 #[inline(always)]
 pub fn enter<S: Source, C: DecodeCounter, V: EventVisitor>(
     source: &mut S,

@@ -1,4 +1,4 @@
-//! The error of a step that failed, which is kept apart so that the results of steps stay small.
+//! Stores the error of a step outside the step's result, so that the result stays small.
 
 ghost use Rattle.std.specs.Prelude.{◌≡◌, ℕ};
 ghost use Rattle.plist_base.specs.Faults.{ObjectOffsetTooLarge, OutOfMemory, fault_at, fault_without_offset, fault_of};
@@ -13,23 +13,24 @@ use crate::decoded::ObjectFault;
 use plist_base::{Error, ErrorKind};
 use std::alloc::Global;
 
-/// Says that a step failed. Its error is in the [`FaultSlot`].
+/// Reports that a step failed. The [`FaultSlot`] stores the error.
 ///
-/// It is small, which an error isn't: the memory for a result is cleared at each call.
+/// The type is empty because the memory for a result is cleared on every call, and an [`Error`] is
+/// large.
 #[derive(Clone, Copy)]
 pub struct StepError;
 
-/// Keeps the error of a step that failed.
+/// Stores the error of a step that failed.
 #[derive(Drop)]
 pub struct FaultSlot {
-    /// The error. It has a meaning only after a step failed.
+    /// The error of the last step. It is unspecified unless that step failed.
     pub fault: Error,
-    /// Allocates strings and data.
+    /// The allocator for strings and data.
     pub alloc: Global,
 }
 
 impl FaultSlot {
-    /// Creates a slot for the first error.
+    /// Creates a slot in which no error has been stored yet.
     pub fn new(alloc: Global) -> Self {
         FaultSlot {
             fault: ErrorKind::OutOfMemory.without_position(),
@@ -37,7 +38,7 @@ impl FaultSlot {
         }
     }
 
-    /// Keeps this error.
+    /// Stores this error.
     #[cold]
     pub fn refuse(&mut self, error: Error) -> StepError
         ensures fault { self.new.fault ≡ error }
@@ -46,7 +47,7 @@ impl FaultSlot {
         StepError
     }
 
-    /// Keeps `OutOfMemory`.
+    /// Stores `OutOfMemory`, which has no offset.
     #[cold]
     #[inline(never)]
     pub fn refuse_memory(&mut self) -> StepError
@@ -55,7 +56,7 @@ impl FaultSlot {
         self.refuse(ErrorKind::OutOfMemory.without_position())
     }
 
-    /// Keeps the error that the object at an offset doesn't end before the trailer.
+    /// Stores the error that the object at this offset doesn't end before the trailer.
     #[cold]
     #[inline(never)]
     pub fn refuse_overrun(&mut self, place: u64) -> StepError
@@ -64,7 +65,7 @@ impl FaultSlot {
         self.refuse(ErrorKind::ObjectOffsetTooLarge.with_byte_offset(place))
     }
 
-    /// Returns the same result, and keeps its error if it is one.
+    /// Passes on a result, and stores the error if the result is `Err`.
     pub fn keep_error<T>(&mut self, answer: Result<T, Error>) -> Result<T, StepError>
         ensures answer { answer_in result self.new ≡ answer }
     {
@@ -74,7 +75,7 @@ impl FaultSlot {
         }
     }
 
-    /// Keeps the error of the object at an offset.
+    /// Stores the error of the object at this offset.
     #[cold]
     #[inline(never)]
     pub fn refuse_object(&mut self, fault: ObjectFault, place: u64) -> StepError

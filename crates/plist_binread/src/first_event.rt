@@ -1,4 +1,4 @@
-//! The visitor that keeps one event.
+//! Defines a visitor that keeps one event.
 
 ghost use Rattle.std.specs.Prelude.{◌≡◌};
 
@@ -6,7 +6,7 @@ use plist_base::{Error, ErrorKind, Event, EventVisitor, OwnedEvent};
 use std::alloc::Global;
 use std::ops::ControlFlow;
 
-/// Keeps the first event that it takes, and wants no more.
+/// Keeps the first event that it receives, and then stops the walk.
 #[derive(Drop)]
 pub struct FirstEvent {
     alloc: Global,
@@ -15,7 +15,7 @@ pub struct FirstEvent {
 }
 
 impl FirstEvent {
-    /// Creates a visitor that has taken no event.
+    /// Creates a visitor that hasn't received an event yet.
     pub fn new(alloc: Global) -> FirstEvent {
         FirstEvent {
             alloc,

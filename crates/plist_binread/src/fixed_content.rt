@@ -1,5 +1,7 @@
-//! Objects of a fixed size. They are decoded from the bytes after their marker: from all bytes up
-//! to the trailer, or from at least 25.
+//! Decodes objects of a fixed size: integers, reals, dates and Uids.
+//!
+//! Each function reads the bytes that follow the marker. These reach up to the trailer, or are at
+//! least 25, which is enough for any of these objects.
 
 ghost use Rattle.std.specs.Prelude.{ℕ, List, ◌^◌, ◌<◌, ◌≤◌, length, IfNone, IfSome};
 ghost use Rattle.plist_format.specs.Object.{Scalar, date, signed, signed_integer, unsigned_integer, wide_integer};
@@ -13,7 +15,7 @@ use crate::numbers::number_from;
 use crate::packed::{PackedKind, content_from, content_of};
 use plist_format::UidWidth;
 
-// Returns the number in the first `width` bytes.
+// Returns the number in the first `width` bytes, or `None` if there are fewer bytes.
 #[inline(always)]
 fn front_number(rest: &[u8], width: usize) -> Option<u64>
     requires { width ≤ 8 }
@@ -27,7 +29,7 @@ fn front_number(rest: &[u8], width: usize) -> Option<u64>
     Some(number_from(&rest[..width]))
 }
 
-// Returns the content of an object of a fixed size.
+// Returns the first `N` bytes, or `None` if there are fewer bytes.
 fn front_content<const N: usize>(rest: &[u8]) -> Option<[u8; N]>
     ensures content { IfSome result (IsContent N rest.now) }
     ensures short { IfNone result (length rest.now < N) }
@@ -38,7 +40,7 @@ fn front_content<const N: usize>(rest: &[u8]) -> Option<[u8; N]>
     }
 }
 
-/// Decodes an integer without a sign.
+/// Decodes an unsigned integer.
 #[inline(always)]
 pub fn decode_unsigned(rest: &[u8], to_trailer: u64, width: usize) -> Decoded
     requires width { width ≤ 8 }
@@ -51,7 +53,7 @@ pub fn decode_unsigned(rest: &[u8], to_trailer: u64, width: usize) -> Decoded
     }
 }
 
-// Packs the integer that these 64 bits are with their sign.
+// Packs the signed integer that these 64 bits represent in two's complement.
 fn signed_number(bits: u64) -> Decoded
     ensures { (all : List ℕ) → IsDecodedAs all (Scalar (Integer (signed 64 bits))) result }
 {
@@ -62,7 +64,7 @@ fn signed_number(bits: u64) -> Decoded
     }
 }
 
-/// Decodes an integer of eight bytes with a sign.
+/// Decodes a signed integer of eight bytes.
 #[inline(always)]
 pub fn decode_signed(rest: &[u8], to_trailer: u64) -> Decoded
     requires { ShowsContent to_trailer rest.now }
@@ -74,7 +76,8 @@ pub fn decode_signed(rest: &[u8], to_trailer: u64) -> Decoded
     }
 }
 
-/// Decodes an integer of sixteen bytes, of which the first eight have to be zero.
+/// Decodes an integer of sixteen bytes. The first eight bytes have to be zero, because a larger
+/// integer doesn't fit into a `u64`.
 pub fn decode_wide_integer(rest: &[u8], to_trailer: u64) -> Decoded
     requires { ShowsContent to_trailer rest.now }
     ensures { DecodesFixed to_trailer 16 wide_integer rest.now result }
@@ -123,7 +126,7 @@ pub fn decode_short_real(rest: &[u8], to_trailer: u64) -> Decoded
     }
 }
 
-/// Decodes a date, whose bytes may be out of range.
+/// Decodes the bytes of a date, and leaves the check of its range to the caller.
 pub fn decode_date(rest: &[u8], to_trailer: u64) -> Decoded
     requires { ShowsContent to_trailer rest.now }
     ensures { DecodesFixed to_trailer 8 date rest.now result }

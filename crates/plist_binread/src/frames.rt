@@ -1,4 +1,4 @@
-//! The open collections, each in few bytes.
+//! Stores the open collections compactly.
 
 ghost use Rattle.std.specs.Prelude.{◌≡◌, [], ◌∷◌, ◌++◌, reverse, IfSome, OnOk, OnErr};
 ghost use Rattle.plist_binread.specs.Frames.{NextOf, PopsLast, frame_of, widened};
@@ -9,37 +9,38 @@ use std::marker::Model;
 /// An open collection.
 #[derive(Clone, Copy)]
 pub struct Frame {
-    /// The number of its object.
+    /// The number of the collection's object.
     pub object: u64,
-    /// How many of its children have been entered.
+    /// How many children of the collection have been entered.
     pub next: u64,
-    /// How many children it has.
+    /// How many children the collection has.
     pub count: u64,
 }
 
-/// An open collection whose numbers have four bytes each.
+/// An open collection whose numbers fit into four bytes each.
 #[derive(Clone, Copy)]
 pub struct NarrowFrame {
-    /// The number of its object.
+    /// The number of the collection's object.
     pub object: u32,
-    /// How many of its children have been entered.
+    /// How many children of the collection have been entered.
     pub next: u32,
-    /// How many children it has.
+    /// How many children the collection has.
     pub count: u32,
 }
 
-/// What is next in the innermost collection.
+/// What follows in the innermost collection.
 #[derive(Clone, Copy)]
 pub enum NextChild {
-    /// Nothing is open.
+    /// No collection is open.
     Nothing,
-    /// It had no more children and was closed. This was its object.
+    /// The collection had no more children and was closed. The field is the number of its object.
     End(u64),
-    /// A child: the number of its collection, and its index among that one's children.
+    /// A child is next. The fields are the number of the collection's object and the index of the
+    /// child.
     Child(u64, u64),
 }
 
-// Returns the collection in few bytes, if its numbers fit there.
+// Returns the frame with numbers of four bytes, or `None` if one of them doesn't fit.
 fn narrowed(frame: Frame) -> Option<NarrowFrame>
     ensures { IfSome result (λ narrow. widened narrow ≡ frame) }
 {
@@ -53,7 +54,7 @@ fn narrowed(frame: Frame) -> Option<NarrowFrame>
     })
 }
 
-// Returns the collection with numbers of eight bytes.
+// Returns the frame with numbers of eight bytes.
 fn widen(narrow: NarrowFrame) -> Frame
     ensures { result ≡ widened narrow }
 {
@@ -64,8 +65,10 @@ fn widen(narrow: NarrowFrame) -> Frame
     }
 }
 
-/// A stack of collections. The numbers of a collection have four bytes, and from the first one on
-/// whose numbers need more, they have eight.
+/// A stack of open collections, of which the innermost one is the last.
+///
+/// Frames are stored with numbers of four bytes until one of them needs more. That frame and all
+/// frames above it are stored with numbers of eight bytes.
 #[derive(Drop)]
 pub struct Stack {
     narrow: Vec<NarrowFrame>,
@@ -137,7 +140,7 @@ impl Model for Frames {
 }
 
 impl Frames {
-    /// Creates a stack in which nothing is open.
+    /// Creates an empty stack.
     pub fn new(alloc: Global) -> Self
         ensures { result ≡ [] }
     {
@@ -147,7 +150,7 @@ impl Frames {
         }
     }
 
-    /// Opens a collection of `count` children.
+    /// Opens the collection with this object number and with `count` children.
     #[inline(always)]
     pub fn push(&mut self, object: u64, count: u64) -> Result<(), AllocError>
         ensures value { OnOk result (self.new ≡ self.old ++ frame_of object 0 count ∷ []) }
@@ -164,7 +167,8 @@ impl Frames {
         Ok(())
     }
 
-    /// Takes the next child of the innermost collection, or closes it if it has no more.
+    /// Returns the next child of the innermost collection, or closes the collection if no child is
+    /// left.
     pub fn next_child(&mut self) -> NextChild
         ensures { NextOf (reverse self.old) result (reverse self.new) }
     {

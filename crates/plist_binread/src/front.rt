@@ -1,8 +1,10 @@
-//! Decodes an object from its first bytes: from all bytes up to the trailer, or from as many as any
-//! object needs but a long string or data.
+//! Decodes an object from its first bytes.
 //!
-//! If an object has several faults, the first one is found: that of the marker, then that the
-//! object doesn't end before the trailer, and then that of its content.
+//! The bytes reach up to the trailer, or are at least 26, which is enough for any object except a
+//! long string or long data.
+//!
+//! If an object has several faults, the first of the following is reported: the marker is invalid,
+//! the object doesn't end before the trailer, or the content is invalid.
 
 ghost use Rattle.std.specs.Prelude.{◌≡◌, ◌<◌, ◌≤◌, cond, length};
 ghost use Rattle.plist_format.specs.Object.{object_in};
@@ -23,7 +25,7 @@ use crate::packed::PackedKind;
 use plist_format::{CountedKind, Marker};
 use std::alloc::Global;
 
-// Decodes the object after a marker.
+// Decodes an object from its marker and the bytes that follow the marker.
 #[inline(always)]
 fn decode_after_marker(
     alloc: Global,
@@ -77,7 +79,7 @@ fn is_small(decoded: Decoded) -> bool
     }
 }
 
-// Counts the object, if it is small.
+// Counts the object if it is small.
 #[inline(always)]
 fn count_small<C: DecodeCounter>(decoded: Decoded, counter: &mut C)
     ensures { CountsSmall C.counts C.count counter.old counter.new decoded }
@@ -87,8 +89,10 @@ fn count_small<C: DecodeCounter>(decoded: Decoded, counter: &mut C)
     }
 }
 
-/// Decodes the object at the front of these bytes, which are all bytes up to the trailer or at
-/// least 26, and counts it if it is small. No other function makes a small object from its bytes.
+/// Decodes the object at the front of these bytes, and counts it if it is small. The bytes reach up
+/// to the trailer, or are at least 26.
+///
+/// No other function decodes small objects, so that none is decoded without being counted.
 #[inline(always)]
 pub fn decode_front<C: DecodeCounter>(
     alloc: Global,

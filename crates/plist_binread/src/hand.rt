@@ -1,4 +1,4 @@
-//! Hands objects that were decoded to a visitor.
+//! Hands decoded objects to a visitor.
 
 ghost use Rattle.std.specs.Prelude.{◌≡◌, ℕ, false, OnOk};
 ghost use Rattle.plist_base.specs.Sources.{AnswersIo};
@@ -22,7 +22,7 @@ use plist_base::{Date, Error, EventVisitor, Integer, OwnedEvent, RealBits, Sourc
 use std::borrow::{CowSlice, CowStr};
 use std::ops::ControlFlow;
 
-// Hands over a string of at most eight bytes, if they are UTF-8.
+// Hands over a string of at most eight bytes. Returns `None` if the bytes aren't UTF-8.
 #[inline(always)]
 fn hand_short_text<V: EventVisitor>(bytes: &[u8], visitor: &mut V) -> Option<ControlFlow<()>>
     ensures { HandsSmall V.step visitor.old visitor.new (text_if_any bytes.now) result }
@@ -33,7 +33,7 @@ fn hand_short_text<V: EventVisitor>(bytes: &[u8], visitor: &mut V) -> Option<Con
     }
 }
 
-/// Hands over the scalar of a kind and a content, if there is one.
+/// Hands over the scalar that a kind and a content encode. Returns `None` if they encode none.
 #[inline(always)]
 pub fn hand_small<V: EventVisitor>(
     kind: PackedKind,
@@ -69,7 +69,8 @@ pub fn hand_small<V: EventVisitor>(
     }
 }
 
-// Hands over the date in these eight bytes, which are those of the object at an offset.
+// Hands over the date in these eight bytes, or stores the error of the object at this offset if the
+// date is out of range.
 #[inline(never)]
 fn hand_date<V: EventVisitor>(
     content: u64,
@@ -89,7 +90,7 @@ fn hand_date<V: EventVisitor>(
     }
 }
 
-// Hands over an event that was read, or keeps the error.
+// Hands over an event that was read, or stores the error of the read.
 fn hand_read<V: EventVisitor>(
     read: Result<OwnedEvent, Error>,
     slot: &mut FaultSlot,
@@ -104,7 +105,8 @@ fn hand_read<V: EventVisitor>(
     }
 }
 
-// Hands over a string that isn't small, of the object at an offset.
+// Hands over a string that isn't small, or stores the error of the object at this offset if the
+// bytes aren't UTF-8.
 #[inline(always)]
 fn hand_text<V: EventVisitor>(
     bytes: &[u8],
@@ -125,8 +127,9 @@ fn hand_text<V: EventVisitor>(
     }
 }
 
-// Hands over a string in UTF-16, of the object at an offset. It is a function of its own, since the
-// memory for an event is cleared at each call.
+// Hands over a string in UTF-16, or stores the error of the object at this offset if it is invalid.
+//
+// This is a separate function because the memory for an event is cleared on every call.
 #[inline(never)]
 fn hand_wide_text<V: EventVisitor>(
     bytes: &[u8],
@@ -145,7 +148,8 @@ fn hand_wide_text<V: EventVisitor>(
     hand_read(read, slot, visitor)
 }
 
-// Hands over the string or data in these bytes, of the object at an offset.
+// Hands over the string or data in these bytes, or stores the error of the object at this offset if
+// a string is invalid.
 #[inline(always)]
 fn hand_bytes<V: EventVisitor>(
     kind: ContentKind,
@@ -169,7 +173,7 @@ fn hand_bytes<V: EventVisitor>(
     }
 }
 
-// Reads the string or data of a content, of the object at an offset, and hands it over.
+// Reads a string or data that isn't buffered, and hands it over. The object lies at this offset.
 #[cold]
 #[inline(never)]
 fn hand_far<S: Source, V: EventVisitor>(
@@ -195,8 +199,9 @@ fn hand_far<S: Source, V: EventVisitor>(
     hand_read(read, slot, visitor)
 }
 
-// Hands over the string or data of a content, of the object at an offset. It is lent if all of it
-// is buffered, and otherwise read into memory of its own.
+// Hands over the string or data of the object at this offset.
+//
+// It is borrowed from the source if all of it is buffered, and is otherwise read into new memory.
 #[inline(always)]
 fn hand_content<S: Source, V: EventVisitor>(
     source: &mut S,
@@ -226,7 +231,7 @@ fn hand_content<S: Source, V: EventVisitor>(
     hand_far(source, place, content, slot, visitor)
 }
 
-/// Hands over the event of the object at an offset, or keeps its error if it is faulty.
+/// Hands over the first event of the object at this offset, or stores its error if it is faulty.
 #[inline(always)]
 pub fn hand_decoded<S: Source, C: DecodeCounter, V: EventVisitor>(
     source: &mut S,

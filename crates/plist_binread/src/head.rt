@@ -1,4 +1,4 @@
-//! The head of a file: where its objects are, and how to read them.
+//! Reads the head of a file, which says where the objects are and how to read them.
 
 ghost use Rattle.std.specs.Prelude.{◌≡◌, ◌^◌, ◌<◌, ◌≤◌, length};
 ghost use Rattle.plist_base.specs.Outcomes.{OnlyFault, DecodesBy};
@@ -17,13 +17,13 @@ const TRAILER_SIZE: u64 = 32;
 /// The head of a file: the offset of each object by its number, and how to read the objects.
 #[derive(Drop)]
 pub struct Head {
-    /// The offset of the trailer, before which all objects end.
+    /// The offset of the trailer. All objects end before it.
     pub trailer: u64,
     /// How many bytes a reference has.
     pub reference_width: usize,
-    /// The number of the root.
+    /// The number of the root object.
     pub root: u64,
-    /// The offsets of the objects.
+    /// The offset of each object, by its number.
     pub places: Vec<u64>,
     ghost width: { (0 < reference_width) × (reference_width ≤ 8) },
 }
@@ -31,7 +31,7 @@ pub struct Head {
 /// Where the objects end, and how wide a reference is.
 #[derive(Clone, Copy)]
 pub struct Bounds {
-    /// The offset of the trailer, before which all objects end.
+    /// The offset of the trailer. All objects end before it.
     pub trailer: u64,
     /// How many bytes a reference has.
     pub reference_width: usize,
@@ -42,7 +42,7 @@ pub struct Bounds {
 impl Bounds {
     ghost use Rattle.std.specs.Prelude.{◌≡◌};
 
-    /// Creates bounds within which there is nothing.
+    /// Creates the bounds of a file without objects.
     pub fn new() -> Self
         ensures { result.trailer ≡ 0 }
     {
@@ -53,7 +53,7 @@ impl Bounds {
     }
 }
 
-// Returns the number of bytes of the source.
+// Returns the size of the source in bytes.
 fn read_size<S: Source>(source: &mut S) -> Result<u64, Error>
     ensures length { DecodesBy result (S.known source.old) (λ bytes. length bytes) }
     ensures refused { OnlyFault result (fault_at Io 0) }

@@ -1,4 +1,4 @@
-//! Strings and data whose content isn't decoded with the first bytes of an object.
+//! Reads strings and data that aren't decoded together with the first bytes of their object.
 
 ghost use Rattle.std.specs.Prelude.{◌≡◌, IfErr, IfOk, ⊤};
 ghost use Rattle.plist_base.specs.Outcomes.{OnlyMemory};
@@ -18,7 +18,7 @@ use plist_base::{Error, ErrorKind, Event, OwnedEvent, Source};
 use std::alloc::Global;
 use std::borrow::{CowSlice, CowStr};
 
-// Returns the string in these bytes, or the error of the object at this offset.
+// Returns the string in these bytes, or an error with the object's offset if they aren't UTF-8.
 fn text_event(bytes: Vec<u8>, place: u64) -> Result<OwnedEvent, Error>
     requires { IsLongBytes KindText bytes.items }
     ensures decoded { Decodes (text bytes.items) place result }
@@ -32,8 +32,10 @@ fn text_event(bytes: Vec<u8>, place: u64) -> Result<OwnedEvent, Error>
     }
 }
 
-// Returns the string in these units, or the error of the object at this offset. A string of few
-// bytes is decoded with the first bytes of its object, and never comes here.
+// Returns the string in these units, or an error with the object's offset if they aren't UTF-16.
+//
+// The string has more than eight bytes, because a shorter one is decoded together with the first
+// bytes of its object.
 fn text_of_units_event(alloc: Global, units: &[u16], place: u64) -> Result<OwnedEvent, Error>
     ensures decoded { Decodes (text_of_units units.now) place result }
     ensures large { IsLarge result }
@@ -51,7 +53,7 @@ fn text_of_units_event(alloc: Global, units: &[u16], place: u64) -> Result<Owned
     }
 }
 
-// Returns the units in these bytes, of which two are a unit.
+// Returns the units that these bytes encode. Each unit has two bytes.
 fn units_in(alloc: Global, bytes: &[u8]) -> Result<Vec<u16>, Error>
     requires { AreUnits 2 bytes.now }
     ensures units { IfOk result (λ units. units.items ≡ numbers_spelled 2 bytes.now) }
@@ -62,8 +64,8 @@ fn units_in(alloc: Global, bytes: &[u8]) -> Result<Vec<u16>, Error>
     Ok(units)
 }
 
-/// Returns the string in these bytes, of which two are a unit, or the error of the object at this
-/// offset. The string has more than eight bytes.
+/// Returns the UTF-16 string in these bytes, or an error with the object's offset if it is invalid.
+/// In UTF-8 the string has more than eight bytes.
 pub fn wide_text_event(alloc: Global, bytes: &[u8], place: u64) -> Result<OwnedEvent, Error>
     requires { AreUnits 2 bytes.now }
     ensures decoded { Decodes (wide_text bytes.now) place result }
@@ -75,8 +77,9 @@ pub fn wide_text_event(alloc: Global, bytes: &[u8], place: u64) -> Result<OwnedE
     text_of_units_event(alloc, &units, place)
 }
 
-// Returns the string or data in these bytes, or the error of the object at this offset. The bytes
-// of a string in UTF-16 are dropped before it is made from the units.
+// Returns the string or data in these bytes, or an error with the object's offset if it is invalid.
+//
+// The bytes of a UTF-16 string are freed before the string is allocated, in order to save memory.
 fn content_event(
     alloc: Global,
     kind: ContentKind,
@@ -101,7 +104,7 @@ fn content_event(
     }
 }
 
-/// Reads the string or data of this content, which isn't small, of the object at an offset.
+/// Reads the content of the object at this offset, which is a string or data that isn't small.
 pub fn read_long<S: Source>(
     alloc: Global,
     source: &mut S,

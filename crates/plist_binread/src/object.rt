@@ -9,11 +9,12 @@ use crate::decoder::Decoder;
 use crate::front::decode_front;
 use plist_base::{Source, read_exact_at};
 
-// As many bytes as any object needs but a long string or data: a marker, a length of nine bytes,
-// and sixteen bytes of content.
+// The number of bytes that is enough for any object except a long string or long data: a marker, a
+// length of nine bytes, and sixteen bytes of content.
 const FRONT: usize = 26;
 
-// Reads the first bytes of the object at an offset, and decodes it.
+// Reads the first bytes of the object at an offset, and decodes it. If the read fails, the slot
+// stores the error.
 #[cold]
 #[inline(never)]
 fn read_front<S: Source, C: DecodeCounter>(
@@ -23,7 +24,8 @@ fn read_front<S: Source, C: DecodeCounter>(
 ) -> Decoded
     requires place { place < decoder.old.bounds.trailer }
     // Result.
-    ensures decoded { DecodesAt (S.known source.old) decoder.old.bounds place result decoder.new.slot }
+    ensures decoded { DecodesAt (S.known source.old) decoder.old.bounds place result
+        decoder.new.slot }
     ensures fits { is_unread result ≡ false → FitsBefore decoder.old.bounds.trailer place result }
     // Errors.
     ensures fault { FailsUnread place decoder.old.bounds.trailer result decoder.new.slot }
@@ -32,7 +34,8 @@ fn read_front<S: Source, C: DecodeCounter>(
         result }
     ensures bounds { decoder.new.bounds ≡ decoder.old.bounds }
     ensures unchanged { S.known source.new ≡ S.known source.old }
-    ensures failures { CountsUnread result decoder.new.slot (S.failures source.old) (S.failures source.new) }
+    ensures failures { CountsUnread result decoder.new.slot (S.failures source.old)
+        (S.failures source.new) }
 {
     let bounds = decoder.bounds;
     let to_trailer = bounds.trailer - place;
@@ -64,7 +67,8 @@ pub fn decode<S: Source, C: DecodeCounter>(
     place: u64,
 ) -> Decoded
     // Result.
-    ensures decoded { DecodesAt (S.known source.old) decoder.old.bounds place result decoder.new.slot }
+    ensures decoded { DecodesAt (S.known source.old) decoder.old.bounds place result
+        decoder.new.slot }
     ensures fits { is_unread result ≡ false → FitsBefore decoder.old.bounds.trailer place result }
     // Errors.
     ensures fault { FailsUnread place decoder.old.bounds.trailer result decoder.new.slot }
@@ -73,7 +77,8 @@ pub fn decode<S: Source, C: DecodeCounter>(
         result }
     ensures bounds { decoder.new.bounds ≡ decoder.old.bounds }
     ensures unchanged { S.known source.new ≡ S.known source.old }
-    ensures failures { CountsUnread result decoder.new.slot (S.failures source.old) (S.failures source.new) }
+    ensures failures { CountsUnread result decoder.new.slot (S.failures source.old)
+        (S.failures source.new) }
 {
     let bounds = decoder.bounds;
     if place >= bounds.trailer {

@@ -1,4 +1,4 @@
-//! Where the references of a collection are, and the reference to a child.
+//! Locates the references of a collection, and reads the reference to a child.
 
 ghost use Rattle.std.specs.Prelude.{◌≡◌, ◌+◌, ◌-◌, ◌^◌, ◌<◌, ◌≤◌, IfErr, IfNone, IfOk, IfSome, OnOk};
 ghost use Rattle.plist_binread.specs.DecodeOutcome.{reference_place, reference_index};
@@ -27,21 +27,21 @@ pub struct Reference {
     pub number: u64,
 }
 
-/// Where the references of a collection are.
+/// The location of a collection's references.
 #[derive(Clone, Copy)]
 pub struct References {
-    /// The offset of the collection, if there is one.
+    /// The offset of the collection, or `u64::MAX` if there is none.
     pub place: u64,
-    /// How far after this offset its references begin.
+    /// The number of bytes from this offset to the first reference.
     pub start: u64,
-    /// How many pairs it has, or 0 if it is an array.
+    /// The number of pairs of a dictionary, or 0 for an array.
     pub pairs: u64,
 }
 
 impl References {
     ghost use Rattle.std.specs.Prelude.{◌≡◌, ◌-◌, ◌^◌};
 
-    /// Returns the references of no collection: no object has this offset.
+    /// Returns the location for no collection, with an offset that no object has.
     pub fn none() -> Self
         ensures { result.place ≡ 2 ^ 64 - 1 }
     {
@@ -52,14 +52,14 @@ impl References {
         }
     }
 
-    // Returns whether the child with an index is a value of a dictionary.
+    // Returns whether the child with this index is a value of a dictionary.
     #[inline(always)]
     fn is_value(&self, index: u64) -> bool {
         self.pairs > 0 && index % 2 == 1
     }
 }
 
-// Returns how many pairs a collection of this kind and length has, which is 0 for an array, or
+// Returns the number of pairs of a collection of this kind and length. This is 0 for an array, and
 // `None` if the object isn't a collection.
 #[inline(always)]
 fn pairs_in(kind: CountedKind, count: u64) -> Option<u64>
@@ -73,8 +73,9 @@ fn pairs_in(kind: CountedKind, count: u64) -> Option<u64>
     }
 }
 
-// Finds the references of the collection at the front of these bytes, which are all bytes up to the
-// trailer, or at least a marker and a length.
+// Locates the references of the collection at the front of these bytes, or returns `None` if there
+// is no collection. The bytes reach up to the trailer, or contain at least the marker and the
+// length.
 #[inline(always)]
 fn references_in(seen: &[u8], to_trailer: u64, width: usize, place: u64) -> Option<References>
     requires width { 0 < width }
@@ -95,10 +96,10 @@ fn references_in(seen: &[u8], to_trailer: u64, width: usize, place: u64) -> Opti
     })
 }
 
-// As many bytes as a marker and a length have at most.
+// The largest number of bytes that a marker and a length have together.
 const LENGTH_END: usize = 10;
 
-// Reads the first bytes of the collection at an offset, and finds its references.
+// Reads the first bytes of the collection at an offset, and locates its references.
 #[cold]
 #[inline(never)]
 fn read_references<S: Source>(
@@ -131,7 +132,11 @@ fn read_references<S: Source>(
     }
 }
 
-// Returns the index of a child's reference among those of its collection.
+// Returns the index of a child's reference among those of its collection, or `None` if it
+// overflows.
+//
+// The children of a dictionary alternate between keys and values, but the references to all keys
+// precede those to the values.
 fn reference_index(pairs: u64, index: u64) -> Option<u64>
     ensures value { IfSome result (λ slot. slot ≡ reference_index pairs index) }
     ensures overflow { IfNone result (2 ^ 64 ≤ reference_index pairs index) }
@@ -145,7 +150,7 @@ fn reference_index(pairs: u64, index: u64) -> Option<u64>
     }
 }
 
-// Returns the offset of the reference to a child.
+// Returns the offset of the reference to a child, or `None` if it overflows.
 #[inline(always)]
 fn reference_place(references: &References, index: u64, width: usize) -> Option<u64>
     requires { 0 < width }
@@ -158,7 +163,8 @@ fn reference_place(references: &References, index: u64, width: usize) -> Option<
         .checked_add(references.start.checked_add(behind)?)
 }
 
-// Reads a reference that isn't buffered. If this fails, the slot keeps the error.
+// Reads a reference that isn't buffered. If the read fails, the slot stores the error, and the
+// result is `None`.
 #[cold]
 #[inline(never)]
 fn read_reference<S: Source>(
@@ -190,16 +196,17 @@ fn read_reference<S: Source>(
 
 /// Reads the references of collections.
 ///
-/// It keeps where the references of the last collection are, and copies of the bytes around the
-/// references that it read last. Children that follow one another need no further look at the
-/// source.
+/// The reader stores the location of the last collection's references, and copies of the bytes
+/// around the references that were read last. The references to consecutive children are read from
+/// these copies without asking the source again.
 #[derive(Clone, Copy)]
 pub struct ReferenceReader {
-    /// Where the references of the last collection are.
+    /// The location of the last collection's references.
     pub site: References,
-    /// Bytes from which references are read.
+    /// A copy of bytes from which references are read.
     pub near: Run,
-    /// Bytes from which references to values are read that are far from those to their keys.
+    /// A copy of bytes from which the references to values are read if they lie far from the
+    /// references to the keys.
     pub values: Run,
 }
 
@@ -211,7 +218,7 @@ impl ReferenceReader {
     ghost use Rattle.plist_binread.specs.Slot.{AnswersInSlot, answer_in};
     ghost use Rattle.plist_binread.specs.Step.{RefusesEach};
 
-    /// Creates a reader that knows the references of no collection.
+    /// Creates a reader that hasn't located any references yet.
     pub fn new() -> Self
         ensures place { result.site.place ≡ 2 ^ 64 - 1 }
         ensures runs { (known : Option (List ℕ)) → AreRunsOf known result }
@@ -223,7 +230,7 @@ impl ReferenceReader {
         }
     }
 
-    // Finds the references of the collection at an offset.
+    // Locates the references of the collection at an offset.
     #[inline(never)]
     fn locate<S: Source>(
         &mut self,
@@ -264,7 +271,8 @@ impl ReferenceReader {
         Ok(())
     }
 
-    // Finds the references of the collection at an offset, unless they are those of the last call.
+    // Locates the references of the collection at an offset, unless they are known from the last
+    // call.
     #[inline(always)]
     fn turn_to<S: Source>(
         &mut self,
@@ -291,7 +299,7 @@ impl ReferenceReader {
         self.locate(source, bounds, place, slot)
     }
 
-    // Returns the reference to a child, which is at an offset, if it is buffered.
+    // Returns the reference to a child at offset `at`, or `None` if it isn't buffered.
     #[inline(always)]
     fn buffered_reference<S: Source>(
         &mut self,
@@ -313,7 +321,8 @@ impl ReferenceReader {
         }
     }
 
-    /// Reads the number of a child of the collection at an offset.
+    /// Reads the reference to a child of the collection at an offset, and returns the child's
+    /// number.
     #[inline(always)]
     pub fn read_child<S: Source, C: DecodeCounter>(
         &mut self,

@@ -5,20 +5,20 @@ ghost use Rattle.std.specs.Prelude.{◌≤◌};
 use crate::numbers::number_from;
 use plist_base::Source;
 
-// How many bytes a run has at most.
+// The largest number of bytes in a run.
 const RUN: usize = 32;
 
 /// A copy of a few bytes that a source has buffered, from an offset on.
 ///
-/// References that follow one another are read from a run, since it costs less than to ask the
-/// source for each.
+/// References that lie one after the other are read from a run, because this is faster than asking
+/// the source for each of them.
 #[derive(Clone, Copy)]
 pub struct Run {
-    /// The offset of the bytes.
+    /// The offset of the first byte.
     pub at: u64,
-    /// How many of the bytes are copied.
+    /// The number of bytes that were copied.
     pub len: usize,
-    /// The bytes, and others after them.
+    /// The copied bytes. Those after the first `len` bytes are unspecified.
     pub bytes: [u8; RUN],
     ghost short: { len ≤ 32 },
 }
@@ -28,7 +28,7 @@ impl Run {
     ghost use Rattle.plist_binread.specs.Reading.{IfFound, IsNumberAt};
     ghost use Rattle.plist_binread.specs.Runs.{IsRunOf, LieAt};
 
-    /// Creates a run without bytes.
+    /// Creates an empty run.
     pub fn new() -> Self
         ensures { result.len ≡ 0 }
     {
@@ -39,7 +39,7 @@ impl Run {
         }
     }
 
-    /// Copies the bytes that the source has buffered from an offset on, in place of those before.
+    /// Replaces the bytes of the run with those that the source has buffered from an offset on.
     #[inline(never)]
     pub fn fill<S: Source>(&mut self, source: &S, place: u64)
         ensures { IsRunOf (S.known source.now) self.new }
@@ -60,10 +60,12 @@ impl Run {
         }
     }
 
-    /// Returns the bytes from an offset on that the run has.
+    /// Returns the bytes of the run from an offset on, which are none if the offset lies outside
+    /// the run.
     #[inline(always)]
     pub fn bytes_from(&self, place: u64) -> &[u8]
-        ensures { (known : Option (List ℕ)) → IsRunOf known self.now → LieAt known place result.now }
+        ensures { (known : Option (List ℕ)) → IsRunOf known self.now
+            → LieAt known place result.now }
     {
         match place.checked_sub(self.at) {
             Some(skipped) if skipped <= self.len as u64 => &self.bytes[skipped as usize..self.len],
@@ -71,7 +73,7 @@ impl Run {
         }
     }
 
-    /// Returns the number of this width at an offset, if the run has it.
+    /// Returns the number of `width` bytes at an offset, or `None` if the run doesn't contain it.
     #[inline(always)]
     pub fn number_at(&self, place: u64, width: usize) -> Option<u64>
         requires { width ≤ 8 }
@@ -85,8 +87,9 @@ impl Run {
         Some(number_from(&found[..width]))
     }
 
-    /// Returns the number of this width at an offset, if the run has it or the source has it
-    /// buffered.
+    /// Returns the number of `width` bytes at an offset, or `None` if it isn't buffered.
+    ///
+    /// If the run doesn't contain the number, the run is filled again from the source's buffer.
     #[inline(always)]
     pub fn read<S: Source>(&mut self, source: &S, place: u64, width: usize) -> Option<u64>
         requires width { width ≤ 8 }

@@ -1,4 +1,4 @@
-//! The test whether bytes are UTF-8.
+//! Tests whether bytes are UTF-8.
 
 ghost use Rattle.std.specs.Prelude.{◌≡◌, ◌<◌, true, IsAscii, IsUtf8, MatchOption};
 
@@ -8,7 +8,8 @@ fn is_ascii(byte: u8) -> bool
     byte < 128
 }
 
-// Returns whether all bytes are ASCII. It looks at every byte, so that many are tested at once.
+// Returns whether all bytes are ASCII. The loop doesn't stop early, so that the compiler can test
+// many bytes at once.
 #[inline(always)]
 fn are_ascii(bytes: &[u8]) -> bool
     ensures { result ≡ true → IsAscii bytes.now }
@@ -20,7 +21,7 @@ fn are_ascii(bytes: &[u8]) -> bool
     ascii
 }
 
-// Returns the string in bytes that aren't ASCII, if they are UTF-8.
+// Returns the string in these bytes, which aren't all ASCII, or `None` if they aren't UTF-8.
 #[inline(never)]
 fn wide_text_in(bytes: &[u8]) -> Option<&str>
     ensures { MatchOption result (IsUtf8 bytes.now → ⊥)
@@ -32,8 +33,10 @@ fn wide_text_in(bytes: &[u8]) -> Option<&str>
     }
 }
 
-/// Returns the string in these bytes, if they are UTF-8. Most strings are ASCII, and the test for
-/// ASCII takes a fifth of the time of the test for UTF-8.
+/// Returns the string in these bytes, or `None` if they aren't UTF-8.
+///
+/// ASCII is tested first because most strings are ASCII, and this test takes a fifth of the time of
+/// the test for UTF-8.
 #[inline(always)]
 pub fn text_in(bytes: &[u8]) -> Option<&str>
     ensures { MatchOption result (IsUtf8 bytes.now → ⊥)

@@ -1,4 +1,4 @@
-//! How far a walk is: the collections that are open, and what is stored about each object.
+//! Stores the state of a walk: the open collections, and what is known about each object.
 
 ghost use Rattle.std.specs.Prelude.{◌≡◌, ◌<◌, length, reverse, true};
 ghost use Rattle.std.proofs.Props.{props};
@@ -9,12 +9,13 @@ use crate::frames::{Frames, NextChild};
 use crate::packed::unmark_open;
 use std::alloc::Global;
 
-/// How far a walk over the objects of a file is.
+/// The state of a walk over the objects of a file.
 #[derive(Drop)]
 pub struct Walk {
-    /// The tag of each object by its number: what its content is, and whether it is open.
+    /// The tag of each object, by its number. It encodes what the content is and whether the object
+    /// is open.
     pub tags: Vec<u8>,
-    /// The content of each object: its offset, or all of a small scalar.
+    /// The content of each object, which is its offset or a small scalar that is cached.
     pub contents: Vec<u64>,
     /// The open collections, the innermost one last.
     pub frames: Frames,
@@ -26,7 +27,7 @@ impl Walk {
     ghost use Rattle.plist_binread.specs.Step.{WalkWeightFalls, WalkTakesNextChild};
     ghost use Rattle.plist_binread.specs.Walking.{IsEmptyWalk, cached_in, walk_objects, open_in};
 
-    /// Creates a walk that knows no objects yet.
+    /// Creates a walk over a file whose objects aren't known yet.
     pub fn new(alloc: Global) -> Self
         ensures { IsEmptyWalk result }
     {
@@ -37,7 +38,8 @@ impl Walk {
         }
     }
 
-    /// Takes the next child of the innermost collection, or closes it if it has no more.
+    /// Returns the next child of the innermost collection, or closes the collection if no child is
+    /// left.
     pub fn next_child(&mut self) -> NextChild
         // Result.
         ensures remaining { WalkTakesNextChild self.old result self.new }

@@ -1,24 +1,24 @@
-//! A visitor within limits.
+//! Defines a visitor that enforces limits.
 
 ghost use Rattle.std.specs.Prelude.{◌≡◌};
 
 use plist_base::{Allowance, Error, Event, EventVisitor, LimitCounter};
 use std::ops::ControlFlow;
 
-/// Passes events on to another visitor, as many as limits admit.
+/// Passes events on to another visitor as long as the limits admit them.
 ///
-/// The first event that isn't admitted is the last one that it takes.
+/// This visitor stops the walk at the first event that isn't admitted.
 #[derive(Drop)]
 pub struct Within<'v, V> {
     limiter: &'v mut LimitCounter,
-    // The error of the event that wasn't admitted.
+    // Receives the error of an event that isn't admitted.
     reached: &'v mut Result<(), Error>,
     visitor: &'v mut V,
 }
 
 impl<'v, V: EventVisitor> Within<'v, V> {
-    /// Creates a visitor that passes events on. The error of one that isn't admitted goes into
-    /// `reached`.
+    /// Creates a visitor that passes events on to `visitor`. If an event isn't admitted, its error
+    /// is stored in `reached`.
     pub fn new(
         limiter: &'v mut LimitCounter,
         reached: &'v mut Result<(), Error>,

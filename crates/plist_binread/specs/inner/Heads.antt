@@ -1,4 +1,4 @@
--- What contracts see of a trailer and of a head that the code holds.
+-- What contracts say about the trailer and the head that the code has read.
 use Rattle.std.specs.Prelude.{◌≡◌, ℕ, ◌+◌, ◌*◌, ◌<◌, ◌≤◌, Bool, List, length, drop, nat_eq, Ok, Err, ⊤}
 use Rattle.std.specs.List.{starts_with}
 use Rattle.plist_base.specs.declared.error.Error.{Error}
@@ -7,7 +7,7 @@ use Rattle.plist_binread.specs.declared.trailer.Trailer as code
 use Rattle.plist_binread.specs.declared.head.Head as held
 use Rattle.plist_format.specs.Container.{Trailer, Head, head_at, head_of, head_with, magic, trailer_in}
 
--- what contracts see of a trailer
+-- a trailer of the code as the format defines it
 abbrev pub trailer_seen : code.Trailer → Trailer
 trailer_seen t = record {
   offset_width = t.offset_width;
@@ -17,7 +17,7 @@ trailer_seen t = record {
   table = t.table;
 }
 
--- what contracts see of a head
+-- a head of the code as the format defines it
 abbrev pub head_seen : held.Head → Head
 head_seen head = record {
   trailer = head.trailer;
@@ -26,53 +26,56 @@ head_seen head = record {
   places = head.places.items;
 }
 
--- do the bytes begin with the magic?
+-- whether the bytes begin with the magic
 abbrev pub has_magic : List ℕ → Bool
 has_magic bytes = starts_with nat_eq bytes magic
 
--- ---- what is read of a trailer
+-- ---- what is read from a trailer
 
--- where the bytes end after it, this is what the trailer there says
+-- if the bytes end with a trailer at this offset, `t` is that trailer
 abbrev pub IsTrailerAt : (trailer : ℕ) → List ℕ → code.Trailer → Type 0
 IsTrailerAt trailer bytes t =
     length bytes ≡ trailer + 32 → trailer_seen t ≡ trailer_in (drop trailer bytes)
 
--- where the offset table ends
+-- the offset at which the offset table ends
 abbrev pub end_of_table : code.Trailer → ℕ
 end_of_table t = t.table + t.count * t.offset_width
 
--- one to eight bytes
+-- the width is one to eight bytes
 abbrev pub IsNumberWidth : ℕ → Type 0
 IsNumberWidth width = (0 < width) × (width ≤ 8)
 
--- a file with this trailer here has a head, or this fault
+-- a file with this trailer at this offset has a valid head
 abbrev pub HasHead : (trailer : ℕ) → code.Trailer → Type 0
 HasHead trailer t = (bytes : List ℕ)
     → head_with bytes trailer (trailer_seen t) ≡ Ok (head_at bytes trailer (trailer_seen t))
 
+-- a file with this trailer at this offset has this error
 abbrev pub HasNoHead : (trailer : ℕ) → code.Trailer → Error → Type 0
 HasNoHead trailer t error = (bytes : List ℕ)
     → head_with bytes trailer (trailer_seen t) ≡ Err (fault_of error)
 
--- ---- what is read of a head
+-- ---- what is read from a head
 
--- the head of these bytes, or their fault where no device failed and memory was found
+-- this is the head of these bytes
 abbrev pub IsHeadOf : List ℕ → held.Head → Type 0
 IsHeadOf bytes head = head_of bytes ≡ Ok (head_seen head)
 
+-- the error is that of the bytes' head, unless a read or an allocation failed
 abbrev pub IsFaultOfHead : List ℕ → Fault → Type 0
 IsFaultOfHead bytes fault = MatchFault fault.kind ⊤ ⊤ (head_of bytes ≡ Err fault)
 
--- its trailer lies within the bytes
+-- the offset of the trailer lies within the bytes
 abbrev pub LiesWithin : List ℕ → held.Head → Type 0
 LiesWithin bytes head = head.trailer ≤ length bytes
 
--- this is the head of bytes that end after the trailer that begins here
+-- if the bytes end with a trailer at this offset, this is their head
 abbrev pub IsHeadBefore : (trailer : ℕ) → List ℕ → held.Head → Type 0
 IsHeadBefore trailer bytes head =
     length bytes ≡ trailer + 32
     → head_with bytes trailer (trailer_in (drop trailer bytes)) ≡ Ok (head_seen head)
 
+-- if the bytes end with a trailer at this offset, this is their head's error or a failed read's
 abbrev pub IsFaultBefore : (trailer : ℕ) → List ℕ → Fault → Type 0
 IsFaultBefore trailer bytes fault =
     length bytes ≡ trailer + 32 → MatchFault fault.kind ⊤ ⊤
