@@ -50,7 +50,7 @@ pub binary_comes : {S : Type 0} {g : Ghosts S} (known : S → Option (List ℕ))
 binary_comes known failed old item new step =
     given_comes (known (binary_source old)) (known (binary_source new))
     (λ bytes. items_to_come bytes old) (λ bytes. items_to_come bytes new) (is_new old) item
-    step.yields.unchanged step.yields.items
+    step.gives.unchanged step.gives.items
 
 -- ---- a reader of either format
 
