@@ -58,7 +58,7 @@ module _ {W : Type 0} (contents : W → Option (List ℕ)) where
     where
       pub same : IsSameSink old new
       pub follows : Follows old bytes answer new
-  
+
   abbrev pub Puts : (old : Sink W) → (bytes : List ℕ) → Result (Unit {0}) Error → (new : Sink W)
       → Type 0
   Puts old bytes result new = PutsBytes old bytes (answer_of result) new

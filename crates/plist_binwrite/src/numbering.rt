@@ -60,10 +60,10 @@ impl Numbering {
     fn number_one(&mut self, given: &Classed<'_, '_>, index: usize) -> Result<(), AllocError>
         requires so_far { IsNumberedSoFar given.now self.old }
         requires item { HasItem (events_in given.now) index }
-        // The answer.
+        // Result.
         ensures numbered { OnOk result (NumbersItem given.now index self.new) }
         ensures first { OnOk result (BeginsAt index self.old self.new) }
-        // The state after it.
+        // State afterwards.
         ensures so_far { OnOk result (IsNumberedSoFar given.now self.new) }
         ensures keeps { OnOk result (KeepsNumbers given.now self.old self.new) }
     {

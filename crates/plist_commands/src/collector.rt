@@ -19,7 +19,8 @@ fn take(alloc: Global, pending: &mut EventBuffer, event: Event<'_>) -> Result<bo
     ensures taken { IfOkIs result true (HoldsMore (is_whole pending.new) (buffered_events pending.old)
         (event_of event.entry) (buffered_events pending.new)) }
     ensures refused { TestsWhole (is_whole pending.old) (buffered_events pending.old)
-        → IfOkIs result false (CanContinue (buffered_events pending.old) (event_of event.entry) → ⊥) }
+        → IfOkIs result false (CanContinue (buffered_events pending.old) (event_of event.entry)
+        → ⊥) }
 {
     if pending.is_whole() {
         return Ok(false);

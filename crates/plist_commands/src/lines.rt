@@ -2,7 +2,7 @@
 
 ghost use Rattle.std.specs.Prelude.{◌≡◌, ◌++◌, ◌+◌, ◌*◌, ◌≤◌, codes, length};
 ghost use Rattle.std.specs.Fmt.{decimal, signed_decimal};
-ghost use Rattle.plist_base.specs.Events.{ScalarEvent, event_of};
+ghost use Rattle.plist_base.specs.Events.{ScalarEvent};
 ghost use Rattle.plist_base.specs.Sinks.{buffered, room};
 ghost use Rattle.plist_base.specs.Trees.{Boolean, Data, String};
 ghost use Rattle.plist_commands.specs.EscapedLines.{event_of_short, in_notation, line_of, text_of_date, text_of_real, text_of_start};

@@ -1,12 +1,12 @@
 //! Prints the events of a source.
 
-ghost use Rattle.std.specs.Prelude.{◌≡◌, ◌++◌, ◌+◌, ◌*◌, ◌≤◌, [], Ok, IfErr, OnErr, OnOk, length};
-ghost use Rattle.plist_base.specs.Events.{ScalarEvent, event_of};
+ghost use Rattle.std.specs.Prelude.{◌≡◌, ◌++◌, ◌+◌, ◌*◌, ◌≤◌, [], Ok, IfErr, OnOk, length};
+ghost use Rattle.plist_base.specs.Events.{ScalarEvent};
 ghost use Rattle.plist_base.specs.Sinks.{Puts, room, sink_capacity};
 ghost use Rattle.plist_base.specs.Trees.{Data, String};
 ghost use Rattle.plist_binread.specs.BinaryReader.{binary_source};
 ghost use Rattle.plist_commands.specs.Converting.{items_left};
-ghost use Rattle.plist_commands.specs.EscapedLines.{event_of_short, in_notation, line_of};
+ghost use Rattle.plist_commands.specs.EscapedLines.{event_of_short, in_notation};
 ghost use Rattle.plist_commands.specs.Printing.{CountsReadsOf, PrintsFileUntil, PrintsItemsUntil, IsWriterError, PrintsFile, PrintsItems, PrintsValue, SendsPrefixOfFile, SendsPrefixOfItems, SendsPrefixOfValue};
 ghost use Rattle.plist_commands.specs.ReaderRuns.{PrintsReader, PrintsRun, PrintsSource};
 
@@ -14,7 +14,7 @@ use crate::lines::{
     MOST_OF_SHORT, Notation, ShortLine, push_bytes, push_data, push_short, push_string,
 };
 use plist::Value;
-use plist_base::send::{flush, send};
+use plist_base::send::flush;
 use plist_base::{
     Date, Error, ErrorKind, Event, EventSource, EventVisitor, FixedBuffer, Integer, RealBits, Sink,
     Source, Uid, Visited,
@@ -253,7 +253,8 @@ impl<'p, W: Write> Printer<'p, W> {
     // Writes the lines that are pending before an error, and returns that error, or the one of the
     // write.
     fn finish_before(&mut self, error: Error) -> Error
-        ensures { FailsAfterLines W.contents (printer_sink self.old) error result (printer_sink self.new) }
+        ensures { FailsAfterLines W.contents (printer_sink self.old) error result
+            (printer_sink self.new) }
     {
         match self.finish() {
             Ok(()) => error,

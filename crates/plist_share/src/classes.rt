@@ -38,12 +38,12 @@ pub struct Collection {
 
 // Returns the index of a collection: that of an equal one that was inserted before, or a new one.
 fn index_of(seen: &mut IndexSet<Collection>, collection: Collection) -> Result<usize, Error>
-    // The answer.
+    // Result.
     ensures stored { IfOk result (IsNodeAt seen.new.keys collection) }
     ensures below { IfOk result (λ index. index < length (nodes_seen seen.new.keys)) }
-    // A refusal.
+    // Errors.
     ensures memory { OnlyMemory result }
-    // The state after it.
+    // State afterwards.
     ensures extends { OnOk result (Extends (nodes_seen seen.old.keys) (nodes_seen seen.new.keys)) }
     ensures apart { OnOk result (AreDistinct (nodes_seen seen.new.keys)) }
 {
@@ -112,12 +112,12 @@ fn class_of_collection(
 ) -> Result<usize, Error>
     requires index { index < length (plain_events events.now) }
     requires long { length classes.now ≡ length (plain_events events.now) }
-    // The answer.
+    // Result.
     ensures class { IfOk result (IsClassAt events.now classes.now base seen.new.keys index) }
     ensures below { IfOk result (λ class. class < base + length (nodes_seen seen.new.keys)) }
-    // A refusal.
+    // Errors.
     ensures memory { OnlyMemory result }
-    // The state after it.
+    // State afterwards.
     ensures extends { OnOk result (Extends (nodes_seen seen.old.keys) (nodes_seen seen.new.keys)) }
     ensures apart { OnOk result (AreDistinct (nodes_seen seen.new.keys)) }
 {
@@ -228,12 +228,12 @@ fn give_trees(alloc: Global, events: &EventTable<'_>, found: &mut TreeClasses) -
 ///
 /// `OutOfMemory`, without an offset.
 pub fn tree_classes(alloc: Global, events: &EventTable<'_>) -> Result<TreeClasses, Error>
-    // The answer.
+    // Result.
     ensures objects { IfOk result (λ r. AreClasses (plain_events events.now) (nth_number r.of)) }
     ensures trees { IfOk result (λ r. SeparatesTrees (plain_events events.now) (nth_number r.of)) }
     ensures long { IfOk result (λ r. length r.of ≡ length (plain_events events.now)) }
     ensures below { IfOk result (λ r. AllBelow r.count r.of) }
-    // A refusal.
+    // Errors.
     ensures memory { OnlyMemory result }
 {
     let mut found = event_classes(alloc, events)?;

@@ -11,8 +11,15 @@ overflow_add-end c =
 pub write_digits-requires : goal.write_digits-requires
 write_digits-requires c =
     let few = at_most_twenty c.args.number c.ranges.number.fits in
-    omega (arith, few, c.requires.room, c.args.self.now.within, c.args.self.now.size,
-    c.digits_of.ensures, c.as_mut_slice.ensures.len)
+    omega (
+      arith,
+      few,
+      c.requires.room,
+      c.args.self.now.within,
+      c.args.self.now.size,
+      c.digits_of.ensures,
+      c.as_mut_slice.ensures.len,
+    )
 
 pub returns-clause-pushed : goal.returns-clause-pushed
 returns-clause-pushed c =
