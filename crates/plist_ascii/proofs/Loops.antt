@@ -1,4 +1,4 @@
--- What loops over an input keep: over runs and comments, byte by byte.
+-- The invariants of the loops over runs and comments of an input.
 use Rattle.std.proofs.Common.{◌≡◌, ℕ, ◌+◌, ◌≤◌, List, drop, Option, Some, Result, refl, ap, ◌∙◌, arith, suc, Bool, false, cond, [], ◌∷◌, ◌++◌, length, take, sym, append_assoc, append-nil, true, None, Ok, Err, rules, subst}
 use Rattle.std.proofs.lemmas.List.{drop-drop}
 use Rattle.plist_base.specs.Faults.{FaultKind, IncompleteComment}

@@ -1,4 +1,4 @@
--- A text that begins with neither a digit nor a sign spells no number.
+-- A string that begins with neither a digit nor a sign spells no number.
 use Rattle.std.proofs.Common.{◌≡◌, ℕ, Bool, true, false, cond, None, Some, Option, List, [], ◌∷◌, length, refl, ap, ◌∙◌, arith}
 use Rattle.std.specs.Prelude.{◌==◌, ◌||◌, ◌&&◌, ℤ, nat_lt, slice_index_or}
 use Rattle.std.specs.List.{list_all}

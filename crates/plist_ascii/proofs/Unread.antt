@@ -1,4 +1,4 @@
--- What looking at bytes and taking them do to the bytes that remain.
+-- What looking at bytes and taking them changes in the bytes that remain.
 use Rattle.std.proofs.Common.{◌≡◌, ℕ, zero, suc, ◌+◌, ◌-◌, ◌^◌, ◌<◌, ◌≤◌, ◌≢◌, Bool, true, false, List, [], ◌∷◌, ◌++◌, length, take, drop, Option, None, Some, refl, sym, ap, ◌∙◌, rules, arith}
 use Rattle.std.specs.Prelude.{is_some, MatchOption, IfSome, ◌==◌, slice_index_or, nat_eq}
 use Rattle.std.specs.Option.{option_map}

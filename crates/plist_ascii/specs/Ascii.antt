@@ -1,4 +1,4 @@
--- The tokens of an old-style ASCII property list, and the items that they give.
+-- The tokens of an old-style ASCII property list, and their items.
 use Rattle.std.specs.Prelude.{◌≡◌, ◌⊎◌, ℕ, zero, suc, ◌+◌, Bool, true, false, cond, ◌||◌, ◌==◌, List, [], ◌∷◌, length, drop, map, Option, None, Some, Result, Ok, Err, ⊤}
 use Rattle.std.specs.List.{list_any}
 use Rattle.plist_base.specs.Faults.{FaultKind, UnclosedString, InvalidUtf8AsciiStream, InvalidOctalString, InvalidUtf16String, fault_at}
@@ -11,8 +11,8 @@ use Rattle.plist_ascii.specs.Texts.{Token, bare, lax_stops}
 use Rattle.plist_ascii.specs.Quoted.{quoted_token}
 use Rattle.plist_ascii.specs.Comments.{slash}
 
--- what a byte begins: ( and { a start, ) and } an end, separators and white space nothing, quotes
--- and / a string or a comment, and all other bytes a bare string
+-- what a byte begins: ( and { begin a start, ) and } an end, quotes a quoted string, / a comment or
+-- a bare string, separators and white space nothing, and any other byte a bare string
 abbrev pub lead_of : ℕ → Lead
 lead_of c =
     cond (c == 40) lead.ArrayStart (cond (c == 123) lead.DictionaryStart
@@ -20,11 +20,12 @@ lead_of c =
     (cond (list_any (λ d. c == d) (44 ∷ 59 ∷ 61 ∷ 32 ∷ 13 ∷ 9 ∷ 10 ∷ [])) lead.Blank
     (cond ((c == 39) || (c == 34)) lead.Quote (cond (c == 47) lead.Slash lead.Bare)))))
 
--- begins nothing: a separator or white space
+-- is it what a separator or white space begins, which is nothing?
 abbrev pub begins_nothing : Lead → Bool
 begins_nothing lead.Blank = true
 begins_nothing other = false
 
+-- is the byte a separator or white space?
 abbrev pub is_blank : ℕ → Bool
 is_blank c = begins_nothing (lead_of c)
 
@@ -46,7 +47,7 @@ token_by stops lead.Bare c rest = bare stops c rest
 unfoldable pub token : (stops : ℕ → Bool) → ℕ → List ℕ → Token
 token stops c rest = past_one (token_by stops (lead_of c) c rest)
 
--- A token doesn't depend on what ends a bare string, or else it is a bare string.
+-- each token is independent of the stops, or is a bare string
 abbrev pub OnlyBareTextsDiffer : Type 0
 OnlyBareTextsDiffer =
     (c : ℕ) (rest : List ℕ) → ((stops : ℕ → Bool) → token stops c rest ≡ token lax_stops c rest)
@@ -58,6 +59,7 @@ pub record PlacedItem : Type 0 where
   pub end : ℕ
   pub item : Item
 
+-- an item with what its first byte begins and the offset of its end
 abbrev pub placed : Lead → ℕ → Item → PlacedItem
 placed lead end item = record { lead = lead; end = end; item = item }
 
@@ -68,7 +70,7 @@ item_then lead end (Ok None) more = more
 item_then lead end (Ok (Some event)) more = placed lead end (Ok event) ∷ more
 item_then lead end (Err kind) more = placed lead end (Err (fault_at kind end)) ∷ more
 
--- token by token; `fuel` is at least the number of bytes
+-- the items of some bytes, token by token; `fuel` is at least the number of bytes
 unfoldable pub items_in : (stops : ℕ → Bool) → (fuel : ℕ) → List ℕ → ℕ → List PlacedItem
 items_in stops zero bytes place = []
 items_in stops (suc fuel) [] place = []
@@ -95,7 +97,7 @@ IsTextFault InvalidOctalString = ⊤
 IsTextFault InvalidUtf16String = ⊤
 IsTextFault kind = ⊥
 
--- a token is a bare or a quoted string
+-- the token is a string, an integer or a string's fault
 abbrev pub IsTextToken : Result (Option PlainEvent) FaultKind → Type 0
 IsTextToken (Ok (Some (ScalarEvent (String text)))) = ⊤
 IsTextToken (Ok (Some (ScalarEvent (Integer number)))) = ⊤

@@ -1,4 +1,4 @@
--- What contracts see of a reader: the bytes that it hasn't taken yet, and their items.
+-- A reader as contracts describe it: the bytes that it hasn't taken yet, and their items.
 use Rattle.std.specs.Prelude.{◌≡◌, ℕ, ◌-◌, ◌^◌, ◌<◌, ◌≤◌, Bool, true, false, List, [], ◌∷◌, take, drop, Option, None, Some, Result, Ok, Err, IfSome, MatchOption, MatchResult, ⊤}
 use Rattle.std.specs.Option.{option_map}
 use Rattle.plist_base.specs.declared.error.Error.{Error}
@@ -18,7 +18,7 @@ use Rattle.plist_ascii.specs.Unread.{readable_with, unread, IfKnown, IsFaultAt}
 abbrev pub device_of : {R : Type 0} → AsciiReader R → R
 device_of reader = reader.input.inner
 
--- the byte that was read from it but not taken, if any
+-- the byte that was read from the inner reader but not taken, if any
 abbrev pub peeked_byte : {R : Type 0} → AsciiReader R → Option ℕ
 peeked_byte reader = reader.input.peeked
 
@@ -34,7 +34,7 @@ dialect_of reader = reader.dialect
 abbrev pub stops_of : {R : Type 0} → AsciiReader R → ℕ → Bool
 stops_of reader = ends_bare (dialect_of reader)
 
--- the reader yields nothing more
+-- the reader has ended, and yields nothing more
 abbrev pub HasEndedAscii : {R : Type 0} → AsciiReader R → Type 0
 HasEndedAscii reader = reader.input.ended ≡ true
 
@@ -42,17 +42,18 @@ HasEndedAscii reader = reader.input.ended ≡ true
 abbrev pub untaken_bytes : {R : Type 0} → (R → Option (List ℕ)) → AsciiReader R → Option (List ℕ)
 untaken_bytes known reader = unread known reader.input
 
--- as many of these bytes as are ever taken
+-- the bytes that can be taken, which are at most 2^64 - 1
 abbrev pub readable : Option (List ℕ) → Option (List ℕ)
 readable known = option_map (λ bytes. take (2 ^ 64 - 1) bytes) known
 
--- the inner reader has the bytes that this one hasn't taken, except the byte that was looked at
+-- the inner reader's known bytes are those that this reader hasn't taken, except a byte that was
+-- looked at
 abbrev pub HoldsLeft : {R : Type 0} → AsciiReader R → (R → Option (List ℕ)) → R → Type 0
 HoldsLeft reader known inner = IfSome (known inner) (λ bytes.
     untaken_bytes known reader ≡ Some (readable_with (peeked_byte reader) (place_of reader) bytes))
 
--- From offset p on, the items begin with this one, which ends at offset q. The others are those of
--- the bytes from q on.
+-- the items of the bytes from offset p on begin with this one, which ends at offset q; the other
+-- items are those of the bytes from q on
 pub record BeginsWithItem (stops : ℕ → Bool) (bytes : List ℕ) (p : ℕ) (item : Item) (left : List ℕ)
     (q : ℕ) : Type 0 where
   pub items : items_of_ascii stops bytes p ≡ item ∷ items_of_ascii stops left q
@@ -60,9 +61,9 @@ pub record BeginsWithItem (stops : ℕ → Bool) (bytes : List ℕ) (p : ℕ) (i
   pub ends : placed_items stops bytes p ≡ placed lead q item ∷ placed_items stops left q
   pub rest : left ≡ drop (q - p) bytes
 
--- The first item is returned, and the rest is left; nothing is returned only if there is no item.
--- After `Io` and `OutOfMemory` nothing is left, and `OutOfMemory` is returned only in place of a
--- string.
+-- the first item is returned and the other items remain, or `None` is returned and no item remains;
+-- after `Io` and `OutOfMemory` no bytes remain, and `OutOfMemory` is returned only in place of a
+-- string, an integer or a string's fault
 abbrev pub GivesAsciiItem : (stops : ℕ → Bool) → List ℕ → (p : ℕ) → Option (Result Event Error)
     → (rest : List ℕ) → (q : ℕ) → Type 0
 GivesAsciiItem stops bytes p item rest q = MatchOption item
@@ -73,7 +74,7 @@ GivesAsciiItem stops bytes p item rest q = MatchOption item
     ((rest ≡ []) × BeginsWithText (items_of_ascii stops bytes p))
     (BeginsWithItem stops bytes p (Err (fault_of error)) rest q)))
 
--- an event or a fault in the bytes takes at least one byte, and no byte is ever given back
+-- at least one byte is taken for an event or a fault in the bytes, and no byte is put back
 abbrev pub TakesBytes : Option (Result Event Error) → (p q : ℕ) → Type 0
 TakesBytes item p q = MatchOption item (p ≤ q) (λ answer. MatchResult answer
     (λ _. p < q)
@@ -96,9 +97,9 @@ EndsAfterIoOrMemory item ended =
     MatchOption item ended (λ answer. MatchResult answer (λ _. ⊤)
     (λ error. MatchFault (kind_of (error_kind_of error)) ended ended ⊤))
 
--- one call of `next`: the item is the first of those of the bytes not taken yet; after the end the
--- inner reader isn't called, and after a start, an end or a quoted string no byte has been looked
--- at
+-- what one call of `next` does: it returns the first item of the bytes not taken yet; a reader that
+-- has ended doesn't call the inner reader, and after a start, an end or a quoted string no further
+-- byte has been looked at
 pub record GivesAscii {R : Type 0} (known : R → Option (List ℕ)) (failed : R → Option ℕ)
     (old : AsciiReader R) (item : Option (Result Event Error)) (new : AsciiReader R) : Type 0 where
   pub items : IfKnown (untaken_bytes known old) (λ bytes. (rest : List ℕ)
@@ -117,7 +118,7 @@ pub record GivesAscii {R : Type 0} (known : R → Option (List ℕ)) (failed : R
   pub unasked : HasEndedAscii old → device_of new ≡ device_of old
   pub ends : EndsAfterIoOrMemory item (HasEndedAscii new)
 
--- an upper bound on the number of remaining items
+-- an upper bound on the number of remaining items, given the number of bytes taken
 abbrev pub bytes_to_come : (ended : Bool) → (taken : ℕ) → ℕ
 bytes_to_come true taken = 0
 bytes_to_come false taken = 2 ^ 64 - taken

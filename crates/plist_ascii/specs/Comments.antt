@@ -5,11 +5,11 @@ use Rattle.plist_base.specs.Faults.{IncompleteComment}
 use Rattle.plist_ascii.specs.Taken.{taken, past_one, run}
 use Rattle.plist_ascii.specs.Texts.{Token, bare}
 
--- up to LF, which isn't taken
+-- a line comment, up to the LF, which isn't taken
 abbrev pub line_comment : List ℕ → Token
 line_comment rest = taken (run (λ c. c == 10) rest) (Ok None)
 
--- is this the first byte?
+-- is c the first byte?
 abbrev pub begins_with : ℕ → List ℕ → Bool
 begins_with c [] = false
 begins_with c (d ∷ rest) = d == c
@@ -20,16 +20,16 @@ close_at [] = None
 close_at (c ∷ rest) =
     cond ((c == 42) && begins_with 47 rest) (Some 0) (option_map suc (close_at rest))
 
--- up to and including the `*/` at this offset
+-- a block comment, up to and including the `*/` at this offset
 abbrev pub block_comment_to : List ℕ → Option ℕ → Token
 block_comment_to rest (Some place) = taken (suc (suc place)) (Ok None)
 block_comment_to rest None = taken (length rest) (Err IncompleteComment)
 
--- up to and including the first `*/`
+-- a block comment, up to and including the first `*/`
 abbrev pub block_comment : List ℕ → Token
 block_comment rest = block_comment_to rest (close_at rest)
 
--- what a slash begins
+-- the token that a slash begins: a comment, or a bare string
 abbrev pub slash : (stops : ℕ → Bool) → List ℕ → Token
 slash stops [] = taken 0 (Err IncompleteComment)
 slash stops (c ∷ rest) =

@@ -5,7 +5,7 @@
 --     U unit                        the unit's character, unless it is a surrogate
 --     U unit \ U unit               the character of a surrogate pair; the second `U` may be small
 --
--- A unit is four hexadecimal digits. Digits are taken before they are judged.
+-- A unit is four hexadecimal digits. The digits are taken before they are checked.
 use Rattle.std.specs.Prelude.{ℕ, ◌-◌, Bool, cond, ◌&&◌, ◌||◌, ◌==◌, nat_lt, nat_le, List, [], ◌∷◌, slice_index, Option, None, Some, Result, Ok, Err, encode_utf8}
 use Rattle.std.specs.List.{list_all}
 use Rattle.std.specs.Char.{is_digit}
@@ -24,16 +24,16 @@ letters =
     ∷ (small_a, bell) ∷ (small_b, backspace) ∷ (small_f, form_feed) ∷ (small_n, line_feed)
     ∷ (small_r, carriage_return) ∷ (small_t, tab) ∷ (small_v, vertical_tab) ∷ []
 
--- the byte in the row of a letter
+-- the byte in the row of the letter c, or `None` if there is no such row
 abbrev pub beside : ℕ → List (ℕ × ℕ) → Option ℕ
 beside c [] = None
 beside c (row ∷ rows) = cond (c == row.0) (Some row.1) (beside c rows)
 
--- the byte that a letter stands for
+-- the byte that a letter stands for, or `None`
 abbrev pub simple_escape : ℕ → Option ℕ
 simple_escape c = beside c letters
 
--- a letter stands for its byte, or is invalid
+-- a letter stands for its byte, or is a fault if it stands for none; no more bytes are taken
 abbrev pub simple : Option ℕ → Taken (List ℕ)
 simple (Some byte) = taken 0 (Ok (byte ∷ []))
 simple None = taken 0 (Err InvalidUtf8AsciiStream)
@@ -60,23 +60,23 @@ nextstep =
     0xF6 ∷ 0xE6 ∷ 0xF9 ∷ 0xFA ∷ 0xFB ∷ 0x131 ∷ 0xFC ∷ 0xFD ∷ 0x142 ∷ 0xF8 ∷ 0x153 ∷ 0xDF ∷ 0xFE
     ∷ 0xFF ∷ 0xFFFD ∷ 0xFFFD ∷ []
 
--- the character of an octal number: NeXTSTEP's from 128 to 255, and else Unicode's
+-- the character of an octal number: NeXTSTEP's from 128 to 255, and otherwise Unicode's
 unfoldable pub octal_char : ℕ → ℕ
 octal_char n = cond (nat_le 128 n && nat_lt n 256) (slice_index nextstep (n - 128)) n
 
--- three octal digits
+-- the character of three octal digits, or a fault if one of the bytes isn't an octal digit
 unfoldable pub octal_text : List ℕ → Result (List ℕ) FaultKind
 octal_text digits =
     cond (list_all (λ c. is_digit c 8) digits)
     (Ok (encode_utf8 (octal_char (digits_value 8 digits)))) (Err InvalidOctalString)
 
--- the digit c, and the two bytes after it
+-- an octal escape: the digit c, and the two bytes after it
 abbrev pub octal : ℕ → List ℕ → Taken (List ℕ)
 octal c rest = needs 2 rest (λ digits. octal_text (c ∷ digits))
 
 -- ---- units of UTF-16
 
--- the number that hexadecimal digits spell
+-- the number that hexadecimal digits spell, or `None` if one of the bytes isn't a digit
 abbrev pub unit_of : List ℕ → Option ℕ
 unit_of digits = cond (list_all (λ c. is_digit c 16) digits) (Some (digits_value 16 digits)) None
 
@@ -84,6 +84,7 @@ unit_of digits = cond (list_all (λ c. is_digit c 16) digits) (Some (digits_valu
 abbrev pub unit : List ℕ → Taken (Option ℕ)
 unit rest = needs 4 rest (λ digits. Ok (unit_of digits))
 
+-- is the unit a surrogate, which is half of a pair?
 abbrev pub is_surrogate : ℕ → Bool
 is_surrogate u = is_high_surrogate u || is_low_surrogate u
 
@@ -91,14 +92,14 @@ is_surrogate u = is_high_surrogate u || is_low_surrogate u
 abbrev pub bad_unit : ℕ → Taken (List ℕ)
 bad_unit n = taken n (Err InvalidUtf16String)
 
--- the character of a high surrogate followed by a low one
+-- the character of a high surrogate followed by a low one, or a fault
 abbrev pub pair_text : ℕ → Option ℕ → Result (List ℕ) FaultKind
 pair_text high (Some low) =
     cond (is_high_surrogate high && is_low_surrogate low)
     (Ok (encode_utf8 (surrogate_pair_char high low))) (Err InvalidUtf16String)
 pair_text high None = Err InvalidUtf16String
 
--- the second unit, after its letter
+-- the digits of the second unit, after its letter
 abbrev pub second_digits : ℕ → List ℕ → Taken (List ℕ)
 second_digits high rest = followed rest (unit rest) (λ low _. taken 0 (pair_text high low))
 

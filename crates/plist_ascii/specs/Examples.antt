@@ -12,29 +12,36 @@ use Rattle.plist_ascii.specs.Escapes.{octal_char, octal_text, escape}
 use Rattle.plist_ascii.specs.Quoted.{quoted_in}
 use Rattle.plist_ascii.specs.Ascii.{token, items_in, items_of_ascii}
 
+-- the item of a string
 abbrev text : String → Item
 text s = Ok (ScalarEvent (trees.String (codes s)))
 
+-- the item of an integer
 abbrev number : ℕ → Item
 number n = Ok (ScalarEvent (trees.Integer (pos n)))
 
+-- the item of an array's start
 abbrev array : Item
 array = Ok (StartArray None)
 
+-- the item of a dictionary's start
 abbrev dictionary : Item
 dictionary = Ok (StartDictionary None)
 
+-- the item of an end
 abbrev close : Item
 close = Ok EndCollection
 
+-- the item of a fault at this offset
 abbrev refused : FaultKind → (place : ℕ) → Item
 refused kind place = Err (fault_at kind place)
 
--- each of these texts, one byte a character, has the items beside it
+-- each text, in which a character is one byte, has the items in its row
 abbrev AreRead : (stops : ℕ → Bool) → List (String × List Item) → Type 0
 AreRead stops rows =
     map (λ row. items_of_ascii stops (codes row.0) 0) rows ≡ map (λ row. row.1) rows
 
+-- comments and bare strings in the lax dialect
 bare_texts : AreRead lax_stops (
     -- a slash begins a bare string
     ("/abc", text "/abc" ∷ [])
@@ -46,9 +53,9 @@ bare_texts : AreRead lax_stops (
     ∷ ("/*/", refused IncompleteComment 3 ∷ [])
     -- the first star that a slash follows closes the comment
     ∷ ("/* * */z", text "z" ∷ [])
-    -- nothing after a slash
+    -- the input ends after a slash
     ∷ ("/", refused IncompleteComment 1 ∷ [])
-    -- a line comment up to the end of the input
+    -- a line comment ends at the end of the input
     ∷ ("//x", [])
     -- a bare string contains no comments
     ∷ ("a/*x*/ b", text "a/*x*/" ∷ text "b" ∷ [])
@@ -58,7 +65,7 @@ bare_texts : AreRead lax_stops (
     ∷ ("(a\n)", array ∷ text "a\n" ∷ close ∷ [])
     -- numbers
     ∷ ("(42, 0x10)", array ∷ number 42 ∷ number 16 ∷ close ∷ [])
-    -- the data of other readers is a string
+    -- what other readers read as data is a string
     ∷ ("(<00ff>)", array ∷ text "<00ff>" ∷ close ∷ [])
     -- invalid UTF-8
     ∷ ("ÿ", refused InvalidUtf8AsciiStream 1 ∷ [])
@@ -68,6 +75,7 @@ unfolding items_in token bare_event integer_of_text quoted_in quoted_event escap
     chars encode
 bare_texts = refl
 
+-- quoted strings
 quoted_texts : AreRead lax_stops (
     -- the input ends in a string
     ("\"ab", refused UnclosedString 3 ∷ [])
@@ -75,7 +83,7 @@ quoted_texts : AreRead lax_stops (
     ∷ ("\"\\12\"", refused InvalidOctalString 5 ∷ [])
     -- an undefined escape
     ∷ ("\"\\9\"", refused InvalidUtf8AsciiStream 3 ∷ refused UnclosedString 4 ∷ [])
-    -- NeXTSTEP's characters from 128 to 255, Unicode above
+    -- numbers from 128 to 255 are NeXTSTEP's, and those above are Unicode's
     ∷ ("\"\\200\\377\\400\"", text "Â\u{a0}ï¿½Ä\u{80}" ∷ [])
     -- a plus sign isn't a digit
     ∷ ("\"\\U+123\"", refused InvalidUtf16String 7 ∷ refused UnclosedString 8 ∷ [])
@@ -99,6 +107,7 @@ unfolding items_in token bare_event integer_of_text quoted_in quoted_event escap
     octal_text is_utf8 chars encode
 quoted_texts = refl
 
+-- the tight dialect
 tight_texts : AreRead tight_stops (
     -- = and } end a bare string
     ("{a=b}", dictionary ∷ text "a" ∷ text "b" ∷ close ∷ [])

@@ -1,4 +1,4 @@
--- Which events and which faults the reader can yield at all.
+-- Which events and faults the reader can yield.
 use Rattle.std.specs.Prelude.{Option, None, Result, MatchOption, MatchResult, ⊤}
 use Rattle.plist_base.specs.declared.error.Error.{Error}
 use Rattle.plist_base.specs.declared.event.Event.{Event}
@@ -6,7 +6,7 @@ use Rattle.plist_base.specs.Events.{PlainEvent, StartArray, StartDictionary, End
 use Rattle.plist_base.specs.Trees.{Integer, String}
 use Rattle.plist_base.specs.Faults.{FaultKind, UnclosedString, IncompleteComment, InvalidUtf8AsciiStream, InvalidOctalString, InvalidUtf16String, MatchFault, kind_of, error_kind_of}
 
--- a fault that the bytes can have
+-- the kind of a fault that bytes can have
 abbrev pub IsFaultOfBytes : FaultKind → Type 0
 IsFaultOfBytes UnclosedString = ⊤
 IsFaultOfBytes IncompleteComment = ⊤
@@ -32,7 +32,7 @@ IsAsciiEvent (StartDictionary None) = ⊤
 IsAsciiEvent EndCollection = ⊤
 IsAsciiEvent event = IsTextEvent event
 
--- an item is one of these events or faults
+-- the item, if there is one, is one of these events or faults
 abbrev pub IsAsciiItem : Option (Result Event Error) → Type 0
 IsAsciiItem item =
     MatchOption item ⊤ (λ answer. MatchResult answer (λ event. IsAsciiEvent (event_of event))

@@ -1,4 +1,4 @@
--- What is at the front of some bytes: how many of them are taken, and their meaning.
+-- How many bytes are taken from the front of a list, and what they mean.
 use Rattle.std.specs.Prelude.{ℕ, suc, zero, ◌+◌, Bool, not, List, [], ◌∷◌, length, drop, Option, None, Some, Result, Ok, Err}
 use Rattle.std.specs.List.{prefix_len}
 use Rattle.std.specs.Option.{option_map}
@@ -13,21 +13,22 @@ pub record Taken (A : Type 0) : Type 0 where
 abbrev pub taken : {A : Type 0} → ℕ → Result A FaultKind → Taken A
 taken n outcome = record { bytes = n; gives = outcome }
 
--- one byte is taken, and then these
+-- one byte more is taken, before the others
 abbrev pub past_one : {A : Type 0} → Taken A → Taken A
 past_one t = record { bytes = suc t.bytes; gives = t.gives }
 
--- n bytes are taken, and then these
+-- n bytes more are taken, before the others
 abbrev pub past : {A : Type 0} → ℕ → Taken A → Taken A
 past n t = record { bytes = n + t.bytes; gives = t.gives }
 
--- after n bytes, the rest depends on their meaning; a fault is the end
+-- n bytes are taken, and then, given their meaning, what `next` takes; after a fault nothing more
+-- is taken
 abbrev pub past_outcome : {A B : Type 0} → List ℕ → ℕ → Result A FaultKind → (A → List ℕ → Taken B)
     → Taken B
 past_outcome bytes n (Ok a) next = past n (next a (drop n bytes))
 past_outcome bytes n (Err fault) next = taken n (Err fault)
 
--- one part is taken, and then what follows it
+-- a part is taken, and then, given its meaning, what `next` takes of the bytes after it
 abbrev pub followed : {A B : Type 0} → List ℕ → Taken A → (A → List ℕ → Taken B) → Taken B
 followed bytes t next = past_outcome bytes t.bytes t.gives next
 
@@ -37,18 +38,18 @@ front zero bytes = Some []
 front (suc n) [] = None
 front (suc n) (c ∷ bytes) = option_map (λ cs. c ∷ cs) (front n bytes)
 
--- the meaning of the front; if there are fewer bytes, all that are left are taken, and the string
--- is unclosed
+-- `count` bytes are taken with their meaning; if there are fewer, all `left` bytes are taken, and
+-- the string is unclosed
 abbrev pub front_gives : {A : Type 0} → ℕ → ℕ → Option (List ℕ) → (List ℕ → Result A FaultKind)
     → Taken A
 front_gives count left (Some digits) meaning = taken count (meaning digits)
 front_gives count left None meaning = taken left (Err UnclosedString)
 
--- this many bytes must be there, and have this meaning
+-- `count` bytes are taken with their meaning; if there are fewer, the string is unclosed
 abbrev pub needs : {A : Type 0} → ℕ → List ℕ → (List ℕ → Result A FaultKind) → Taken A
 needs count bytes meaning = front_gives count (length bytes) (front count bytes) meaning
 
--- a byte that must be there, and then what follows it
+-- one byte is taken, and then what `next` takes; if there is no byte, the string is unclosed
 abbrev pub after_byte : {A : Type 0} → (ℕ → List ℕ → Taken A) → List ℕ → Taken A
 after_byte next [] = taken 0 (Err UnclosedString)
 after_byte next (c ∷ rest) = past_one (next c rest)

@@ -10,7 +10,7 @@ use Rattle.plist_ascii.specs.declared.dialect.Dialect.{Dialect}
 use Rattle.plist_ascii.specs.declared.dialect.Dialect.TheVariants as dialect
 use Rattle.plist_ascii.specs.Taken.{Taken, taken, run}
 
--- a token has an event, or none
+-- a token: the number of bytes taken, and an event, no event or a fault
 abbrev pub Token : Type 0
 Token = Taken (Option PlainEvent)
 
@@ -22,12 +22,12 @@ lax_stops c = list_any (λ d. c == d) (32 ∷ 41 ∷ 13 ∷ 9 ∷ 59 ∷ 44 ∷ 
 abbrev pub tight_stops : ℕ → Bool
 tight_stops c = list_any (λ d. c == d) (32 ∷ 41 ∷ 13 ∷ 9 ∷ 59 ∷ 44 ∷ 10 ∷ 125 ∷ 61 ∷ [])
 
--- the stops of a dialect
+-- does the byte end a bare string in this dialect?
 abbrev pub ends_bare : Dialect → ℕ → Bool
 ends_bare dialect.Lax c = lax_stops c
 ends_bare dialect.Tight c = tight_stops c
 
--- the number if the string spells one, and else the string
+-- the integer that a string spells, or the string if it spells none
 abbrev pub number_or_text : List ℕ → Option ℤ → Scalar
 number_or_text text (Some number) = Integer number
 number_or_text text None = String text
@@ -36,7 +36,7 @@ number_or_text text None = String text
 abbrev pub scalar_of_text : List ℕ → Scalar
 scalar_of_text text = number_or_text text (integer_of_text text)
 
--- the event of a string, which must be UTF-8
+-- the event of a scalar, or a fault if the bytes of its string aren't UTF-8
 abbrev pub utf8_or_fault : List ℕ → Scalar → Result (Option PlainEvent) FaultKind
 utf8_or_fault text scalar =
     cond (is_utf8 text) (Ok (Some (ScalarEvent scalar))) (Err InvalidUtf8AsciiStream)

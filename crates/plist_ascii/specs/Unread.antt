@@ -1,4 +1,4 @@
--- The bytes that are still to be taken, and what taking a part of a token makes of them.
+-- The bytes that an input hasn't taken yet, and those that remain after a part of a token is taken.
 use Rattle.std.specs.Prelude.{◌≡◌, ℕ, ◌+◌, ◌-◌, ◌^◌, ◌≤◌, Bool, true, false, not, ◌==◌, List, [], ◌∷◌, ◌++◌, length, take, drop, Option, None, Some, Result, IfSome, slice_get}
 use Rattle.std.specs.List.{cons_option}
 use Rattle.std.specs.Option.{option_map}
@@ -12,7 +12,8 @@ use Rattle.plist_ascii.specs.Texts.{ends_bare}
 use Rattle.plist_ascii.specs.Ascii.{is_blank}
 use Rattle.plist_ascii.specs.Quoted.{ends_run}
 
--- a byte that was looked at, and the bytes after it; no input is longer than 2^64 - 1 bytes
+-- the bytes that can be taken: one that was looked at, if any, and then the others, up to a total
+-- of 2^64 - 1
 abbrev pub readable_with : Option ℕ → (taken : ℕ) → List ℕ → List ℕ
 readable_with peeked taken bytes = take (2 ^ 64 - 1 - taken) (cons_option peeked bytes)
 
@@ -34,7 +35,7 @@ IfKnown known P = (bytes : List ℕ) → known ≡ Some bytes → P bytes
 abbrev pub first : List ℕ → Option ℕ
 first bytes = slice_get bytes 0
 
--- the bytes that end a run
+-- does the byte end a run?
 abbrev pub stops : Stop → ℕ → Bool
 stops stop.Lead c = not (is_blank c)
 stops (stop.Bare dialect) c = ends_bare dialect c
@@ -68,8 +69,8 @@ abbrev pub TakesFront : {A : Type 0} → Taken A → Result A FaultKind → (new
 TakesFront t outcome new p q bytes =
     (t.gives ≡ outcome) × (new ≡ Some (drop t.bytes bytes)) × (q ≡ p + t.bytes)
 
--- From offset p to offset q, what is at the front of the old bytes was taken, with this meaning or
--- fault; nothing is said without one.
+-- from offset p to offset q, what is at the front of the old bytes was taken, with this meaning or
+-- fault; without an outcome, nothing is said about the bytes
 abbrev pub GivesFront : {A : Type 0} → (front : List ℕ → Taken A) → (old : Option (List ℕ))
     → (p : ℕ) → (new : Option (List ℕ)) → (q : ℕ) → Option (Result A FaultKind) → Type 0
 GivesFront front old p new q said =

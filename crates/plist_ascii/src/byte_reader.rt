@@ -6,7 +6,7 @@ ghost use Rattle.plist_ascii.specs.Incoming.{GivesByte, CountsFailureIfCounted, 
 use std::io;
 use std::io::Read;
 
-/// A reader from which bytes are taken one by one, or several together if they are buffered.
+/// A reader from which bytes are taken one by one, or several at once if they are buffered.
 ///
 /// Every `Read` is a `ByteReader` that counts no failures and buffers nothing. A reader that counts
 /// its failures may implement it, too.
@@ -23,7 +23,7 @@ pub trait ByteReader {
     ///
     /// # Errors
     ///
-    /// Any I/O error.
+    /// The I/O error of the read that failed.
     fn next_byte(&mut self) -> Result<Option<u8>, io::Error>
         ensures byte { IfOk result (λ b. GivesByte (remaining self.old) b (remaining self.new)) }
         ensures failures { CountsFailureIfCounted result (failures self.old) (failures self.new) };

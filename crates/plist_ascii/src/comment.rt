@@ -1,4 +1,4 @@
-//! Comments.
+//! Takes comments.
 
 ghost use Rattle.std.specs.Prelude.{◌≡◌, ◌^◌, ◌<◌, ◌≤◌, None, IfOk, IfSome, OnOk};
 ghost use Rattle.plist_ascii.specs.Comments.{line_comment, block_comment};
@@ -10,7 +10,7 @@ use crate::input::Input;
 use crate::stop::Stop;
 
 impl<R: ByteReader> Input<R> {
-    /// Takes the bytes up to a stop.
+    /// Takes the bytes before the next stop. The only error is `Io`.
     #[inline(always)]
     pub fn skip_run(&mut self, stop: Stop) -> Result<(), TokenFault>
         // Result.
@@ -31,7 +31,8 @@ impl<R: ByteReader> Input<R> {
         }
     }
 
-    /// Takes the bytes up to a stop, and the stop. Returns `None` if there is no stop.
+    /// Takes the bytes up to and including the next stop, and returns the stop, or `None` if the
+    /// input ends before a stop. The only error is `Io`.
     #[inline(always)]
     pub fn take_past(&mut self, stop: Stop) -> Result<Option<u8>, TokenFault>
         // Result.
@@ -47,7 +48,8 @@ impl<R: ByteReader> Input<R> {
         self.take()
     }
 
-    /// Takes a comment up to the end of its line. Its slashes have been taken.
+    /// Takes the rest of a line comment, whose two slashes have been taken. The LF that ends it
+    /// isn't taken.
     pub fn line_comment(&mut self) -> Result<(), TokenFault>
         ensures answers { GivesNothing R.remaining line_comment self.old result self.new }
         ensures memory { AsksNoMemory result }
@@ -56,8 +58,8 @@ impl<R: ByteReader> Input<R> {
         self.skip_run(Stop::LineEnd)
     }
 
-    /// Takes a comment up to and including its `*/`. Its opening has been taken, and no byte after
-    /// it is looked at.
+    /// Takes the rest of a block comment up to and including its `*/`. Its `/*` has been taken. No
+    /// byte after the comment is looked at. If there is no `*/`, the error is `IncompleteComment`.
     pub fn block_comment(&mut self) -> Result<(), TokenFault>
         ensures answers { GivesNothing R.remaining block_comment self.old result self.new }
         ensures memory { AsksNoMemory result }

@@ -1,12 +1,13 @@
-//! Which bytes end a bare string.
+//! Decides which bytes end a bare string.
 
 /// Decides which bytes end a bare string. Quoted strings and comments are the same in both
 /// dialects.
 #[derive(Clone, Copy, Debug, PartialEq, Eq)]
 pub enum Dialect {
-    /// Space, tab, CR, `)`, `;` and `,` end a bare string: `{a=b}` is a start and the string
-    /// `a=b}`.
+    /// Space, tab, CR, `)`, `;` and `,` end a bare string: `{a=b}` is read as a start and the
+    /// string `a=b}`.
     Lax,
-    /// LF, `}` and `=` end it, too: `{a=b}` is a start, the strings `a` and `b`, and an end.
+    /// LF, `}` and `=` end it, too: `{a=b}` is read as a start, the strings `a` and `b`, and an
+    /// end.
     Tight,
 }

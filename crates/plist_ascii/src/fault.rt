@@ -7,8 +7,8 @@ use std::alloc::AllocError;
 
 /// Why a token can't be taken.
 ///
-/// Kept small because a return slot is zeroed on every call: an `Error` has 120 bytes, and is made
-/// once, where the reader returns it.
+/// The type is small because the memory of a result is zeroed on every call. An `Error`, which has
+/// 120 bytes, is created only when the reader returns it.
 #[derive(Clone, Copy)]
 pub enum TokenFault {
     /// A read failed. Its error is stored in the input.
@@ -23,7 +23,7 @@ pub enum TokenFault {
     InvalidUtf8,
     /// An octal escape contains a byte other than `0` to `7`.
     InvalidOctal,
-    /// An escape isn't UTF-16.
+    /// The escape of a UTF-16 unit is invalid.
     InvalidUtf16,
 }
 

@@ -1,4 +1,4 @@
-//! The bytes of a reader, which are taken in turn.
+//! Takes the bytes of a reader one after another.
 
 ghost use Rattle.std.specs.Prelude.{◌≡◌, ◌+◌, ◌++◌, ◌^◌, ◌<◌, ◌≤◌, [], length, None, Some, true, false, IfOk, IfErr, IfSome, OnOk};
 ghost use Rattle.plist_ascii.specs.Unread.{unread};
@@ -13,15 +13,15 @@ use plist_base::{Error, ErrorKind};
 use std::alloc::AllocError;
 use std::io;
 
-/// The bytes of a reader, which are taken in turn. At most 2^64 - 1 of them are taken.
+/// Takes the bytes of a reader one after another, at most 2^64 - 1 of them.
 #[derive(Drop)]
 pub struct Input<R> {
     inner: R,
-    // The byte that was read but not taken yet.
+    // The byte that was read but not taken yet, if any.
     peeked: Option<u8>,
     // The number of bytes taken.
     taken: u64,
-    // Whether nothing more is read.
+    // Whether the input has ended, after which nothing is read.
     ended: bool,
     // The error of a read that failed, until it is returned.
     failure: Option<io::Error>,
@@ -42,7 +42,7 @@ impl<R> Input<R> {
         }
     }
 
-    /// Returns the reader, which lacks the byte that was read but not taken.
+    /// Returns the reader. A byte that was read but not taken is lost.
     pub fn into_inner(self) -> R
         ensures { result ≡ self.inner }
     {
@@ -83,7 +83,7 @@ impl<R: ByteReader> Input<R> {
         }
     }
 
-    /// Takes the first `count` of the bytes at hand.
+    /// Takes the first `count` of the bytes that `at_hand` returns.
     #[inline(always)]
     pub fn take_first(&mut self, count: usize)
         requires within { count ≤ length (hand R.held self.old) }
@@ -105,7 +105,8 @@ impl<R: ByteReader> Input<R> {
         }
     }
 
-    // Reads one byte, unless the input has ended.
+    // Reads one byte without taking it. It is called only if no byte can be taken without a read.
+    // Returns `None` if the input has ended, or if 2^64 - 1 bytes were taken.
     #[inline(never)]
     fn read_ahead(&mut self) -> Result<Option<u8>, TokenFault>
         requires { hand R.held self.old ≡ [] }
@@ -138,8 +139,8 @@ impl<R: ByteReader> Input<R> {
         }
     }
 
-    /// Returns the next byte, which isn't taken, or `None` at the end. Only if no byte is at hand,
-    /// one is read.
+    /// Returns the next byte without taking it, or `None` at the end. It reads a byte only if none
+    /// can be taken without a read. The only error is `Io`.
     #[inline(always)]
     pub fn peek(&mut self) -> Result<Option<u8>, TokenFault>
         // Result.
@@ -156,7 +157,7 @@ impl<R: ByteReader> Input<R> {
         Ok(Some(bytes[0]))
     }
 
-    /// Takes the next byte, or returns `None` at the end.
+    /// Takes and returns the next byte, or returns `None` at the end. The only error is `Io`.
     #[inline(always)]
     pub fn take(&mut self) -> Result<Option<u8>, TokenFault>
         // Result.
@@ -175,7 +176,7 @@ impl<R: ByteReader> Input<R> {
         }
     }
 
-    /// Takes the next byte if it is this one, and returns whether it is.
+    /// Takes the next byte if it is `wanted`, and returns whether it is. The only error is `Io`.
     #[inline(always)]
     pub fn take_if(&mut self, wanted: u8) -> Result<bool, TokenFault>
         // Result.
@@ -199,7 +200,8 @@ impl<R: ByteReader> Input<R> {
         }
     }
 
-    /// Takes the next byte of a quoted string. Its absence is an error.
+    /// Takes the next byte of a quoted string. At the end of the input, the error is
+    /// `UnclosedString`.
     pub fn expect_byte(&mut self) -> Result<u8, TokenFault>
         // Result.
         ensures value { IfOk result (λ c. TakesNext R.remaining self.old (Some c) self.new) }
@@ -217,7 +219,8 @@ impl<R: ByteReader> Input<R> {
         }
     }
 
-    /// Takes the bytes at hand up to a stop. Returns whether the run may go on after them.
+    /// Takes the bytes that `at_hand` returns, up to the first stop, which isn't taken. Returns
+    /// `true` if there is no stop among them, so that the run may continue after them.
     #[inline(always)]
     pub fn skip_part(&mut self, stop: Stop) -> bool
         // Result.
@@ -235,8 +238,9 @@ impl<R: ByteReader> Input<R> {
         goes_on
     }
 
-    /// Appends these bytes to a text, takes the bytes at hand up to a stop, and appends them, too.
-    /// Returns whether the run may go on after them.
+    /// Appends `front` to a text, and then takes and appends the bytes that `at_hand` returns, up
+    /// to the first stop, which isn't taken. Returns `true` if there is no stop among them, so that
+    /// the run may continue after them.
     #[inline(always)]
     pub fn take_part(
         &mut self,
@@ -277,8 +281,8 @@ impl<R: ByteReader> Input<R> {
         self.ended = true;
     }
 
-    /// Returns the error for a token that can't be taken. After a failed read and after a failed
-    /// allocation the input has ended.
+    /// Returns the error for a token that can't be taken, and ends the input if a read or an
+    /// allocation has failed.
     #[cold]
     #[inline(never)]
     pub fn error(&mut self, fault: TokenFault) -> Error

@@ -1,7 +1,8 @@
 //! Reads old-style ASCII property lists.
 //!
-//! The main contract is that of [`AsciiReader`]: over known bytes, each call returns the first of
-//! the items that the remaining bytes spell, and takes the bytes up to its end.
+//! The main contract is that of [`AsciiReader`]: if the bytes are known, each call returns the
+//! first of the items that the remaining bytes spell, and takes the bytes up to the end of that
+//! item.
 #![tactic(auto)]
 
 mod byte_reader;

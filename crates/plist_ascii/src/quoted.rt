@@ -1,4 +1,4 @@
-//! Quoted strings.
+//! Takes quoted strings.
 
 ghost use Rattle.std.specs.Prelude.{◌≡◌, ◌+◌, ◌<◌, ◌++◌, None, Some, Ok, true, false, IfOk, IfErr, OnOk};
 ghost use Rattle.plist_base.specs.Events.{event_of};
@@ -16,7 +16,7 @@ use crate::unescape::Escaped;
 use plist_base::OwnedEvent;
 use std::alloc::{AllocError, Global};
 
-// Appends what an escape stands for.
+// Appends the bytes that an escape stands for.
 fn push_escaped(text: &mut Vec<u8>, piece: Escaped) -> Result<(), AllocError>
     ensures value { OnOk result (text.new.items ≡ text.old.items ++ escaped_bytes piece) }
 {
@@ -32,7 +32,8 @@ fn push_escaped(text: &mut Vec<u8>, piece: Escaped) -> Result<(), AllocError>
 }
 
 impl<R: ByteReader> Input<R> {
-    // Takes what follows a run of plain bytes: the closing quote, or an escape.
+    // Takes what follows a run of plain bytes: the closing quote, for which it returns `None`, or
+    // an escape.
     fn run_end(&mut self, quote: u8) -> Result<Option<Escaped>, TokenFault>
         // Result.
         ensures value { IfOk result (TakesEnd R.remaining quote self.old self.new) }
@@ -71,7 +72,8 @@ impl<R: ByteReader> Input<R> {
         }
     }
 
-    // Takes the bytes of a string up to and including its closing quote.
+    // Takes a string up to and including its closing quote, and returns the bytes that it stands
+    // for.
     fn quoted(&mut self, alloc: Global, quote: u8) -> Result<Vec<u8>, TokenFault>
         ensures answers { GivesText R.remaining (quoted quote) self.old result self.new }
         ensures peeked { IfOk result (λ _. self.new.peeked ≡ None) }
@@ -85,7 +87,8 @@ impl<R: ByteReader> Input<R> {
         }
     }
 
-    /// Takes a quoted string. Its opening quote has been taken, and no byte after it is looked at.
+    /// Takes the rest of a quoted string, whose opening quote has been taken, and returns its
+    /// event. No byte after the closing quote is looked at.
     pub fn quoted_text(&mut self, alloc: Global, quote: u8) -> Result<OwnedEvent, TokenFault>
         ensures answers { GivesOne R.remaining (quoted_token quote) self.old result self.new }
         ensures kinds { IfOk result (λ event. IsTextEvent (event_of event)) }

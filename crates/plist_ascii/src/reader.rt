@@ -13,7 +13,8 @@ use plist_base::{Error, OwnedEvent};
 use std::alloc::Global;
 
 impl<R: ByteReader> Input<R> {
-    // Takes tokens up to the first that is an item.
+    // Takes tokens up to and including the first that has an item, and returns this item, or `None`
+    // if no item remains.
     fn item(&mut self, alloc: Global, stop: Stop) -> Option<Result<OwnedEvent, Error>>
         // Result.
         ensures items { GivesToStop R.remaining stop self.old result self.new }
@@ -52,10 +53,11 @@ impl<R: ByteReader> Input<R> {
 
 /// Reads an ASCII property list as events, from its first byte on.
 ///
-/// Brackets open and close collections, quotes and other bytes begin strings, and separators are
-/// skipped; nesting isn't checked. A bare string that spells an integer is an integer; the
-/// [`Dialect`] decides where it ends. The reader looks at one byte after an item only if that byte
-/// decides where the item ends. At most 2^64 - 1 bytes are taken.
+/// Brackets open and close collections, quotes and other bytes begin strings, and separators and
+/// comments are skipped. The nesting of collections isn't checked. A bare string that spells an
+/// integer is yielded as an integer. The [`Dialect`] decides which bytes end a bare string. The
+/// reader looks at one byte after an item only if that byte decides where the item ends. At most
+/// 2^64 - 1 bytes are taken.
 ///
 /// The offset of an error is the number of bytes taken; `OutOfMemory` has none.
 ///
@@ -65,9 +67,10 @@ impl<R: ByteReader> Input<R> {
 /// # Errors
 ///
 /// `UnclosedString`, `IncompleteComment`, `InvalidUtf8AsciiStream`, `InvalidOctalString` and
-/// `InvalidUtf16String` are errors in the bytes: the reader continues at the next byte. `Io`, if a
-/// read fails, and `OutOfMemory`, which occurs only in a string, end the reader. Then, and after
-/// its last item, it returns `None` for good.
+/// `InvalidUtf16String` are errors in the bytes. After one of them, the reader continues with the
+/// next byte that wasn't taken. `Io` if a read fails, and `OutOfMemory` if an allocation fails,
+/// which occurs only in a string. After one of these two, and after its last item, the reader
+/// returns `None` on every call.
 #[derive(Drop)]
 pub struct AsciiReader<R> {
     input: Input<R>,
@@ -80,7 +83,7 @@ impl<R: ByteReader> AsciiReader<R> {
     ghost use Rattle.plist_ascii.specs.Ascii.{OnlyBareTextsDiffer};
     ghost use Rattle.plist_ascii.specs.AsciiReader.{untaken_bytes, dialect_of, device_of, peeked_byte, place_of, HasEndedAscii};
 
-    /// Creates a lax reader. Nothing is read before the first call of `next`.
+    /// Creates a reader of the lax dialect. Nothing is read before the first call of `next`.
     pub fn new(alloc: Global, inner: R) -> Self
         // Result.
         ensures bytes { untaken_bytes R.remaining result ≡ readable (R.remaining inner) }
@@ -115,9 +118,10 @@ impl<R: ByteReader> AsciiReader<R> {
         }
     }
 
-    /// Returns the inner reader, of which at most one byte past the last item has been read.
+    /// Returns the inner reader, from which at most one byte past the last item has been read.
     ///
-    /// That byte is lost. After a bracket or a quoted string there is no such byte.
+    /// If such a byte was read, it is lost. After a bracket or a quoted string, no such byte has
+    /// been read.
     #[tactic(auto, using(crate::proofs::Unread::going_unread))]
     pub fn into_inner(self) -> R
         ensures bytes { (HasEndedAscii self → ⊥) → HoldsLeft self R.remaining result }

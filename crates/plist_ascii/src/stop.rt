@@ -1,4 +1,4 @@
-//! Where runs of bytes end.
+//! Decides where runs of bytes end.
 
 ghost use Rattle.std.specs.Prelude.{◌≡◌, ◌≤◌, length};
 ghost use Rattle.plist_ascii.specs.Taken.{run};
@@ -15,9 +15,9 @@ pub enum Stop {
     Lead,
     /// The bytes that end a bare string of this dialect.
     Bare(Dialect),
-    /// LF.
+    /// LF, which ends a line comment.
     LineEnd,
-    /// A star.
+    /// `*`, which may end a block comment.
     Star,
     /// This quote, or a backslash.
     Quoted(u8),
@@ -39,7 +39,7 @@ fn ends_bare(dialect: Dialect, byte: u8) -> bool
     }
 }
 
-// Returns whether this byte ends the run.
+// Returns whether this byte ends a run with this stop.
 #[inline(always)]
 fn is_stop(stop: Stop, byte: u8) -> bool
     ensures { result ≡ stops stop byte }
@@ -53,7 +53,8 @@ fn is_stop(stop: Stop, byte: u8) -> bool
     }
 }
 
-/// Returns the number of bytes before the first that ends the run.
+/// Returns the number of bytes before the first that ends the run, or the number of all bytes if
+/// none does.
 #[inline(always)]
 pub fn run_length(stop: Stop, bytes: &[u8]) -> usize
     ensures within { result ≤ length bytes.now }

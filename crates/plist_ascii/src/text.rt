@@ -27,7 +27,7 @@ pub fn push_byte(text: &mut Vec<u8>, byte: u8) -> Result<(), AllocError>
     Ok(())
 }
 
-// Returns the string of these bytes, which must be UTF-8.
+// Returns the string of these bytes, or `InvalidUtf8` if they aren't UTF-8.
 fn text_of(bytes: Vec<u8>) -> Result<String, TokenFault>
     ensures value { IfOk result (IsTextOf bytes.items) }
     ensures fault { IfErr result (IsNoText bytes.items) }
@@ -52,7 +52,8 @@ fn begins_number(byte: u8) -> bool
     byte == b'+' || byte == b'-' || is_decimal(byte)
 }
 
-// Returns whether these bytes may spell a number. The first byte rules most strings out.
+// Returns `false` only if these bytes don't spell an integer. The first byte decides this for most
+// strings.
 #[tactic(auto, using(crate::proofs::Numbers::no_number))]
 fn may_spell_number(bytes: &[u8]) -> bool
     ensures { result ≡ false → integer_of_text bytes.now ≡ None }
@@ -63,7 +64,7 @@ fn may_spell_number(bytes: &[u8]) -> bool
     begins_number(bytes[0])
 }
 
-// Returns the integer that a string spells, or else the string.
+// Returns the event of the integer that a string spells, or that of the string if it spells none.
 fn number_or_text(text: String) -> OwnedEvent
     ensures { event_of result ≡ ScalarEvent (scalar_of_text (string_bytes text)) }
 {
@@ -76,7 +77,7 @@ fn number_or_text(text: String) -> OwnedEvent
     }
 }
 
-/// Returns the event of a bare string with these bytes.
+/// Returns the event of a bare string with these bytes, or `InvalidUtf8` if they aren't UTF-8.
 #[tactic(auto, unfolding(crate::specs::Texts::bare_event), using(crate::proofs::Texts::bare_texts))]
 pub fn bare_event(bytes: Vec<u8>) -> Result<OwnedEvent, TokenFault>
     ensures { Means result (bare_event bytes.items) }
@@ -85,7 +86,7 @@ pub fn bare_event(bytes: Vec<u8>) -> Result<OwnedEvent, TokenFault>
     Ok(number_or_text(text))
 }
 
-/// Returns the event of a quoted string with these bytes.
+/// Returns the event of a quoted string with these bytes, or `InvalidUtf8` if they aren't UTF-8.
 #[tactic(auto, unfolding(crate::specs::Texts::quoted_event), using(crate::proofs::Texts::texts))]
 pub fn quoted_event(bytes: Vec<u8>) -> Result<OwnedEvent, TokenFault>
     ensures { Means result (quoted_event bytes.items) }
@@ -95,7 +96,8 @@ pub fn quoted_event(bytes: Vec<u8>) -> Result<OwnedEvent, TokenFault>
 }
 
 impl<R: ByteReader> Input<R> {
-    /// Takes the bytes up to a stop, and appends them to a text.
+    /// Takes the bytes before the next stop, and appends them to a text. An error is `Io` or
+    /// `OutOfMemory`.
     #[inline(always)]
     pub fn take_run(&mut self, stop: Stop, text: &mut Vec<u8>) -> Result<(), TokenFault>
         // Result.
@@ -119,7 +121,7 @@ impl<R: ByteReader> Input<R> {
         }
     }
 
-    // Appends this byte to a text, takes the bytes up to a stop, and appends them, too.
+    // Appends `first` to a text, and then takes and appends the bytes before the next stop.
     #[inline(always)]
     fn take_bare(&mut self, stop: Stop, first: u8, text: &mut Vec<u8>) -> Result<(), TokenFault>
         // Result.
@@ -137,7 +139,7 @@ impl<R: ByteReader> Input<R> {
         self.take_run(stop, text)
     }
 
-    /// Takes a bare string. Its first byte has been taken.
+    /// Takes the rest of a bare string, whose first byte has been taken, and returns its event.
     pub fn bare(&mut self, alloc: Global, stop: Stop, first: u8) -> Result<OwnedEvent, TokenFault>
         ensures answers { GivesOne R.remaining (bare_until stop first) self.old result self.new }
         ensures kinds { IfOk result (λ event. IsTextEvent (event_of event)) }

@@ -1,4 +1,4 @@
-//! Tokens.
+//! Takes tokens. The first byte of a token decides its kind.
 
 ghost use Rattle.std.specs.Prelude.{◌≡◌, None, Some, IfErr, IfOk};
 ghost use Rattle.plist_base.specs.Events.{event_of};
@@ -22,7 +22,7 @@ pub enum Lead {
     ArrayStart,
     /// A dictionary.
     DictionaryStart,
-    /// The end of either.
+    /// The end of an array or a dictionary.
     End,
     /// Nothing: a separator or white space.
     Blank,
@@ -59,7 +59,8 @@ pub fn is_blank(byte: u8) -> bool
 }
 
 impl<R: ByteReader> Input<R> {
-    // Takes the token that a slash begins.
+    // Takes the rest of the token that a slash begins, and returns its event, or `None` for a
+    // comment.
     fn slash(&mut self, alloc: Global, stop: Stop) -> Result<Option<OwnedEvent>, TokenFault>
         // Result.
         ensures answers { GivesToken R.remaining (slash (stops stop)) self.old result self.new }
@@ -88,8 +89,8 @@ impl<R: ByteReader> Input<R> {
         }
     }
 
-    /// Takes the rest of the token that a byte begins. That byte has been taken. Some tokens have
-    /// no event.
+    /// Takes the rest of the token that `byte` begins, which has been taken, and returns its event.
+    /// A separator, white space and a comment have no event, and `None` is returned.
     pub fn token_by(
         &mut self,
         alloc: Global,

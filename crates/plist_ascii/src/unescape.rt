@@ -1,4 +1,4 @@
-//! Escapes in quoted strings.
+//! Takes the escapes in quoted strings.
 
 ghost use Rattle.std.specs.Prelude.{◌≡◌, ◌+◌, ◌*◌, ◌<◌, ◌≤◌, ◌&&◌, ◌||◌, ◌==◌, [], ◌∷◌, nat_le, nat_lt, None, Some, Ok, Err, true, false, MatchOption};
 ghost use Rattle.std.specs.Char.{is_digit};
@@ -41,7 +41,7 @@ const NEXTSTEP: [char; 128] = [
     '\u{153}', '\u{DF}', '\u{FE}', '\u{FF}', '\u{FFFD}', '\u{FFFD}',
 ];
 
-// Returns the byte that a letter stands for.
+// Returns the byte that a letter stands for after a backslash, or `None` if it stands for none.
 fn simple_of(byte: u8) -> Option<u8>
     ensures { result ≡ simple_escape byte }
 {
@@ -60,7 +60,7 @@ fn simple_of(byte: u8) -> Option<u8>
     }
 }
 
-// Returns the value of a digit.
+// Returns the value of a digit, or `None` if the byte isn't a digit of this radix.
 fn digit(byte: u8, radix: u32) -> Option<u32>
     requires radix { (2 ≤ radix) × (radix ≤ 36) }
     ensures { MatchOption result (is_digit byte radix ≡ false) (IsDigitOf byte radix) }
@@ -75,14 +75,14 @@ fn is_octal(byte: u8) -> bool
     matches!(byte, b'0'..=b'7')
 }
 
-// Returns whether the table of NeXTSTEP's characters has this number.
+// Returns whether the table of NeXTSTEP's characters contains this number.
 fn is_nextstep(number: u32) -> bool
     ensures { result ≡ nat_le 128 number && nat_lt number 256 }
 {
     number >= 128 && number < 256
 }
 
-// Returns the character of a number of three octal digits.
+// Returns the character of an octal escape with this number.
 #[tactic(auto, unfolding(crate::specs::Escapes::octal_char), using(crate::proofs::Texts::to_char))]
 fn octal_char(number: u32) -> Option<char>
     requires { number < 512 }
@@ -94,7 +94,7 @@ fn octal_char(number: u32) -> Option<char>
     char::from_u32(number)
 }
 
-// Returns the character of three octal digits.
+// Returns the character of three octal digits, or `None` if one of the bytes isn't an octal digit.
 #[tactic(auto, unfolding(crate::specs::Escapes::octal_text))]
 fn octal_of(first: u8, second: u8, third: u8) -> Option<char>
     ensures { IsCharOr InvalidOctalString (octal_text (first ∷ second ∷ third ∷ [])) result }
@@ -105,7 +105,7 @@ fn octal_of(first: u8, second: u8, third: u8) -> Option<char>
     octal_char(a * 64 + b * 8 + c)
 }
 
-// Returns the UTF-16 unit of four hexadecimal digits.
+// Returns the UTF-16 unit of four hexadecimal digits, or `None` if one of the bytes isn't a digit.
 fn unit_of(first: u8, second: u8, third: u8, fourth: u8) -> Option<u16>
     ensures { result ≡ unit_of (first ∷ second ∷ third ∷ fourth ∷ []) }
 {
@@ -116,28 +116,29 @@ fn unit_of(first: u8, second: u8, third: u8, fourth: u8) -> Option<u16>
     Some((a * 4096 + b * 256 + c * 16 + d) as u16)
 }
 
-// Returns the character of a unit, unless it is a surrogate.
+// Returns the character of a unit, or `None` if the unit is a surrogate.
 fn lone_char(unit: u16) -> Option<char>
     ensures { MatchOption result (is_surrogate unit ≡ true) (IsCharOfUnit unit) }
 {
     char::from_u32(u32::from(unit))
 }
 
-// Returns whether this byte begins a unit after its backslash.
+// Returns whether this byte is the letter between the backslash and the digits of a unit.
 fn is_unit_letter(byte: u8) -> bool
     ensures { result ≡ (byte == small_u) || (byte == capital_u) }
 {
     byte == b'u' || byte == b'U'
 }
 
-// Returns whether this is a surrogate pair.
+// Returns whether the two units are a surrogate pair.
 fn is_pair(high: u16, low: u16) -> bool
     ensures { result ≡ is_high_surrogate high && is_low_surrogate low }
 {
     (0xD800..0xDC00).contains(&high) && (0xDC00..0xE000).contains(&low)
 }
 
-// Returns the character of a surrogate pair. The low half is `None` if its digits are invalid.
+// Returns the character of a surrogate pair, or `None` if the units aren't one. The low half is
+// `None` if its digits are invalid.
 fn pair_char(high: u16, low: Option<u16>) -> Option<char>
     ensures { IsCharOr InvalidUtf16String (pair_text high low) result }
 {
@@ -149,7 +150,7 @@ fn pair_char(high: u16, low: Option<u16>) -> Option<char>
 }
 
 impl<R: ByteReader> Input<R> {
-    /// Takes an escape. Its backslash has been taken.
+    /// Takes the rest of an escape, whose backslash has been taken, and returns what it stands for.
     pub fn escape(&mut self) -> Result<Escaped, TokenFault>
         ensures answers { GivesEscaped R.remaining escape self.old result self.new }
         ensures failures { CountsFailed R.failures self.old result self.new }
@@ -158,7 +159,7 @@ impl<R: ByteReader> Input<R> {
         self.escape_by(byte)
     }
 
-    // Takes the rest of an escape. Its first byte has been taken.
+    // Takes the rest of an escape, whose backslash and first byte have been taken.
     fn escape_by(&mut self, byte: u8) -> Result<Escaped, TokenFault>
         ensures answers { GivesEscaped R.remaining (escape_by byte) self.old result self.new }
         ensures failures { CountsFailed R.failures self.old result self.new }
@@ -188,7 +189,8 @@ impl<R: ByteReader> Input<R> {
         }
     }
 
-    // Takes the four digits of a unit.
+    // Takes the four digits of a unit. Returns `None` if one of the bytes isn't a hexadecimal
+    // digit.
     fn unit(&mut self) -> Result<Option<u16>, TokenFault>
         ensures answers { GivesUnit R.remaining unit self.old result self.new }
         ensures failures { CountsFailed R.failures self.old result self.new }
@@ -200,7 +202,7 @@ impl<R: ByteReader> Input<R> {
         Ok(unit_of(a, b, c, d))
     }
 
-    // Takes what follows `\U`.
+    // Takes the unit or the surrogate pair after `\U`.
     fn unicode(&mut self) -> Result<Escaped, TokenFault>
         ensures answers { GivesEscaped R.remaining unicode self.old result self.new }
         ensures failures { CountsFailed R.failures self.old result self.new }
@@ -209,7 +211,8 @@ impl<R: ByteReader> Input<R> {
         self.first_unit(unit)
     }
 
-    // Takes what follows the digits of the first unit.
+    // Takes the second unit if the first is a surrogate, and returns the character. The first unit
+    // is `None` if its digits are invalid.
     fn first_unit(&mut self, unit: Option<u16>) -> Result<Escaped, TokenFault>
         ensures answers { GivesEscaped R.remaining (first_unit unit) self.old result self.new }
         ensures failures { CountsFailed R.failures self.old result self.new }
@@ -223,7 +226,7 @@ impl<R: ByteReader> Input<R> {
         }
     }
 
-    // Takes the backslash of the second unit, and what follows it.
+    // Takes the second unit of a surrogate pair: a backslash, a letter and digits.
     fn second_unit(&mut self, high: u16) -> Result<Escaped, TokenFault>
         ensures answers { GivesEscaped R.remaining (second_unit high) self.old result self.new }
         ensures failures { CountsFailed R.failures self.old result self.new }
@@ -234,7 +237,8 @@ impl<R: ByteReader> Input<R> {
         Err(TokenFault::InvalidUtf16)
     }
 
-    // Takes the letter of the second unit, if it is next, and what follows it.
+    // Takes the letter and the digits of the second unit. A byte other than the letter is an error,
+    // and isn't taken.
     fn second_letter(&mut self, high: u16) -> Result<Escaped, TokenFault>
         ensures answers { GivesEscaped R.remaining (second_letter high) self.old result self.new }
         ensures failures { CountsFailed R.failures self.old result self.new }
@@ -251,7 +255,7 @@ impl<R: ByteReader> Input<R> {
         }
     }
 
-    // Takes the digits of the second unit.
+    // Takes the digits of the second unit, and returns the character of the pair.
     fn second_digits(&mut self, high: u16) -> Result<Escaped, TokenFault>
         ensures answers { GivesEscaped R.remaining (second_digits high) self.old result self.new }
         ensures failures { CountsFailed R.failures self.old result self.new }

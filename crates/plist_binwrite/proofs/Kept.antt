@@ -1,5 +1,5 @@
--- The classes of a tree's positions correspond to the numbers of a plan: there are as many, with as
--- many bytes.
+-- The classes of a tree's positions correspond to the numbers of a plan: their number and their
+-- total size are equal.
 use Rattle.std.proofs.Common.{◌≡◌, ℕ, ◌<◌, true, eqb, List, length, get_or, map, ap, sym, ◌∙◌}
 use Rattle.std.specs.List.{AllByRecursion}
 use Rattle.std.specs.Set.{is_member, unique_keys}

@@ -1,4 +1,4 @@
--- The plain writer's classes: one for each collection, and one for each different scalar.
+-- The classes of `BinaryWriter`: one for each collection, and one for each different scalar.
 use Rattle.std.proofs.Common.{◌≡◌, ℕ, ◌+◌, ◌<◌, ◌≤◌, Bool, true, false, cond, ◌||◌, eqb, List, [], ◌∷◌, ◌++◌, length, map, refl, ap, sym, ◌∙◌, arith, append_assoc, append-nil, length-append}
 use Rattle.std.specs.List.{list_any, AllByRecursion, IsDistinct}
 use Rattle.std.specs.Set.{is_member, unique_keys}

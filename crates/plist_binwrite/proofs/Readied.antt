@@ -1,4 +1,4 @@
--- A planned file is that of its tree, with one object for each class, and sending it writes that
+-- A planned file is that of its tree, with one object for each class, and `send_plan` writes that
 -- file.
 use Rattle.std.proofs.Common.{◌≡◌, ℕ, ◌+◌, ◌-◌, ◌*◌, ◌^◌, ◌<◌, List, [], ◌++◌, length, take, drop, get_or, map, Some, Ok, refl, ap, sym, ◌∙◌, arith, append_assoc, ◌≤◌, Option, None, Result, Err, OnOk, IfSome, subst}
 use Rattle.std.specs.List.{slice_get}

@@ -1,5 +1,5 @@
--- Lists of which one of each kind is kept, seen through a function; and facts about all items of a
--- list.
+-- Lists without their repeated items, and what mapping a function over them does; and facts about
+-- all items of a list.
 use Rattle.std.proofs.Common.{◌≡◌, inl, inr, ℕ, ◌<◌, ◌≤◌, Bool, true, false, cond, ◌||◌, eqb, List, [], ◌∷◌, ◌++◌, length, map, refl, ap}
 use Rattle.std.specs.List.{list_any, AllByRecursion, IsDistinct}
 use Rattle.std.specs.Set.{is_member, unique_keys}

@@ -1,4 +1,4 @@
--- Classes of the indices at which trees begin, and a file that has one object for each class.
+-- Classes of the indices at which trees begin, and files that have one object for each class.
 use Rattle.std.specs.Prelude.{◌≡◌, ℕ, ◌^◌, ◌<◌, ◌≤◌, Bool, List, length, map, nat_eq, Option}
 use Rattle.std.specs.Set.{unique_keys}
 use Rattle.plist_base.specs.Bracketing.{lengthless}
@@ -14,12 +14,14 @@ use Rattle.plist_binwrite.specs.Occurrences.{OccursAt, positions}
 use Rattle.plist_binwrite.specs.Widths.{reference_width}
 use Rattle.plist_binwrite.specs.Written.{IsWrittenAs}
 
--- indices of one class share an object, whose references are the classes of its children
+-- trees that begin at indices of one class have the same object, if the classes are the object
+-- numbers
 pub record AreClasses (es : List PlainEvent) (class : ℕ → ℕ) : Type 0 where
   pub object : (t u : Tree) (p q : ℕ) → OccursAt es t p → OccursAt es u q → class p ≡ class q
       → object_of class t p ≡ object_of class u q
 
 module _ (class : ℕ → ℕ) where
+  -- do the two positions have the same class?
   abbrev pub same_class : ℕ × Tree → ℕ × Tree → Bool
   same_class a b = nat_eq (class a.0) (class b.0)
 
@@ -31,14 +33,16 @@ module _ (class : ℕ → ℕ) where
   abbrev pub count_by : Tree → ℕ
   count_by tree = length (representatives tree)
 
-  -- the bytes of its objects together, and those of the whole file
+  -- the number of bytes of the objects, one for each class
   abbrev pub objects_by : (width : ℕ) → Tree → ℕ
   objects_by width tree = total (λ one. object_size width one.1) (representatives tree)
 
+  -- the number of bytes of a file with one object for each class
   abbrev pub size_by : Tree → ℕ
   size_by tree = size_with (count_by tree) (objects_by (reference_width (count_by tree)) tree)
 
-  -- numbers of the indices, one for each class, by which the file's collections are entered
+  -- each index has an object number, which differs between classes, and the file's walk enters the
+  -- collections by these numbers
   pub record IsNumberedBy (tree : Tree) (file : List ℕ) : Type 0 where
     pub numbers : ℕ → ℕ
     pub apart : (t u : Tree) (p q : ℕ) → OccursAt (lengthless tree) t p
@@ -54,10 +58,11 @@ module _ (class : ℕ → ℕ) where
     pub size : length file ≡ size_by tree
     pub fits : size_by tree < 2 ^ 64
 
-  -- a file of the tree with these events has less than 2^64 bytes, or doesn't
+  -- a file of the tree with these events has less than 2^64 bytes
   abbrev pub Fits : List PlainEvent → Type 0
   Fits es = (tree : Tree) → es ≡ lengthless tree → size_by tree < 2 ^ 64
 
+  -- a file of the tree with these events would have 2^64 bytes or more
   abbrev pub IsOversized : List PlainEvent → Type 0
   IsOversized es = (tree : Tree) → es ≡ lengthless tree → 2 ^ 64 ≤ size_by tree
 

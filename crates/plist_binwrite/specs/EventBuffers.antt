@@ -1,4 +1,4 @@
--- What contracts see of the events of the open property list.
+-- The buffered events of the open property list, as contracts describe them.
 use Rattle.std.specs.Prelude.{◌≡◌, Bool, List, [], ◌∷◌, ◌++◌, MatchBool}
 use Rattle.std.specs.Option.{is_none}
 use Rattle.plist_base.specs.declared.error.EventKind.{EventKind}
@@ -11,15 +11,15 @@ use Rattle.plist_binwrite.specs.declared.event_buffer.PushError.{PushError}
 use Rattle.plist_binwrite.specs.declared.event_buffer.PushError.TheVariants as push_error
 use Rattle.plist_binwrite.specs.EventTable.{plain_events}
 
--- the events
+-- the buffered events, without the lengths of starts
 abbrev pub buffered_events : EventBuffer → List PlainEvent
 buffered_events pending = plain_events pending.held
 
--- are they those of a whole property list?
+-- are the buffered events those of a whole property list?
 abbrev pub is_whole : EventBuffer → Bool
 is_whole pending = is_none pending.expects
 
--- what is expected in place of a rejected event: a value if nothing is buffered
+-- what is expected in place of a rejected event: a value if no event is buffered
 abbrev pub expected_instead : List PlainEvent → EventKind
 expected_instead [] = event_kind.ValueOrStartCollection
 expected_instead (event ∷ events) = event_kind.DictionaryKeyOrEndCollection
@@ -33,11 +33,11 @@ misplaced_fault held event =
 abbrev pub misplaced_error : List PlainEvent → (found : EventKind) → PushError
 misplaced_error held found = push_error.Misplaced (expected_instead held) found
 
--- a test: are the events those of a tree?
+-- `answer` says whether the events are those of a tree
 abbrev pub TestsWhole : Bool → List PlainEvent → Type 0
 TestsWhole answer events = MatchBool answer (AreComplete events) (AreTreeEvents events → ⊥)
 
--- the event is buffered
+-- the event was appended without its length, and `is_whole` says whether the events are a tree's
 abbrev pub BuffersNext : (before : EventBuffer) → PlainEvent → (after : EventBuffer) → Type 0
 BuffersNext before event after =
     (buffered_events after ≡ buffered_events before ++ without_length event ∷ [])
@@ -51,12 +51,12 @@ IsMisplaced held event fault = (CanContinue held event → ⊥) × (fault ≡ mi
 abbrev pub CanTake : EventBuffer → PlainEvent → Type 0
 CanTake pending event = CanContinue (buffered_events pending) event
 
--- the event can follow the buffered ones, and is buffered
+-- the event can follow the buffered ones, and was buffered
 abbrev pub Accepts : (before : EventBuffer) → PlainEvent → (after : EventBuffer) → Type 0
 Accepts before event after = CanTake before event × BuffersNext before event after
 
--- An event is misplaced only if it can't follow the buffered ones, and nothing changes. Memory runs
--- out only for one that can follow them.
+-- a misplaced event can't follow the buffered ones, and nothing has changed; `OutOfMemory` is
+-- returned only for an event that can follow them
 abbrev pub RejectsEvent : (before : EventBuffer) → PlainEvent → (after : EventBuffer) → PushError
     → Type 0
 RejectsEvent before event after (push_error.Misplaced expected found) =

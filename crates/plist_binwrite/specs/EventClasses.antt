@@ -1,4 +1,4 @@
--- The classes of buffered events, and which trees share an object by them.
+-- The classes of buffered events. Trees of one class share an object.
 use Rattle.std.specs.Prelude.{◌≡◌, ℕ, ◌+◌, ◌<◌, List, length, Option, None, Some, ⊤}
 use Rattle.plist_base.specs.Events.{PlainEvent}
 use Rattle.plist_binwrite.specs.Classes.{AreClasses}
@@ -10,37 +10,42 @@ use Rattle.plist_binwrite.specs.declared.event_table.EventTable.{EventTable}
 use Rattle.plist_binwrite.specs.inner.Columns.{scalar_named}
 use Rattle.plist_binwrite.specs.inner.Entries.{entry_at}
 
--- a scalar's class is its index among the different scalars; any other event has one of its own
+-- the index of a scalar if there is one, and otherwise `own`
 abbrev pub scalar_or_own : Option ℕ → (own : ℕ) → ℕ
 scalar_or_own None own = own
 scalar_or_own (Some scalar) own = scalar
 
+-- the class of the event at an index
 abbrev pub class_of : Classes → EventTable → (index : ℕ) → ℕ
 class_of EqualScalars held index =
     scalar_or_own (scalar_named (entry_at held.entries index)) (length (scalars_of held) + index)
 class_of (Listed classes bound) held index = nth_number classes index
 
--- a number above all classes
+-- an exclusive upper bound of the classes
 abbrev pub bound_of : Classes → EventTable → ℕ
 bound_of EqualScalars held = length (scalars_of held) + length (plain_events held)
 bound_of (Listed classes bound) held = bound
 
--- if the classes are listed, each event has one
+-- if the classes are listed, the list has one for each event
 abbrev pub IsListedFor : Classes → EventTable → Type 0
 IsListedFor EqualScalars held = ⊤
 IsListedFor (Listed classes bound) held = length classes ≡ length (plain_events held)
 
 -- ---- for events with their classes
 
+-- the events, without the lengths of starts
 abbrev pub events_in : Classed → List PlainEvent
 events_in given = plain_events given.events.now
 
+-- the class of the event at an index
 abbrev pub class_in : Classed → (index : ℕ) → ℕ
 class_in given = class_of given.classes.now given.events.now
 
+-- an exclusive upper bound of the classes
 abbrev pub bound_in : Classed → ℕ
 bound_in given = bound_of given.classes.now given.events.now
 
+-- if the classes are listed, the list has one for each event
 abbrev pub IsListed : Classed → Type 0
 IsListed given = IsListedFor given.classes.now given.events.now
 

@@ -1,4 +1,5 @@
--- What a call of a writer does: what is buffered then, whether it has failed, and what was written.
+-- What a call of `write` does: which events are buffered afterwards, whether the writer has failed,
+-- and what was written.
 use Rattle.std.specs.Prelude.{◌≡◌, ◌⊎◌, ℕ, Bool, true, false, List, [], ◌∷◌, ◌++◌, Option, None, Ok, Err, MatchBool}
 use Rattle.std.specs.declared.io.traits.Write.{Ghosts}
 use Rattle.plist_base.specs.Bracketing.{without_length, AreTreeEvents, CanContinue}
@@ -28,7 +29,7 @@ sink_of writer = writer.writer
 -- given which bytes are a file of a tree, and how many bytes such a file has
 module _ {W S : Type 0} {g : Ghosts W} {h : SharingGhosts S} (IsFile : Tree → List ℕ → Type 0)
     (size : Tree → ℕ) (contents : W → Option (List ℕ)) where
-  -- the buffered events and this one are a tree's: a file of it was written, and nothing is
+  -- the buffered events and this one are those of a tree: a file of it was written, and no event is
   -- buffered
   abbrev pub Completes : (before : FileWriter W S g h) → PlainEvent
       → (after : FileWriter W S g h) → Type 0
@@ -37,8 +38,8 @@ module _ {W S : Type 0} {g : Ghosts W} {h : SharingGhosts S} (IsFile : Tree → 
       (sink_of after)
       × (open_events after ≡ [])
 
-  -- the buffered events and this one aren't a tree's yet: the event is buffered, and nothing was
-  -- written
+  -- the buffered events and this one aren't those of a tree yet: the event was buffered, and
+  -- nothing was written
   abbrev pub Holds : (before : FileWriter W S g h) → PlainEvent → (after : FileWriter W S g h)
       → Type 0
   Holds before event after =
@@ -46,7 +47,7 @@ module _ {W S : Type 0} {g : Ghosts W} {h : SharingGhosts S} (IsFile : Tree → 
       × (open_events after ≡ open_events before ++ without_length event ∷ [])
       × (sink_of after ≡ sink_of before)
 
-  -- a call of a writer that hasn't failed
+  -- what a call of `write` does if the writer hasn't failed
   abbrev pub TakesEvent : (before : FileWriter W S g h) → PlainEvent → Answer
       → (after : FileWriter W S g h) → Type 0
   TakesEvent before event (Ok done) after =
@@ -61,7 +62,8 @@ module _ {W S : Type 0} {g : Ghosts W} {h : SharingGhosts S} (IsFile : Tree → 
       (sink_of before) (sink_of after))
       ⊥
 
-  -- a call of a writer
+  -- what a call of `write` does: if the writer has failed, it returns `WriterFailed` and changes
+  -- nothing
   abbrev pub IsWriterStep : (before : FileWriter W S g h) → PlainEvent → Answer
       → (after : FileWriter W S g h) → Type 0
   IsWriterStep before event answer after =

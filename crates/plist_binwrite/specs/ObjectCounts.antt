@@ -7,31 +7,33 @@ use Rattle.plist_base.specs.Trees.{Scalar, Tree, Leaf}
 use Rattle.plist_format.specs.Container.{Head, head_of}
 use Rattle.plist_binwrite.specs.Occurrences.{positions}
 
--- the arrays and dictionaries among trees and their indices
+-- an array or a dictionary with its index, and nothing for a scalar
 abbrev pub collection_of : ℕ × Tree → List (ℕ × Tree)
 collection_of (index, Leaf scalar) = []
 collection_of (index, tree) = (index, tree) ∷ []
 
+-- the arrays and dictionaries among trees, with their indices
 abbrev pub collections_among : List (ℕ × Tree) → List (ℕ × Tree)
 collections_among ones = flat_map collection_of ones
 
--- the scalars among trees
+-- the scalar of a tree that is one, and nothing for a collection
 abbrev pub leaf_scalar : ℕ × Tree → List Scalar
 leaf_scalar (index, Leaf scalar) = scalar ∷ []
 leaf_scalar (index, tree) = []
 
+-- the scalars among trees
 abbrev pub leaf_scalars : List (ℕ × Tree) → List Scalar
 leaf_scalars ones = flat_map leaf_scalar ones
 
--- the arrays and dictionaries of a tree, even if some are equal
+-- all arrays and dictionaries of a tree with their indices, even if some are equal
 abbrev pub collections_in : Tree → List (ℕ × Tree)
 collections_in tree = collections_among (positions tree 0)
 
--- its scalars, with its keys as strings
+-- the scalars of a tree, with its keys as strings
 abbrev pub scalars_in : Tree → List Scalar
 scalars_in tree = leaf_scalars (positions tree 0)
 
--- one object for each collection, and one for each different scalar
+-- the number of objects: one for each collection, and one for each different scalar
 abbrev pub object_count : Tree → ℕ
 object_count tree = length (collections_in tree) + distinct_count scalar_eq (scalars_in tree)
 

@@ -4,7 +4,7 @@ use Rattle.plist_base.specs.Bracketing.{lengthless, lengthless_items, lengthless
 use Rattle.plist_base.specs.Events.{PlainEvent, EndCollection}
 use Rattle.plist_base.specs.Trees.{Tree, Leaf, Array, Dictionary, Trees, NoTrees, TreeAnd, Members, NoMembers, MemberAnd, String}
 
--- the number of events
+-- the number of a tree's events
 abbrev pub event_count : Tree → ℕ
 event_count t = length (lengthless t)
 
@@ -30,11 +30,13 @@ abbrev mutual
   positions (Array items) p = (p, Array items) ∷ positions_in_items items (p + 1)
   positions (Dictionary pairs) p = (p, Dictionary pairs) ∷ positions_in_pairs pairs (p + 1)
 
+  -- the positions in items, the first of which begins at index p
   pub positions_in_items : Trees → ℕ → List (ℕ × Tree)
   positions_in_items NoTrees p = []
   positions_in_items (TreeAnd tree trees) p = positions tree p
       ++ positions_in_items trees (p + event_count tree)
 
+  -- the positions of keys and in values of pairs, the first of which begins at index p
   pub positions_in_pairs : Members → ℕ → List (ℕ × Tree)
   positions_in_pairs NoMembers p = []
   positions_in_pairs (MemberAnd key tree pairs) p =

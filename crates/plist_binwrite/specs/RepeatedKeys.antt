@@ -23,22 +23,24 @@ abbrev mutual
   HasKeysOnce (Array items) = ItemsHaveKeysOnce items
   HasKeysOnce (Dictionary pairs) = HasDistinctKeys pairs × ValuesHaveKeysOnce pairs
 
+  -- no dictionary in the items contains a key twice
   pub ItemsHaveKeysOnce : Trees → Type 0
   ItemsHaveKeysOnce NoTrees = ⊤
   ItemsHaveKeysOnce (TreeAnd tree trees) = HasKeysOnce tree × ItemsHaveKeysOnce trees
 
+  -- no dictionary in the values contains a key twice
   pub ValuesHaveKeysOnce : Members → Type 0
   ValuesHaveKeysOnce NoMembers = ⊤
   ValuesHaveKeysOnce (MemberAnd key tree members) =
       HasKeysOnce tree × ValuesHaveKeysOnce members
 
--- a test: does the dictionary that begins at an index contain a key twice?
+-- `answer` says whether the dictionary that begins at an index contains a key twice
 abbrev pub TestsRepeats : EventTable → (index : ℕ) → Bool → Type 0
 TestsRepeats held index answer = (pairs : Members) → OccursAt (plain_events held)
     (Dictionary pairs) index
     → MatchBool answer (HasDistinctKeys pairs → ⊥) (HasDistinctKeys pairs)
 
--- a test: does a dictionary of the tree with these events contain a key twice?
+-- `answer` says whether any dictionary of the tree with these events contains a key twice
 abbrev pub TestsKeysOnce : EventTable → Bool → Type 0
 TestsKeysOnce held answer = (tree : Tree) → AreAlike (plain_events held) (bracketing tree)
     → (answer ≡ false) ↔ HasKeysOnce tree

@@ -1,4 +1,4 @@
--- What the plain writer writes at the end of a property list.
+-- What `BinaryWriter` writes when a property list is complete.
 use Rattle.std.specs.Prelude.{ℕ, List, Option}
 use Rattle.plist_base.specs.Events.{PlainEvent}
 use Rattle.plist_base.specs.Faults.{FaultKind}
@@ -8,7 +8,7 @@ use Rattle.plist_binwrite.specs.SendingAs as any
 use Rattle.plist_binwrite.specs.Sizes.{file_size}
 
 module _ {W : Type 0} (contents : W → Option (List ℕ)) where
-  -- what was written by a call that failed
+  -- what a call that failed has written
   abbrev pub FailsWith : FaultKind → (events : List PlainEvent) (old new : W) → Type 0
   FailsWith kind events old new = any.FailsAs IsFileOf file_size contents kind events old new
 

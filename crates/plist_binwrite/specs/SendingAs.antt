@@ -1,4 +1,5 @@
--- What is written at the end of a property list, for any kind of file and its size.
+-- What is written when a property list is complete, given which bytes are a file of a tree, and the
+-- size of such a file.
 use Rattle.std.specs.Prelude.{◌≡◌, ℕ, ◌^◌, ◌≤◌, List, Option, None, Ok, Err}
 use Rattle.std.specs.Io.KnownBytes.{Appends}
 use Rattle.plist_base.specs.Bracketing.{bracketing, AreAlike, AreComplete}
@@ -26,8 +27,8 @@ module _ (IsFile : Tree → List ℕ → Type 0) (size : Tree → ℕ) where
     SendsFileAs events old new =
         (file : List ℕ) × IsFileAs events file × Appends (contents old) (contents new) file
 
-    -- what was written by a call that failed: for `Io` a prefix of a file, and for any other error
-    -- nothing, and the writer is unchanged
+    -- what a call that failed has written: a prefix of a file for `Io`, and nothing for any other
+    -- error
     abbrev pub FailsAs : FaultKind → (events : List PlainEvent) (old new : W) → Type 0
     FailsAs Io events old new =
         (file : List ℕ) × IsFileAs events file

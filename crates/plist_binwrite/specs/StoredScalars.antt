@@ -1,4 +1,4 @@
--- What contracts see of the scalars of a table.
+-- The scalars of a table, as contracts describe them.
 use Rattle.std.specs.String.{string_bytes}
 use Rattle.plist_base.specs.Events.{PlainEvent, ScalarEvent}
 use Rattle.plist_base.specs.Trees.{Scalar, Boolean, Data, Date, Integer, Real, String, Uid}
@@ -7,7 +7,7 @@ use Rattle.plist_binwrite.specs.declared.stored_scalar.ScalarRef.TheVariants as 
 use Rattle.plist_binwrite.specs.declared.stored_scalar.StoredScalar.{StoredScalar}
 use Rattle.plist_binwrite.specs.declared.stored_scalar.StoredScalar.TheVariants as stored
 
--- a scalar whose string or data is borrowed
+-- the scalar that a `ScalarRef` refers to
 abbrev pub scalar_of_ref : ScalarRef → Scalar
 scalar_of_ref (lent.Boolean value) = Boolean value
 scalar_of_ref (lent.Data bytes) = Data bytes.now
@@ -17,7 +17,7 @@ scalar_of_ref (lent.Real bits) = Real bits
 scalar_of_ref (lent.String text) = String text.now
 scalar_of_ref (lent.Uid uid) = Uid uid
 
--- a stored scalar
+-- the scalar that is stored
 abbrev pub scalar_of : StoredScalar → Scalar
 scalar_of (stored.Boolean value) = Boolean value
 scalar_of (stored.Date date) = Date date
@@ -31,6 +31,6 @@ scalar_of (stored.ShortData bytes) = Data bytes
 scalar_of (stored.BorrowedData bytes) = Data bytes.now
 scalar_of (stored.OwnedData bytes) = Data bytes.items
 
--- its event
+-- the event of a stored scalar
 abbrev pub event_of_scalar : StoredScalar → PlainEvent
 event_of_scalar scalar = ScalarEvent (scalar_of scalar)

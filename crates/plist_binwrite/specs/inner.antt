@@ -1,4 +1,4 @@
--- What bodies and proofs use, but no public clause.
+-- The definitions that bodies and proofs use, but no public clause does.
 pub mod Columns
 pub mod PlannedFiles
 pub mod Entries

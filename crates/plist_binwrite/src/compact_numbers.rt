@@ -1,4 +1,4 @@
-//! Lists of numbers, each of which has four bytes while the numbers fit.
+//! Lists of numbers. A list stores each number in four bytes until a number doesn't fit.
 
 ghost use Rattle.std.specs.Prelude.{◌≡◌, ◌^◌, ◌<◌, ◌++◌, ◌∷◌, [], length, get_or, map, replicate, set, take, IfSome, IfOk, OnOk, OnErr, ◌-◌};
 ghost use Rattle.plist_binwrite.specs.inner.Narrow.{wide_of};
@@ -6,8 +6,8 @@ ghost use Rattle.plist_binwrite.specs.inner.Narrow.{wide_of};
 use std::alloc::{AllocError, Global};
 use std::marker::Model;
 
-// Returns the number that four bytes stand for. The greatest `u32` stands for the greatest `usize`,
-// with which lists mark a number that isn't known yet.
+// Returns the number that a stored `u32` represents. `u32::MAX` represents `usize::MAX`, which
+// marks a number that isn't known yet.
 #[inline(always)]
 fn wide_of(stored: u32) -> usize
     ensures { result ≡ wide_of stored }
@@ -19,7 +19,7 @@ fn wide_of(stored: u32) -> usize
     }
 }
 
-// Returns the four bytes that stand for a number, if any do.
+// Returns the `u32` that represents a number, or `None` if no `u32` does.
 #[inline(always)]
 fn narrowed(number: usize) -> Option<u32>
     ensures { IfSome result (λ stored. wide_of stored ≡ number) }
@@ -33,7 +33,7 @@ fn narrowed(number: usize) -> Option<u32>
     }
 }
 
-// Returns all of these numbers in eight bytes each.
+// Returns the numbers of both lists in one list, in eight bytes each.
 #[cold]
 #[inline(never)]
 fn widened(narrow: &Vec<u32>, wide: &Vec<usize>) -> Result<Vec<usize>, AllocError>
@@ -47,7 +47,7 @@ fn widened(narrow: &Vec<u32>, wide: &Vec<usize>) -> Result<Vec<usize>, AllocErro
     Ok(all)
 }
 
-/// A list of numbers. Those of eight bytes follow those of four.
+/// A list of numbers. The first ones are stored in four bytes each, and all later ones in eight.
 #[derive(Drop)]
 pub struct Numbers {
     narrow: Vec<u32>,
@@ -74,7 +74,8 @@ impl Numbers {
         }
     }
 
-    /// Creates an empty list with capacity for this many numbers of four bytes.
+    /// Creates an empty list with capacity for `count` numbers of four bytes, or fails if the
+    /// allocation fails.
     pub fn with_capacity(alloc: Global, count: usize) -> Result<Numbers, AllocError>
         ensures { IfOk result (λ r. r ≡ []) }
     {
@@ -85,7 +86,7 @@ impl Numbers {
         })
     }
 
-    /// Creates a list of `count` zeros, or fails if memory runs out.
+    /// Creates a list of `count` zeros, or fails if the allocation fails.
     pub fn zeros(alloc: Global, count: usize) -> Result<Numbers, AllocError>
         ensures zeros { IfOk result (λ r. r ≡ replicate count 0) }
     {
@@ -96,7 +97,8 @@ impl Numbers {
         })
     }
 
-    /// Creates a list of `count` numbers 2^64 - 1, or fails if memory runs out.
+    /// Creates a list in which 2^64 - 1 is repeated `count` times, or fails if the allocation
+    /// fails. This value marks a number that isn't known yet.
     #[tactic(auto, using(crate::proofs::Narrow::marks_wide))]
     pub fn marks(alloc: Global, count: usize) -> Result<Numbers, AllocError>
         ensures marks { IfOk result (λ r. r ≡ replicate count (2 ^ 64 - 1)) }
@@ -108,7 +110,7 @@ impl Numbers {
         })
     }
 
-    /// Returns the number of numbers.
+    /// Returns the length of the list.
     pub fn len(&self) -> usize
         ensures { result ≡ length self.now }
     {
@@ -177,7 +179,7 @@ impl Numbers {
         Ok(())
     }
 
-    /// Removes the numbers, and keeps their memory.
+    /// Removes all numbers. The allocated memory is kept.
     pub fn clear(&mut self)
         ensures { self.new ≡ [] }
     {

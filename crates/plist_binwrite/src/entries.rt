@@ -1,5 +1,5 @@
-//! The entries of buffered events: for each a kind in one byte and a number, in four bytes while
-//! the numbers fit.
+//! The entries of buffered events. Each entry has a kind, which takes one byte, and a number, which
+//! takes four bytes as long as the numbers fit.
 
 ghost use Rattle.std.specs.Prelude.{◌≡◌, ◌-◌, ◌^◌, ◌<◌, ◌++◌, ◌∷◌, [], length, set, take, OnOk, OnErr};
 ghost use Rattle.plist_binwrite.specs.inner.Columns.{entry_of, kind_in, number_in, scalar_named, IsEntryNumber};
@@ -10,8 +10,8 @@ use crate::kinds::EntryKind;
 use std::alloc::{AllocError, Global};
 use std::marker::Model;
 
-/// A buffered event. A start has the index after its end, or the index after itself until the end
-/// is known. A scalar has its index among the different scalars.
+/// A buffered event. A start stores the index after its end, or the index after itself while the
+/// collection is open. A scalar stores its index among the different scalars.
 #[derive(Clone, Copy)]
 pub enum EventEntry {
     /// The start of an array.
@@ -48,7 +48,7 @@ fn number_in(entry: EventEntry) -> usize
     }
 }
 
-// Makes an entry of a kind and a number.
+// Returns the entry of this kind with this number, which is ignored for an end.
 fn entry_of(kind: EntryKind, number: usize) -> EventEntry
     ensures { result ≡ entry_of kind number }
 {
@@ -60,7 +60,7 @@ fn entry_of(kind: EntryKind, number: usize) -> EventEntry
     }
 }
 
-// Returns the entry with this index after its end, if it is a start.
+// Returns a start with `behind` as the index after its end. Any other entry is returned unchanged.
 fn closed(entry: EventEntry, behind: usize) -> EventEntry
     ensures { result ≡ closed_at entry behind }
 {
@@ -133,7 +133,8 @@ impl Entries {
         entry_of(self.kind_at(index), self.number_at(index))
     }
 
-    /// Returns the index after the tree that begins with the entry at an index.
+    /// Returns the index after the tree that begins at an index: the stored index for a start, and
+    /// the next index for any other entry.
     pub fn behind(&self, index: usize) -> usize
         requires within { index < length self.now }
         requires small { index < 2 ^ 64 - 1 }
@@ -147,8 +148,8 @@ impl Entries {
         }
     }
 
-    /// Returns the index among the different scalars of the scalar at an index, or `None` if the
-    /// entry isn't a scalar.
+    /// If the entry at an index is a scalar, returns its index among the different scalars, and
+    /// otherwise `None`.
     pub fn scalar(&self, index: usize) -> Option<usize>
         requires { index < length self.now }
         ensures { result ≡ scalar_named (entry_at self.now index) }
@@ -161,7 +162,7 @@ impl Entries {
         }
     }
 
-    /// Appends an entry.
+    /// Appends an entry. If an allocation fails, nothing changes.
     #[inline(always)]
     pub fn push(&mut self, entry: EventEntry) -> Result<(), AllocError>
         ensures pushed { OnOk result (self.new ≡ self.old ++ entry ∷ []) }
@@ -182,7 +183,7 @@ impl Entries {
         self.numbers.pop();
     }
 
-    // Replaces the entry at an index.
+    // Replaces the entry at an index. If an allocation fails, nothing changes.
     fn set(&mut self, index: usize, entry: EventEntry) -> Result<(), AllocError>
         requires { index < length self.old }
         ensures set { OnOk result (self.new ≡ set self.old index entry) }
@@ -193,7 +194,8 @@ impl Entries {
         Ok(())
     }
 
-    /// Appends an end, which closes the start at an index.
+    /// Appends an end, and stores the index after it in the start at index `start`. If an
+    /// allocation fails, nothing changes.
     pub fn close(&mut self, start: usize) -> Result<(), AllocError>
         requires { start < length self.old }
         ensures closed { OnOk result (self.new ≡ ended_at self.old start) }
@@ -210,7 +212,7 @@ impl Entries {
         }
     }
 
-    /// Removes the entries, and keeps their memory.
+    /// Removes all entries. The allocated memory is kept.
     pub fn clear(&mut self)
         ensures { self.new ≡ [] }
     {

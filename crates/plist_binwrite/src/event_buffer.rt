@@ -10,8 +10,8 @@ use crate::event_table::EventTable;
 use plist_base::{Change, Event, EventKind, Expect};
 use std::alloc::{AllocError, Global};
 
-/// Why an event wasn't buffered. It is small: the memory of a result is zeroed on each call, and an
-/// `Error` has 120 bytes.
+/// The reason why an event wasn't buffered. The type is small because the memory of a result is
+/// zeroed on every call, and an `Error` has 120 bytes.
 #[derive(Clone, Copy)]
 pub enum PushError {
     /// The event can't follow the buffered ones.
@@ -35,12 +35,12 @@ impl From<AllocError> for PushError {
     }
 }
 
-/// The events of the open property list. Once they are those of a whole one, they stay until they
-/// are cleared.
+/// The buffered events of the open property list. Once they are those of a whole property list, no
+/// event can be added until they are cleared.
 #[derive(Drop)]
 pub struct EventBuffer {
     held: EventTable<'static>,
-    // `None` if the events are those of a whole property list.
+    // What is expected next, or `None` if the events are those of a whole property list.
     expects: Option<Expect>,
     ghost wanted: { ExpectsNext (plain_events held) expects } by { Prim.hlevel props },
 }
@@ -55,7 +55,7 @@ fn change_on(expects: Option<Expect>, event: &Event<'_>) -> Change
     }
 }
 
-// Returns what is expected once an event that made this change is buffered.
+// Returns what is expected next. The event that made this change is already in `held`.
 fn next_expected(
     change: Change,
     expects: Option<Expect>,
@@ -88,8 +88,9 @@ impl EventBuffer {
         }
     }
 
-    /// Sets how many different scalars are expected. This is a hint, by which their table grows in
-    /// larger steps: there may be more scalars, or fewer. The call allocates no memory.
+    /// Sets the expected number of different scalars. This is only a hint, with which the table of
+    /// scalars grows in larger steps: the actual number may be greater or smaller. The call
+    /// allocates no memory.
     pub fn expect_scalars(&mut self, count: usize)
         ensures events { buffered_events self.new ≡ buffered_events self.old }
         ensures whole { is_whole self.new ≡ is_whole self.old }
@@ -129,7 +130,8 @@ impl EventBuffer {
     /// # Errors
     ///
     /// `Misplaced` if the event can't follow the buffered ones; nothing changes then. `OutOfMemory`
-    /// is returned only for an event that can.
+    /// if an allocation fails, which is returned only for an event that can follow them; the
+    /// buffered events are unspecified then.
     #[inline(always)]
     pub fn try_push(&mut self, alloc: Global, event: Event<'_>) -> Result<(), PushError>
         requires still { is_whole self.old ≡ false }
@@ -160,7 +162,7 @@ impl EventBuffer {
         &self.held
     }
 
-    /// Removes the events, and keeps their memory.
+    /// Removes all events. The allocated memory is kept.
     pub fn clear(&mut self)
         ensures events { buffered_events self.new ≡ [] }
         ensures whole { is_whole self.new ≡ false }

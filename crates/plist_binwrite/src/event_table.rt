@@ -14,8 +14,8 @@ use plist_base::{Error, Event, Expect};
 use std::alloc::{AllocError, Global};
 use std::borrow::{CowSlice, CowStr};
 
-/// The events of a property list. Each different scalar is stored once. Lengths of starts are left
-/// out.
+/// The events of a property list. Each different scalar is stored once. The lengths of starts
+/// aren't stored.
 ///
 /// The table doesn't check whether the events can follow one another.
 #[derive(Drop)]
@@ -23,9 +23,9 @@ pub struct EventTable<'e> {
     scalars: IndexSet<StoredScalar<'e>>,
     entries: Entries,
     unclosed: Vec<usize>,
-    // How many different scalars are expected.
+    // The expected number of different scalars.
     expected: usize,
-    // With how many different scalars it is tested next whether their table is full.
+    // The number of different scalars at which `make_room` next checks whether their table is full.
     full_at: usize,
     ghost kept: { AreValidEntries scalars.keys entries unclosed.items } by { Prim.hlevel props },
     ghost few: { length entries < 2 ^ 63 },
@@ -53,8 +53,9 @@ impl<'e> EventTable<'e> {
         }
     }
 
-    /// Sets how many different scalars are expected. This is a hint, by which their table grows in
-    /// larger steps: there may be more scalars, or fewer. The call allocates no memory.
+    /// Sets the expected number of different scalars. This is only a hint, with which the table of
+    /// scalars grows in larger steps: the actual number may be greater or smaller. The call
+    /// allocates no memory.
     pub fn expect_scalars(&mut self, count: usize)
         ensures events { plain_events self.new ≡ plain_events self.old }
     {
@@ -62,9 +63,9 @@ impl<'e> EventTable<'e> {
         self.full_at = 0;
     }
 
-    // Reserves memory for the expected scalars if the table of different scalars is full, but for
-    // at most sixteen times as many as there are, and a thousand. So a wrong hint costs no more
-    // than that. If the allocation fails, the table grows as it fills.
+    // If the table of different scalars is full, reserves memory for the expected ones, but for no
+    // more than 16 n + 1000, where n is the number of scalars in the table. This limits the cost of
+    // a wrong hint. If the allocation fails, the table grows when scalars are added.
     #[cold]
     #[inline(never)]
     fn reserve_scalars(&mut self)
@@ -111,7 +112,8 @@ impl<'e> EventTable<'e> {
         self.entries.kind_at(index)
     }
 
-    /// Returns whether an item of a collection is at this index, and not its end.
+    /// Returns whether a tree begins at this index. This is `false` if the event is an end, and if
+    /// the index is past the last event.
     pub fn has_item(&self, index: usize) -> bool
         ensures yes { result ≡ true → HasItem (plain_events self.now) index }
         ensures no { result ≡ false → LacksItem (plain_events self.now) index }
@@ -125,7 +127,8 @@ impl<'e> EventTable<'e> {
         }
     }
 
-    /// Returns the index after the tree that begins at this index.
+    /// Returns the index after the tree that begins at this index. For an end, and for a collection
+    /// that is still open, this is the next index.
     pub fn index_after(&self, index: usize) -> usize
         requires { index < length (plain_events self.now) }
         ensures { result ≡ skip_after (plain_events self.now) index }
@@ -133,8 +136,8 @@ impl<'e> EventTable<'e> {
         self.entries.behind(index)
     }
 
-    /// Returns the index of the scalar at this index among the different scalars, which are in the
-    /// order of their first occurrence.
+    /// If the event at this index is a scalar, returns its index among the different scalars, which
+    /// are in the order of their first occurrence. Otherwise returns `None`.
     pub fn scalar_index(&self, index: usize) -> Option<usize>
         requires { index < length (plain_events self.now) }
         ensures some { IfSome result (IsScalarAt self.now index) }
@@ -157,7 +160,7 @@ impl<'e> EventTable<'e> {
         Some(stored.get())
     }
 
-    // Returns what is expected in the innermost open collection, if one is open.
+    // Returns what is expected in the innermost open collection, or `None` if none is open.
     pub(crate) fn innermost_expect(&self) -> Option<Expect>
         ensures { result ≡ innermost (expected_inside (plain_events self.now)) }
     {
@@ -171,7 +174,7 @@ impl<'e> EventTable<'e> {
         }
     }
 
-    // Appends a start, with the index after itself.
+    // Appends a start. Its entry stores the index after itself until the collection is closed.
     fn start(&mut self, entry: EventEntry) -> Result<(), AllocError>
         requires starts { is_start entry ≡ true }
         requires after { IsUnclosed (length (plain_events self.old)) entry }
@@ -185,7 +188,7 @@ impl<'e> EventTable<'e> {
         Ok(())
     }
 
-    // Appends an end, which closes the innermost open start.
+    // Appends an end, which closes the innermost open collection, if one is open.
     fn end(&mut self) -> Result<(), AllocError>
         ensures events { OnOk result (GrowsBy self.old EndCollection self.new) }
         ensures unchanged { OnErr result (plain_events self.new ≡ plain_events self.old) }
@@ -205,7 +208,7 @@ impl<'e> EventTable<'e> {
         }
     }
 
-    // Returns the index of an equal scalar among the different ones, or `None` if none is equal.
+    // Returns the index of a scalar among the different ones, or `None` if no equal one is stored.
     #[inline(always)]
     fn find(&self, scalar: &StoredScalar<'_>) -> Option<usize>
         ensures { IfSome result (λ index. slice_get (scalars_of self.now) index
@@ -214,7 +217,7 @@ impl<'e> EventTable<'e> {
         self.scalars.get_index_of(scalar)
     }
 
-    // Appends a scalar that is equal to the one with this index among the different ones.
+    // Appends a scalar that is already stored, given its index among the different ones.
     #[inline(always)]
     fn repeat(&mut self, index: usize) -> Result<(), AllocError>
         requires { is_leaf (event_at (scalars_of self.old) index) ≡ true }
@@ -226,8 +229,8 @@ impl<'e> EventTable<'e> {
         Ok(())
     }
 
-    // Appends a scalar: the index of an equal one among the different ones, or a new one. A new one
-    // is removed again if there is no memory for its entry.
+    // Appends a scalar, and stores it unless an equal one is stored already. If the allocation for
+    // its entry fails, a scalar that was stored by this call is removed again.
     fn scalar(&mut self, scalar: StoredScalar<'e>) -> Result<(), AllocError>
         ensures events { OnOk result (GrowsBy self.old (event_of_scalar scalar.entry) self.new) }
         ensures unchanged { OnErr result (plain_events self.new ≡ plain_events self.old) }
@@ -247,7 +250,8 @@ impl<'e> EventTable<'e> {
         }
     }
 
-    // Appends an event. It doesn't return an `Error`, whose 120 bytes would be zeroed on each call.
+    // Appends an event. It returns an `AllocError` because the 120 bytes of an `Error` would be
+    // zeroed on every call.
     fn take(&mut self, event: Event<'e>) -> Result<(), AllocError>
         ensures events { OnOk result (GrowsBy self.old (plain_event event.entry) self.new) }
         ensures unchanged { OnErr result (plain_events self.new ≡ plain_events self.old) }
@@ -267,12 +271,12 @@ impl<'e> EventTable<'e> {
         }
     }
 
-    /// Appends an event. A scalar that is equal to a stored one is dropped, and takes only the
-    /// memory of its index.
+    /// Appends an event. If it is a scalar that is equal to a stored one, it is dropped, and only
+    /// its index is stored.
     ///
     /// # Errors
     ///
-    /// `OutOfMemory`, without an offset. The events are unchanged then.
+    /// `OutOfMemory`, without an offset, if an allocation fails. The events are unchanged then.
     #[inline(always)]
     pub fn push(&mut self, event: Event<'e>) -> Result<(), Error>
         ensures events { OnOk result (GrowsBy self.old (plain_event event.entry) self.new) }
@@ -283,7 +287,7 @@ impl<'e> EventTable<'e> {
         Ok(())
     }
 
-    /// Removes the events, and keeps their memory.
+    /// Removes all events. The allocated memory is kept.
     pub fn clear(&mut self)
         ensures events { plain_events self.new ≡ [] }
     {
@@ -330,7 +334,7 @@ impl EventTable<'static> {
 
     /// Appends a copy of an event. A string or data that is equal to a stored one isn't copied.
     ///
-    /// Calls are compiled into their callers, which mostly know the event's kind.
+    /// The function is inlined because most callers pass an event whose kind they know.
     ///
     /// # Errors
     ///

@@ -1,7 +1,8 @@
-//! The bytes of each form of a file: scalars, lengths, references, the offset table and the
-//! trailer, each in the least form that fits.
+//! Puts the parts of a file: scalars, lengths, references, the offset table and the trailer.
 //!
-//! Each function puts its bytes into a [`Sink`], and returns an error as [`Sink::put`] does.
+//! The functions put their bytes into a [`Sink`]. If they return an error, it is that of
+//! [`Sink::put`]: `Io`, without an offset, after a prefix of all the bytes that were put was
+//! written.
 
 ghost use Rattle.std.specs.Prelude.{◌≡◌, ◌+◌, ◌∷◌, [], ◌≤◌, ◌<◌, Ok, true, false};
 ghost use Rattle.plist_binwrite.specs.Forms.{big_endian, doublings, unsigned_form, integer_form, uid_form, length_form, boolean_form, data_form, date_form, real_form, table_form, marker_and_number};
@@ -45,7 +46,7 @@ fn put_marked<W: Write>(sink: &mut Sink<'_, W>, marker: Marker, bytes: &[u8]) ->
     sink.put_both(&[marker.encode()], bytes)
 }
 
-/// Puts the lowest `width` bytes of a number, the highest of them first.
+/// Puts the lowest `width` bytes of a number in big-endian order. `width` is at most 8.
 pub fn put_number<W: Write>(sink: &mut Sink<'_, W>, width: usize, number: u64) -> Result<(), Error>
     requires width { width ≤ 8 }
     ensures { Puts W.contents sink.old (big_endian width number) result sink.new }
@@ -54,8 +55,8 @@ pub fn put_number<W: Write>(sink: &mut Sink<'_, W>, width: usize, number: u64) -
     sink.put(&digits[8 - width..])
 }
 
-/// Puts the lowest `width` bytes of a number, the highest of them first, if they fit into the
-/// buffer of the sink, and returns whether they do.
+/// Puts the lowest `width` bytes of a number in big-endian order, if they fit into the buffer of
+/// the sink, and returns whether they do. `width` is at most 8.
 #[inline(always)]
 pub fn try_put_number<W: Write>(sink: &mut Sink<'_, W>, width: usize, number: u64) -> bool
     requires width { width ≤ 8 }
@@ -67,8 +68,9 @@ pub fn try_put_number<W: Write>(sink: &mut Sink<'_, W>, width: usize, number: u6
     sink.try_put(&digits[8 - width..])
 }
 
-/// Puts the lowest `width` bytes of a number, the highest of them first. A loop calls this instead
-/// of [`put_number`]: the bytes mostly fit into the buffer, and then no large result is zeroed.
+/// Puts the lowest `width` bytes of a number in big-endian order. `width` is at most 8. A loop
+/// calls this instead of [`put_number`], because the bytes mostly fit into the buffer, and then no
+/// large `Result` is zeroed.
 #[inline(always)]
 pub fn put_next_number<W: Write>(
     sink: &mut Sink<'_, W>,
@@ -100,7 +102,8 @@ fn put_marked_number<W: Write>(
     sink.put_both(&[marker.encode()], &digits[8 - width..])
 }
 
-/// Puts an unsigned number, in the least of 1, 2, 4 and 8 bytes.
+/// Puts an unsigned integer: a marker, and the number in the smallest of 1, 2, 4 and 8 bytes into
+/// which it fits.
 pub fn put_unsigned<W: Write>(sink: &mut Sink<'_, W>, number: u64) -> Result<(), Error>
     ensures { Puts W.contents sink.old (unsigned_form number) result sink.new }
 {
@@ -108,8 +111,8 @@ pub fn put_unsigned<W: Write>(sink: &mut Sink<'_, W>, number: u64) -> Result<(),
     put_marked_number(sink, number_marker(width), width, number)
 }
 
-/// Puts a marker of this kind with a length: in the marker's low half if it is below 15, and else
-/// after the marker.
+/// Puts a marker of this kind with a length. A length below 15 is in the low half of the marker,
+/// and any other length follows the marker as an unsigned integer.
 pub fn put_length<W: Write>(
     sink: &mut Sink<'_, W>,
     kind: CountedKind,
@@ -145,14 +148,14 @@ pub fn put_data<W: Write>(sink: &mut Sink<'_, W>, content: &[u8]) -> Result<(), 
     sink.put(content)
 }
 
-/// Puts a date by its eight bytes.
+/// Puts a date: a marker and its eight bytes.
 pub fn put_date<W: Write>(sink: &mut Sink<'_, W>, date: Date) -> Result<(), Error>
     ensures { Puts W.contents sink.old (date_form date) result sink.new }
 {
     put_marked(sink, Marker::Date, &date.to_plist_real())
 }
 
-/// Puts a real in its width.
+/// Puts a real: a marker and its four or eight bytes.
 pub fn put_real<W: Write>(sink: &mut Sink<'_, W>, bits: RealBits) -> Result<(), Error>
     ensures { Puts W.contents sink.old (real_form bits) result sink.new }
 {
@@ -162,7 +165,7 @@ pub fn put_real<W: Write>(sink: &mut Sink<'_, W>, bits: RealBits) -> Result<(), 
     }
 }
 
-/// Puts a Uid.
+/// Puts a Uid in the smallest of 1, 2, 4 and 8 bytes into which it fits.
 pub fn put_uid<W: Write>(sink: &mut Sink<'_, W>, uid: Uid) -> Result<(), Error>
     ensures { Puts W.contents sink.old (uid_form uid) result sink.new }
 {
@@ -178,8 +181,8 @@ fn put_wide_integer<W: Write>(sink: &mut Sink<'_, W>, number: u64) -> Result<(),
     put_number(sink, 8, number)
 }
 
-/// Puts an integer: one from 0 to `i64::MAX` in the least of 1, 2, 4 and 8 bytes, a negative one in
-/// eight, and one above `i64::MAX` in sixteen.
+/// Puts an integer. One from 0 to `i64::MAX` has the smallest of 1, 2, 4 and 8 bytes into which it
+/// fits, a negative one has eight bytes, and one above `i64::MAX` has sixteen.
 pub fn put_integer<W: Write>(sink: &mut Sink<'_, W>, value: Integer) -> Result<(), Error>
     ensures { Puts W.contents sink.old (integer_form value) result sink.new }
 {
@@ -193,7 +196,7 @@ pub fn put_integer<W: Write>(sink: &mut Sink<'_, W>, value: Integer) -> Result<(
     }
 }
 
-/// Puts numbers of this width, one after another, as in an offset table.
+/// Puts each number of a list in `width` bytes, as in an offset table. `width` is at most 8.
 pub fn put_numbers<W: Write>(
     sink: &mut Sink<'_, W>,
     width: usize,
@@ -208,8 +211,8 @@ pub fn put_numbers<W: Write>(
     Ok(())
 }
 
-/// Puts the trailer of a file of this many objects. The offset table lies at `table`, and the root
-/// is object 0.
+/// Puts the trailer of a file with `count` objects, whose offset table lies at the byte offset
+/// `table`. The root is object 0.
 pub fn put_trailer<W: Write>(
     sink: &mut Sink<'_, W>,
     count: usize,
@@ -225,7 +228,8 @@ pub fn put_trailer<W: Write>(
     put_number(sink, 8, table as u64)
 }
 
-/// Puts the offset table, which lies at `table`, and the trailer.
+/// Puts the offset table, which contains the byte offset of each object, and then the trailer. The
+/// table itself lies at the byte offset `table`.
 pub fn put_table_and_trailer<W: Write>(
     sink: &mut Sink<'_, W>,
     places: &Numbers,

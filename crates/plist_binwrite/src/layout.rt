@@ -10,13 +10,13 @@ use crate::compact_numbers::Numbers;
 use crate::numbering::Numbering;
 use std::alloc::{AllocError, Global};
 
-/// The numbers of a file's objects in its order, and a list for the offset of each.
+/// The order of a file's objects, and the list into which the offset of each is written.
 #[derive(Drop)]
 pub struct FileLayout {
-    /// The objects by their numbers, in their order in the file.
+    /// The numbers of the objects, in the order of the file.
     pub order: Numbers,
-    /// The offset of each object, by its number. Until the offsets are known, a mark for each
-    /// object that is in `order`.
+    /// The byte offset of each object, indexed by its number. Until the offsets are known, the
+    /// value is 1 for an object that is in `order`, and 0 for any other.
     pub places: Numbers,
 }
 
@@ -28,8 +28,8 @@ impl FileLayout {
     ghost use Rattle.plist_binwrite.specs.inner.Planning.{IsNumberingOfEvents, count_of};
     ghost use Rattle.plist_binwrite.specs.inner.Sizing.{MarksItem};
 
-    // Appends the object of the event at an index to the order, unless it is there already. The
-    // mark of an object that is there isn't 0.
+    // Appends the object of the event at an index to the order, unless the order contains it
+    // already. The value in `places` is 0 only for an object that isn't in the order.
     fn put(
         &mut self,
         given: &Classed<'_, '_>,
@@ -53,7 +53,8 @@ impl FileLayout {
         Ok(())
     }
 
-    // Appends the object of the event at an index to the order, and then those of its keys.
+    // Appends the object of the event at an index, and then those of its keys, to the order. For an
+    // end, or past the last event, nothing is appended.
     fn put_here(
         &mut self,
         given: &Classed<'_, '_>,
@@ -82,8 +83,8 @@ impl FileLayout {
     }
 }
 
-/// Orders the objects: as the events are ordered, except that the keys of a dictionary precede its
-/// values.
+/// Returns the order of the objects, or fails if an allocation fails. The objects are in the order
+/// of their first events, except that the keys of a dictionary precede its values.
 pub fn order_objects(
     alloc: Global,
     given: &Classed<'_, '_>,

@@ -1,4 +1,5 @@
-//! The number of bytes of each form. A length of 2^64 or more is `None`.
+//! Computes the lengths of objects and of their parts, in bytes. A length of 2^64 or more is
+//! `None`.
 
 ghost use Rattle.std.specs.Prelude.{◌≡◌, ◌+◌, ◌*◌, ◌≤◌, ◌<◌, ◌^◌, ℕ, length, None};
 ghost use Rattle.plist_binwrite.specs.Forms.{IsDateBytes, IsInteger, IsReal, IsText, IsWritableScalar, unsigned_form, integer_form, uid_form, length_form, date_form, real_form, text_form};
@@ -11,7 +12,7 @@ use crate::widths::least_width;
 use plist_base::{Date, Integer, RealBits, Uid};
 use plist_format::LowHalf;
 
-/// Returns the sum of two lengths.
+/// Returns the sum of two lengths, or `None` if it is 2^64 or more, or if a length is `None`.
 pub fn add(length: Option<u64>, more: Option<u64>) -> Option<u64>
     ensures sum { (a b : ℕ) → IsSizeOrNone length a → IsSizeOrNone more b
         → IsSizeOrNone result (a + b) }
@@ -20,7 +21,7 @@ pub fn add(length: Option<u64>, more: Option<u64>) -> Option<u64>
     length?.checked_add(more?)
 }
 
-/// Returns the length of an unsigned number.
+/// Returns the length of an unsigned integer with its marker, in bytes.
 pub fn length_of_unsigned(number: u64) -> u64
     ensures value { result ≡ length (unsigned_form number) }
     ensures small { result ≤ 9 }
@@ -28,7 +29,7 @@ pub fn length_of_unsigned(number: u64) -> u64
     1 + least_width(number) as u64
 }
 
-/// Returns the length of a marker with a count.
+/// Returns the length in bytes of a marker with this count, which is in the marker or follows it.
 pub fn length_of_count(count: u64) -> u64
     ensures value { (high : ℕ) → result ≡ length (length_form high count) }
     ensures small { result ≤ 10 }
@@ -39,7 +40,7 @@ pub fn length_of_count(count: u64) -> u64
     }
 }
 
-// Returns the length of a marker with a count and the `count` bytes that follow it.
+// Returns the length of a marker with this count and of the `count` bytes that follow it.
 fn length_of_bytes(count: u64) -> Option<u64>
     ensures value { (high : ℕ) → IsSizeOrNone result (marked_size high count count) }
 {
@@ -92,7 +93,7 @@ fn length_of_uid(uid: Uid) -> u64
     1 + least_width(uid.get()) as u64
 }
 
-/// Returns the length of a scalar.
+/// Returns the length of a scalar's object in bytes, or `None` if it is 2^64 or more.
 pub fn length_of_scalar(scalar: ScalarRef<'_>) -> Option<u64>
     ensures value { IsSizeOrNone result (scalar_size (scalar_of_ref scalar.entry)) }
     ensures writable { IsWritableScalar (scalar_of_ref scalar.entry) }
@@ -108,7 +109,8 @@ pub fn length_of_scalar(scalar: ScalarRef<'_>) -> Option<u64>
     }
 }
 
-/// Returns the length of a collection of this count with this many references of this width.
+/// Returns the length of a collection's object in bytes, or `None` if it is 2^64 or more. The
+/// object is a marker with this count, followed by `references` references of `width` bytes each.
 pub fn length_of_collection(count: u64, references: u64, width: u64) -> Option<u64>
     ensures value { (high : ℕ) → IsSizeOrNone result (marked_size high count (references * width)) }
 {

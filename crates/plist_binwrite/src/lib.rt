@@ -1,7 +1,8 @@
 //! Writes binary property lists.
 //!
-//! The main contract is that of [`BinaryWriter`]: the event that completes a tree writes a file of
-//! it, in the least forms, that unfolds to the events; no other event writes a byte.
+//! The main contract is that of [`BinaryWriter`]: the call that completes a property list writes
+//! its file, in which each object has its least form, and from which the same events are read. No
+//! other call writes a byte.
 #![tactic(auto)]
 
 pub mod children;

@@ -1,4 +1,4 @@
-//! The numbers of objects: one for each class.
+//! Assigns a number to the object of each class.
 
 ghost use Rattle.plist_binwrite.specs.EventClasses.{IsClassed, events_in};
 ghost use Rattle.plist_binwrite.specs.EventTable.{IsBracketed};
@@ -13,9 +13,10 @@ use std::alloc::{AllocError, Global};
 /// The number of each class's object, and the first event of each object.
 #[derive(Drop)]
 pub struct Numbering {
-    /// The number of each class's object, or 2^64 - 1 while it has none.
+    /// The number of each class's object, indexed by the class, or 2^64 - 1 if the object has no
+    /// number yet.
     pub by_class: Numbers,
-    /// The index of each object's first event, by the object's number.
+    /// The index of the first event of each object, in the order of the objects' numbers.
     pub firsts: Numbers,
 }
 
@@ -26,8 +27,8 @@ impl Numbering {
     ghost use Rattle.plist_binwrite.specs.inner.Numbering.{AreMarks, BeginsAt, IsNumberedSoFar, KeepsNumbers, NumbersAll, NumbersChildren, NumbersHalf, NumbersItem, RootIsFirst};
     ghost use Rattle.plist_binwrite.specs.inner.Planning.{object_number};
 
-    // Starts without numbers. Memory for the first index of each class is reserved, since lists
-    // that grow would leave gaps between those that are full.
+    // Creates a numbering in which no object has a number. The memory of `firsts` is reserved at
+    // once, because a list that grows leaves gaps in the heap between lists of their final size.
     fn new(alloc: Global, bound: usize) -> Result<Numbering, AllocError>
         ensures unknown { IfOk result (λ r. AreMarks bound r.by_class) }
         ensures firsts { IfOk result (λ r. r.firsts ≡ []) }
@@ -37,7 +38,7 @@ impl Numbering {
         Ok(Numbering { by_class, firsts })
     }
 
-    /// Returns the number of the object of the event at an index.
+    /// Returns the number of the object of the event at an index, or 2^64 - 1 if it has none yet.
     #[inline(always)]
     pub fn number(&self, given: &Classed<'_, '_>, index: usize) -> usize
         requires index { index < length (events_in given.now) }
@@ -56,7 +57,7 @@ impl Numbering {
         self.firsts.get(number)
     }
 
-    // Numbers the object of the event at an index, unless it has a number.
+    // Gives the next number to the object of the event at an index, unless it has a number already.
     fn number_one(&mut self, given: &Classed<'_, '_>, index: usize) -> Result<(), AllocError>
         requires so_far { IsNumberedSoFar given.now self.old }
         requires item { HasItem (events_in given.now) index }
@@ -77,7 +78,7 @@ impl Numbering {
         Ok(())
     }
 
-    // Numbers a half of the children of the collection that begins at an index.
+    // Numbers the objects of one half of the children of the collection that begins at an index.
     fn number_half(
         &mut self,
         given: &Classed<'_, '_>,
@@ -96,8 +97,8 @@ impl Numbering {
         Ok(())
     }
 
-    // Numbers the keys of the collection that begins at an index, and then its items or values. Any
-    // other event has no children.
+    // Numbers the objects of the keys of the collection that begins at an index, and then those of
+    // its items or values. A scalar or an end has no children.
     fn number_children(&mut self, given: &Classed<'_, '_>, index: usize) -> Result<(), AllocError>
         requires so_far { IsNumberedSoFar given.now self.old }
         requires index { index < length (events_in given.now) }
@@ -113,8 +114,8 @@ impl Numbering {
         Ok(())
     }
 
-    // Numbers all objects: when a collection has its turn, its keys and then its values are
-    // numbered.
+    // Numbers all objects: first the root, and then, for each collection in the order of the
+    // events, its keys followed by its items or values.
     fn number_all(&mut self, given: &Classed<'_, '_>) -> Result<(), AllocError>
         requires so_far { IsNumberedSoFar given.now self.old }
         requires none { self.old.firsts ≡ [] }
@@ -131,8 +132,9 @@ impl Numbering {
     }
 }
 
-/// Numbers the objects of a tree's events, one for each class: when a collection has its turn, its
-/// keys and then its values are numbered.
+/// Numbers the objects of a tree's events, one for each class, or fails if an allocation fails. The
+/// root has number 0. Then, for each collection in the order of the events, its keys are numbered,
+/// followed by its items or values.
 pub fn number_objects(alloc: Global, given: &Classed<'_, '_>) -> Result<Numbering, AllocError>
     requires whole { IsBracketed (events_in given.now) }
     requires classed { IsClassed given.now }

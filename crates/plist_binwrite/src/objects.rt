@@ -14,7 +14,7 @@ use crate::size::count_children;
 use plist_base::{Error, Sink};
 use std::io::Write;
 
-// Puts references to a half of the children of the collection that begins at an index.
+// Puts the references to one half of the children of the collection that begins at an index.
 fn put_half<W: Write>(
     sink: &mut Sink<'_, W>,
     given: &Classed<'_, '_>,
@@ -74,7 +74,7 @@ fn put_object<W: Write>(
     }
 }
 
-/// Puts the objects in their order.
+/// Puts all objects of a planned file, in the order of the plan. An error is that of [`Sink::put`].
 pub fn put_objects<W: Write>(
     sink: &mut Sink<'_, W>,
     given: &Classed<'_, '_>,

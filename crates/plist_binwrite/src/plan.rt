@@ -1,4 +1,4 @@
-//! The plan of a file, which is complete before a byte of it is written.
+//! Plans a file. The plan is complete before the first byte of the file is written.
 
 ghost use Rattle.std.specs.Prelude.{IfOk};
 ghost use Rattle.plist_base.specs.Outcomes.{IfFault};
@@ -20,21 +20,22 @@ use std::alloc::Global;
 pub struct FilePlan {
     /// The numbers of its objects.
     pub numbering: Numbering,
-    /// Its objects by their numbers, in their order in the file.
+    /// The numbers of its objects, in the order of the file.
     pub order: Numbers,
-    /// The offset of each object, by its number.
+    /// The byte offset of each object, indexed by its number.
     pub places: Numbers,
     /// The number of bytes in a reference.
     pub width: usize,
-    /// The offset of the offset table.
+    /// The byte offset of the offset table.
     pub table: usize,
 }
 
-/// Plans the file of a tree's events with one object for each class.
+/// Plans the file of a tree's events, which has one object for each class.
 ///
 /// # Errors
 ///
-/// `PlistTooLarge` if the file would have 2^64 bytes or more, and `OutOfMemory`, without an offset.
+/// `PlistTooLarge` if the file would have 2^64 bytes or more, and `OutOfMemory` if an allocation
+/// fails. Neither has an offset.
 pub fn plan_file(alloc: Global, given: &Classed<'_, '_>) -> Result<FilePlan, Error>
     requires whole { IsBracketed (events_in given.now) }
     requires classed { IsClassed given.now }

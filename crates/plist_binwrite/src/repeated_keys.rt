@@ -1,4 +1,4 @@
-//! Whether a dictionary contains a key twice.
+//! Finds out whether a dictionary contains a key twice.
 
 ghost use Rattle.std.specs.Prelude.{◌≡◌, ◌≢◌, ◌+◌, ◌<◌, true, false, length, get_or, set, IfOk};
 ghost use Rattle.plist_base.specs.Outcomes.{OnlyMemory};
@@ -12,7 +12,7 @@ use crate::kinds::EntryKind;
 use plist_base::Error;
 use std::alloc::Global;
 
-// Returns whether a scalar has this stamp already, and stamps it.
+// Sets the stamp of a scalar, and returns whether it had this stamp already.
 fn stamp(stamps: &mut Vec<usize>, scalar: usize, mark: usize) -> bool
     requires { scalar < length stamps.old.items }
     ensures repeated { result ≡ true → get_or stamps.old.items scalar 0 ≡ mark }
@@ -24,8 +24,9 @@ fn stamp(stamps: &mut Vec<usize>, scalar: usize, mark: usize) -> bool
     stood
 }
 
-// Returns whether a dictionary that contains a key twice begins at an index. The stamp of a
-// different scalar identifies the last dictionary in which it was a key, by the index of the start.
+// Returns whether a dictionary that contains a key twice begins at an index. The list `stamps` has
+// a number for each different scalar: 0 if it hasn't been a key yet, and otherwise 1 plus the index
+// of the start of the last dictionary in which it was a key.
 fn repeats_at(events: &EventTable<'_>, start: usize, stamps: &mut Vec<usize>) -> bool
     requires start { start < length (plain_events events.now) }
     requires long { length stamps.old.items ≡ length (scalars_of events.now) }
@@ -50,12 +51,12 @@ fn repeats_at(events: &EventTable<'_>, start: usize, stamps: &mut Vec<usize>) ->
     false
 }
 
-/// Returns whether a dictionary of the property list with these events contains a key twice. If
-/// none does, the last value of each key is its only one.
+/// Returns whether any dictionary in the property list with these events contains a key twice. If
+/// none does, each key has a single value in its dictionary.
 ///
 /// # Errors
 ///
-/// `OutOfMemory`, without an offset.
+/// `OutOfMemory`, without an offset, if an allocation fails.
 pub fn repeats_key(alloc: Global, events: &EventTable<'_>) -> Result<bool, Error>
     ensures once { IfOk result (TestsKeysOnce events.now) }
     ensures memory { OnlyMemory result }

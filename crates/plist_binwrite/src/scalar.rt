@@ -1,4 +1,4 @@
-//! The bytes of any scalar.
+//! Puts the object of any scalar.
 
 ghost use Rattle.plist_base.specs.Sinks.{Puts};
 ghost use Rattle.plist_binwrite.specs.Forms.{scalar_form};
@@ -10,7 +10,7 @@ use crate::text::put_text;
 use plist_base::{Error, Sink};
 use std::io::Write;
 
-/// Puts a scalar.
+/// Puts the object of a scalar. An error is that of [`Sink::put`].
 pub fn put_scalar<W: Write>(sink: &mut Sink<'_, W>, scalar: ScalarRef<'_>) -> Result<(), Error>
     ensures { Puts W.contents sink.old (scalar_form (scalar_of_ref scalar.entry)) result sink.new }
 {

@@ -1,4 +1,4 @@
-//! The end of a property list: its file is planned and written.
+//! Plans and writes the file of a whole property list.
 
 ghost use Rattle.std.specs.Prelude.{◌≡◌, []};
 ghost use Rattle.plist_base.specs.Bracketing.{AreTreeEvents};
@@ -34,7 +34,8 @@ fn put_file<W: Write>(
     put_table_and_trailer(sink, &plan.places, plan.table)
 }
 
-// Puts a planned file into a sink without pending bytes, and finishes it. It allocates no memory.
+// Puts a planned file into a sink without pending bytes, and then writes what is pending and
+// flushes the writer. The call allocates no memory.
 fn send_plan<W: Write>(
     sink: &mut Sink<'_, W>,
     given: &Classed<'_, '_>,
@@ -50,16 +51,17 @@ fn send_plan<W: Write>(
     sink.finish()
 }
 
-/// Plans the file of a whole property list's events with one object for each class, writes it and
-/// flushes the writer. All memory is allocated before the first byte is written: besides the plan,
-/// a buffer of fixed size that bytes are written through.
+/// Plans the file of a whole property list's events, which has one object for each class, writes it
+/// and flushes the writer. All memory is allocated before the first byte is written: that of the
+/// plan, and a buffer of fixed size through which the bytes are written.
 ///
-/// Trees of one class share an object; the class of an end isn't read.
+/// Trees of one class share an object. The class of an end isn't used.
 ///
 /// # Errors
 ///
-/// `PlistTooLarge` if the file would have 2^64 bytes or more, and `OutOfMemory`, before a byte is
-/// written; `Io` after a prefix of the file was.
+/// `PlistTooLarge` if the file would have 2^64 bytes or more, and `OutOfMemory` if an allocation
+/// fails: no byte was written. `Io` if a write or the flush fails: a prefix of the file was
+/// written, and all of it if the flush failed. No error has an offset.
 pub fn complete_by_class<W: Write>(
     alloc: Global,
     given: &Classed<'_, '_>,
@@ -75,13 +77,13 @@ pub fn complete_by_class<W: Write>(
     send_plan(&mut sink, given, &plan)
 }
 
-/// Plans the file of a whole property list's events, writes it and flushes the writer: one object
-/// for each collection, and one for each different scalar. All memory is allocated before the first
-/// byte is written.
+/// Plans the file of a whole property list's events, writes it and flushes the writer. The file has
+/// one object for each collection, and one for each different scalar. All memory is allocated
+/// before the first byte is written.
 ///
 /// # Errors
 ///
-/// Those of [`complete_by_class`].
+/// The errors are those of [`complete_by_class`], with the same state after each.
 pub fn complete<W: Write>(
     alloc: Global,
     events: &EventTable<'_>,

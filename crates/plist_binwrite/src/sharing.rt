@@ -1,4 +1,4 @@
-//! Which equal trees of a property list share an object of its file.
+//! Decides which equal trees of a property list share an object of its file.
 
 ghost use Rattle.std.specs.Prelude.{List, ℕ};
 ghost use Rattle.plist_base.specs.Bracketing.{AreTreeEvents};
@@ -13,12 +13,12 @@ use plist_base::{Error, Sealed};
 use std::alloc::Global;
 use std::io::Write;
 
-/// Decides which equal trees of a property list share an object of its file. Only this crate and
-/// `plist_share` implement it, as with [`Writer`](plist_base::Writer).
+/// Decides which equal trees of a property list share an object of its file. The trait is sealed,
+/// as [`Writer`](plist_base::Writer) is: only this crate and `plist_share` implement it.
 pub trait Sharing: Sealed + Drop {
     ghost use Rattle.plist_binwrite.specs.Completing.{SendsHeld};
 
-    /// The bytes that are a file of a tree.
+    /// Says which bytes are a file of a tree.
     ghost IsFile: { Tree → List ℕ → Type 0 };
     /// The number of bytes of the file of a tree.
     ghost size: { Tree → ℕ };
@@ -28,8 +28,9 @@ pub trait Sharing: Sealed + Drop {
     ///
     /// # Errors
     ///
-    /// `PlistTooLarge` if the file would have 2^64 bytes or more, and `OutOfMemory`, before a byte
-    /// is written; `Io` after a prefix of the file was.
+    /// `PlistTooLarge` if the file would have 2^64 bytes or more, and `OutOfMemory` if an
+    /// allocation fails: no byte was written. `Io` if a write or the flush fails: a prefix of the
+    /// file was written, and all of it if the flush failed. No error has an offset.
     fn complete<W: Write>(
         alloc: Global,
         events: &EventTable<'_>,
@@ -39,7 +40,7 @@ pub trait Sharing: Sealed + Drop {
         ensures { SendsHeld IsFile size W.contents events.now result writer.old writer.new };
 }
 
-/// Equal scalars share an object, and each collection has one of its own.
+/// Equal scalars share an object, and each collection has an object of its own.
 #[derive(Drop)]
 pub struct EqualScalars;
 

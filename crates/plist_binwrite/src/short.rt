@@ -1,14 +1,15 @@
-//! Short strings and short data, whose bytes lie in the value itself.
+//! Short strings and short data, whose bytes are stored in the value itself.
 
 ghost use Rattle.std.specs.Prelude.{◌≡◌, IfSome};
 
 use std::marker::Model;
 use std::str;
 
-// The most bytes of a short string or of short data. So a stored scalar has 32 bytes.
+// The greatest length in bytes of a short string or of short data. With it, a `StoredScalar` has 32
+// bytes.
 const SHORT: usize = 30;
 
-/// At most 30 bytes.
+/// A list of at most 30 bytes.
 #[derive(Drop)]
 pub struct ShortBytes {
     len: u8,
@@ -26,7 +27,7 @@ impl Model for ShortBytes {
 }
 
 impl ShortBytes {
-    /// Copies these bytes, if there are at most 30.
+    /// Copies these bytes, or returns `None` if there are more than 30.
     #[inline(always)]
     pub fn new(content: &[u8]) -> Option<ShortBytes>
         ensures { IfSome result (λ short. short ≡ content.now) }
@@ -69,7 +70,7 @@ impl Model for ShortText {
 }
 
 impl ShortText {
-    /// Copies this string, if it has at most 30 bytes.
+    /// Copies this string, or returns `None` if it has more than 30 bytes.
     #[inline(always)]
     pub fn new(text: &str) -> Option<ShortText>
         ensures { IfSome result (λ short. short ≡ text.now) }

@@ -1,5 +1,5 @@
-//! The number of bytes of the objects and of the file, before any byte is written. A size of 2^64
-//! or more is `None`.
+//! Computes the sizes of the objects and of the file in bytes, before any byte is written. A size
+//! of 2^64 or more is `None`.
 
 ghost use Rattle.std.specs.Prelude.{◌≡◌, ◌+◌, ◌^◌, ◌<◌, ◌≤◌, ℕ, length, true, false, IfOk, IfSome, None, OnOk, Some};
 ghost use Rattle.plist_base.specs.Outcomes.{OnlyMemory};
@@ -20,7 +20,7 @@ use crate::numbering::Numbering;
 use crate::widths::offset_width;
 use plist_base::Error;
 
-/// Counts a half of the children of the collection that begins at an index.
+/// Returns the number of children in one half of the collection that begins at an index.
 pub fn count_children(events: &EventTable<'_>, index: usize, half: Half) -> usize
     requires { index < length (plain_events events.now) }
     ensures { result ≡ length (half_of (plain_events events.now) half index) }
@@ -28,8 +28,8 @@ pub fn count_children(events: &EventTable<'_>, index: usize, half: Half) -> usiz
     Children::new(events, index, half).count()
 }
 
-// Returns the size of the object of the tree that begins at an index, if references have this
-// width.
+// Returns the size of the object of the tree that begins at an index, if each reference has `width`
+// bytes.
 fn size_of_object(events: &EventTable<'_>, width: usize, index: usize) -> Option<u64>
     requires index { index < length (plain_events events.now) }
     ensures size { IsSizeOrNoneAt events.now width index result }
@@ -51,19 +51,21 @@ fn size_of_object(events: &EventTable<'_>, width: usize, index: usize) -> Option
     }
 }
 
-// Returns an offset, or 0 for `None`.
+// Returns an offset, or 0 for `None`. The 0 is never written, because a file with an offset of 2^64
+// or more is too large.
 fn place_or_none(place: Option<u64>) -> usize
     ensures { IfSome place (λ number. result ≡ number) }
 {
     place.unwrap_or(0) as usize
 }
 
-/// Sets the offset of each object, in this order from the end of the magic on. Returns the offset
-/// after all of them, which is that of the offset table.
+/// Sets the byte offset of each object, in this order. The first object follows the magic, which
+/// has 8 bytes. Returns the offset after the last object, which is that of the offset table, or
+/// `None` if it is 2^64 or more; the offsets that were set are unspecified then.
 ///
 /// # Errors
 ///
-/// `OutOfMemory`, without an offset.
+/// `OutOfMemory`, without an offset, if an allocation fails.
 pub fn place_objects(
     given: &Classed<'_, '_>,
     numbering: &Numbering,
@@ -106,8 +108,8 @@ fn has_size(table: u64, count: u64) -> bool
     size_of_file(table, count).is_some()
 }
 
-/// Returns the offset of the offset table of a file with this many objects, or `None` if the file
-/// would have 2^64 bytes or more. It allocates no memory.
+/// Returns `table`, which is the offset of the offset table, if a file with `count` objects has
+/// less than 2^64 bytes, and otherwise `None`. The call allocates no memory.
 pub fn check_size(table: Option<u64>, count: u64) -> Option<u64>
     ensures table { IfSome result (λ place. table ≡ Some place) }
     ensures fits { IfSome result (λ place. FitsWith place count) }

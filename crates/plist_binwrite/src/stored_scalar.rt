@@ -1,4 +1,4 @@
-//! Scalars, as a table stores them and as it lends them.
+//! Scalars as a table stores them, and as references to what it stores.
 
 ghost use Rattle.std.specs.Prelude.{◌≡◌, IfOk};
 ghost use Rattle.std.specs.Cow.{cow_slice_items, cow_str_bytes};
@@ -11,7 +11,7 @@ use std::alloc::{AllocError, Global};
 use std::borrow::{CowSlice, CowStr};
 use std::hash::{Hash, Hasher};
 
-/// A scalar with its string or data borrowed.
+/// A scalar whose string or data is borrowed.
 #[derive(Clone, Copy)]
 pub enum ScalarRef<'a> {
     /// A Boolean.
@@ -30,8 +30,8 @@ pub enum ScalarRef<'a> {
     Uid(Uid),
 }
 
-/// A scalar of a table. A short string and short data lie in the value itself, and a long one may
-/// be borrowed.
+/// A scalar that a table stores. A string or data of at most 30 bytes is stored in the value
+/// itself. Longer ones are borrowed or owned.
 ///
 /// Two scalars are equal if they are of one kind and have equal contents.
 #[derive(Drop)]
@@ -46,22 +46,22 @@ pub enum StoredScalar<'e> {
     Real(RealBits),
     /// The number of an object in a keyed archive.
     Uid(Uid),
-    /// A short string.
+    /// A string of at most 30 bytes.
     ShortString(ShortText),
-    /// A borrowed string.
+    /// A borrowed string of more than 30 bytes, or a string to compare with.
     BorrowedString(&'e str),
-    /// A string.
+    /// An owned string of more than 30 bytes.
     OwnedString(String),
-    /// Short data.
+    /// Data of at most 30 bytes.
     ShortData(ShortBytes),
-    /// Borrowed data.
+    /// Borrowed data of more than 30 bytes, or data to compare with.
     BorrowedData(&'e [u8]),
-    /// Data.
+    /// Owned data of more than 30 bytes.
     OwnedData(Vec<u8>),
 }
 
 impl<'e> StoredScalar<'e> {
-    /// Stores a string. A long one stays borrowed if it is.
+    /// Stores a string. A string of more than 30 bytes remains borrowed or owned, as it was.
     pub fn of_text(text: CowStr<'e>) -> StoredScalar<'e>
         ensures { scalar_of result ≡ StringScalar (cow_str_bytes text.entry) }
     {
@@ -74,7 +74,7 @@ impl<'e> StoredScalar<'e> {
         }
     }
 
-    /// Stores data. Long data stays borrowed if it is.
+    /// Stores data. Data of more than 30 bytes remains borrowed or owned, as it was.
     pub fn of_data(bytes: CowSlice<'e, u8>) -> StoredScalar<'e>
         ensures { scalar_of result ≡ Data (cow_slice_items bytes.entry) }
     {
@@ -87,7 +87,7 @@ impl<'e> StoredScalar<'e> {
         }
     }
 
-    /// Returns the scalar with its string or data borrowed.
+    /// Returns the scalar as a reference, which borrows its string or data.
     #[inline(always)]
     pub fn get(&self) -> ScalarRef<'_>
         ensures { scalar_of_ref result ≡ scalar_of self.now }
@@ -109,7 +109,8 @@ impl<'e> StoredScalar<'e> {
 }
 
 impl StoredScalar<'static> {
-    /// Stores a copy of a string. A long one that is owned isn't copied.
+    /// Stores a copy of a string, or fails if an allocation fails. An owned string of more than 30
+    /// bytes isn't copied.
     pub fn copy_of_text(
         alloc: Global,
         text: CowStr<'_>,
@@ -124,7 +125,8 @@ impl StoredScalar<'static> {
         Ok(StoredScalar::OwnedString(owned))
     }
 
-    /// Stores a copy of data. Long data that is owned isn't copied.
+    /// Stores a copy of data, or fails if an allocation fails. Owned data of more than 30 bytes
+    /// isn't copied.
     pub fn copy_of_data(
         alloc: Global,
         bytes: CowSlice<'_, u8>,
@@ -214,7 +216,7 @@ impl Eq for StoredScalar<'_> {
     ghost laws = { on_equiv scalar_of scalars_equiv };
 }
 
-/// Writes what an [`Event`] of the scalar writes.
+/// Writes to the hasher what an [`Event`] of the scalar writes.
 impl Hash for StoredScalar<'_> {
     ghost use Rattle.plist_base.specs.Scalars.{writes_of_scalar};
     ghost use Rattle.plist_binwrite.specs.inner.StoredEquality.{equal_stored_write_same};

@@ -1,4 +1,4 @@
-//! The bytes of strings: ASCII, or UTF-16.
+//! Puts strings, in ASCII or in UTF-16.
 
 ghost use Rattle.std.specs.Prelude.{◌≡◌, Ok, true, false, length};
 ghost use Rattle.std.specs.Char.Escape.{encode_utf16};
@@ -9,7 +9,7 @@ use crate::forms::{CountedKind, put_length, put_number, try_put_number};
 use plist_base::{Error, Sink};
 use std::io::Write;
 
-// Puts the UTF-16 units of a character.
+// Puts the UTF-16 units of a character, each in two bytes in big-endian order.
 fn put_char<W: Write>(sink: &mut Sink<'_, W>, c: char) -> Result<(), Error>
     ensures { Puts W.contents sink.old (char_units c) result sink.new }
 {
@@ -22,7 +22,8 @@ fn put_char<W: Write>(sink: &mut Sink<'_, W>, c: char) -> Result<(), Error>
     put_number(sink, 2, 0xdc00 + above % 0x400)
 }
 
-// Puts a character of one unit if it fits into the buffer of the sink, and returns whether it did.
+// Puts a character and returns `true`, if it has a single UTF-16 unit, which fits into the buffer
+// of the sink. Otherwise puts nothing and returns `false`.
 #[inline(always)]
 fn try_put_char<W: Write>(sink: &mut Sink<'_, W>, c: char) -> bool
     ensures put { result ≡ true → PutsBytes W.contents sink.old (char_units c) (Ok tt) sink.new }
@@ -64,7 +65,7 @@ pub fn count_units(text: &str) -> usize
     count
 }
 
-/// Returns whether each byte is ASCII.
+/// Returns whether each byte of a string is ASCII.
 pub fn is_ascii_text(text: &str) -> bool
     ensures value { result ≡ is_ascii_text text.now }
 {
@@ -92,7 +93,8 @@ fn put_wide<W: Write>(sink: &mut Sink<'_, W>, text: &str) -> Result<(), Error>
     put_units(sink, text)
 }
 
-/// Puts a string: its bytes if all are ASCII, and else its UTF-16 units.
+/// Puts a string: its bytes if all of them are ASCII, and otherwise its UTF-16 units. An error is
+/// that of [`Sink::put`].
 pub fn put_text<W: Write>(sink: &mut Sink<'_, W>, text: &str) -> Result<(), Error>
     ensures { Puts W.contents sink.old (text_form text.now) result sink.new }
 {

@@ -1,11 +1,10 @@
-//! How many bytes the numbers of a file have: an integer, a reference, or an offset in the offset
-//! table.
+//! The widths in bytes of a file's integers, references, and offsets in the offset table.
 
 ghost use Rattle.std.specs.Prelude.{◌≡◌, ◌≤◌, ◌<◌, ◌^◌};
 ghost use Rattle.plist_binwrite.specs.Forms.{least_width};
 ghost use Rattle.plist_binwrite.specs.Widths.{reference_width, offset_width};
 
-/// Returns the least of 1, 2, 4 and 8 bytes into which a number fits.
+/// Returns the smallest of the widths 1, 2, 4 and 8 into which a number fits, in bytes.
 #[tactic(auto, using(crate::proofs::LeastWidths::widths))]
 pub fn least_width(number: u64) -> usize
     ensures value { result ≡ least_width number }
@@ -23,7 +22,7 @@ pub fn least_width(number: u64) -> usize
     }
 }
 
-/// Returns the number of bytes in a reference among this many objects.
+/// Returns the width in bytes of a reference in a file with this many objects.
 pub fn reference_width(count: u64) -> usize
     ensures value { result ≡ reference_width count }
     ensures range { (1 ≤ result) × (result ≤ 8) }
@@ -32,7 +31,8 @@ pub fn reference_width(count: u64) -> usize
     least_width(count.saturating_sub(1))
 }
 
-/// Returns the number of bytes in an offset, if the offset table lies at `table`.
+/// Returns the width in bytes of an offset in the offset table, if the table lies at the byte
+/// offset `table`.
 pub fn offset_width(table: u64) -> usize
     ensures value { result ≡ offset_width table }
     ensures range { (1 ≤ result) × (result ≤ 8) }

@@ -1,4 +1,5 @@
--- If equal collections of classes have one class, so have equal trees.
+-- If collections whose children have the same classes have the same class, then equal trees have
+-- the same class.
 use Rattle.std.proofs.Common.{◌≡◌, ℕ, ◌+◌, List, ◌∷◌, refl, ap}
 use Rattle.plist_base.specs.Events.{PlainEvent}
 use Rattle.plist_base.specs.Trees.{Tree, Leaf, Array, Dictionary, Trees, NoTrees, TreeAnd, Members, NoMembers, MemberAnd}

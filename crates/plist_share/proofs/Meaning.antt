@@ -1,4 +1,4 @@
--- The one tree that a number stands for in a table of objects.
+-- The one tree that an object number represents in a table of objects.
 use Rattle.std.proofs.Common.{◌≡◌, ℕ, ◌<◌, List, [], ◌∷◌, length, Some, refl, ap}
 use Rattle.std.specs.Prelude.{slice_get, ⊤}
 use Rattle.std.specs.List.{AllByRecursion}

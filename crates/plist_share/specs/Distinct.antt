@@ -1,5 +1,5 @@
--- How many different subtrees a tree has: its scalars, its keys as strings, and its collections, in
--- which order and repeated keys count.
+-- The number of different subtrees of a tree. The subtrees are the scalars, the keys as strings,
+-- and the collections. Two collections that differ only in order or in repeated keys are different.
 use Rattle.std.specs.Prelude.{◌≡◌, ℕ, ◌≤◌, Bool, true, false, ◌&&◌, List, [], ◌∷◌, ◌++◌, length, map, Ok}
 use Rattle.std.specs.Set.{distinct_count}
 use Rattle.std.specs.Str.{bytes_eq}
@@ -18,11 +18,13 @@ abbrev mutual
   tree_eq (Dictionary ms) (Dictionary ns) = members_eq ms ns
   tree_eq t u = false
 
+  -- equality of the items of arrays
   pub trees_eq : Trees → Trees → Bool
   trees_eq NoTrees NoTrees = true
   trees_eq (TreeAnd t ts) (TreeAnd u us) = tree_eq t u && trees_eq ts us
   trees_eq ts us = false
 
+  -- equality of the pairs of dictionaries
   pub members_eq : Members → Members → Bool
   members_eq NoMembers NoMembers = true
   members_eq (MemberAnd k t ms) (MemberAnd l u ns) =
@@ -36,16 +38,18 @@ abbrev mutual
   subtrees (Array items) = Array items ∷ subtrees_of_items items
   subtrees (Dictionary pairs) = Dictionary pairs ∷ subtrees_of_pairs pairs
 
+  -- the subtrees of all items
   pub subtrees_of_items : Trees → List Tree
   subtrees_of_items NoTrees = []
   subtrees_of_items (TreeAnd tree items) = subtrees tree ++ subtrees_of_items items
 
+  -- the subtrees of all values, and each key as a string
   pub subtrees_of_pairs : Members → List Tree
   subtrees_of_pairs NoMembers = []
   subtrees_of_pairs (MemberAnd key tree pairs) =
       Leaf (trees.String key) ∷ (subtrees tree ++ subtrees_of_pairs pairs)
 
--- how many of them are different
+-- the number of different subtrees of a tree
 abbrev pub distinct_subtrees : Tree → ℕ
 distinct_subtrees tree = distinct_count tree_eq (subtrees tree)
 

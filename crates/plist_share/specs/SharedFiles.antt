@@ -1,5 +1,5 @@
 -- What the sharing writer writes for a tree: a file of it with one object for each different
--- subtree. No file of the same events has fewer objects, whatever it shares.
+-- subtree. No file with the same events has fewer objects.
 use Rattle.std.specs.Prelude.{◌≡◌, ℕ, ◌^◌, ◌<◌, List, length}
 use Rattle.plist_base.specs.Trees.{Tree}
 use Rattle.plist_binwrite.specs.ObjectCounts.{HasObjects}
@@ -7,7 +7,7 @@ use Rattle.plist_binwrite.specs.Written.{IsWrittenAs}
 use Rattle.plist_share.specs.Distinct.{distinct_subtrees, IsLeastOfAll}
 use Rattle.plist_share.specs.SharedSizes.{shared_file_size}
 
--- what is written for a tree
+-- the bytes are such a file of the tree
 pub record IsSharedFileOf (tree : Tree) (file : List ℕ) : Type 0 where
   pub written : IsWrittenAs tree file
   pub count : HasObjects file (distinct_subtrees tree)

@@ -1,2 +1,2 @@
--- What bodies and proofs use, but no public clause.
+-- The definitions that bodies and proofs use, but no public clause does.
 pub mod Nodes

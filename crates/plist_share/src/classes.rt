@@ -18,25 +18,25 @@ use plist_binwrite::compact_numbers::Numbers;
 use plist_binwrite::kinds::{EntryKind, push_index};
 use std::alloc::{AllocError, Global};
 
-/// The class of each event by its index, and a number above all classes.
+/// The class of each event, and an exclusive upper bound of the classes.
 #[derive(Drop)]
 pub struct TreeClasses {
-    /// The class of each event by its index.
+    /// The class of each event, at the event's index.
     pub of: Numbers,
-    /// A number above all classes.
+    /// An exclusive upper bound of the classes.
     pub count: usize,
 }
 
-/// A collection by its kind and the classes of its children.
+/// A collection, described by its kind and the classes of its children.
 #[derive(PartialEq, Eq, Hash, Drop)]
 pub struct Collection {
-    /// Whether it is a dictionary, and not an array.
+    /// Whether it is a dictionary; if not, it is an array.
     pub is_dictionary: bool,
-    /// The classes of its children, a dictionary's keys before its values.
+    /// The classes of its children. The keys of a dictionary precede its values.
     pub children: Vec<usize>,
 }
 
-// Returns the index of a collection: that of an equal one that was inserted before, or a new one.
+// Returns the index of a collection in the set, and inserts it if the set contains no equal one.
 fn index_of(seen: &mut IndexSet<Collection>, collection: Collection) -> Result<usize, Error>
     // Result.
     ensures stored { IfOk result (IsNodeAt seen.new.keys collection) }
@@ -51,7 +51,7 @@ fn index_of(seen: &mut IndexSet<Collection>, collection: Collection) -> Result<u
     Ok(index)
 }
 
-// Appends the classes of a half of the children of the collection that begins at an index.
+// Appends the classes of one half of the children of the collection that begins at an index.
 fn push_half(
     found: &mut Vec<usize>,
     events: &EventTable<'_>,
@@ -100,8 +100,8 @@ fn begins_dictionary(events: &EventTable<'_>, index: usize) -> bool
     }
 }
 
-// Returns the class of the collection that begins at an index. The classes of collections start at
-// the base, after those of scalars.
+// Returns the class of the collection that begins at an index. It is at least `base`, which is
+// above the classes of all scalars.
 fn class_of_collection(
     alloc: Global,
     events: &EventTable<'_>,
@@ -160,7 +160,8 @@ fn give_class(
     }
 }
 
-// Sets the classes of the trees that begin among these events, from the inside outwards.
+// Sets the class of each tree among these events. The walk goes backwards, so that the children of
+// a collection have their classes before that of the collection is found.
 fn give_classes(
     alloc: Global,
     events: &EventTable<'_>,
@@ -189,7 +190,7 @@ fn give_classes(
     }
 }
 
-// Returns a class for each event: equal scalars have one class, and each other event has its own.
+// Returns a class for each event: equal scalars share a class, and any other event has its own.
 fn event_classes(alloc: Global, events: &EventTable<'_>) -> Result<TreeClasses, Error>
     ensures long { IfOk result (λ r. length r.of ≡ length (plain_events events.now)) }
     ensures classes { IfOk result (AreEventClasses events.now) }
@@ -209,8 +210,8 @@ fn event_classes(alloc: Global, events: &EventTable<'_>) -> Result<TreeClasses, 
     })
 }
 
-// Sets the classes of the trees, given that each event has the class of its scalar or one of its
-// own.
+// Sets the class of each tree. Before the call, equal scalars share a class, and any other event
+// has a class of its own.
 fn give_trees(alloc: Global, events: &EventTable<'_>, found: &mut TreeClasses) -> Result<(), Error>
     requires long { length found.old.of ≡ length (plain_events events.now) }
     requires classes { AreEventClasses events.now found.old }
@@ -221,12 +222,12 @@ fn give_trees(alloc: Global, events: &EventTable<'_>, found: &mut TreeClasses) -
     give_classes(alloc, events, found, &mut seen)
 }
 
-/// Returns the classes of the trees that begin among the events of a tree. They are found from the
-/// inside outwards.
+/// Returns a class for each event. Two events at which trees begin have the same class if and only
+/// if the trees are equal.
 ///
 /// # Errors
 ///
-/// `OutOfMemory`, without an offset.
+/// `OutOfMemory`, without an offset, if an allocation fails.
 pub fn tree_classes(alloc: Global, events: &EventTable<'_>) -> Result<TreeClasses, Error>
     // Result.
     ensures objects { IfOk result (λ r. AreClasses (plain_events events.now) (nth_number r.of)) }

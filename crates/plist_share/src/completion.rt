@@ -1,4 +1,4 @@
-//! The end of a property list: its shared file is planned and written.
+//! Plans and writes the shared file of a whole property list.
 
 ghost use Rattle.plist_share.specs.SharedFiles.{IsSharedFileOf};
 ghost use Rattle.plist_share.specs.SharedSizes.{shared_file_size};
@@ -10,7 +10,7 @@ use plist_binwrite::{EventTable, Sharing, complete_by_class};
 use std::alloc::Global;
 use std::io::Write;
 
-/// Equal trees share an object: scalars, arrays and dictionaries.
+/// Equal trees share an object, whether they are scalars, arrays or dictionaries.
 #[derive(Drop)]
 pub struct EqualTrees;
 

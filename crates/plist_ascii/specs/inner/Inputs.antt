@@ -31,7 +31,7 @@ module _ {R : Type 0} (failures : R → Option ℕ) (old : Input R) where
   abbrev pub ReadFailed : Input R → Type 0
   ReadFailed new = RisesIfCounted (failures old.inner) (failures new.inner) × IsSome new.failure
 
-  -- a read failed if this is the fault
+  -- a read failed if the fault is `Io`, and otherwise the count of failures is unchanged
   abbrev pub CountsFault : TokenFault → Input R → Type 0
   CountsFault fault.Io new = ReadFailed new
   CountsFault other new = failures new.inner ≡ failures old.inner
@@ -61,8 +61,8 @@ AsksNoMemory answer = IfErr answer (λ f. f ≡ fault.OutOfMemory → ⊥)
 
 -- ---- the bytes at hand
 
--- the byte that was looked at, or else the buffered bytes, as many as may be taken; none after the
--- input has ended
+-- the byte that was looked at, or else the buffered bytes, up to a total of 2^64 - 1 bytes taken;
+-- no bytes after the input has ended
 unfoldable pub hand_of : (held : List ℕ) → (ended : Bool) → (peeked : Option ℕ) → (taken : ℕ)
     → List ℕ
 hand_of held true peeked taken = []
@@ -84,7 +84,7 @@ TakesHand held old new =
 
 -- ---- the number of bytes taken
 
--- if there is a result, and it isn't `None`, this is true of it
+-- if the call returned `Ok(Some(..))`, `P` is true of the value
 abbrev pub IfCame : {A : Type 0} → Result (Option A) TokenFault → (A → Type 0) → Type 0
 IfCame answer P = IfOk answer (λ came. IfSome came P)
 
@@ -111,16 +111,17 @@ StopsAtBracket new event = IfBracket (event_of event) (new.peeked ≡ None)
 
 -- ---- what is at the front
 
--- a bare string that ends at such a stop
+-- the bare string whose first byte is `byte`, and which ends before such a stop
 abbrev pub bare_until : Stop → ℕ → List ℕ → Token
 bare_until stop byte = bare (stops stop) byte
 
--- the token that a byte begins, if a bare string ends at such a stop
+-- the token that a byte begins, if a bare string ends before such a stop
 abbrev pub token_until : Stop → ℕ → List ℕ → Token
 token_until stop byte = token_by (stops stop) (lead_of byte) byte
 
 module _ {R : Type 0} (known : R → Option (List ℕ)) where
-  -- a fault in the bytes leaves those that remain; after any other fault nothing more is taken
+  -- after a fault in the bytes the remaining bytes are unchanged, and after any other fault the
+  -- input has ended
   abbrev pub EndsInput : TokenFault → Input R → Input R → Type 0
   EndsInput f old new = MatchOption (kind_in_bytes f)
       ((new.ended ≡ true) × (unread known new ≡ Some []))
@@ -131,17 +132,17 @@ module _ {R : Type 0} (known : R → Option (List ℕ)) where
   StartsWithHand held input =
       IfKnown (unread known input) (λ xs. (rest : List ℕ) × (xs ≡ hand held input ++ rest))
 
-  -- the first bytes were taken
+  -- the first `count` bytes were taken
   abbrev pub DropsFirst : (count : ℕ) → Input R → Input R → Type 0
   DropsFirst count old new =
       IfKnown (unread known old) (λ xs. unread known new ≡ Some (drop count xs))
 
-  -- the byte is the first of those that remain, if any do, and isn't taken
+  -- the byte is the first of those that remain, or `None` if none do, and wasn't taken
   abbrev pub Looks : Input R → Option ℕ → Input R → Type 0
   Looks old byte new =
       IfKnown (unread known old) (λ xs. (unread known new ≡ Some xs) × (byte ≡ first xs))
 
-  -- nothing remains
+  -- no bytes remain, and none were taken
   abbrev pub HasNothingLeft : Input R → Input R → Type 0
   HasNothingLeft old new =
       IfKnown (unread known old) (λ xs. (unread known new ≡ Some xs) × (xs ≡ []))
@@ -151,7 +152,7 @@ module _ {R : Type 0} (known : R → Option (List ℕ)) where
   TakesNext old (Some byte) new = FirstIsTaken (unread known old) byte (unread known new)
   TakesNext old None new = HasNothingLeft old new
 
-  -- this byte was taken, or isn't the first
+  -- this byte was taken, or the next byte isn't this one
   abbrev pub TakesIf : ℕ → Input R → (is : Bool) → Input R → Type 0
   TakesIf byte old true new = FirstIsTaken (unread known old) byte (unread known new)
   TakesIf byte old false new =
@@ -163,23 +164,23 @@ module _ {R : Type 0} (known : R → Option (List ℕ)) where
   IsAtStop stop old new = IfKnown (unread known old)
       (λ xs. IfKnown (unread known new) (λ ys. run (stops stop) ys ≡ 0))
 
-  -- some of the run was taken, and follows these bytes in the text
+  -- a part of the run was taken, and follows the bytes `front` in the text
   abbrev pub AddsPart : Stop → Input R → (front : List ℕ) → Input R → (text : Vec ℕ Global) → Type 0
   AddsPart stop old front new text = IfKnown (unread known old)
       (TakesPart (stops stop) old.taken front (unread known new) new.taken text.items)
 
-  -- some of the run was taken
+  -- a part of the run was taken
   abbrev pub SkipsPart : Stop → Input R → Input R → Type 0
   SkipsPart stop old new = IfKnown (unread known old) (λ xs. (part : List ℕ)
       × TakesPart (stops stop) old.taken [] (unread known new) new.taken part xs)
 
-  -- the run was taken
+  -- the whole run was taken
   abbrev pub SkipsRun : Stop → Input R → Input R → Type 0
   SkipsRun stop old new = IfKnown (unread known old) (λ xs.
       (unread known new ≡ Some (drop (run (stops stop) xs) xs))
       × (new.taken ≡ old.taken + run (stops stop) xs))
 
-  -- the run was taken, and the byte after it, if there is one
+  -- the whole run was taken, and the byte after it, if there is one
   abbrev pub TakesPast : Stop → Input R → Option ℕ → Input R → Type 0
   TakesPast stop old (Some byte) new = IfKnown (unread known old) (λ xs.
       let n = run (stops stop) xs in (ys : List ℕ) × (drop n xs ≡ byte ∷ ys)
@@ -188,7 +189,7 @@ module _ {R : Type 0} (known : R → Option (List ℕ)) where
       let n = run (stops stop) xs in (drop n xs ≡ []) × (unread known new ≡ Some (drop n xs))
       × (new.taken ≡ old.taken + n))
 
-  -- the run was taken, and follows these bytes in the text
+  -- the whole run was taken, and follows the bytes `front` in the text
   abbrev pub AddsRun : Stop → Input R → (front : List ℕ) → Input R → (text : Vec ℕ Global) → Type 0
   AddsRun stop old front new text = IfKnown (unread known old) (λ xs.
       (text.items ≡ front ++ take (run (stops stop) xs) xs)
@@ -208,19 +209,20 @@ module _ {R : Type 0} (known : R → Option (List ℕ)) where
       × (part : List ℕ) × Parts quote xs closed n part × (longer.items ≡ text.items ++ part)
       × (unread known new ≡ Some (drop n xs)) × (new.taken ≡ old.taken + n))
 
-  -- a fault in the bytes is that the string isn't closed, and nothing remains
+  -- the fault, if it is one in the bytes, is that the string isn't closed, and no bytes remain
   abbrev pub IsUnclosedText : Input R → Input R → TokenFault → Type 0
   IsUnclosedText old new f =
       IfSome (kind_in_bytes f) (λ kind. (kind ≡ UnclosedString) × HasNothingLeft old new)
 
-  -- a fault in the bytes is one of n bytes, which were taken
+  -- the fault, if it is one in the bytes, is that of the first n bytes, which were taken
   abbrev pub FailsAfter : (fails : List ℕ → FaultKind → ℕ → Type 0) → Input R → Input R
       → TokenFault → Type 0
   FailsAfter fails old new f = (old.taken ≤ new.taken)
       × IfSome (kind_in_bytes f) (λ kind. IfKnown (unread known old) (λ xs. (n : ℕ)
       × fails xs kind n × (unread known new ≡ Some (drop n xs)) × (new.taken ≡ old.taken + n)))
 
-  -- what is at the front was taken, and its meaning or fault is the result, seen by view
+  -- what is at the front was taken, and its meaning is the value of the result, mapped by `view`,
+  -- or its fault is the error
   abbrev pub GivesBy : {X A : Type 0} → (view : X → A) → (List ℕ → Taken A) → Input R
       → Result X TokenFault → Input R → Type 0
   GivesBy view front old answer new =

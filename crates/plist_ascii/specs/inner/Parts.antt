@@ -1,4 +1,5 @@
--- What has been taken of a text: its characters, escapes, and parts that end at one.
+-- What has been taken of a string: its characters, its escapes, and parts that end with an escape
+-- or the closing quote.
 use Rattle.std.specs.Prelude.{◌≡◌, ℕ, ◌<◌, ◌==◌, ◌||◌, Bool, true, false, List, [], ◌∷◌, drop, Option, None, Some, Result, Ok, Err, MatchOption, encode_utf8, string_bytes}
 use Rattle.std.specs.Char.{is_digit, digit_value}
 use Rattle.std.specs.Str.{is_utf8}
@@ -31,11 +32,11 @@ abbrev pub IsDigitOf : (byte radix value : ℕ) → Type 0
 IsDigitOf byte radix value =
     (is_digit byte radix ≡ true) × (value ≡ digit_value byte) × (value < radix)
 
--- a sign, or a decimal digit
+-- is the byte a sign or a decimal digit?
 abbrev pub begins_number : ℕ → Bool
 begins_number c = (c == 43) || ((c == 45) || is_digit c 10)
 
--- the unit is no surrogate, and this character
+-- the unit isn't a surrogate, and is the code of this character
 abbrev pub IsCharOfUnit : (unit c : ℕ) → Type 0
 IsCharOfUnit unit c = (is_surrogate unit ≡ false) × (c ≡ unit)
 
@@ -44,7 +45,7 @@ abbrev pub IsCharOr : FaultKind → Result (List ℕ) FaultKind → Option ℕ �
 IsCharOr fault outcome char =
     MatchOption char (outcome ≡ Err fault) (λ c. outcome ≡ Ok (encode_utf8 c))
 
--- Of these bytes n were taken, which stand for `part`. After them the string is closed, or goes on.
+-- the first n bytes are taken and stand for `part`; after them the string is closed, or continues
 abbrev pub Parts : (quote : ℕ) → List ℕ → (closed : Bool) → ℕ → List ℕ → Type 0
 Parts quote bytes true n part =
     (more : List ℕ → Taken (List ℕ)) → quoted_by quote more bytes ≡ taken n (Ok part)
@@ -52,12 +53,12 @@ Parts quote bytes false n part =
     (more : List ℕ → Taken (List ℕ)) → quoted_by quote more bytes
     ≡ piece_then n part (more (drop n bytes))
 
--- n bytes were taken, and end with a fault
+-- the first n bytes are taken, and end with a fault
 abbrev pub PartFails : (quote : ℕ) → List ℕ → FaultKind → ℕ → Type 0
 PartFails quote bytes kind n =
     (more : List ℕ → Taken (List ℕ)) → quoted_by quote more bytes ≡ taken n (Err kind)
 
--- a run is followed by the closing quote, or by an escape that stands for a piece
+-- after a run, n bytes are taken: the closing quote, or an escape that stands for `piece`
 abbrev pub EndsRun : (quote : ℕ) → List ℕ → Option Escaped → ℕ → Type 0
 EndsRun quote bytes None n =
     (more : List ℕ → Taken (List ℕ)) → run_end quote more bytes ≡ taken n (Ok [])
@@ -65,7 +66,7 @@ EndsRun quote bytes (Some piece) n =
     (more : List ℕ → Taken (List ℕ)) → run_end quote more bytes
     ≡ piece_then n (escaped_bytes piece) (more (drop n bytes))
 
--- a run is followed by a fault
+-- after a run, n bytes are taken, which have a fault
 abbrev pub EndFails : (quote : ℕ) → List ℕ → FaultKind → ℕ → Type 0
 EndFails quote bytes kind n =
     (more : List ℕ → Taken (List ℕ)) → run_end quote more bytes ≡ taken n (Err kind)

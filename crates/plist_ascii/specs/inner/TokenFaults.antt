@@ -1,4 +1,4 @@
--- Which errors the faults of tokens become.
+-- The errors that the faults of tokens become.
 use Rattle.std.specs.Prelude.{◌≡◌, ℕ, Option, None, Some, Result, Ok, Err, MatchResult}
 use Rattle.std.specs.Option.{option_map}
 use Rattle.plist_base.specs.declared.event.Event.{Event}
@@ -8,7 +8,7 @@ use Rattle.plist_ascii.specs.Kinds.{IsTextEvent}
 use Rattle.plist_ascii.specs.declared.fault.TokenFault.{TokenFault}
 use Rattle.plist_ascii.specs.declared.fault.TokenFault.TheVariants as fault
 
--- the kind of a fault in the bytes; a failed read and a failed allocation are none
+-- the kind of a fault in the bytes, or `None` if a read or an allocation failed
 abbrev pub kind_in_bytes : TokenFault → Option FaultKind
 kind_in_bytes fault.Io = None
 kind_in_bytes fault.OutOfMemory = None
@@ -18,7 +18,7 @@ kind_in_bytes fault.InvalidUtf8 = Some InvalidUtf8AsciiStream
 kind_in_bytes fault.InvalidOctal = Some InvalidOctalString
 kind_in_bytes fault.InvalidUtf16 = Some InvalidUtf16String
 
--- the error that a fault becomes after this number of bytes
+-- the error that a fault becomes, if `place` bytes were taken
 abbrev pub fault_after : TokenFault → ℕ → Fault
 fault_after fault.Io place = fault_at Io place
 fault_after fault.OutOfMemory place = fault_without_offset OutOfMemory
@@ -28,7 +28,8 @@ fault_after fault.InvalidUtf8 place = fault_at InvalidUtf8AsciiStream place
 fault_after fault.InvalidOctal place = fault_at InvalidOctalString place
 fault_after fault.InvalidUtf16 place = fault_at InvalidUtf16String place
 
--- what a result says of the bytes, seen by view: their meaning or their fault, if it says any
+-- the meaning of the bytes, which is the value of the result mapped by `view`, or their fault;
+-- `None` if a read or an allocation failed
 abbrev pub said : {X A : Type 0} → (view : X → A) → Result X TokenFault
     → Option (Result A FaultKind)
 said view (Ok x) = Some (Ok (view x))

@@ -1,4 +1,4 @@
--- Entries as two lists: of their kinds, and of their numbers.
+-- Entries as two lists, one of their kinds and one of their numbers.
 use Rattle.std.specs.Prelude.{◌≡◌, ℕ, List, [], ◌∷◌, Option, None, Some}
 use Rattle.plist_binwrite.specs.inner.Entries.{entry_at}
 use Rattle.plist_binwrite.specs.declared.entries.EventEntry.{EventEntry}
@@ -20,7 +20,7 @@ number_in (entry.Dictionary behind) = behind
 number_in (entry.Scalar index) = index
 number_in entry.End = 0
 
--- the scalar that an entry refers to
+-- the index of the scalar that an entry refers to, or `None`
 abbrev pub scalar_named : EventEntry → Option ℕ
 scalar_named (entry.Scalar index) = Some index
 scalar_named other = None
@@ -32,12 +32,12 @@ entry_of kind.Dictionary number = entry.Dictionary number
 entry_of kind.Scalar number = entry.Scalar number
 entry_of kind.End number = entry.End
 
--- this number and its kind make up the entry
+-- the entry at an index has this number, or is an end
 abbrev pub IsEntryNumber : List EventEntry → (index number : ℕ) → Type 0
 IsEntryNumber entries index number =
     entry_of (kind_in (entry_at entries index)) number ≡ entry_at entries index
 
--- the entries, one for each index
+-- the entries with these kinds and these numbers
 abbrev pub entries_from : List EntryKind → List ℕ → List EventEntry
 entries_from (k ∷ kinds) (n ∷ numbers) = entry_of k n ∷ entries_from kinds numbers
 entries_from kinds numbers = []

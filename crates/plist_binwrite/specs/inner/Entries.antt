@@ -1,5 +1,4 @@
--- The entries in which events are buffered: the events that they stand for, and what is always true
--- of them.
+-- The entries in which events are buffered: the events that they represent, and their invariants.
 use Rattle.std.specs.Prelude.{◌≡◌, ℕ, ◌+◌, ◌<◌, ◌==◌, Bool, true, false, List, [], ◌∷◌, ◌++◌, length, get_or, set, map, reverse, None, Some, slice_get}
 use Rattle.std.specs.List.{list_any}
 use Rattle.plist_base.specs.Bracketing.{without_length}
@@ -15,11 +14,12 @@ abbrev pub AreDistinct : {K : Type 0} → List K → Type 0
 AreDistinct {K} keys = (i j : ℕ) (k : K) → slice_get keys i ≡ Some k → slice_get keys j ≡ Some k
     → i ≡ j
 
+-- is the event a scalar?
 abbrev pub is_leaf : PlainEvent → Bool
 is_leaf (ScalarEvent x) = true
 is_leaf event = false
 
--- the entry at an index
+-- the entry at an index, or an end if there is none
 abbrev pub entry_at : List EventEntry → ℕ → EventEntry
 entry_at entries index = get_or entries index entry.End
 
@@ -30,10 +30,11 @@ event_of_entry scalars (entry.Dictionary behind) = StartDictionary None
 event_of_entry scalars (entry.Scalar index) = without_length (get_or scalars index EndCollection)
 event_of_entry scalars entry.End = EndCollection
 
+-- the events of entries, given the different scalars
 abbrev pub events_of_entries : (scalars : List PlainEvent) → List EventEntry → List PlainEvent
 events_of_entries scalars entries = map (event_of_entry scalars) entries
 
--- if the entry refers to a scalar, that is one
+-- if the entry is a scalar's, does its index belong to one of the scalars?
 abbrev pub is_sound : (scalars : List PlainEvent) → EventEntry → Bool
 is_sound scalars (entry.Scalar index) = is_leaf (get_or scalars index EndCollection)
 is_sound scalars other = true
@@ -43,7 +44,7 @@ abbrev pub names : (scalar : ℕ) → EventEntry → Bool
 names scalar (entry.Scalar index) = index == scalar
 names scalar other = false
 
--- is it a start?
+-- is the entry a start?
 abbrev pub is_start : EventEntry → Bool
 is_start (entry.Array behind) = true
 is_start (entry.Dictionary behind) = true
@@ -55,27 +56,28 @@ index_after_entry index (entry.Array behind) = behind
 index_after_entry index (entry.Dictionary behind) = behind
 index_after_entry index other = index + 1
 
+-- the index after the tree that begins at an index
 abbrev pub index_after_at : List EventEntry → (index : ℕ) → ℕ
 index_after_at entries index = index_after_entry index (entry_at entries index)
 
--- a start that is still open has the index after itself
+-- the entry has the index after itself, as a start has while it is open
 abbrev pub IsUnclosed : (index : ℕ) → EventEntry → Type 0
 IsUnclosed index entry = index_after_entry index entry ≡ index + 1
 
--- the entry with this index after its end
+-- the entry with `behind` as the index after its end, if it is a start
 abbrev pub closed_at : EventEntry → ℕ → EventEntry
 closed_at (entry.Array old) behind = entry.Array behind
 closed_at (entry.Dictionary old) behind = entry.Dictionary behind
 closed_at other behind = other
 
--- an end is appended, which closes the start at this index
+-- the entries with an end appended, which closes the start at this index
 abbrev pub ended_at : List EventEntry → (start : ℕ) → List EventEntry
 ended_at entries start =
     set (entries ++ entry.End ∷ []) start
     (closed_at (entry_at (entries ++ entry.End ∷ []) start) (length entries + 1))
 
--- each entry of a scalar refers to one; these are the open starts, the innermost last; and the
--- entries say where trees end
+-- each entry of a scalar refers to a scalar, `unclosed` has the open starts with the innermost
+-- last, and the index after each tree is that of `skip_after`
 pub record AreEntriesOf (scalars : List PlainEvent) (entries : List EventEntry)
     (unclosed : List ℕ) : Type 0 where
   pub sound : (p : ℕ) → p < length entries → is_sound scalars (entry_at entries p) ≡ true
@@ -83,13 +85,13 @@ pub record AreEntriesOf (scalars : List PlainEvent) (entries : List EventEntry)
   pub skips : (p : ℕ) → p < length entries
       → index_after_at entries p ≡ skip_after (events_of_entries scalars entries) p
 
--- what is always true: the scalars differ, and an entry refers to each
+-- the invariant of a table: no two scalars are equal, and an entry refers to each of them
 pub record IsValidTable (scalars : List PlainEvent) (entries : List EventEntry)
     (unclosed : List ℕ) : Type 0 where
   pub apart : AreDistinct scalars
   pub used : (i : ℕ) → i < length scalars → list_any (names i) entries ≡ true
   pub entries_are : AreEntriesOf scalars entries unclosed
 
--- what is always true, for events that are the different scalars
+-- the invariant of a table with these different scalars
 abbrev pub AreValidEntries : List StoredScalar → List EventEntry → (unclosed : List ℕ) → Type 0
 AreValidEntries scalars entries unclosed = IsValidTable (map event_of_scalar scalars) entries unclosed

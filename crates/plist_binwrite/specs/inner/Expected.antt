@@ -35,17 +35,18 @@ expects_in OpenDictionary = Pairs
 abbrev pub expected_inside : List PlainEvent → List Expect
 expected_inside events = map expects_in (open_after events [])
 
+-- the first of the expectations, or `None` if there are none
 abbrev pub innermost : List Expect → Option Expect
 innermost [] = None
 innermost (expect ∷ outer) = Some expect
 
--- all that is expected, given what is next and what the open collections expect
+-- the stack of expectations, given the next one and those of the open collections, innermost first
 abbrev pub all_expected : (next : Option Expect) → (inside : List Expect) → List Expect
 all_expected None inside = []
 all_expected (Some OneValue) inside = OneValue ∷ inside
 all_expected (Some expect) inside = inside
 
--- this is expected next after these events, or nothing is
+-- `next` is expected after these events, and is `None` if nothing can follow them
 pub record ExpectsNext (events : List PlainEvent) (next : Option Expect) : Type 0 where
   pub all : expected_after events ≡ Some (all_expected next (expected_inside events))
   pub first : next ≡ innermost (all_expected next (expected_inside events))

@@ -1,4 +1,4 @@
--- The law of writers, for a call of a writer of files.
+-- Each call of a `FileWriter` satisfies the laws of `Writer`.
 use Rattle.std.proofs.Common.{◌≡◌, ◌⊎◌, inl, inr, ℕ, Bool, true, false, List, [], ◌∷◌, ◌++◌, Option, Ok, Err, MatchBool, ap, ◌∙◌, map}
 use Rattle.std.specs.declared.io.traits.Write.{Ghosts}
 use Rattle.plist_base.specs.Bracketing.{without_length}
@@ -12,7 +12,7 @@ use Rattle.plist_binwrite.specs.declared.sharing.Sharing.{Ghosts as SharingGhost
 use Rattle.plist_binwrite.specs.declared.writer.FileWriter.{FileWriter}
 use Rattle.plist_binwrite.specs.FileWriter.{IsWriterStep, TakesEvent, Completes, Holds, open_events, failed_of}
 
--- a fact by kind implies another one if each of its parts does
+-- a fact that depends on a fault's kind implies another one if each of its cases does
 by_kind : (kind : FaultKind) (a b c d : Type 0) → (a → c) → (b → d) → MatchKind kind a b ⊥
     → MatchKind kind c d ⊥
 by_kind (UnexpectedEventType expected found) a b c d f g h = f h
@@ -22,10 +22,12 @@ by_kind OutOfMemory a b c d f g h = g h
 by_kind PlistTooLarge a b c d f g h = g h
 by_kind kind a b c d f g h = h
 
+-- the case of a Boolean that is false
 match_false : (b : Bool) (x y : Type 0) → b ≡ false → MatchBool b x y → y
 match_false true x y e h = absurd (true≢false e)
 match_false false x y e h = h
 
+-- the case of a Boolean that is true
 match_true : (b : Bool) (x y : Type 0) → b ≡ true → MatchBool b x y → x
 match_true true x y e h = h
 match_true false x y e h = absurd (false≢true e)
@@ -33,6 +35,7 @@ match_true false x y e h = absurd (false≢true e)
 module _ {W S : Type 0} {g : Ghosts W} {h : SharingGhosts S} (IsFile : Tree → List ℕ → Type 0)
     (size : Tree → ℕ) (contents : W → Option (List ℕ)) (before : FileWriter W S g h)
     (event : PlainEvent) where
+  -- after an accepted event, the buffered events are as the law says
   goes_on : (after : FileWriter W S g h)
       → Completes IsFile size contents before event after
       ⊎ Holds IsFile size contents before event after
@@ -42,6 +45,7 @@ module _ {W S : Type 0} {g : Ghosts W} {h : SharingGhosts S} (IsFile : Tree → 
       inr (continue_alike (open_events after) (open_events before ++ event ∷ [])
       (ap (map without_length) h.1 ∙ alike_last (open_events before) event))
 
+  -- what a call of a writer that hasn't failed does satisfies the law
   taken : (answer : Answer) (after : FileWriter W S g h)
       → TakesEvent IsFile size contents before event answer after
       → AnswersByOrder (open_events before) event answer (open_events after) (failed_of after)
@@ -50,12 +54,14 @@ module _ {W S : Type 0} {g : Ghosts W} {h : SharingGhosts S} (IsFile : Tree → 
   taken (Err fault) after t =
       (t.0, by_kind fault.kind _ _ _ _ (λ r. (r.0, r.2)) (λ f. (f.0, f.1)) t.1)
 
+  -- a call of a writer that hasn't failed satisfies the law
   pub takes_law : (answer : Answer) (after : FileWriter W S g h)
       → IsWriterStep IsFile size contents before event answer after → failed_of before ≡ false
       → AnswersByOrder (open_events before) event answer (open_events after) (failed_of after)
       (after ≡ before)
   takes_law answer after t ok = taken answer after (match_false (failed_of before) _ _ ok t)
 
+  -- a writer that has failed returns `WriterFailed` and is unchanged
   pub takes_failed : (answer : Answer) (after : FileWriter W S g h)
       → IsWriterStep IsFile size contents before event answer after → failed_of before ≡ true
       → (answer ≡ Err (fault_without_offset WriterFailed)) × (after ≡ before)

@@ -1,12 +1,12 @@
--- The objects of a file in order, and the part of a file that is laid out.
+-- The order of a file's objects, and the file as far as it is laid out.
 use Rattle.std.specs.Prelude.{◌≡◌, ◌≢◌, ◌↔◌, ℕ, ◌<◌, true, false, eqb, List, ◌++◌, length, get_or}
 use Rattle.std.specs.List.{list_any, IsDistinct}
 use Rattle.plist_format.specs.Container.{magic}
 use Rattle.plist_format.specs.Object.{Object}
 use Rattle.plist_binwrite.specs.Written.{object_table, table_and_trailer}
 
--- some of the numbers below a count in order, without repetition; each of them has a mark that
--- isn't 0
+-- `order` contains numbers below the count, none of them twice, and exactly these have a mark other
+-- than 0
 pub record IsOrder (count : ℕ) (order marks : List ℕ) : Type 0 where
   pub long : length marks ≡ count
   pub distinct : IsDistinct eqb order

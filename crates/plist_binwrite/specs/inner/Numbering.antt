@@ -1,4 +1,4 @@
--- Words for the numbers that buffered events have so far, and for how a call changes them.
+-- The numbers that the objects of buffered events have so far, and how a call changes them.
 use Rattle.std.specs.Prelude.{◌≡◌, ℕ, ◌-◌, ◌^◌, List, length, get_or, replicate}
 use Rattle.std.specs.List.{AllByRecursion}
 use Rattle.plist_binwrite.specs.Children.{half_of}
@@ -11,7 +11,7 @@ use Rattle.plist_binwrite.specs.declared.numbering.Numbering.{Numbering}
 use Rattle.plist_binwrite.specs.inner.Planning.{object_number}
 use Rattle.plist_binwrite.specs.inner.PlansBy.{IsPlan}
 
--- this many numbers, all of which are unknown
+-- a list of `count` marks, which say that a number isn't known yet
 abbrev pub AreMarks : (count : ℕ) → List ℕ → Type 0
 AreMarks count numbers = numbers ≡ replicate count (2 ^ 64 - 1)
 
@@ -20,12 +20,12 @@ pub record IsNumberedSoFar (given : Classed) (found : Numbering) : Type 0 where
   pub listed : IsListed given
   pub plan : IsPlan (events_in given) (class_in given) found.by_class found.firsts
 
--- if no item has a number yet, this one gets the first
+-- if no object had a number, the first one is now that of the event at this index
 abbrev pub BeginsAt : (index : ℕ) → (old new : Numbering) → Type 0
 BeginsAt index old new = length old.firsts ≡ 0 → get_or new.firsts 0 0 ≡ index
 
 module _ (given : Classed) where
-  -- what has a number keeps it
+  -- each object that has a number still has one
   abbrev pub KeepsNumbers : (old new : Numbering) → Type 0
   KeepsNumbers old new =
       KeepsNumbering (object_number given old) old.firsts (object_number given new) new.firsts
@@ -39,11 +39,11 @@ module _ (given : Classed) where
   NumbersHalf half index found = AllByRecursion (IsNumbered (object_number given found) found.firsts)
       (half_of (events_in given) half index)
 
-  -- all of its children have
+  -- all children of the collection that begins at this index have numbers
   abbrev pub NumbersChildren : (index : ℕ) → Numbering → Type 0
   NumbersChildren index found = NumbersHalf Keys index found × NumbersHalf Values index found
 
-  -- each item has a number
+  -- each event other than an end has a number
   abbrev pub NumbersAll : Numbering → Type 0
   NumbersAll found = AllNumbered (events_in given) (object_number given found) (length found.firsts)
 

@@ -37,7 +37,8 @@ pub record IsFilePlan (given : Classed) (plan : FilePlan) : Type 0 where
   pub file : (objects : ℕ → Object) → AreObjectsOf given plan objects → (t : Tree)
       → events_in given ≡ lengthless t → IsFileBy (class_in given) t (file_of plan objects)
 
--- the file isn't planned: an allocation failed, or it would have 2^64 bytes or more
+-- the fault if a file can't be planned: an allocation failed, or the file would have 2^64 bytes or
+-- more
 abbrev pub IsPlanFault : Classed → Fault → Type 0
 IsPlanFault given fault = (fault ≡ fault_without_offset OutOfMemory)
     ⊎ ((fault ≡ fault_without_offset PlistTooLarge) × IsOversized (class_in given) (events_in given))

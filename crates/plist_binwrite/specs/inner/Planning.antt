@@ -8,7 +8,7 @@ use Rattle.plist_binwrite.specs.declared.classes.Classed.{Classed}
 use Rattle.plist_binwrite.specs.declared.numbering.Numbering.{Numbering}
 use Rattle.plist_binwrite.specs.inner.PlansBy.{IsPlan, number_by}
 
--- the events are those of a tree, and its objects have these numbers by their classes
+-- the events are those of a tree, and each of its objects has the number of its class
 pub record IsPlanned (es : List PlainEvent) (class : ℕ → ℕ) (by_class firsts : List ℕ) : Type 0
   where
     pub whole : IsBracketed es

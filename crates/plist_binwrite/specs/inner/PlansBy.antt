@@ -1,5 +1,6 @@
--- The numbers so far: `by_class` is, by class, the number of its object, or 2^64 - 1 while it has
--- none; `firsts` is, by number, the index of the first event of that object.
+-- The numbers that objects have so far. `by_class` has the number of each class's object, which is
+-- 2^64 - 1 while it isn't known. `firsts` has the index of the first event of each object, by its
+-- number.
 use Rattle.std.specs.Prelude.{◌≡◌, ◌⊎◌, ℕ, ◌-◌, ◌^◌, ◌<◌, false, List, length, get_or}
 use Rattle.plist_base.specs.Events.{PlainEvent}
 use Rattle.plist_binwrite.specs.EventTable.{is_end, event_at}
@@ -8,6 +9,7 @@ use Rattle.plist_binwrite.specs.EventTable.{is_end, event_at}
 abbrev pub number_by : (class : ℕ → ℕ) (by_class : List ℕ) → (index : ℕ) → ℕ
 number_by class by_class index = get_or by_class (class index) 0
 
+-- each class has the number of the one object whose first event is of that class, or none yet
 pub record IsPlan (es : List PlainEvent) (class : ℕ → ℕ) (by_class firsts : List ℕ) : Type 0 where
   pub below : (p : ℕ) → p < length es → class p < length by_class
   pub small : length firsts < 2 ^ 64

@@ -1,4 +1,4 @@
--- Words for what is put and written of a planned file.
+-- What the parts of a planned file put into a sink, and what is written.
 use Rattle.std.specs.Prelude.{ℕ, List, ◌++◌, length, map, Option, Result}
 use Rattle.plist_base.specs.Events.{PlainEvent}
 use Rattle.plist_base.specs.Writing.{answer_of}
@@ -27,13 +27,15 @@ module _ (number : ℕ → ℕ) (width : ℕ) (es : List PlainEvent) where
   abbrev pub references_of : Half → (index : ℕ) → List ℕ
   references_of half index = table_form width (map number (half_of es half index))
 
-  -- a collection: its length, and the references to its keys and to its items or values
+  -- the bytes of a collection: its length, the references to its keys, and those to its items or
+  -- values
   abbrev pub collection_form : (high index : ℕ) → List ℕ
   collection_form high index = length_form high (length (half_of es Values index))
       ++ (references_of Keys index ++ references_of Values index)
 
 module _ {W : Type 0} (contents : W → Option (List ℕ)) (old : Sink W) (given : Classed)
     (plan : FilePlan) where
+  -- the number of the object of the event at an index
   abbrev number : ℕ → ℕ
   number = object_number given plan.numbering
 
@@ -42,7 +44,8 @@ module _ {W : Type 0} (contents : W → Option (List ℕ)) (old : Sink W) (given
   PutsHalf half index result new =
       Puts contents old (references_of number plan.width (events_in given) half index) result new
 
-  -- the marker of its length and the references to all of its children are put
+  -- the length of the collection that begins at this index, and the references to all of its
+  -- children, are put
   abbrev pub PutsCollection : CountedKind → (index : ℕ) → Result (Unit {0}) Error → (new : Sink W)
       → Type 0
   PutsCollection kind index result new = Puts contents old

@@ -1,4 +1,4 @@
--- Words for the order of a planned file's objects, their offsets, and its size.
+-- The order of a planned file's objects, their offsets, and the size of the file.
 use Rattle.std.specs.Prelude.{◌≡◌, ◌≢◌, ℕ, ◌+◌, ◌^◌, ◌<◌, ◌≤◌, List, length, get_or, Option, IfSome}
 use Rattle.plist_base.specs.Events.{ScalarEvent}
 use Rattle.plist_base.specs.Trees.{Scalar, Tree}
@@ -19,17 +19,18 @@ use Rattle.plist_binwrite.specs.inner.Planning.{object_number}
 abbrev pub MarksItem : Classed → Numbering → (index : ℕ) → (marks : List ℕ) → Type 0
 MarksItem given numbering index marks = get_or marks (object_number given numbering index) 0 ≢ 0
 
--- a file with this many objects, whose offset table lies at `table`, has less than 2^64 bytes, or
--- doesn't
+-- a file with `count` objects, whose offset table lies at `table`, has less than 2^64 bytes
 abbrev pub FitsWith : (table count : ℕ) → Type 0
 FitsWith table count =
     (objects : ℕ) → table ≡ 8 + objects → size_with count objects < 2 ^ 64
 
+-- a file with `count` objects, whose offset table lies at `table`, has 2^64 bytes or more
 abbrev pub ExceedsWith : (table count : ℕ) → Type 0
 ExceedsWith table count =
     (objects : ℕ) → table ≡ 8 + objects → 2 ^ 64 ≤ size_with count objects
 
--- the object of the tree that begins at this index has this size
+-- `found` is the size of the object of the tree that begins at this index, or `None` only if the
+-- size is 2^64 or more
 abbrev pub IsSizeOrNoneAt : EventTable → (width index : ℕ) → Option ℕ → Type 0
 IsSizeOrNoneAt held width index found =
     (t : Tree) → OccursAt (plain_events held) t index → IsSizeOrNone found (object_size width t)
@@ -40,7 +41,8 @@ IsWritableAt held index =
     (x : Scalar) → table_event held index ≡ ScalarEvent x → IsWritableScalar x
 
 module _ (given : Classed) (numbering : Numbering) (width : ℕ) where
-  -- the length of the magic and the objects in this order, or none if it is 2^64 or more
+  -- `found` is the length of the magic and the objects in this order, or `None` only if it is 2^64
+  -- or more
   abbrev pub IsEndOrNone : (order : List ℕ) → Option ℕ → Type 0
   IsEndOrNone order found = (objects : ℕ → Object)
       → Describes (events_in given) (object_number given numbering) objects

@@ -9,9 +9,11 @@ use Rattle.plist_binwrite.specs.StoredScalars.{scalar_of, event_of_scalar}
 
 -- ---- scalars
 
+-- `scalar_eq` is true of identical scalars
 eq_from_is : (a b : Scalar) → a ≡ b → scalar_eq a b ≡ true
 eq_from_is a b e = subst (λ c. scalar_eq a c ≡ true) e (scalar_refl a)
 
+-- `scalar_eq` is an equivalence
 pub scalars_equiv : IsEquivalence scalar_eq
 scalars_equiv = record {
   refl = scalar_refl;
@@ -21,18 +23,20 @@ scalars_equiv = record {
   congr = λ a b c h. ap (λ d. scalar_eq d c) (scalar_is a b h);
 }
 
+-- equal scalars write the same to a hasher
 pub equal_stored_write_same : (a b : Scalar) → scalar_eq a b ≡ true → writes_of_scalar a ≡ writes_of_scalar b
 equal_stored_write_same a b h = ap writes_of_scalar (scalar_is a b h)
 
 -- ---- stored scalars
 
+-- equality of stored scalars
 abbrev pub stored_eq : StoredScalar → StoredScalar → Bool
 stored_eq a b = scalar_eq (scalar_of a) (scalar_of b)
 
--- equal ones have the same event
+-- equal stored scalars have the same event
 pub stored_same : (a b : StoredScalar) → stored_eq a b ≡ true → event_of_scalar a ≡ event_of_scalar b
 stored_same a b h = ap ScalarEvent (scalar_is (scalar_of a) (scalar_of b) h)
 
--- and ones with the same event are equal
+-- stored scalars with the same event are equal
 pub same_stored : (a b : StoredScalar) → event_of_scalar a ≡ event_of_scalar b → stored_eq a b ≡ true
 same_stored a b h = eq_from_is (scalar_of a) (scalar_of b) (cc)

@@ -13,7 +13,7 @@ unclosed_after_event EndCollection index unclosed = without_innermost unclosed
 unclosed_after_event (ScalarEvent x) index unclosed = unclosed
 unclosed_after_event start index unclosed = index ∷ unclosed
 
--- the indices of the open starts after these events from an index on
+-- the indices of the open starts after these events, the first of which is at `index`
 abbrev pub unclosed_from : List PlainEvent → (index : ℕ) → (unclosed : List ℕ) → List ℕ
 unclosed_from [] index unclosed = unclosed
 unclosed_from (event ∷ events) index unclosed =
@@ -23,14 +23,15 @@ unclosed_from (event ∷ events) index unclosed =
 abbrev pub unclosed_after : List PlainEvent → List ℕ
 unclosed_after events = unclosed_from events 0 []
 
--- the index after the tree that begins at q, given the one that was known before the event at an
--- index
+-- the index after the tree that begins at q, as it is known after the event at `index`, given what
+-- was known before that event
 abbrev pub skip_after_event : PlainEvent → (index : ℕ) → (unclosed : List ℕ) → (q given : ℕ) → ℕ
 skip_after_event EndCollection index (innermost ∷ outer) q given =
     if q == innermost then index + 1 else given
 skip_after_event event index unclosed q given = given
 
--- the index after the tree that begins at q, after these events from an index on
+-- the index after the tree that begins at q, as it is known after these events, the first of which
+-- is at `index`
 abbrev pub skip_from : List PlainEvent → (index : ℕ) → (unclosed : List ℕ) → (q given : ℕ) → ℕ
 skip_from [] index unclosed q given = given
 skip_from (event ∷ events) index unclosed q given =

@@ -1,4 +1,4 @@
--- What contracts see of collections by the classes of their children.
+-- Collections, described by the classes of their children.
 use Rattle.std.specs.Prelude.{◌≡◌, ◌↔◌, ℕ, ◌+◌, ◌<◌, ◌≤◌, Bool, true, false, List, ◌++◌, length, map, Some, slice_get}
 use Rattle.plist_base.specs.Events.{PlainEvent}
 use Rattle.plist_base.specs.Trees.{Tree, Leaf, Array, Dictionary}
@@ -20,13 +20,15 @@ use Rattle.plist_share.specs.declared.classes.TreeClasses.{TreeClasses}
 abbrev pub Node : Type 0
 Node = Bool × List ℕ
 
+-- the node of a collection
 abbrev pub node_of : Collection → Node
 node_of collection = (collection.is_dictionary, collection.children.items)
 
+-- the nodes of the collections found so far
 abbrev pub nodes_seen : List Collection → List Node
 nodes_seen collections = map node_of collections
 
--- collections were appended to those that were there, which stay
+-- the new list begins with all nodes of the old one, to which others may have been appended
 pub record Extends (old new : List Node) : Type 0 where
   pub keeps : (i : ℕ) → i < length old → slice_get new i ≡ slice_get old i
   pub grows : length old ≤ length new
@@ -44,13 +46,13 @@ module _ (class : ℕ → ℕ) (count : ℕ) where
       (i : ℕ) × (c ≡ count + i) × (slice_get keys i ≡ Some (node_by is_dictionary t p))
 
   module _ (scalar : ℕ → ℕ) where
-    -- the class of the tree at an index; a scalar's is given
+    -- the tree at index p has class c, which is `scalar p` for a scalar
     abbrev pub IsClass : List Node → Tree → ℕ → ℕ → Type 0
     IsClass keys (Leaf x) p c = c ≡ scalar p
     IsClass keys (Array items) p c = IsIndexed keys false (Array items) p c
     IsClass keys (Dictionary pairs) p c = IsIndexed keys true (Dictionary pairs) p c
 
-    -- from this index on each tree has its class, and before it nothing has changed
+    -- each tree from index `from` on has its class, and the classes before it are unchanged
     pub record HaveTreeClasses (es : List PlainEvent) (keys : List Node) (from : ℕ) : Type 0 where
       pub behind : (t : Tree) (p : ℕ) → from ≤ p → OccursAt es t p → IsClass keys t p (class p)
       pub before : (p : ℕ) → p < from → class p ≡ scalar p
@@ -63,7 +65,7 @@ SeparatesTrees es class =
 
 -- ---- classes of buffered events
 
--- this is the index of a collection among those found so far
+-- a collection has this index among those found so far
 abbrev pub IsNodeAt : (seen : List Collection) → Collection → (index : ℕ) → Type 0
 IsNodeAt seen collection index = slice_get (nodes_seen seen) index ≡ Some (node_of collection)
 
@@ -78,7 +80,7 @@ AreClassesWithin held classes index found =
     found.items ≡ map (nth_number classes) (half_of (plain_events held) Keys index)
     ++ map (nth_number classes) (half_of (plain_events held) Values index)
 
--- is it the start of a dictionary?
+-- is the event the start of a dictionary?
 abbrev pub is_dictionary : EntryKind → Bool
 is_dictionary kind.Array = false
 is_dictionary kind.Dictionary = true
@@ -93,19 +95,20 @@ IsClassAt held classes base seen index class = (t : Tree) → OccursAt (plain_ev
     (is_dictionary (entry_kind_of (table_event held index)))
     t index class
 
--- from this index on each tree has its class, and before it only the scalars have theirs
+-- each tree from index `from` on has its class, and before it only scalars have theirs
 abbrev pub AreClassesFrom : EventTable → (base : ℕ) → (classes : List ℕ) → (seen : List Collection)
     → (from : ℕ) → Type 0
 AreClassesFrom held base classes seen from =
     (scalar : ℕ → ℕ) × AreIdentities (plain_events held) scalar base
     × HaveTreeClasses (nth_number classes) base scalar (plain_events held) (nodes_seen seen) from
 
--- two events have one class if and only if they are equal scalars
+-- two events have the same class if and only if they are equal scalars, or the same event
 abbrev pub AreEventClasses : EventTable → TreeClasses → Type 0
 AreEventClasses held found =
     AreIdentities (plain_events held) (nth_number found.of) found.count
 
--- each event has a class below the count, and the classes tell the trees apart that begin there
+-- each event has a class below the count, and two have the same class if and only if the same tree
+-- begins at both
 pub record SeparatesAll (held : EventTable) (found : TreeClasses) : Type 0 where
   pub objects : AreClasses (plain_events held) (nth_number found.of)
   pub trees : SeparatesTrees (plain_events held) (nth_number found.of)
