@@ -1,4 +1,4 @@
--- The content of a property list of one kind, and none for other kinds.
+-- The content of a property list if it is of one kind, and `None` if it is of another one.
 use Rattle.std.specs.Prelude.{ℕ, ◌^◌, ℤ, pos, ◌<ℤ◌, ◌≤ℤ◌, Bool, List, Option, Some, None}
 use Rattle.plist_base.specs.declared.real.RealBits.{RealBits}
 use Rattle.plist_base.specs.Trees.{Tree, Leaf, Array, Dictionary, Trees, Members, Boolean, Data, Date, Integer, Real, String, Uid}
@@ -48,7 +48,7 @@ abbrev pub uid_in : Tree → Option ℕ
 uid_in (Leaf (Uid number)) = Some number
 uid_in tree = None
 
--- an integer fits into an `i64`, given that it isn't too low
+-- an integer fits into an `i64`: no `Integer` is below -2^63, so it only has to be below 2^63
 abbrev pub IsBelowSigned : ℤ → Type 0
 IsBelowSigned number = number <ℤ pos (2 ^ 63)
 

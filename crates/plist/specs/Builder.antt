@@ -16,13 +16,13 @@ use Rattle.plist.specs.declared.value.Value.{Value}
 abbrev pub built_of : Builder → Built
 built_of builder = record { unfinished = unfinished_of builder.unfinished; failed = builder.failed }
 
--- what a builder's call does
+-- what a builder returns for an event, and what it contains afterwards
 abbrev pub IsBuildingStep : (before : Builder) → PlainEvent → Answer → (after : Builder) → Type 0
 IsBuildingStep before event answer after =
     IsNested (unfinished_of before.unfinished)
     × IsAnswered (built_of before) event answer (built_of after) (after ≡ before)
 
--- a builder takes an item's event
+-- the item is an event, which the builder adds
 abbrev pub TakesItem : (before : Builder) → Item → (after : Builder) → Type 0
 TakesItem before item after = TakesOne (built_of before) item (built_of after)
 

@@ -35,6 +35,7 @@ TakesValue (InArray items) = ⊤
 TakesValue (InDictionary pairs) = ⊥
 TakesValue (AfterKey pairs key) = ⊤
 
+-- a value can be next directly in each of these collections
 abbrev pub AllTakeValue : List OpenCollection → Type 0
 AllTakeValue [] = ⊤
 AllTakeValue (collection ∷ outer) = TakesValue collection × AllTakeValue outer
@@ -45,16 +46,19 @@ IsNested NotBegun = ⊤
 IsNested (Within collection outer) = AllTakeValue outer
 IsNested (Complete tree) = ⊤
 
+-- there is at most one proof that a collection takes a value
 pub TakesValue-prop : (collection : OpenCollection) → IsProp (TakesValue collection)
 TakesValue-prop (InArray items) = Unit-prop
 TakesValue-prop (InDictionary pairs) = ⊥_prop
 TakesValue-prop (AfterKey pairs key) = Unit-prop
 
+-- there is at most one proof that all these collections take a value
 pub AllTakeValue-prop : (outer : List OpenCollection) → IsProp (AllTakeValue outer)
 AllTakeValue-prop [] = Unit-prop
 AllTakeValue-prop (collection ∷ outer) =
     ×_prop (TakesValue-prop collection) (AllTakeValue-prop outer)
 
+-- there is at most one proof that the collections are nested
 pub IsNested-prop : (unfinished : Unfinished) → IsProp (IsNested unfinished)
 IsNested-prop NotBegun = Unit-prop
 IsNested-prop (Within collection outer) = AllTakeValue-prop outer
@@ -67,6 +71,7 @@ events_within (InDictionary pairs) = StartDictionary None ∷ bracketing_of_pair
 events_within (AfterKey pairs key) =
     StartDictionary None ∷ (bracketing_of_pairs (members_of pairs) ++ ScalarEvent (String key) ∷ [])
 
+-- the events so far of these open collections, which are listed innermost first
 abbrev pub events_around : (outer : List OpenCollection) → List PlainEvent
 events_around [] = []
 events_around (collection ∷ outer) = events_around outer ++ events_within collection
@@ -77,24 +82,25 @@ events_so_far NotBegun = []
 events_so_far (Within collection outer) = events_around outer ++ events_within collection
 events_so_far (Complete tree) = bracketing tree
 
--- the unfinished tree in which each complete pair's key is in its first position, with its last
--- value
+-- these pairs and the dictionaries in them, with each key in its first position and its last value
 abbrev pub last_wins_in_rows : TreePairs → TreePairs
 last_wins_in_rows rows = last_values (map (λ pair. (pair.0, last_wins pair.1)) rows)
 
+-- the open collection, with each key of its complete pairs in its first position and its last value
 abbrev pub last_wins_within : OpenCollection → OpenCollection
 last_wins_within (InArray items) = InArray (map last_wins items)
 last_wins_within (InDictionary pairs) = InDictionary (last_wins_in_rows pairs)
 last_wins_within (AfterKey pairs key) = AfterKey (last_wins_in_rows pairs) key
 
+-- the unfinished tree, with each key of a complete pair in its first position and its last value
 abbrev pub last_wins_so_far : Unfinished → Unfinished
 last_wins_so_far NotBegun = NotBegun
 last_wins_so_far (Within collection outer) =
     Within (last_wins_within collection) (map last_wins_within outer)
 last_wins_so_far (Complete tree) = Complete (last_wins tree)
 
--- After the event, the contents are the events before it, followed by it, up to lengths, with each
--- key in its first position with its last value.
+-- The contents after the event are those of the events before it and of this one, apart from
+-- lengths, with each key in its first position and its last value.
 abbrev pub IsExtendedBy : (before : Unfinished) → PlainEvent → (after : Unfinished) → Type 0
 IsExtendedBy before event after =
     (taken : Unfinished) × IsNested taken
@@ -143,7 +149,7 @@ pub record Built : Type 0 where
 abbrev pub nothing_built : Built
 nothing_built = record { unfinished = NotBegun; failed = false }
 
--- a builder's call that returns a fault of this kind
+-- what is true if a builder's call returns a fault of this kind
 abbrev pub IsRefusedStep : (before : Built) → PlainEvent → FaultKind → (after : Built)
     → (unchanged : Type 0) → Type 0
 IsRefusedStep before event OutOfMemory after unchanged =
@@ -152,7 +158,7 @@ IsRefusedStep before event WriterFailed after unchanged = (before.failed ≡ tru
 IsRefusedStep before event kind after unchanged =
     (before.failed ≡ false) × (refusal_at before.unfinished event ≡ Some kind) × unchanged
 
--- a builder's call that returns this result
+-- what is true if a builder's call returns this result
 abbrev pub IsAnswered : (before : Built) → PlainEvent → Answer → (after : Built)
     → (unchanged : Type 0) → Type 0
 IsAnswered before event (Ok done) after unchanged =
@@ -169,5 +175,6 @@ IsUnfinishedFor UnexpectedEndOfEventStream built =
     × ((tree : Tree) → AreAlike (events_so_far built.unfinished) (bracketing tree) → ⊥)
 IsUnfinishedFor kind built = ⊥
 
+-- the fault, which has no offset, says why there is no value
 abbrev pub IsUnfinished : Built → Fault → Type 0
 IsUnfinished built fault = (fault.offset ≡ None) × IsUnfinishedFor fault.kind built

@@ -27,28 +27,28 @@ abbrev pub IsRefusal : (refusal : Option FaultKind) → Fault → Type 0
 IsRefusal None fault = fault ≡ fault_without_offset OutOfMemory
 IsRefusal (Some kind) fault = fault ≡ fault_without_offset kind
 
--- an item is an error, which is the result
+-- the items are these events and then an error, which is the result
 abbrev pub EndsInError : (stops : Type 0) → (events : List PlainEvent) → List Item → Fault → Type 0
 EndsInError stops events items fault = (items ≡ map Ok events ++ Err fault ∷ []) × stops
 
--- an event can't follow the ones before it, or memory runs out
+-- the items are these events and then one that can't follow them, or for which memory runs out
 abbrev pub EndsInRefusal : (stops : Type 0) → Unfinished → (events : List PlainEvent) → List Item
     → Fault → Type 0
 EndsInRefusal stops held events items fault =
     (event : PlainEvent) × (items ≡ map Ok events ++ Ok event ∷ []) × stops
     × IsRefusal (refusal_at held event) fault
 
--- the events end, no item follows them, and they are no tree's
+-- the items are these events, no item follows them, and they aren't those of a tree
 abbrev pub EndsUnfinished : (ends : Type 0) → (events : List PlainEvent) → List Item → Fault
     → Type 0
 EndsUnfinished ends events items fault =
     (items ≡ map Ok events) × ends × (fault ≡ fault_without_offset UnexpectedEndOfEventStream)
     × ((tree : Tree) → AreAlike events (bracketing tree) → ⊥)
 
--- What the items that were taken are collected to: the tree whose events they are up to lengths,
--- with the last value of each key, if no item follows them; or the fault that ends them, after
--- events that can follow one another. `stops` says that no further item was taken, and `ends` that
--- there is none.
+-- The result of building a value from the items that were taken. If no item follows them, and they
+-- are the events of a tree, apart from lengths, it is that tree with the last value of each key.
+-- Otherwise it is a fault, after events that can follow one another. `stops` says that no further
+-- item was taken, and `ends` that there is none.
 abbrev pub IsBuiltFrom : (stops ends : Type 0) → List Item → Result Tree Fault → Type 0
 IsBuiltFrom stops ends items (Ok tree) =
     (events : List PlainEvent) × (whole : Tree) × (items ≡ map Ok events) × ends
@@ -61,19 +61,18 @@ IsBuiltFrom stops ends items (Err fault) =
 
 module _ {E I : Type 0} (plain : E → PlainEvent)
     (next_gives : I → Option (Result E Error) → I → Type 0) (iter : I) where
-  -- The items that were taken from an iterator, in order, what they are collected to, and the
-  -- iterator afterwards: it isn't called again after an item that is an error or is rejected, and
-  -- it is called just once at the end.
+  -- A value is built from an iterator's items, with this result. The iterator isn't called again
+  -- after an item that is an error or is rejected, and it is called only once at its end.
   abbrev pub CollectsTo : Result Tree Fault → (after : I) → Type 0
   CollectsTo answer after =
       (taken : List (Result E Error)) × (left : I) × Yields next_gives iter taken left
       × IsBuiltFrom (after ≡ left) (next_gives left None after) (map (item_by plain) taken) answer
 
-  -- what an iterator's items are collected to, if the iterator isn't seen afterwards
+  -- a value is built from an iterator's items, with this result
   abbrev pub Collects : Result Tree Fault → Type 0
   Collects answer = (after : I) × CollectsTo answer after
 
--- an item's event is taken
+-- the item is an event, which is added
 abbrev pub TakesOne : Built → Item → Built → Type 0
 TakesOne before (Ok event) after =
     (and_event with_pair before.unfinished event ≡ Some after.unfinished) × (after.failed ≡ false)

@@ -9,23 +9,23 @@ use Rattle.plist.specs.contracts.dictionary.Dictionary.{the_row}
 use Rattle.plist.specs.contracts.value.Value as value
 use Rattle.plist.specs.Dictionaries.{dictionary_of, pairs_of}
 
--- the dictionary after this becomes the key's value
+-- the dictionary in which this is the key's value
 abbrev pub with_value_at : Dictionary → (key : List ℕ) → Value → Dictionary
 with_value_at dictionary key value =
     dictionary_of (set_value (bytes_eq key) (pairs_of dictionary) value)
 
--- when the reference ends, its last value is that of the key; without a reference the dictionary is
--- unchanged
+-- when the borrow ends, the key has the value that the reference had last; without a reference the
+-- dictionary is unchanged
 abbrev pub DictionaryLendsAtKey : MutBor Dictionary → List ℕ → Option (MutBor Value) → Fml
 DictionaryLendsAtKey dictionary key lent =
     LendsIf the_row value.the_row dictionary lent (with_value_at dictionary.now key) dictionary.now
 
--- when the reference ends, its last value is that of the key, which is there
+-- when the borrow ends, the key, which is there, has the value that the reference had last
 abbrev pub DictionaryLendsValue : MutBor Dictionary → List ℕ → MutBor Value → Fml
 DictionaryLendsValue dictionary key lent =
     Lends the_row value.the_row dictionary lent (with_value_at dictionary.now key)
 
--- when the reference ends, its last value is that at the index
+-- when the borrow ends, the pair at the index has the value that the reference had last
 abbrev pub DictionaryLendsIndex : MutBor Dictionary → ℕ → MutBor Value → Fml
 DictionaryLendsIndex dictionary index lent =
     Lends the_row value.the_row dictionary lent

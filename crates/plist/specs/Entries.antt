@@ -49,17 +49,17 @@ entry_value (Vacant e) = None
 abbrev pub IsSameEntry : OccupiedEntry → OccupiedEntry → Type 0
 IsSameEntry o p = (p.pairs.ghost_name ≡ o.pairs.ghost_name) × (p.at ≡ o.at)
 
--- the pairs of the entry without the key's, whose index the last pair takes
+-- the pairs without the key's, at whose index the last pair is now
 abbrev pub IsTaken : Entry → List (List ℕ × Value) → Type 0
 IsTaken (Occupied o) after = IsRemovedAt (pairs_of o.pairs.now) o.at after
 IsTaken (Vacant e) after = after ≡ pairs_of e.pairs.now
 
--- the pairs after v becomes the key's value
+-- the pairs in which the key has the value v
 abbrev pub with_value : Entry → Value → List (List ℕ × Value)
 with_value (Occupied o) v = set_value_at (pairs_of o.pairs.now) o.at v
 with_value (Vacant e) v = pairs_of e.pairs.now ++ (string_bytes e.key, v) ∷ []
 
--- the dictionary after v becomes the key's value
+-- the dictionary in which the key has the value v
 abbrev pub dictionary_with : Entry → Value → Dictionary
 dictionary_with e v = dictionary_of (with_value e v)
 
@@ -68,11 +68,11 @@ abbrev pub unless_there : String Global → List (List ℕ × Value) → Option 
 unless_there key pairs =
     cond (is_some (lookup (bytes_eq (string_bytes key)) pairs)) None (Some key)
 
--- setting the value of the entry's key is inserting this key
+-- setting the entry's value inserts it at this key
 abbrev pub Inserts : Entry → (pairs : List (List ℕ × Value)) → (key : List ℕ) → Type 0
 Inserts e pairs key = (v : Value) → IsSetAt pairs key v (with_value e v)
 
--- removing the entry's key is removing this key
+-- removing the entry removes this key
 abbrev pub Removes : Entry → (pairs : List (List ℕ × Value)) → (key : List ℕ) → Type 0
 Removes e pairs key = (after : List (List ℕ × Value)) → IsTaken e after → IsTakenAt pairs key after
 
@@ -84,15 +84,16 @@ HandsBack e value back = (kept_key e ≡ Some back.0) × (back.1 ≡ value)
 abbrev pub HandsBackMade : Entry → (made : Value → Type 0) → String Global × Value → Type 0
 HandsBackMade e made back = (kept_key e ≡ Some back.0) × made back.1
 
--- the value of the key, or else one that was made
+-- the reference is to the key's value or, if there was none, to one that was made
 abbrev pub HasOrMakes : Entry → (made : Value → Type 0) → MutBor Value → Type 0
 HasOrMakes e made place = UnwrapsOrElse (entry_value e) made place.now
 
+-- setting its value leaves the entry's index below the number of pairs
 pub still_within : (o : OccupiedEntry) (v : Value) → o.at < length (with_value (Occupied o) v)
 still_within o v =
     subst (λ n. o.at < n) (sym (length-set_value_at (pairs_of o.pairs.now) o.at v)) o.within
 
--- the occupied entry o after v becomes its value
+-- the occupied entry o in which the key has the value v
 abbrev pub with_entry_value : OccupiedEntry → Value → OccupiedEntry
 with_entry_value o v = record {
   pairs = record o.pairs { now = dictionary_with (Occupied o) v };

@@ -11,9 +11,11 @@ first_value key NoMembers = None
 first_value key (MemberAnd other tree members) =
     cond (bytes_eq key other) (Some tree) (first_value key members)
 
+-- the key is one of these
 abbrev pub is_among : List ℕ → List (List ℕ) → Bool
 is_among key seen = list_any (bytes_eq key) seen
 
+-- a tree was found, and it passes the test
 abbrev pub if_found : Option Tree → (Tree → Bool) → Bool
 if_found None test = false
 if_found (Some tree) test = test tree
@@ -34,6 +36,7 @@ abbrev mutual
       is_covered [] members others && has_keys others members
   same _ _ = false
 
+  -- both have the same number of items, which are the same index by index
   pub same_items : Trees → Trees → Bool
   same_items NoTrees NoTrees = true
   same_items (TreeAnd tree trees) (TreeAnd other others) =
@@ -76,6 +79,6 @@ abbrev pub DecidesDictionaries : Type 0
 DecidesDictionaries = (left right : Members)
     → (same (Dictionary left) (Dictionary right) ≡ true) ↔ AreSameEverywhere left right
 
--- pairs of values as members
+-- dictionaries with these members are the same
 abbrev pub same_members : Members → Members → Bool
 same_members members others = same (Dictionary members) (Dictionary others)

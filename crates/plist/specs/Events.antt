@@ -18,7 +18,7 @@ use Rattle.plist.specs.declared.stream.events.Next.{Next}
 use Rattle.plist.specs.declared.stream.events.Next.TheVariants as next
 use Rattle.plist.specs.ValueTrees.{tree_of, tree_pairs}
 
--- the remaining events of the value that is next, or no events if no value is
+-- the events of the value that is next, or none if no value is next
 abbrev pub left_of_value : Option (Bor Value) → List PlainEvent
 left_of_value None = []
 left_of_value (Some value) = bracketing (tree_of value.now)
@@ -49,9 +49,9 @@ BeginsWithStart (StartArray length ∷ events) = ⊤
 BeginsWithStart (StartDictionary length ∷ events) = ⊤
 BeginsWithStart events = ⊥
 
--- The first remaining event is yielded, its string or data borrowed, and the others remain; nothing
--- is yielded if nothing remains; if memory runs out, `OutOfMemory` is yielded in place of a start,
--- and nothing remains.
+-- The first remaining event is yielded, with its string or data borrowed, and the others remain.
+-- Nothing is yielded only if nothing remains. If memory runs out, `OutOfMemory` is yielded in place
+-- of a start, and nothing remains.
 abbrev pub GivesEvent : Events → Option (Result Event Error) → Events → Type 0
 GivesEvent before None after = (remaining_events before ≡ []) × (remaining_events after ≡ [])
 GivesEvent before (Some (Ok given)) after =
@@ -71,7 +71,8 @@ ComesNext before (next.Value value) after =
     ≡ bracketing (tree_of value.now) ++ left_of_levels (reverse after.levels.items))
     × (after.value ≡ None)
 
--- the first event of a tree is yielded, and its others remain, before those that remained
+-- the first event of a tree is yielded, and the tree's others remain, before those that remained;
+-- or memory runs out at a start
 abbrev pub BeginsValue : Tree → Events → Result Event Error → Events → Type 0
 BeginsValue tree before (Ok given) after =
     (bracketing tree ++ remaining_events before ≡ event_of given ∷ remaining_events after)

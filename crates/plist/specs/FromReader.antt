@@ -1,5 +1,4 @@
--- The value of a source or of a file, which is read completely, item by item; and why there may be
--- none.
+-- How the value of a source or of a file is read, item by item, and why there may be none.
 use Rattle.std.specs.Prelude.{◌≡◌, ℕ, ◌⊎◌, Bool, List, Option, None, Some, Result, Err, ⊤}
 use Rattle.plist_base.specs.Events.{Item, event_of}
 use Rattle.plist_base.specs.Faults.{Fault, FaultKind, ExpectedEndOfEventStream, Io, UnexpectedEndOfEventStream, UnexpectedEventType, fault_without_offset}
@@ -24,14 +23,16 @@ use Rattle.plist_reader.specs.declared.reader.Reader.{Reader}
 use Rattle.plist_reader.specs.Reader.{Gives, FaultHasOffset, IsReaderFault, IsNewReader, IsUnread, limited_input}
 use Rattle.plist.specs.Collecting.{Collects}
 
--- the result is collected from a new reader of this source, which reads ASCII in this dialect
+-- the result is built from the items of a new reader of this source, which reads ASCII in this
+-- dialect
 abbrev pub IsReadInDialect : {R : Type 0} → Dialect → (known : R → Option (List ℕ))
     (failed : R → ℕ) (source : R) → Result Tree Fault → Type 0
 IsReadInDialect {R} dialect known failed source answer =
     (reader : Reader R (record { known = known; failures = failed }))
     × IsUnread reader source None dialect × Collects event_of (Gives known failed) reader answer
 
--- the result is collected from a new reader of this source, which reads ASCII in the lax dialect
+-- the result is built from the items of a new reader of this source, which reads ASCII in the lax
+-- dialect
 abbrev pub IsReadByReader : {R : Type 0} (known : R → Option (List ℕ)) (failed : R → ℕ) (source : R)
     → Result Tree Fault → Type 0
 IsReadByReader known failed source answer = IsReadInDialect Lax known failed source answer
@@ -40,26 +41,27 @@ IsReadByReader known failed source answer = IsReadInDialect Lax known failed sou
 abbrev pub budgeted_input : Limits → (bytes : ℕ) → List ℕ → List Item
 budgeted_input limits bytes input = within_bytes bytes (limited_input limits input)
 
--- a new reader of this source, under these limits
+-- a reader of either format under limits
 abbrev pub LimitedReader : {R : Type 0} (known : R → Option (List ℕ)) (failed : R → ℕ) → Type 0
 LimitedReader {R} known failed =
     LimitedItems (Reader R (record { known = known; failures = failed })) LimitCounter
 
+-- the reader is a new one of this source, under these limits
 abbrev pub BeginsUnder : {R : Type 0} → Limits → (known : R → Option (List ℕ)) (failed : R → ℕ)
     (source : R) → LimitedReader known failed → Type 0
 BeginsUnder limits known failed source limited =
     (items_admitted limited ≡ limited_items limits)
     × IsNewReader (inner_of_limited limited) source
 
--- the result is collected from a new reader of this source, under these limits
+-- the result is built from the items of a new reader of this source, under these limits
 abbrev pub IsReadWithin : {R : Type 0} → Limits
     → (known : R → Option (List ℕ)) (failed : R → ℕ) (source : R) → Result Tree Fault → Type 0
 IsReadWithin limits known failed source answer =
     (limited : LimitedReader known failed) × BeginsUnder limits known failed source limited
     × Collects event_of (GivesLimited (Gives known failed)) limited answer
 
--- the result is collected from a new reader of this source, under these limits and within this
--- budget of bytes
+-- the result is built from the items of a new reader of this source, under these limits and within
+-- this budget of bytes
 abbrev pub IsReadWithinBudget : {R : Type 0} → Limits → (bytes : ℕ)
     → (known : R → Option (List ℕ)) (failed : R → ℕ) (source : R) → Result Tree Fault → Type 0
 IsReadWithinBudget limits bytes known failed source answer =
@@ -68,8 +70,8 @@ IsReadWithinBudget limits bytes known failed source answer =
     × BeginsUnder limits known failed source (inner_of_limited budgeted)
     × Collects event_of (GivesWithinBudget (GivesLimited (Gives known failed))) budgeted answer
 
--- the result is collected from a new reader of ASCII, in this dialect, which has taken no byte and
--- looked at none
+-- the result is built from the items of a reader of ASCII, in this dialect, which hasn't taken or
+-- looked at any byte yet
 abbrev pub IsReadAsAscii : {R : Type 0} (known : R → Option (List ℕ)) (failed : R → Option ℕ)
     (source : R) → Dialect → Result Tree Fault → Type 0
 IsReadAsAscii {R} known failed source dialect answer =
@@ -82,7 +84,7 @@ IsReadAsAscii {R} known failed source dialect answer =
 abbrev pub items_of_text : (bare : ℕ → Bool) → List ℕ → List Item
 items_of_text bare bytes = items_of_ascii bare (input_front bytes) 0
 
--- a fault of events that aren't a value's
+-- a fault that says that the events aren't those of a value
 abbrev pub IsFaultOfEvents : FaultKind → Type 0
 IsFaultOfEvents (UnexpectedEventType expected found) = ⊤
 IsFaultOfEvents (ExpectedEndOfEventStream found) = ⊤
@@ -96,18 +98,18 @@ IsReadingFault limited fault =
     (IsReaderFault limited fault.kind × FaultHasOffset fault)
     ⊎ (IsFaultOfEvents fault.kind × (fault.offset ≡ None))
 
--- the file couldn't be opened; or this is true of a source over it, none of whose calls has failed
+-- the file couldn't be opened; or `P` is true of a source over it, none of whose calls has failed
 abbrev pub IfOpened : (F : Type 0) → Result Tree Fault → (Seeking F → Type 0) → Type 0
 IfOpened F answer P =
     (answer ≡ Err (fault_without_offset Io))
     ⊎ ((source : Seeking F) × (failures_of source ≡ 0) × P source)
 
--- the result is collected from a file, which is read in this dialect if it is ASCII
+-- the result is built from the items of a file, which is read in this dialect if it is ASCII
 abbrev pub IsReadFromFile : (F : Type 0) → Dialect → Result Tree Fault → Type 0
 IsReadFromFile F dialect answer =
     IfOpened F answer (λ source. IsReadInDialect dialect (λ _. None) failures_of source answer)
 
--- the result is collected from a file, under these limits
+-- the result is built from the items of a file, under these limits
 abbrev pub IsReadFromFileWithin : (F : Type 0) → Limits → Result Tree Fault → Type 0
 IsReadFromFileWithin F limits answer =
     IfOpened F answer (λ source. IsReadWithin limits (λ _. None) failures_of source answer)

@@ -23,6 +23,7 @@ last_values rows = insert_all bytes_eq [] rows
 abbrev pub and_key : (keys : List (List ℕ)) → (key : List ℕ) → List (List ℕ)
 and_key keys key = cond (list_any (bytes_eq key) keys) keys (keys ++ key ∷ [])
 
+-- the keys seen so far, and then the new ones among these keys, each once
 abbrev pub first_keys_after : (seen keys : List (List ℕ)) → List (List ℕ)
 first_keys_after seen [] = seen
 first_keys_after seen (key ∷ keys) = first_keys_after (and_key seen key) keys
@@ -43,17 +44,19 @@ AreLastValues rows result =
     (keys_of result ≡ first_keys (keys_of rows))
     × ((key : List ℕ) → lookup (bytes_eq key) result ≡ last_value key rows)
 
--- the tree whose dictionaries have their last values
+-- the tree in which each key has its first position and its last value
 abbrev mutual
   pub last_wins : Tree → Tree
   last_wins (Leaf scalar) = Leaf scalar
   last_wins (Array items) = Array (trees_of (last_wins_in_items items))
   last_wins (Dictionary pairs) = Dictionary (members_of (last_values (last_wins_in_pairs pairs)))
 
+  -- the items, with `last_wins` applied to each
   pub last_wins_in_items : Trees → List Tree
   last_wins_in_items NoTrees = []
   last_wins_in_items (TreeAnd tree trees) = last_wins tree ∷ last_wins_in_items trees
 
+  -- the pairs, with `last_wins` applied to each value; a key may still occur more than once
   pub last_wins_in_pairs : Members → TreePairs
   last_wins_in_pairs NoMembers = []
   last_wins_in_pairs (MemberAnd key tree members) =

@@ -14,16 +14,18 @@ abbrev mutual
   NestsWithin (Array items) depth = (1 ≤ depth) × ItemsNestWithin items (depth - 1)
   NestsWithin (Dictionary pairs) depth = (1 ≤ depth) × PairsNestWithin pairs (depth - 1)
 
+  -- each of these items nests at most this many collections
   pub ItemsNestWithin : Trees → (depth : ℕ) → Type 0
   ItemsNestWithin NoTrees depth = ⊤
   ItemsNestWithin (TreeAnd tree trees) depth = NestsWithin tree depth × ItemsNestWithin trees depth
 
+  -- each value of these pairs nests at most this many collections
   pub PairsNestWithin : Members → (depth : ℕ) → Type 0
   PairsNestWithin NoMembers depth = ⊤
   PairsNestWithin (MemberAnd key tree members) depth =
       NestsWithin tree depth × PairsNestWithin members depth
 
--- this is true of a tree's events, and of those from which it was built: the events of a tree of
+-- `P` is true of a tree's events, and of those from which it was built: the events of a tree of
 -- which it is the last-value form
 abbrev pub IfEvents : (List PlainEvent → Type 0) → Tree → Type 0
 IfEvents P tree =

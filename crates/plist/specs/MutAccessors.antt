@@ -16,23 +16,28 @@ use Rattle.plist.specs.contracts.value.Value.{the_row}
 use Rattle.plist.specs.declared.value.Value.{Value}
 use Rattle.plist.specs.declared.value.Value.TheVariants as made
 
+-- the type of arrays, `Vec<Value>`
 abbrev pub array_row : RattleType
 array_row = vec.the_row the_row global.the_row ghosts
 
+-- the type `Dictionary`
 abbrev pub dictionary_row : RattleType
 dictionary_row = dictionary.the_row
 
--- when the reference ends, the value is an array, or a dictionary, with what was written through
--- it; without a reference it is unchanged
+-- when the borrow ends, the value is the array that the reference had last; without a reference it
+-- is unchanged
 abbrev pub LendsArray : MutBor Value → Option (MutBor (Vec Value Global)) → Value → Fml
 LendsArray value lent old = LendsIf the_row array_row value lent made.Array old
 
+-- when the borrow ends, the value is the dictionary that the reference had last; without a
+-- reference it is unchanged
 abbrev pub LendsDictionary : MutBor Value → Option (MutBor Dictionary) → Value → Fml
 LendsDictionary value lent old = LendsIf the_row dictionary_row value lent made.Dictionary old
 
--- the items, or the pairs, to which a reference refers
+-- the items of the array to which the reference points
 abbrev pub items_lent : Option (MutBor (Vec Value Global)) → Option Trees
 items_lent lent = option_map (λ array. item_trees array.now.items) lent
 
+-- the pairs of the dictionary to which the reference points
 abbrev pub pairs_lent : Option (MutBor Dictionary) → Option Members
 pairs_lent lent = option_map (λ pairs. pair_trees (pairs_of pairs.now)) lent

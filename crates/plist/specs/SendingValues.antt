@@ -1,4 +1,4 @@
--- What is written for a value as a binary property list.
+-- What is written when a value is written as a binary property list.
 use Rattle.std.specs.Prelude.{◌≡◌, ℕ, ◌^◌, ◌≤◌, List, Option, None, Result, Ok, Err, ⊤}
 use Rattle.std.specs.Io.KnownBytes.{Appends}
 use Rattle.plist_base.specs.declared.error.Error.{Error}

@@ -24,7 +24,7 @@ open_of (run.Dictionary pairs) = InDictionary (last_values (tree_pairs (pairs_of
 open_of (run.AfterKey pairs key) =
     AfterKey (last_values (tree_pairs (pairs_of pairs))) (string_bytes key)
 
--- what an optional root, and the open collections, innermost first, stand for
+-- the complete tree if there is a root, and otherwise that of the open collections, innermost first
 abbrev pub held_in : Option Value → List UnclosedCollection → Unfinished
 held_in (Some root) collections = Complete (tree_of root)
 held_in None [] = NotBegun
@@ -58,12 +58,12 @@ abbrev pub Opens : (before : UnfinishedValue) → UnclosedCollection → (after 
 Opens before collection after =
     unfinished_of after ≡ Within (open_of collection) (collections_of before)
 
--- the error of an event that can't come next, or none if it can
+-- the kind of error for an event that can't come next, or `None` if it can
 abbrev pub IsRefusalOf : UnfinishedValue → Event → Option ErrorKind → Type 0
 IsRefusalOf unfinished event found =
     option_map kind_of found ≡ refusal_at (unfinished_of unfinished) (event_of event)
 
--- nothing is left if the root was taken, and else nothing changed
+-- nothing is left if the root was taken, and otherwise nothing changed
 abbrev pub RootIsTaken : (before : UnfinishedValue) → Option Value → (after : UnfinishedValue) → Type 0
 RootIsTaken before taken after =
     MatchOption taken (after ≡ before) (λ _. unfinished_of after ≡ NotBegun)

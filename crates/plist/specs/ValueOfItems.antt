@@ -1,4 +1,4 @@
--- The value of an input, given the items that it is known to yield.
+-- The value of a list of items, and of an iterator if the items that it will yield are known.
 use Rattle.std.specs.Prelude.{◌≡◌, ℕ, List, [], ◌∷◌, ◌++◌, Option, None, Some, Result, Ok, Err, IfSome, map, ⊤, option_map}
 use Rattle.plist_base.specs.declared.error.Error.{Error}
 use Rattle.plist_base.specs.Events.{PlainEvent, Item}
@@ -10,8 +10,8 @@ use Rattle.plist.specs.Collecting.{Collects, IsRefusal, built_tree, item_by}
 use Rattle.plist.specs.declared.value.Value.{Value}
 use Rattle.plist.specs.LastWins.{last_wins}
 
--- What follows events that can follow one another decides: a fault is the result, an event that
--- can't come next is rejected, and if nothing follows, the events are no tree's.
+-- Why events that can follow one another have no value: the next item is this fault, or an event
+-- that is rejected with it, or there is no next item, and the events aren't those of a tree.
 abbrev pub IsFaultOfNext : (held : Unfinished) (events : List PlainEvent) → (next : List Item) → Fault
     → Type 0
 IsFaultOfNext held events [] fault =
@@ -20,12 +20,13 @@ IsFaultOfNext held events [] fault =
 IsFaultOfNext held events (Ok event ∷ more) fault = IsRefusal (refusal_at held event) fault
 IsFaultOfNext held events (Err error ∷ more) fault = fault ≡ error
 
--- the items are a tree's events, up to lengths
+-- the items are a tree's events, apart from lengths
 abbrev pub AreItemsOfTree : List Item → Tree → Type 0
 AreItemsOfTree items tree =
     (events : List PlainEvent) × (items ≡ map Ok events) × AreAlike events (bracketing tree)
 
--- the fault is the first one or that of the first rejected event, and the items are no tree's
+-- the fault is the first one or that of the first rejected event, and the items aren't those of a
+-- tree
 abbrev pub IsFirstFault : List Item → Fault → Type 0
 IsFirstFault items fault =
     ((events : List PlainEvent) × (next : List Item) × (held : Unfinished)
@@ -49,41 +50,43 @@ abbrev pub ReadsItems : (List ℕ → List Item) → (known : Option (List ℕ))
 ReadsItems items_of known answer =
     IfSome known (λ bytes. IsValueOf (items_of bytes) (built_tree answer))
 
--- The item is the first of those that are foreseen, and there is none only if none is foreseen.
--- `Io` and `OutOfMemory` are always possible.
+-- The item is the first of those that remained, and there is none only if none remained. `Io` and
+-- `OutOfMemory` are always possible.
 abbrev pub BeginsWith : (before : List Item) → Option Item → (after : List Item) → Type 0
 BeginsWith before None after = before ≡ []
 BeginsWith before (Some (Ok event)) after = before ≡ Ok event ∷ after
 BeginsWith before (Some (Err fault)) after = MatchFault fault.kind ⊤ ⊤ (before ≡ Err fault ∷ after)
 
--- if items are foreseen, this one is the first of them, and then the later ones are foreseen, too
+-- if the remaining items are known, this one is the first of them, and the others remain and are
+-- known
 abbrev pub BeginsWithIfKnown : (before : Option (List Item)) → Option Item
     → (after : Option (List Item))
     → Type 0
 BeginsWithIfKnown before item after =
     IfSome before (λ all. (left : List Item) × (after ≡ Some left) × BeginsWith all item left)
 
--- an iterator's calls return the foreseen items, one after another
+-- `coming` predicts the items of an iterator: each call returns the first item of its list
 abbrev pub ForeseesItems : {E I : Type 0} → (plain : E → PlainEvent)
     → (I → Option (Result E Error) → I → Type 0) → (coming : I → Option (List Item)) → Type 0
 ForeseesItems {E} {I} plain next_gives coming =
     (old : I) (item : Option (Result E Error)) (new : I) → next_gives old item new
     → BeginsWithIfKnown (coming old) (option_map (item_by plain) item) (coming new)
 
--- however an iterator's items are foreseen, the result is their value
+-- if any function predicts the iterator's items, the result is their value
 abbrev pub AnswersAsForeseen : {E I : Type 0} → (plain : E → PlainEvent)
     → (I → Option (Result E Error) → I → Type 0) → I → Result Tree Fault → Type 0
 AnswersAsForeseen {E} {I} plain next_gives iter answer =
     (coming : I → Option (List Item)) → ForeseesItems plain next_gives coming → IsReadIfKnown
     (coming iter) answer
 
--- for a value that becomes an iterator: the result is what its items are collected to
+-- for a value that becomes an iterator: the result is built from its items
 abbrev pub CollectsIterable : {E I J : Type 0} → (becomes : J → I → Type 0) → (plain : E → PlainEvent)
     → (I → Option (Result E Error) → I → Type 0) → J → Result Value Error → Type 0
 CollectsIterable {E} {I} {J} becomes plain next_gives made answer =
     (iter : I) × becomes made iter × Collects plain next_gives iter (built_tree answer)
 
--- for a value that becomes an iterator: however its items are foreseen, the result is their value
+-- for a value that becomes an iterator: if any function predicts its items, the result is their
+-- value
 abbrev pub AnswersIterable : {E I J : Type 0} → (becomes : J → I → Type 0) → (plain : E → PlainEvent)
     → (I → Option (Result E Error) → I → Type 0) → J → Result Value Error → Type 0
 AnswersIterable {E} {I} {J} becomes plain next_gives made answer =

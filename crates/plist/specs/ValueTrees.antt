@@ -1,4 +1,4 @@
--- The tree that a value stands for.
+-- The tree of a value.
 use Rattle.std.specs.Prelude.{ℕ, List, map, string_bytes}
 use Rattle.plist_base.specs.declared.error.EventKind.{EventKind}
 use Rattle.plist_base.specs.declared.error.EventKind.TheVariants as kind
@@ -38,7 +38,7 @@ item_trees items = trees_of (map tree_of items)
 abbrev pub tree_pairs : List (List ℕ × Value) → List (List ℕ × Tree)
 tree_pairs pairs = map (λ p. (p.0, tree_of p.1)) pairs
 
--- these pairs as members
+-- the members of a dictionary with these pairs
 abbrev pub pair_trees : List (List ℕ × Value) → Members
 pair_trees pairs = members_of (last_values (tree_pairs pairs))
 

@@ -30,15 +30,15 @@ pub fn value_of_binary<R: Source>(alloc: Global, source: R) -> Result<Value, Err
     Value::from_events(alloc, BinaryReader::new(alloc, source))
 }
 
-/// Returns the value of a value's own events, which is that value.
+/// Builds a copy of a value from the value's events.
 pub fn value_again(alloc: Global, value: &Value) -> Result<Value, Error>
     ensures value { IsReadBack (tree_of value.now) (built_tree result) }
 {
     Value::from_events(alloc, value.events(alloc))
 }
 
-/// Returns the file that a new writer writes for a value's events. Its objects are shared as `S`
-/// says.
+/// Returns the file that a new writer writes for a value's events. `S` decides which objects are
+/// shared.
 pub fn file_by_events<S: Sharing>(alloc: Global, value: &Value) -> Result<Vec<u8>, Error>
     ensures file { IfOk result (λ file. S.IsFile (tree_of value.now) file.items) }
 {
@@ -48,8 +48,9 @@ pub fn file_by_events<S: Sharing>(alloc: Global, value: &Value) -> Result<Vec<u8
 }
 
 /// Returns whether two values are equal, that is, whether their trees are the same up to the order
-/// of a dictionary's pairs. Sameness is an equivalence. Scalars are the same if they are equal, and
-/// dictionaries if they have the same values at all keys.
+/// of a dictionary's pairs. The laws say that this is an equivalence, under which scalars are the
+/// same exactly if they are equal, and dictionaries exactly if they have the same values at all
+/// keys.
 #[tactic(auto, using(crate::proofs::SameTrees::sameness))]
 pub fn are_equal(value: &Value, other: &Value) -> bool
     // Result.

@@ -182,7 +182,7 @@ impl Dictionary {
         self.pairs.values()
     }
 
-    // Returns the pairs, whose drop isn't that of a dictionary.
+    // Takes the pairs out of the dictionary, whose own drop isn't run.
     fn into_pairs(self) -> Pairs<Value>
         ensures { result ≡ pairs_of self }
     {
@@ -202,7 +202,7 @@ impl Dictionary {
         self.pairs.allocator()
     }
 
-    /// Returns the number of pairs, whose keys are distinct.
+    /// Returns the number of pairs. Its contract also says that the keys are distinct.
     pub fn pair_count(&self) -> usize
         ensures count { result ≡ length (pairs_of self.now) }
         ensures distinct { IsDistinct bytes_eq (keys_of (pairs_of self.now)) }
@@ -219,7 +219,7 @@ impl Dictionary {
     }
 }
 
-// Calls on pairs by index, for entries, which look up a key only once.
+// Access to pairs by index. Entries use it, so that they look up their key only once.
 impl Dictionary {
     fn index_of(&self, key: &str) -> Option<usize>
         ensures { MatchOption result (HasNone key.now (pairs_of self.now))
@@ -290,8 +290,8 @@ impl fmt::Debug for Dictionary {
     }
 }
 
-/// Dictionaries are equal if both have equal values at each key of either. Their order doesn't
-/// matter.
+/// Dictionaries are equal if they have the same keys, with equal values. The order of the pairs
+/// doesn't matter.
 impl PartialEq for Dictionary {
     ghost use Rattle.std.specs.Cmp.{partial_equiv_from_equiv};
     ghost use Rattle.plist.specs.inner.DeferredPairs.{same_values_at};

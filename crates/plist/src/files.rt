@@ -98,7 +98,7 @@ impl<'a, R: Files> LazyFile<'a, R> {
         }
     }
 
-    /// Writes a file of the value and has the system store it.
+    /// Writes the value as a binary property list, and has the system store it.
     ///
     /// # Errors
     ///

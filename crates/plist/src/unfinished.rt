@@ -62,7 +62,7 @@ fn kind_expected(expect: Expect) -> EventKind
     }
 }
 
-// Returns why the event can't come next where this is expected, or `None` if it can.
+// Returns the kind of error for an event that isn't what is expected, or `None` if it is.
 fn refusal_of(expect: Expect, event: &Event<'_>) -> Option<ErrorKind>
     ensures { option_map kind_of result ≡ refusal_of expect (event_of event.now) }
 {
@@ -76,7 +76,7 @@ fn refusal_of(expect: Expect, event: &Event<'_>) -> Option<ErrorKind>
 }
 
 impl UnfinishedValue {
-    /// Starts without events.
+    /// Creates an unfinished value without events.
     pub(crate) fn new(alloc: Global) -> UnfinishedValue
         ensures { unfinished_of result ≡ NotBegun }
     {
@@ -99,7 +99,7 @@ impl UnfinishedValue {
         }
     }
 
-    /// Returns why the event can't come next, or `None` if it can.
+    /// Returns the kind of error for an event that can't come next, or `None` if it can.
     pub(crate) fn refusal(&self, event: &Event<'_>) -> Option<ErrorKind>
         ensures { IsRefusalOf self.now event.now result }
     {
@@ -149,7 +149,7 @@ impl UnfinishedValue {
                     Ok(()) => {}
                     Err(_) => return Err(AllocError),
                 }
-                // The contract of this call says that the keys are distinct.
+                // This is called only for its contract, which says that the keys are distinct.
                 let _ = pairs.pair_count();
                 self.collections
                     .push_reserved(UnclosedCollection::Dictionary(pairs));
@@ -158,7 +158,7 @@ impl UnfinishedValue {
         Ok(())
     }
 
-    // Ends the innermost collection, which becomes a value.
+    // Ends the innermost collection, and adds it as a complete value.
     fn end(&mut self) -> Result<(), AllocError>
         requires order { refusal_at (unfinished_of self.old) events.EndCollection ≡ None }
         requires root { self.old.root ≡ None }
@@ -213,7 +213,7 @@ impl UnfinishedValue {
         }
     }
 
-    /// Removes and returns the root, if it is complete. Then nothing is left.
+    /// Removes and returns the root if it is complete, after which nothing is left.
     pub(crate) fn take_root(&mut self) -> Option<Value>
         ensures root { option_map tree_of result ≡ complete_tree (unfinished_of self.old) }
         ensures left { RootIsTaken self.old result self.new }

@@ -167,7 +167,7 @@ impl Value {
 
     /// Reads the value of a source, binary or in ASCII as [`Reader`] chooses. A key that is
     /// repeated keeps its first position and takes its last value. A binary file that was written
-    /// of a value is read back as that value, with its dictionaries in the same order.
+    /// for a value is read back as that value, with its dictionaries in the same order.
     ///
     /// A source is a slice of bytes, a vector, or a [`Seeking`](plist_base::Seeking) over anything
     /// that can be read and sought, such as a file:
@@ -230,8 +230,8 @@ impl Value {
     ///
     /// # Errors
     ///
-    /// - `LimitReached`, if an event would be one too many, or else if a start would open one
-    ///   collection too many, unless an earlier item is an error.
+    /// - `LimitReached` for the first event that exceeds a limit, either because it is one event
+    ///   too many or because it opens one collection too many, unless an earlier item is an error.
     /// - Those of [`Value::from_reader`].
     pub fn from_reader_with_limits<R: Source>(
         alloc: Global,
@@ -256,8 +256,8 @@ impl Value {
     ///
     /// # Errors
     ///
-    /// - `OutOfMemory`, also if a string or data would exceed the bytes that the caller allows,
-    ///   unless an earlier item is an error.
+    /// - `OutOfMemory` if an allocation fails, and for the first string or data that exceeds the
+    ///   bytes that the caller allows, unless an earlier item is an error.
     /// - Those of [`Value::from_reader_with_limits`].
     pub fn from_reader_within<R: Source>(
         alloc: Global,
@@ -279,7 +279,7 @@ impl Value {
     /// Reads the value of an ASCII property list, by the rules of [`Value::from_reader`]. Bytes
     /// past the first 2^64 - 1 aren't read.
     ///
-    /// It reads one byte at a time, so a plain file should be wrapped in a buffer.
+    /// It reads one byte at a time, so a plain file should be wrapped in a buffered reader.
     ///
     /// # Errors
     ///
@@ -332,15 +332,14 @@ impl Value {
         Ok(Value::String(String::from_str(alloc, text)?))
     }
 
-    /// Writes the value as a binary property list, after what was written before, and flushes the
-    /// writer.
+    /// Appends the value to the writer as a binary property list, and flushes the writer.
     ///
     /// # Errors
     ///
-    /// - `PlistTooLarge` if the file would have 2^64 bytes or more, and `OutOfMemory`: nothing of
-    ///   it is written, and the writer is unchanged.
-    /// - `Io` if a write fails, even by `Interrupted`, or accepts no byte, or if the flush fails: a
-    ///   prefix of the file is written, or all of it if the flush failed.
+    /// - `PlistTooLarge` if the file would have 2^64 bytes or more, and `OutOfMemory`: nothing is
+    ///   written, and the writer is unchanged.
+    /// - `Io` if a write fails (even with `Interrupted`) or accepts no byte, after which a prefix
+    ///   of the file is written; or if the flush fails, after which all of it is.
     pub fn to_writer_binary<W: Write>(&self, alloc: Global, writer: &mut W) -> Result<(), Error>
         ensures sent { SendsValue W.contents self.now result writer.old writer.new }
     {

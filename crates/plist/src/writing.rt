@@ -14,7 +14,7 @@ use plist_base::{Error, Event, Writer};
 use plist_binwrite::EventTable;
 use std::alloc::Global;
 
-// Writes an item's event, or returns its error.
+// Writes the event of an item, or returns the item's error.
 fn write_item<W: Writer>(writer: &mut W, item: Result<Event<'_>, Error>) -> Result<(), Error>
     ensures { WritesItem W.Step writer.old (item_of item.entry) (answer_of result) writer.new }
 {
@@ -38,8 +38,8 @@ pub fn write_value<W: Writer>(alloc: Global, value: &Value, writer: &mut W) -> R
     Ok(())
 }
 
-/// Returns the events of the value, in order, with each different scalar once. Strings and data are
-/// borrowed.
+/// Returns a table of the value's events, in order, which stores each different scalar once. Longer
+/// strings and data are borrowed from the value.
 ///
 /// # Errors
 ///

@@ -20,6 +20,7 @@ IsResolvedAt root key answer =
     × IsArchiveOf root objects names × IsUidAt key names uid
     × (resolved_tree (map tree_of objects) uid ≡ answer)
 
+-- the property list is an archive, in which the key names an object with this tree
 abbrev pub IsTreeAt : (root : Value) → (key : List ℕ) → Tree → Type 0
 IsTreeAt root key tree = IsResolvedAt root key (Ok tree)
 

@@ -29,8 +29,8 @@ plain_command_of (command.Print file) = Print file.now
 plain_command_of (command.Convert from to) = Convert from.now to.now
 plain_command_of (command.Keyed file key) = Keyed file.now key.now
 
--- how the program ends after this result of a command: with 0 and without a report if it succeeded;
--- with 1 if it failed, after its error was reported
+-- how the program ends after this result of a command: with status 0 and without a report if it
+-- succeeded; with status 1 if it failed, after its error was reported
 abbrev pub IsStatusAfter : {E : Type 0} → (reports : E → PlainMessage → Bool → E → Type 0)
     → CommandOutcome → (status : ℕ)
     → (old new : E) → Type 0

@@ -25,16 +25,16 @@ BytesHaveKeysOnce bytes = (tree : Tree) × AreItemsOfTree (items_of_input bytes)
 abbrev pub items_of_known : (known : Option (List ℕ)) → Option (List Item)
 items_of_known known = option_map items_of_input known
 
--- known bytes are read as this tree, or with this fault, by the rules of values
+-- if the bytes are known, reading a value from them returns this tree, or this fault
 abbrev pub IsReadAs : (known : Option (List ℕ)) → Result Tree Fault → Type 0
 IsReadAs known answer = IsReadIfKnown (items_of_known known) answer
 
--- nothing was written, and known bytes are no property list in which each key occurs once
+-- nothing was written; if the bytes are known, they aren't a property list without repeated keys
 abbrev pub LeavesToValue : {W : Type 0} → (known : Option (List ℕ)) → (old new : W) → Type 0
 LeavesToValue known old new = (new ≡ old) × IfSome known (λ bytes. BytesHaveKeysOnce bytes → ⊥)
 
 module _ {W : Type 0} (contents : W → Option (List ℕ)) (known : Option (List ℕ)) where
-  -- a file of the tree that the bytes are read as was written, or writing it failed
+  -- the bytes are read as some tree, and writing a file of it had this result
   abbrev pub SendsRead : Answer → (old new : W) → Type 0
   SendsRead answer old new =
       (tree : Tree) × IsReadAs known (Ok tree) × SendsTree contents tree answer old new
@@ -44,7 +44,7 @@ module _ {W : Type 0} (contents : W → Option (List ℕ)) (known : Option (List
   IsStopped fault old new =
       ((new ≡ old) × IsReadAs known (Err fault)) ⊎ SendsRead (Err fault) old new
 
-  -- a whole file of the tree that the bytes are read as was written
+  -- the bytes are read as some tree, and a whole file of it was written
   abbrev pub SendsAll : (old new : W) → Type 0
   SendsAll old new = SendsRead (Ok tt) old new
 
@@ -52,7 +52,7 @@ module _ {W : Type 0} (contents : W → Option (List ℕ)) (known : Option (List
   abbrev pub IsStoppedFor : {A : Type 0} → Result A Error → (old new : W) → Type 0
   IsStoppedFor answer old new = IfErr answer (λ error. IsStopped (fault_of error) old new)
 
--- a file of the tree that these bytes are read as was written
+-- these bytes are read as some tree, and a file of it was written
 abbrev pub SendsBytes : (bytes old new : List ℕ) → Type 0
 SendsBytes bytes old new =
     (tree : Tree) × IsValueOf (items_of_input bytes) (Ok tree)

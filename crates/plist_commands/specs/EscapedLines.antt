@@ -1,4 +1,4 @@
--- The lines that are printed of a property list.
+-- The lines that are printed for a property list.
 use Rattle.std.specs.Prelude.{ℕ, ℤ, ◌+◌, ◌/◌, ◌%◌, Bool, true, false, not, ◌&&◌, List, [], ◌∷◌, ◌++◌, Option, None, Some, Ok, Err, map, ◌==◌, nat_le, nat_lt, if◌then◌else◌, codes}
 use Rattle.std.specs.List.{flat_map}
 use Rattle.std.specs.Fmt.{decimal, signed_decimal}
@@ -17,7 +17,8 @@ use Rattle.plist_commands.specs.declared.lines.ShortLine.TheVariants as short
 abbrev pub hexadecimal_digit : ℕ → ℕ
 hexadecimal_digit value = if nat_lt value 10 then 48 + value else 87 + value
 
--- is a byte of a string printed as it is? printable ASCII is, except the backslash and the quote
+-- whether a byte of a string is printed as it is: printable ASCII is, except the backslash and the
+-- quote
 abbrev pub stands_for_itself : ℕ → Bool
 stands_for_itself byte =
     nat_le 0x20 byte && nat_le byte 0x7e && not (byte == 0x5c) && not (byte == 0x22)
@@ -32,32 +33,33 @@ escaped_byte byte =
 abbrev pub escaped_text : List ℕ → List ℕ
 escaped_text bytes = flat_map escaped_byte bytes
 
--- a start: its word, and after a space its length, if that is known
+-- the printed form of a start: its word, and after a space its length, if that is known
 abbrev pub text_of_start : (word : List ℕ) → (length : Option ℕ) → List ℕ
 text_of_start word None = word
 text_of_start word (Some length) = word ++ codes " " ++ decimal length
 
--- bytes, each as two hexadecimal digits
+-- bytes as hexadecimal digits, two for each byte
 abbrev pub hexadecimal : List ℕ → List ℕ
 hexadecimal bytes =
     flat_map (λ byte. hexadecimal_digit (byte / 16) ∷ hexadecimal_digit (byte % 16) ∷ []) bytes
 
--- bytes as those of a string, or as those of data
+-- the printed form of bytes, as in a string or as in data
 abbrev pub in_notation : Notation → List ℕ → List ℕ
 in_notation notation.Text bytes = escaped_text bytes
 in_notation notation.Hexadecimal bytes = hexadecimal bytes
 
--- bytes after a space, unless there are none
+-- the printed form of data after its word: a space and the bytes, or nothing if there are none
 abbrev pub text_of_data : List ℕ → List ℕ
 text_of_data [] = []
 text_of_data (byte ∷ bytes) = codes " " ++ hexadecimal (byte ∷ bytes)
 
--- the bytes of a real
+-- the printed form of a real after its word: its bytes
 abbrev pub text_of_real : RealBits → List ℕ
 text_of_real (Four bytes) = hexadecimal bytes
 text_of_real (Eight bytes) = hexadecimal bytes
 
--- a date's second, and after a space its bytes, if it has a fraction
+-- the printed form of a date after its word: its second and, if it has a fraction, a space and its
+-- bytes
 abbrev pub text_of_date : (bytes : List ℕ) → List ℕ
 text_of_date bytes =
     text_of_second (second_of_bytes bytes)

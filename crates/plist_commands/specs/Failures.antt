@@ -24,10 +24,11 @@ failure_text (OfPlist fault) = fault_text fault
 failure_text (OfArchive error) = text_of_error error
 failure_text NoSuchTop = codes "NoSuchTop"
 
--- what contracts see of a command's result
+-- the result of a command, as contracts see it
 abbrev pub CommandOutcome : Type 0
 CommandOutcome = Result (Unit {0}) PlainFailure
 
+-- what contracts see of a result
 abbrev pub outcome_of : {A : Type 0} → Result A Failure → CommandOutcome
 outcome_of (Ok done) = Ok tt
 outcome_of (Err failure) = Err (plain_failure_of failure)

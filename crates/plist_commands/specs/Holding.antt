@@ -25,14 +25,15 @@ HoldsMore whole before event after =
 abbrev pub IsEmpty : (whole : Bool) → (held : List PlainEvent) → Type 0
 IsEmpty whole held = (held ≡ []) × (whole ≡ false)
 
--- the events that a collector has buffered, and whether they are those of a whole property list
+-- the events that a collector has buffered
 abbrev pub collected : Collector → List PlainEvent
 collected collector = buffered_events collector.pending
 
+-- whether these events are those of a whole property list
 abbrev pub is_complete : Collector → Bool
 is_complete collector = is_whole collector.pending
 
--- the collector wants no more events, for this reason
+-- the collector ends the visit, for this reason
 pub record EndsAtEvent (old : Collector) (stop : StopReason) (flow : Flow) (new : Collector) : Type 0
   where
     pub stops : flow ≡ Break tt

@@ -22,12 +22,12 @@ abbrev pub ComesIfKnown : (before : Option (List Item)) → PlainItem → (after
 ComesIfKnown before item after =
     IfSome before (λ all. (left : List Item) × (after ≡ Some left) × GivesNext all item left)
 
--- how many calls of a source failed, or 0 if there is no source
+-- the number of failed calls of a source, or 0 if there is no source
 abbrev pub failures_if_held : {S : Type 0} → (failures : S → ℕ) → Option S → ℕ
 failures_if_held failures None = 0
 failures_if_held failures (Some source) = failures source
 
--- how many calls of a reader's source failed, or 0 if it has none
+-- the number of failed calls of a reader's source, or 0 if it has none
 abbrev pub failures_in : {S : Type 0} {g : Ghosts S} → (failures : S → ℕ) → Reader S g → ℕ
 failures_in failures reader = failures_if_held failures (reader_source reader)
 

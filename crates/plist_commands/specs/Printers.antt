@@ -1,4 +1,4 @@
--- What a printer does that takes an event.
+-- What a printer does when it takes an event.
 use Rattle.std.specs.Prelude.{◌≡◌, ◌⊎◌, ℕ, List, Option, Ok, Err}
 use Rattle.std.specs.Io.KnownBytes.{Appends}
 use Rattle.std.specs.declared.ops.ControlFlow.TheVariants.{Continue, Break}
@@ -25,7 +25,8 @@ pending_lines printer = buffered printer.buffer.now
 abbrev pub IsSamePrinter : {W : Type 0} → (old new : Printer W) → Type 0
 IsSamePrinter old new = IsSameSink (printer_sink old) (printer_sink new)
 
--- a printer that goes on has put its bytes, and one that stops keeps why it couldn't
+-- the result of putting bytes into the sink: `Ok` if the printer continues, and its failure if it
+-- stops
 abbrev pub answer_of_flow : Flow → (failure : Error) → Answer
 answer_of_flow (Continue more) failure = Ok tt
 answer_of_flow (Break stop) failure = Err (fault_of failure)
@@ -35,12 +36,12 @@ module _ {W : Type 0} (contents : W → Option (List ℕ)) where
   abbrev pub printed : Printer W → Option (List ℕ)
   printed printer = contents printer.writer.now
 
-  -- the bytes follow the lines that were pending, as those that are put into the sink
+  -- the bytes are put into the sink, after the pending lines
   abbrev pub PrintsBytes : (old : Printer W) → (bytes : List ℕ) → Flow → (new : Printer W) → Type 0
   PrintsBytes old bytes flow new =
       PutsBytes contents (printer_sink old) bytes (answer_of_flow flow new.failure) (printer_sink new)
 
-  -- what taking an event does
+  -- the line of the event is put into the sink
   abbrev pub PrintsLine : (old : Printer W) → PlainEvent → Flow → (new : Printer W) → Type 0
   PrintsLine old event flow new = PrintsBytes old (line_of event) flow new
 

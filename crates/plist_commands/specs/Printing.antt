@@ -30,9 +30,11 @@ PrintsUntil error items old new =
 -- what printing items writes, if they are known
 module _ {W : Type 0} (contents : W → Option (List ℕ)) (items : Option (List Item)) (old new : W)
   where
+    -- the items have no fault, and all lines were written
     abbrev pub PrintsItems : Type 0
     PrintsItems = IfSome items (λ all. PrintsAll all (contents old) (contents new))
 
+    -- the error is the first fault, and all lines before it were written
     abbrev pub PrintsItemsUntil : Error → Type 0
     PrintsItemsUntil error = IfSome items (λ all. PrintsUntil error all (contents old) (contents new))
 
@@ -44,37 +46,43 @@ module _ {W : Type 0} (contents : W → Option (List ℕ)) (items : Option (List
 -- what printing all items of a source's file writes, if its bytes are known
 module _ {S W : Type 0} (known : S → Option (List ℕ)) (contents : W → Option (List ℕ)) (source : S)
     (old new : W) where
+  -- the items have no fault, and all lines were written
   abbrev pub PrintsFile : Type 0
   PrintsFile = IfSome (known source) (λ bytes.
       PrintsAll (items_of_file bytes) (contents old) (contents new))
 
+  -- the error is the first fault, and all lines before it were written
   abbrev pub PrintsFileUntil : Error → Type 0
   PrintsFileUntil error = IfSome (known source) (λ bytes.
       PrintsUntil error (items_of_file bytes) (contents old) (contents new))
 
+  -- a prefix of their lines was written
   abbrev pub SendsPrefixOfFile : Type 0
   SendsPrefixOfFile = IfSome (known source) (λ bytes.
       AppendsPrefix (contents old) (contents new) (lines_of (items_of_file bytes)))
 
--- the lines of all events of a value were written, or a prefix of them
+-- what printing the events of a value writes
 module _ {W : Type 0} (contents : W → Option (List ℕ)) (value : Value) (old new : W) where
+  -- the lines of all events were written
   abbrev pub PrintsValue : Type 0
   PrintsValue =
       Appends (contents old) (contents new) (lines_of_events (bracketing (tree_of value)))
 
+  -- a prefix of these lines was written
   abbrev pub SendsPrefixOfValue : Type 0
   SendsPrefixOfValue =
       AppendsPrefix (contents old) (contents new) (lines_of_events (bracketing (tree_of value)))
 
--- a write failed, or an allocation for a line: neither error has an offset
+-- a write or an allocation failed; neither error has an offset
 abbrev pub IsWriterFault : Fault → Type 0
 IsWriterFault fault = (fault.offset ≡ None) × IsIoOrMemory fault.kind
 
+-- the error is such a fault
 abbrev pub IsWriterError : Error → Type 0
 IsWriterError error = IsWriterFault (fault_of error)
 
--- the count of failures rose only if the call returned `Io`; without an offset that may be the
--- writer's
+-- the count of failures rose only if the call returned `Io`; an `Io` without an offset may be the
+-- error of a write
 abbrev pub CountsReads : {A : Type 0} → Result A Error → (old new : ℕ) → Type 0
 CountsReads answer old new = MatchResult answer (λ _. new ≡ old)
     (λ error. MatchFault (kind_of (error_kind_of error))

@@ -25,7 +25,8 @@ module _ {I : Type 0} (gives : I → PlainItem → I → Type 0) where
   abbrev pub IsAskedOnce : (old new : I) → Type 0
   IsAskedOnce old new = (new ≡ old) ⊎ ((item : PlainItem) × gives old item new)
 
-  -- a write failed, and the source was called at most once; or an allocation for a line failed
+  -- a write failed, and the source was called at most once; or an allocation failed, and it wasn't
+  -- called
   abbrev pub StopsPrinting : Error → (old new : I) → Type 0
   StopsPrinting error old new =
       ((fault_of error ≡ fault_without_offset Io) × IsAskedOnce old new)
@@ -103,7 +104,7 @@ HoldsOther {S} known failed source answer held =
     × HoldsRun (StepsReader known failed) reader answer left held
     × CountsReads answer (failures_in failed reader) (failures_in failed left)
 
--- A read failed while the format was determined; or none did, and a reader has the source.
+-- A read failed while the format was determined; or none did, and a reader of the source was used.
 abbrev pub ReadsSource : {S : Type 0} (known : S → Option (List ℕ)) (failed : S → ℕ) (source : S)
     → Result Bool Error → (held : List PlainEvent) → Type 0
 ReadsSource {S} known failed source answer held =
@@ -113,9 +114,9 @@ ReadsSource {S} known failed source answer held =
     ⊎ ((failed front ≡ failed source)
     × (HoldsBinary known failed front answer held ⊎ HoldsOther known failed front answer held)))
 
--- the result of a conversion, given that of buffering the events: their file was written, or a
--- value is needed, or writing failed; without a whole property list a value is needed; an error is
--- returned
+-- The result of a conversion, given that of buffering the events. If the events are those of a
+-- whole property list, a file of them was written, or a value is needed, or writing failed. If they
+-- aren't, a value is needed. The error of buffering is returned.
 abbrev pub ComesOfReading : (sent : Type 0) → Result Bool Error → Result Streamed Error → Type 0
 ComesOfReading sent (Ok true) answer =
     MatchResult answer (λ found. found ≡ Sent → sent) (λ error. offset_of error ≡ None)

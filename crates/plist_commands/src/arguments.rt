@@ -7,7 +7,7 @@ use std::alloc::Global;
 use std::env::{Env, FillError};
 use std::{env, io};
 
-// Returns the arguments after the program's name.
+// The environment of a program without its first argument, which is the program's name.
 #[derive(Drop)]
 struct ProgramWords<'a, R: Env> {
     rt: &'a R,
@@ -30,8 +30,8 @@ impl<'a, R: Env> Env for ProgramWords<'a, R> {
     }
 }
 
-/// Returns the arguments after the program's name, or none if one of them isn't UTF-8: neither a
-/// command nor a path may be such an argument.
+/// Returns the arguments after the program's name, or an empty list if one of them isn't UTF-8: the
+/// program accepts no such argument.
 ///
 /// # Errors
 ///

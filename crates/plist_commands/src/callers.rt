@@ -37,7 +37,8 @@ pub fn print_bytes(alloc: Global, bytes: &[u8], out: &mut Vec<u8>) -> Result<(),
     print_events(alloc, bytes, out)
 }
 
-/// Converts bytes: a file of the tree that they are read as is written, or nothing.
+/// Converts the property list in these bytes. It writes a file of the tree that they are read as,
+/// or nothing if a value is needed.
 ///
 /// # Errors
 ///
@@ -49,7 +50,7 @@ pub fn convert_bytes(alloc: Global, bytes: &[u8], out: &mut Vec<u8>) -> Result<S
     convert_binary(alloc, bytes, out)
 }
 
-/// Returns the line that is reported for a failure, or `None` if an allocation for it fails.
+/// Returns the line that is reported for a failure, or `None` if an allocation fails.
 pub fn text_of_failure(alloc: Global, failure: &Failure) -> Option<Vec<u8>>
     ensures { IfSome result (λ text. text.items
         ≡ codes "Error: " ++ failure_text (plain_failure_of failure.now) ++ codes "\n") }
@@ -61,8 +62,8 @@ pub fn text_of_failure(alloc: Global, failure: &Failure) -> Option<Vec<u8>>
     }
 }
 
-/// Returns whether printing bytes ends with the error of a read, which has an offset. It never
-/// does.
+/// Prints the events of bytes, and returns whether that fails with the error of a read, which has
+/// an offset. It always returns `false`, since reads of a slice can't fail.
 pub fn meets_a_failed_read(alloc: Global, bytes: &[u8], out: &mut Vec<u8>) -> bool
     ensures { result ≡ false }
 {
@@ -72,8 +73,8 @@ pub fn meets_a_failed_read(alloc: Global, bytes: &[u8], out: &mut Vec<u8>) -> bo
     }
 }
 
-/// Returns the status if there are no arguments, which is that of wrong ones. Nothing is printed,
-/// and the usage is reported.
+/// Runs the program without arguments, and returns its status, which is that of wrong arguments.
+/// Nothing is printed, and the usage is reported.
 pub fn status_of_no_words<R: Commands, O: Write, E: Messages>(
     rt: &R,
     alloc: Global,
@@ -87,8 +88,8 @@ pub fn status_of_no_words<R: Commands, O: Write, E: Messages>(
     run_words(rt, alloc, &[], out, err)
 }
 
-/// Returns whether a run succeeds. Then its command may have returned `Ok`, and nothing is
-/// reported.
+/// Runs a command, and returns whether the run succeeds. If it does, `Ok` is a possible result of
+/// the command, and nothing is reported.
 pub fn is_done<R: Commands, O: Write, E: Messages>(
     rt: &R,
     alloc: Global,
@@ -103,7 +104,8 @@ pub fn is_done<R: Commands, O: Write, E: Messages>(
     run_words(rt, alloc, words, out, err) == 0
 }
 
-/// Returns whether a run fails. Then its command may have returned an error, which is reported.
+/// Runs a command, and returns whether it fails. If it does, some error is a possible result of the
+/// command, and this error is reported.
 pub fn is_refused<R: Commands, O: Write, E: Messages>(
     rt: &R,
     alloc: Global,

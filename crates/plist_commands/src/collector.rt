@@ -13,7 +13,8 @@ use std::alloc::{AllocError, Global};
 use std::mem;
 use std::ops::ControlFlow;
 
-// Buffers the next event. If it can't come here, nothing changes.
+// Buffers the event and returns `true`, or returns `false` if it can't follow the buffered events,
+// which are then unchanged.
 #[inline(always)]
 fn take(alloc: Global, pending: &mut EventBuffer, event: Event<'_>) -> Result<bool, AllocError>
     ensures taken { IfOkIs result true (HoldsMore (is_whole pending.new) (buffered_events pending.old)
@@ -37,21 +38,21 @@ fn take(alloc: Global, pending: &mut EventBuffer, event: Event<'_>) -> Result<bo
 pub(crate) enum StopReason {
     /// The last event is buffered, and others may follow.
     Paused,
-    /// The last event can't follow those before it.
+    /// The event can't follow those before it, and isn't buffered.
     Misplaced,
     /// An allocation failed.
     Failed(Error),
 }
 
-/// Buffers the events that it takes, as long as they can be those of one property list.
+/// A visitor that buffers events as long as they can be those of one property list.
 #[derive(Drop)]
 pub(crate) struct Collector {
     alloc: Global,
-    /// The events.
+    /// The buffered events.
     pub(crate) pending: EventBuffer,
     /// Whether the collector pauses after each event.
     pub(crate) pauses: bool,
-    // Why the collector wants no more events, if it does.
+    // Why the collector wants no more events; unspecified while it does.
     stop: StopReason,
 }
 
@@ -72,7 +73,7 @@ impl Collector {
         }
     }
 
-    // Stores why no more events are wanted, and wants no more.
+    // Stores why no more events are wanted, and ends the visit.
     #[cold]
     fn end(&mut self, stop: StopReason) -> ControlFlow<()>
         ensures { EndsAtEvent self.old stop result self.new }
@@ -81,7 +82,7 @@ impl Collector {
         ControlFlow::Break(())
     }
 
-    // Wants more events, unless the collector pauses.
+    // Continues the visit, unless the collector pauses after each event.
     #[inline(always)]
     fn go_on(&mut self) -> ControlFlow<()>
         ensures { MayPause self.old result self.new }
@@ -99,9 +100,9 @@ impl Collector {
         matches!(visited, Ok(Visited::Stopped)) && matches!(self.stop, StopReason::Paused)
     }
 
-    /// Makes the collector pause no more. The expected number of different scalars is a hint, by
-    /// which their table grows in larger steps: for a large file a fifth of the time would be spent
-    /// on doubling it.
+    /// Ends the pauses, and sets how many different scalars are expected. The number is a hint, by
+    /// which their table grows in larger steps: for a large file, a fifth of the time would be
+    /// spent on doubling the table.
     pub(crate) fn expect_scalars(&mut self, count: usize)
         ensures events { collected self.new ≡ collected self.old }
         ensures whole { is_complete self.new ≡ is_complete self.old }
@@ -111,8 +112,8 @@ impl Collector {
         self.pending.expect_scalars(count);
     }
 
-    /// Returns whether the events that were taken are those of a whole property list, after a visit
-    /// with this result in which the collector didn't pause.
+    /// Returns whether the buffered events are those of a whole property list, after a visit with
+    /// this result. If the collector paused in the visit, it returns `false`.
     ///
     /// # Errors
     ///

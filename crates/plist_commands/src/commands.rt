@@ -47,7 +47,8 @@ pub fn command_of(words: &[String]) -> Option<Command<'_>>
 
 /// Runs commands. It is a trait so that a clause can name the result of a command.
 pub trait Commands {
-    /// The result that a command may have, and the bytes of an output after it, if they are known.
+    /// A possible result of a command, and the bytes of the output before and after it, if they are
+    /// known.
     ghost answers: { Self → PlainCommand → (old : Option (List ℕ)) → CommandOutcome
         → (new : Option (List ℕ)) → Type 0 };
 

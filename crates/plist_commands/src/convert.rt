@@ -27,14 +27,15 @@ use std::rt::Files;
 /// The result of writing a property list without making its value.
 #[derive(Clone, Copy)]
 pub enum Streamed {
-    /// Its file was written.
+    /// The file was written.
     Sent,
     /// Nothing was written: a dictionary has a key twice, or the events aren't those of a value.
     NeedsValue,
 }
 
-// Buffers the events of a binary source. After the first event the reader knows the number of
-// objects in the file, and no more different scalars can follow.
+// Buffers the events of a binary source. The collector pauses after the first event, since the
+// reader then knows the number of objects in the file. There can't be more different scalars than
+// objects.
 #[inline(never)]
 fn hold_binary<S: Source>(
     alloc: Global,
@@ -60,8 +61,8 @@ fn hold_binary<S: Source>(
     collector.answer(others)
 }
 
-// Buffers the events of a source of any format. It is a function of its own, since moving the
-// reader uses much of the call stack.
+// Buffers the events of a source of any format. It isn't inlined, since moving the reader uses much
+// of the call stack.
 #[inline(never)]
 fn hold_any<S: Source>(alloc: Global, source: S, collector: &mut Collector) -> Result<bool, Error>
     requires empty { IsEmpty (is_complete collector.old) (collected collector.old) }
@@ -77,8 +78,8 @@ fn hold_any<S: Source>(alloc: Global, source: S, collector: &mut Collector) -> R
     collector.answer(visited)
 }
 
-// Buffers the events of a source, and returns whether they are those of a tree. The source isn't
-// needed after that.
+// Buffers the events of a source, and returns whether they are those of a tree. It drops the
+// source.
 fn hold_source<S: Source>(
     alloc: Global,
     source: S,
@@ -129,8 +130,8 @@ fn send_events<W: Write>(
 ///
 /// # Errors
 ///
-/// The errors of [`Value::from_reader`], before anything is written, and those of
-/// [`Value::to_writer_binary`], with what that call writes before it fails.
+/// The errors of [`Value::from_reader`], after which nothing is written, and those of
+/// [`Value::to_writer_binary`], which says what is written then.
 pub fn convert_binary<S: Source, W: Write>(
     alloc: Global,
     source: S,
@@ -149,8 +150,7 @@ pub fn convert_binary<S: Source, W: Write>(
     send_events(alloc, &collector.pending, writer)
 }
 
-// Writes a source to the file of this name as `convert_binary` does, and has the system store what
-// was written.
+// Like `convert_binary`, but writes to the file of this name, and has the system store it.
 fn stream_to<R: Files, S: Source>(
     rt: &R,
     alloc: Global,

@@ -19,7 +19,8 @@ pub fn digit_of(value: u8) -> u8
     }
 }
 
-// Returns the hexadecimal digits of a block, computed for many bytes at once.
+// Returns the hexadecimal digits of a block. The fixed length lets the compiler compute the digits
+// of many bytes at once.
 #[inline(always)]
 fn digits_of_block(bytes: &[u8; 64]) -> [u8; 128]
     ensures { result ≡ hexadecimal bytes.now }
@@ -45,7 +46,7 @@ fn digits_of_eight(bytes: &[u8; 8]) -> [u8; 16]
     digits
 }
 
-// Pushes two hexadecimal digits for each of a few bytes.
+// Pushes two hexadecimal digits for each byte, one byte at a time.
 fn push_digits(line: &mut FixedBuffer, bytes: &[u8])
     requires { 2 * length bytes.now ≤ room line.old }
     ensures pushed { buffered line.new ≡ buffered line.old ++ hexadecimal bytes.now }
@@ -56,7 +57,7 @@ fn push_digits(line: &mut FixedBuffer, bytes: &[u8])
     }
 }
 
-// Pushes two hexadecimal digits for each byte, for eight bytes at a time.
+// Pushes two hexadecimal digits for each byte, eight bytes at a time.
 fn push_by_eights(line: &mut FixedBuffer, bytes: &[u8])
     requires { 2 * length bytes.now ≤ room line.old }
     ensures pushed { buffered line.new ≡ buffered line.old ++ hexadecimal bytes.now }

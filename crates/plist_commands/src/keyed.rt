@@ -32,8 +32,8 @@ fn tree_at(alloc: Global, root: &Value, key: &str) -> Result<Value, Failure>
     }
 }
 
-/// Prints the tree of the object that the `$top` of an archive names by this key. The archive is
-/// passed as a value.
+/// Prints the tree of the object that the `$top` of an archive names by this key. `root` is the
+/// archive's property list.
 ///
 /// # Errors
 ///

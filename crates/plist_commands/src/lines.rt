@@ -11,12 +11,12 @@ use crate::hexadecimal::push_hexadecimal;
 use crate::plain_bytes::push_text;
 use plist_base::{Date, FixedBuffer, Integer, RealBits, Uid};
 
-/// How bytes are printed.
+/// How the bytes of a string or data are printed.
 #[derive(Clone, Copy)]
 pub enum Notation {
-    /// As those of a string, between its quotes.
+    /// As in a string: printable ASCII as it is, and an escape for any other byte.
     Text,
-    /// As those of data, after its word.
+    /// As in data: two hexadecimal digits for each byte.
     Hexadecimal,
 }
 
@@ -41,7 +41,7 @@ pub enum ShortLine {
     Uid(Uid),
 }
 
-/// No line has more bytes than this and those of a string or data in it.
+/// An upper bound of the length of a line, apart from the printed bytes of a string or data in it.
 pub const MOST_OF_SHORT: usize = 64;
 
 /// Pushes bytes as they are printed: at most four for each byte.
@@ -67,7 +67,7 @@ fn push_number(line: &mut FixedBuffer, word: &[u8], number: u64)
     line.push(b"\n");
 }
 
-// Pushes the line of a start: its word, how many items or pairs follow if that is known, and the LF.
+// Pushes the line of a start: its word, the number of items or pairs if it is known, and the LF.
 #[inline(always)]
 fn push_start(line: &mut FixedBuffer, word: &[u8], count: Option<u64>)
     requires { length word.now + 22 ≤ room line.old }

@@ -20,16 +20,17 @@ pub enum Message<'a> {
     Fault(&'a Failure),
 }
 
-/// Takes messages. It is a trait so that a clause can name what was reported.
+/// Reports messages. It is a trait so that a clause can name what was reported.
 pub trait Messages {
-    /// What a message does: if `whole` is false, a part of it may be missing.
+    /// What reporting a message changes: if `whole` is false, only a prefix of the message may be
+    /// written.
     ghost reports: { (old : Self) → PlainMessage → (whole : Bool) → (new : Self) → Type 0 };
 
     /// Writes a message, on a line of its own.
     ///
     /// # Errors
     ///
-    /// An error is returned if a write fails.
+    /// The error of the write, if it fails.
     fn report(&mut self, message: Message<'_>) -> Result<(), Error>
         ensures { reports self.old (plain_message_of message.entry) (is_ok result) self.new };
 }
@@ -46,7 +47,7 @@ fn line_of_failure(failure: &Failure) -> Result<ArrayString<256>, Error>
     }
 }
 
-/// Each message is a line, which is written by one call.
+/// Each message is one line, which is written by one call.
 impl<W: Write> Messages for W {
     ghost reports = { λ old said whole new. TakesMessage said whole (W.contents old)
         (W.contents new) };

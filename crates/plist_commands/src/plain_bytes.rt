@@ -14,7 +14,7 @@ fn is_plain(byte: u8) -> bool
     byte >= 0x20 && byte <= 0x7e && byte != b'\\' && byte != b'"'
 }
 
-// For each byte, whether it is printed as it is in a string.
+// `PLAIN[byte]` is whether a byte of a string is printed as it is.
 const PLAIN: [bool; 256] = [
     false, false, false, false, false, false, false, false, false, false, false, false, false,
     false, false, false, false, false, false, false, false, false, false, false, false, false,
@@ -37,7 +37,8 @@ const PLAIN: [bool; 256] = [
     false, false, false, false, false, false,
 ];
 
-// Returns whether a byte of a string is printed as it is, by a table, which is faster for one byte.
+// Returns whether a byte of a string is printed as it is. For a single byte, a look-up in the table
+// is faster than `is_plain`.
 #[tactic(auto, using(crate::proofs::PlainBytes::is_marked))]
 fn is_marked_plain(byte: u8) -> bool
     ensures { result ≡ stands_for_itself byte }
@@ -45,8 +46,8 @@ fn is_marked_plain(byte: u8) -> bool
     PLAIN[byte as usize]
 }
 
-// Returns whether all bytes are printed as they are. It looks at every byte, so that many are
-// tested at once.
+// Returns whether all bytes are printed as they are. The loop has no early exit, so that the
+// compiler can test many bytes at once.
 #[inline(always)]
 fn are_many_plain(bytes: &[u8]) -> bool
     ensures { result ≡ true → escaped_text bytes.now ≡ bytes.now }
@@ -58,7 +59,7 @@ fn are_many_plain(bytes: &[u8]) -> bool
     plain
 }
 
-// Returns whether these few bytes are printed as they are. It ends at the first one that isn't.
+// Returns whether all bytes are printed as they are. It returns at the first one that isn't.
 #[inline(always)]
 fn are_few_plain(bytes: &[u8]) -> bool
     ensures { result ≡ true → escaped_text bytes.now ≡ bytes.now }
@@ -71,8 +72,8 @@ fn are_few_plain(bytes: &[u8]) -> bool
     true
 }
 
-// Returns whether all bytes of a string are printed as they are. Its last bytes are too few to be
-// tested at once.
+// Returns whether all bytes of a string are printed as they are. Chunks of eight bytes are tested
+// together, and the remainder byte by byte.
 fn are_plain(text: &[u8]) -> bool
     ensures { result ≡ true → escaped_text text.now ≡ text.now }
 {
@@ -94,7 +95,8 @@ fn push_byte(line: &mut FixedBuffer, byte: u8)
     line.push(&[b'\\', b'x', digit_of(byte / 16), digit_of(byte % 16)]);
 }
 
-// Pushes a string byte by byte. It is a function of its own, so that the loop keeps its registers.
+// Pushes a string byte by byte. It isn't inlined, so that the variables of the loop stay in
+// registers.
 #[inline(never)]
 fn push_escaped(line: &mut FixedBuffer, text: &[u8])
     requires { 4 * length text.now ≤ room line.old }

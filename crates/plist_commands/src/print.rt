@@ -26,13 +26,14 @@ use std::io::Write;
 use std::mem;
 use std::ops::ControlFlow;
 
-// The line of a string or data of at most this many bytes fits into an empty buffer.
+// The line of a string or data of at most this many bytes fits into an empty buffer, even if each
+// byte is escaped.
 const MOST_AT_ONCE: usize = 16_368;
 
 // A longer string or data is printed in blocks of this many bytes.
 const BLOCK: usize = 4096;
 
-// The line of a string or data, in parts.
+// The line of a long string or data, in parts.
 #[derive(Clone, Copy)]
 struct Parts<'b> {
     word: &'b [u8],
@@ -41,7 +42,7 @@ struct Parts<'b> {
     end: &'b [u8],
 }
 
-// Makes room for `size` more bytes: if they may not fit after what is pending, that is written.
+// Makes room for `size` more bytes, by writing the pending bytes if there isn't enough.
 fn make_room<W: Write>(sink: &mut Sink<'_, W>, size: usize) -> Result<(), Error>
     requires { size ≤ sink_capacity }
     ensures put { Puts W.contents sink.old [] result sink.new }
@@ -53,7 +54,7 @@ fn make_room<W: Write>(sink: &mut Sink<'_, W>, size: usize) -> Result<(), Error>
     sink.write_pending()
 }
 
-// Puts a block of a string or data.
+// Puts the printed form of a block of a string or data into the sink.
 fn put_block<W: Write>(
     sink: &mut Sink<'_, W>,
     block: &[u8],
@@ -67,7 +68,7 @@ fn put_block<W: Write>(
     Ok(())
 }
 
-// Puts the bytes of a string or data, block by block.
+// Puts the printed form of a string or data into the sink, block by block.
 fn put_blocks<W: Write>(
     sink: &mut Sink<'_, W>,
     bytes: &[u8],
@@ -82,7 +83,7 @@ fn put_blocks<W: Write>(
     put_block(sink, rest, notation)
 }
 
-// Puts a line: its word, its bytes in blocks, and its end.
+// Puts a line into the sink: its word, its bytes in blocks, and its end.
 fn put_parts<W: Write>(sink: &mut Sink<'_, W>, line: &Parts<'_>) -> Result<(), Error>
     ensures { Puts W.contents sink.old (line.now.word.now
         ++ in_notation line.now.notation line.now.bytes.now ++ line.now.end.now) result sink.new }
@@ -92,15 +93,15 @@ fn put_parts<W: Write>(sink: &mut Sink<'_, W>, line: &Parts<'_>) -> Result<(), E
     sink.put(line.end)
 }
 
-/// Prints the events that it takes, each on a line of its own.
+/// A visitor that prints each event on a line of its own.
 ///
-/// Lines are pending in the buffer until the next one may not fit. Then they are written first, so
-/// that no memory is allocated.
+/// Lines are pending in the buffer until the next one might not fit. They are written before that
+/// one is pushed, so the buffer never grows.
 #[derive(Drop)]
 pub(crate) struct Printer<'p, W> {
     writer: &'p mut W,
     buffer: &'p mut FixedBuffer,
-    // Why the printer wants no more events: a write failed.
+    // The error of the failed write that stopped the printer; unspecified until a write fails.
     failure: Error,
 }
 
@@ -108,7 +109,7 @@ impl<'p, W: Write> Printer<'p, W> {
     ghost use Rattle.std.specs.declared.ops.ControlFlow.TheVariants.{Continue};
     ghost use Rattle.plist_commands.specs.Printers.{FailsAfterLines, IsSamePrinter, PrintsBytes, PrintsLine, pending_lines, printed, printer_sink};
 
-    // Creates a printer. The lines in the buffer are pending.
+    // Creates a printer. Lines that the buffer already contains are pending.
     fn new(buffer: &'p mut FixedBuffer, writer: &'p mut W) -> Printer<'p, W>
         ensures writer { result.writer.ghost_name ≡ writer.entry.ghost_name }
         ensures buffer { result.buffer.ghost_name ≡ buffer.entry.ghost_name }
@@ -140,8 +141,7 @@ impl<'p, W: Write> Printer<'p, W> {
         }
     }
 
-    // Makes room for `size` more bytes: if they may not fit after the lines that are pending, those
-    // are written.
+    // Makes room for `size` more bytes, by writing the pending lines if there isn't enough.
     #[inline(always)]
     fn make_room(&mut self, size: usize) -> ControlFlow<()>
         requires { size ≤ sink_capacity }
@@ -229,7 +229,7 @@ impl<'p, W: Write> Printer<'p, W> {
         }
     }
 
-    // Returns the error for which the printer stopped.
+    // Takes the error that stopped the printer.
     fn take_failure(&mut self) -> Error
         ensures failure { result ≡ self.old.failure }
         ensures same { IsSamePrinter self.old self.new }
@@ -239,7 +239,7 @@ impl<'p, W: Write> Printer<'p, W> {
         mem::replace(&mut self.failure, ErrorKind::OutOfMemory.without_position())
     }
 
-    // Writes the lines that are pending, at the end.
+    // Writes the pending lines after the last event.
     fn finish(&mut self) -> Result<(), Error>
         ensures put { Puts W.contents (printer_sink self.old) [] result (printer_sink self.new) }
         ensures empty { OnOk result (pending_lines self.new ≡ []) }
@@ -250,8 +250,8 @@ impl<'p, W: Write> Printer<'p, W> {
         }
     }
 
-    // Writes the lines that are pending before an error, and returns that error, or the one of the
-    // write.
+    // Writes the lines that are pending before an error, and returns that error, or that of the
+    // write if it fails.
     fn finish_before(&mut self, error: Error) -> Error
         ensures { FailsAfterLines W.contents (printer_sink self.old) error result
             (printer_sink self.new) }
@@ -262,7 +262,7 @@ impl<'p, W: Write> Printer<'p, W> {
         }
     }
 
-    // Prints the events that remain of a source, and writes the lines that are pending.
+    // Prints the remaining events of a source, and writes all lines.
     fn print_all<I: EventSource>(&mut self, source: &mut I) -> Result<(), Error>
         requires empty { pending_lines self.old ≡ [] }
         ensures ran { PrintsRun I.yields source.old result source.new
@@ -347,7 +347,7 @@ impl<'p, W: Write> EventVisitor for Printer<'p, W> {
     }
 }
 
-// Prints the remaining events of a source, without a flush.
+// Prints the remaining events of a source, without flushing the writer.
 fn print_unflushed<I: EventSource, W: Write>(
     alloc: Global,
     source: &mut I,
@@ -409,9 +409,9 @@ pub fn print_reader<S: Source, W: Write>(
 /// # Errors
 ///
 /// The first error of the source, after the lines of the events before it were written. If a write
-/// fails, the error is `Io` without an offset, and if an allocation for a line fails, it is
-/// `OutOfMemory`; a prefix of the lines is written then. A failed flush is an error only if nothing
-/// failed before it.
+/// fails, the error is `Io` without an offset, and a prefix of the lines is written. If the buffer
+/// can't be allocated, it is `OutOfMemory`, and nothing is written. A failed flush is an error only
+/// if nothing failed before it.
 pub fn print_events<S: Source, W: Write>(
     alloc: Global,
     source: S,

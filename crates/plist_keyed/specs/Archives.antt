@@ -29,12 +29,14 @@ module _ (follow : ℕ → Result Tree ArchiveFault) where
     replaced (Array items) = and_then (replaced_items items) (λ done. Ok (Array done))
     replaced (Dictionary pairs) = and_then (replaced_pairs pairs) (λ done. Ok (Dictionary done))
 
+    -- the items in which each Uid is replaced, in order
     pub replaced_items : Trees → Result Trees ArchiveFault
     replaced_items NoTrees = Ok NoTrees
     replaced_items (TreeAnd tree items) =
         and_then (replaced tree)
         (λ first. and_then (replaced_items items) (λ done. Ok (TreeAnd first done)))
 
+    -- the pairs in whose values each Uid is replaced, in order
     pub replaced_pairs : Members → Result Members ArchiveFault
     replaced_pairs NoMembers = Ok NoMembers
     replaced_pairs (MemberAnd key tree pairs) =
@@ -49,8 +51,8 @@ tree_found (Some object) true uid tree = Err (RecursiveUid uid)
 tree_found (Some object) false uid tree = tree object
 
 module _ (objects : List Tree) where
-  -- The tree of a Uid inside the objects of the path. `fuel` is the number of objects that aren't
-  -- on the path: if it is 0, each object is open.
+  -- The tree of a Uid while the objects on the path are open. `fuel` is the number of objects that
+  -- aren't on the path: if it is 0, each object is open.
   unfoldable pub resolved : (fuel : ℕ) (path : List ℕ) (uid : ℕ) → Result Tree ArchiveFault
   resolved zero path uid = tree_found (slice_get objects uid) true uid (λ object. Ok object)
   resolved (suc fuel) path uid =

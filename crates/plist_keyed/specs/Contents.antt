@@ -68,6 +68,6 @@ IsArchive root =
 abbrev pub IsOpenedOf : (root : Value) → Archive → Type 0
 IsOpenedOf root archive = IsArchiveOf root (objects_of archive) (names_of archive)
 
--- the property list isn't an archive, and the error says so
+-- the property list isn't an archive, and the error is `NotAnArchive`
 abbrev pub IsNoArchive : (root : Value) → KeyedError → Type 0
 IsNoArchive root error = (error ≡ keyed_error.NotAnArchive) × ¬ (IsArchive root)

@@ -1,4 +1,4 @@
--- Errors: their printed forms, and what they say of an archive.
+-- Errors: their printed forms, and what they say about an archive.
 use Rattle.std.specs.Prelude.{◌≡◌, ℕ, ◌++◌, List, Result, Err, codes, decimal, ⊤}
 use Rattle.plist_keyed.specs.Archives.{ArchiveFault, UidOutOfRange, RecursiveUid}
 use Rattle.plist_keyed.specs.declared.error.KeyedError.{KeyedError}

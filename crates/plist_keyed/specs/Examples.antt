@@ -8,6 +8,7 @@ use Rattle.plist_keyed.specs.Archives.{UidOutOfRange, RecursiveUid, resolved, re
 abbrev null : Tree
 null = Leaf (trees.String (codes "$null"))
 
+-- an object without Uids
 abbrev x : Tree
 x = Leaf (trees.String (codes "x"))
 

@@ -15,8 +15,8 @@ use crate::walk::value_at;
 use plist::{Dictionary, Uid, Value};
 use std::alloc::Global;
 
-/// An archive in a property list: the objects in its array `$objects`, and the pairs in its
-/// dictionary `$top`, which name some of the objects by their Uids.
+/// An archive in a property list. Its objects are in the array at `$objects`, and the dictionary at
+/// `$top` names some of them by their Uids.
 ///
 /// An object's Uid is its index among the objects, from 0 on.
 #[derive(Clone, Copy)]
@@ -99,9 +99,9 @@ impl<'a> Archive<'a> {
     /// an array that names the next one twice, make a tree of 2^30 leaves. To walk over an archive
     /// without making its tree, follow its Uids by [`Archive::get`].
     ///
-    /// Each Uid is followed once to find a fault before any part of the tree is made. So the time
-    /// to find a fault grows only with the objects, and the time of the whole call grows with the
-    /// objects and the tree. The Uids that were followed are stored until the call returns.
+    /// Each Uid is followed once to find a fault, before any part of the tree is made. So the time
+    /// to find a fault depends on the objects only, and the time of the whole call on the objects
+    /// and the tree. The Uids that were followed are stored until the call returns.
     ///
     /// The walks store the open objects in lists, so the call stack doesn't grow with the depth.
     /// The returned value may be deep, too; [`Value::destroy`] drops it without recursion.

@@ -1,6 +1,7 @@
 //! The walk that finds the first fault below a Uid of an archive, if there is a fault.
 //!
-//! It follows each Uid once. If it reaches one again that isn't open, there is no fault below it.
+//! It follows each Uid once. A Uid that it reaches again is either open, which is a fault, or
+//! settled, and then there is no fault below it.
 
 ghost use Rattle.std.specs.Prelude.{◌≡◌, ◌⊎◌, [], ◌∷◌, false, IfErr, IfOk, IfSome, IsNone, None, OnOk, Some, nat_eq, slice_get, ℕ};
 ghost use Rattle.std.specs.Option.{option_copied};
@@ -20,7 +21,7 @@ use plist::Value;
 use plist::stream::{Event, Events};
 use std::alloc::Global;
 
-// Returns the number of a Uid's event.
+// Returns the number of the Uid that an event is, or `None` for any other event.
 pub(crate) fn uid_of(event: &Event<'_>) -> Option<u64>
     ensures { result ≡ uid_of_event (event_of event.now) }
 {
@@ -30,7 +31,7 @@ pub(crate) fn uid_of(event: &Event<'_>) -> Option<u64>
     Some(uid.get())
 }
 
-// Returns the number of an object that is itself a Uid.
+// Returns the number of the Uid that an object is, or `None` for any other object.
 fn uid_in(object: &Value) -> Option<u64>
     ensures found { IfSome result (λ uid. IsUidTree (tree_of object.now) uid) }
     ensures missing { IsNone result → (uid : ℕ) → ¬ (IsUidTree (tree_of object.now) uid) }
@@ -82,7 +83,7 @@ impl<'a> Check<'a> {
         self.objects.get(uid as usize)
     }
 
-    // Opens an object that isn't open.
+    // Opens the object of a Uid that isn't open.
     fn open(&mut self, uid: u64, object: &'a Value) -> Result<(), WalkError>
         requires { contains nat_eq self.old.path uid ≡ false }
         ensures opened { OnOk result (IsOpened self.old uid object.now self.new) }
@@ -216,8 +217,9 @@ impl<'a> Check<'a> {
 ///
 /// # Errors
 ///
-/// The first fault of the walk in depth-first order, which is `MissingObject` for a Uid that has no
-/// object and `OpenObject` for one on its own path; `OutOfMemory` if an allocation fails.
+/// The first fault in depth-first order: `MissingObject` for a Uid that has no object, or
+/// `OpenObject` for a Uid that is reached while its own object is open. `OutOfMemory` if an
+/// allocation fails.
 pub(crate) fn settled_below(
     alloc: Global,
     objects: &[Value],

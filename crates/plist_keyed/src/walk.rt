@@ -23,7 +23,7 @@ use std::alloc::Global;
 // What a step of the walk does.
 #[derive(Drop)]
 enum WalkStep<'a> {
-    // No item was left, so the walk is done.
+    // No events remain, so the walk has ended.
     End,
     // An event is yielded.
     Event(Event<'a>),
@@ -136,7 +136,7 @@ impl<'a> Walk<'a> {
         }
     }
 
-    // Returns the next item, after the steps that yield none.
+    // Takes steps until one yields an item, and returns that item.
     fn advance(&mut self) -> Option<Result<Event<'a>, Error>>
         requires { IsWalk self.old }
         ensures path { IsWalk self.new }
@@ -173,7 +173,7 @@ impl<'a> Iterator for Walk<'a> {
     }
 }
 
-// Returns the value of a settled Uid.
+// Returns the value of the object that a settled Uid names, in which each Uid is replaced.
 fn value_below(
     alloc: Global,
     objects: &[Value],
@@ -193,8 +193,9 @@ fn value_below(
 ///
 /// # Errors
 ///
-/// The first fault of the walk in depth-first order, which is `MissingObject` for a Uid that has no
-/// object and `OpenObject` for one on its own path; `OutOfMemory` if an allocation fails.
+/// The first fault in depth-first order: `MissingObject` for a Uid that has no object, or
+/// `OpenObject` for a Uid that is reached while its own object is open. `OutOfMemory` if an
+/// allocation fails.
 pub(crate) fn value_at(alloc: Global, objects: &[Value], uid: Uid) -> Result<Value, WalkError>
     ensures read { IfOk result (λ value. IsFaultless (steps_from (objects_seen objects.now) uid)
         × IsValueOf (items_at objects.now uid) (Ok (tree_of value))) }

@@ -6,8 +6,8 @@ use Rattle.plist_commands.specs.Commands.{IsNoCommand, IsStatusAfter, PlainComma
 use Rattle.plist_commands.specs.Failures.{CommandOutcome, OfPlist}
 use Rattle.plist_commands.specs.Messages.{PlainMessage, Fault, Usage}
 
--- the status of a run of some arguments: either they are no command, nothing is printed, and the
--- usage is reported; or they are a command, and the status follows from its outcome
+-- the status of a run with some arguments: either they ask for no command, nothing is printed, and
+-- the usage is reported; or they ask for one, and the status follows from its outcome
 abbrev pub RunsWords : {O E : Type 0} → (reports : E → PlainMessage → Bool → E → Type 0)
     → (status : ℕ) → (old new : O) → (err told : E) → Type 0
 RunsWords reports status old new err told =

@@ -1,6 +1,6 @@
 //! `plist_tool print FILE` prints the events of a binary property list, each on a line of its own.
 //! `plist_tool convert IN OUT` writes a property list of either format as a binary one.
-//! `plist_tool keyed FILE KEY` prints a tree of a keyed archive as `print` prints a file.
+//! `plist_tool keyed FILE KEY` prints a tree of a keyed archive in the same form as `print`.
 #![tactic(auto)]
 
 ghost use Rattle.std.specs.Prelude.{◌≡◌, IfOk, OnErr};
@@ -31,8 +31,8 @@ fn run<R: Files + Env + AllocGlobal, O: Write, E: Messages>(
     Ok(run_words(rt, rt.alloc(), words.as_slice(), out, err))
 }
 
-// Returns the exit code of a run: its status, or 1 if memory ran out before the run, which is
-// reported.
+// Returns the exit code of a run: its status, or 1 if memory ran out before the command was run.
+// This error is then reported.
 fn exit_code<E: Messages>(answer: Result<u8, Error>, err: &mut E) -> ExitCode
     ensures status { IsStatusOf answer (exit_status result) }
     ensures reported { ReportsFault E.reports answer err.old err.new }
@@ -46,7 +46,7 @@ fn exit_code<E: Messages>(answer: Result<u8, Error>, err: &mut E) -> ExitCode
     }
 }
 
-// Runs the command with standard output and standard error. The command buffers its output itself.
+// Standard output isn't buffered here, since the commands buffer their output themselves.
 fn main(rt: HostRuntime) -> ExitCode {
     let mut out = io::writer(&rt);
     let mut err = rt.stderr();

@@ -6,25 +6,28 @@ use Rattle.plist_base.specs.Events.{PlainEvent, Item, StartArray, StartDictionar
 use Rattle.plist_base.specs.Trees.{String}
 use Rattle.plist_uses.specs.declared.counting.Counts.{Counts}
 
+-- the event is the start of an array
 abbrev pub is_array : PlainEvent → Bool
 is_array (StartArray length) = true
 is_array event = false
 
+-- the event is the start of a dictionary
 abbrev pub starts_dictionary : PlainEvent → Bool
 starts_dictionary (StartDictionary length) = true
 starts_dictionary event = false
 
+-- the event is a string
 abbrev pub is_text : PlainEvent → Bool
 is_text (ScalarEvent (String text)) = true
 is_text event = false
 
--- a scalar that isn't a string
+-- the event is a scalar that isn't a string
 abbrev pub is_other : PlainEvent → Bool
 is_other (ScalarEvent (String text)) = false
 is_other (ScalarEvent scalar) = true
 is_other event = false
 
--- how many of the events pass, or the greatest number of 64 bits if there are more
+-- the number of events that pass, or the greatest number of 64 bits if there are more
 abbrev pub count_passing : (PlainEvent → Bool) → List PlainEvent → ℕ
 count_passing passes events = min (length (filter passes events)) (2 ^ 64 - 1)
 
@@ -54,6 +57,7 @@ abbrev pub IsRefusedBy : List Item → Result Counts Error → Type 0
 IsRefusedBy items answer = IfErr answer (λ error.
     MatchFault (kind_of (error_kind_of error)) ⊤ ⊤ (StopAt items (fault_of error)))
 
+-- the counts of no events
 abbrev pub nothing : Counts
 nothing = record { arrays = 0; dictionaries = 0; texts = 0; others = 0 }
 

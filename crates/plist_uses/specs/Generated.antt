@@ -22,5 +22,6 @@ readings_tree readings = Array (trees_of (map reading_tree readings))
 abbrev pub reading_events : Reading → List PlainEvent
 reading_events reading = bracketing (reading_tree reading)
 
+-- the events of an array of these readings
 abbrev pub list_events : List Reading → List PlainEvent
 list_events readings = bracketing (readings_tree readings)

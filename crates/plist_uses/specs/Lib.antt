@@ -1,4 +1,4 @@
--- What contracts of the examples use.
+-- The words that the contracts of the examples use.
 pub mod Settings
 pub mod Roots
 pub mod Counting

@@ -21,7 +21,7 @@ abbrev pub HasNoRoot : (archive : Value) → Type 0
 HasNoRoot archive = (objects : List Value) × (names : List (List ℕ × Value))
     × IsArchiveOf archive objects names × ((uid : ℕ) → IsUidAt (codes "root") names uid → ⊥)
 
--- the fault of the Uid that it names, whose tree can't be resolved
+-- the error is that of resolving the tree of the Uid at `root`
 abbrev pub HasFaultyRoot : (archive : Value) → KeyedError → Type 0
 HasFaultyRoot archive error =
     (objects : List Value) × (names : List (List ℕ × Value)) × (uid : ℕ)

@@ -23,7 +23,7 @@ use plist::{Error, Value};
 use plist_keyed::KeyedError;
 use std::alloc::Global;
 
-/// Returns the string of a setting, if it is one.
+/// Returns the setting of a name, if it is a string.
 pub fn text_of<'a>(settings: &'a Settings, name: &str) -> Option<&'a str>
     ensures { option_copied result ≡ text_at name.now settings.now }
 {
@@ -33,7 +33,7 @@ pub fn text_of<'a>(settings: &'a Settings, name: &str) -> Option<&'a str>
     }
 }
 
-/// Returns the bytes of a binary file of a file's settings, after one of them is set.
+/// Reads the settings of a file, sets one of them, and returns the bytes of a binary file of them.
 ///
 /// # Errors
 ///
@@ -53,7 +53,7 @@ pub fn changed<R: Source>(
     Ok(bytes)
 }
 
-/// Returns the bytes of a binary property list with the content of these bytes.
+/// Converts a property list of either format, and returns the bytes of the binary one.
 ///
 /// # Errors
 ///
@@ -80,7 +80,7 @@ pub fn root_text(alloc: Global, archive: &Value) -> Result<Option<String>, Keyed
     }
 }
 
-/// Counts the content of bytes.
+/// Counts the content of the property list in these bytes.
 ///
 /// # Errors
 ///

@@ -1,4 +1,4 @@
-//! Counting the content of a file, without a value of it in memory.
+//! Counting the content of a file, without building its value.
 
 ghost use Rattle.std.specs.Prelude.{◌≡◌, Err, IfErr, IfSome, OnOk};
 ghost use Rattle.plist_base.specs.Events.{event_of, item_of};

@@ -1,4 +1,4 @@
-//! Writing a list directly from events, without a value of it in memory.
+//! Writing a list directly as events, without building its value.
 
 ghost use Rattle.std.specs.Prelude.{OnOk};
 ghost use Rattle.plist.specs.WrittenEvents.{TakesAll};
@@ -29,7 +29,7 @@ fn write_reading<W: Writer>(reading: &Reading, writer: &mut W) -> Result<(), Err
 }
 
 /// Writes readings as an array of dictionaries, event by event, to a `BinaryWriter`, a
-/// `SharingWriter` or any other writer. It makes no value of them.
+/// `SharingWriter` or any other writer. It builds no value for them.
 ///
 /// # Errors
 ///

@@ -1,6 +1,7 @@
 //! Examples to copy: small callers of the library, each with a contract of its own, which follows
-//! from the contracts of the calls in it. Three have proof files: `counting` and `generated` for
-//! their loops, and `convert` for an error. `callers` has proved callers of the examples.
+//! from the contracts of the calls in it. Four have proof files: `counting` and `generated` for
+//! their loops, `convert` for an error, and `archive` for an archive without a root. `callers` has
+//! proved callers of the examples.
 #![tactic(auto)]
 
 pub mod archive;

@@ -13,9 +13,9 @@ use plist::{Error, Limits, Value};
 use std::alloc::Global;
 
 /// Reads the value of untrusted bytes: at most 64 levels of collections, at most 100,000 events,
-/// and at most 16 MiB of strings and data, whatever the bytes contain. So no file costs more memory
-/// than these take, or more of the call stack than 64 levels when the value is dropped, compared or
-/// copied.
+/// and at most 16 MiB of strings and data, whatever the bytes contain. So no file makes the value
+/// take more memory than these limits allow, and dropping or comparing it recurses no deeper than
+/// these levels.
 ///
 /// # Errors
 ///

@@ -25,11 +25,12 @@ abbrev pub are_same : List Pair → Bool
 are_same [] = true
 are_same (pair ∷ pairs) = same_values pair.value.now pair.other.now && are_same pairs
 
--- the number of values to compare
+-- the number of values that are still to be compared
 abbrev pub to_compare : List Pair → ℕ
 to_compare [] = 0
 to_compare (pair ∷ pairs) = weight pair.value.now + to_compare pairs
 
+-- the pairs of a list, which may be missing
 abbrev pub listed : Option (Vec Pair Global) → List Pair
 listed None = []
 listed (Some pairs) = pairs.items
@@ -45,8 +46,8 @@ are_covered (pair ∷ pairs) others =
     option_eq same_values (Some pair.1) (lookup (bytes_eq pair.0) others)
     && are_covered pairs others
 
--- Once the deferred pairs are compared, the result is this one; no more than `most` values were
--- deferred.
+-- `answer` and the pairs deferred afterwards decide together what `equal` and the pairs deferred
+-- before do. No more than `most` values were deferred.
 abbrev pub Compares : (equal : Bool) → (most : ℕ) → (before : DeferredPairs) → (answer : Bool)
     → (after : DeferredPairs) → Type 0
 Compares equal most before answer after =
@@ -61,12 +62,13 @@ PutsOff value other before true after =
     × (to_compare (waiting after) ≡ weight value + to_compare (waiting before))
 PutsOff value other before false after = waiting after ≡ waiting before
 
--- the items of arrays, or the pairs of dictionaries, are compared
+-- the items of two arrays are compared
 abbrev pub ComparesItems : (items others : List Value) → (before : DeferredPairs) → (answer : Bool)
     → (after : DeferredPairs) → Type 0
 ComparesItems items others before answer after =
     Compares (same_items (item_trees items) (item_trees others)) (weights items) before answer after
 
+-- the pairs of two dictionaries are compared
 abbrev pub ComparesPairs : (pairs others : List (List ℕ × Value)) → (before : DeferredPairs)
     → (answer : Bool) → (after : DeferredPairs) → Type 0
 ComparesPairs pairs others before answer after =
@@ -97,12 +99,13 @@ abbrev pub TakesLast : (before : DeferredPairs) → Option Pair → (after : Def
 TakesLast before found after = MatchOption found (waiting before ≡ [])
     (λ pair. waiting before ≡ waiting after ++ pair ∷ [])
 
--- two values, which may be deferred themselves, or their contents are compared
+-- two values are compared, or deferred themselves
 abbrev pub ComparesValues : (value other : Value) → (before : DeferredPairs) → (answer : Bool)
     → (after : DeferredPairs) → Type 0
 ComparesValues value other before answer after =
     Compares (same_values value other) (weight value) before answer after
 
+-- the contents of two values are compared, and the two values aren't deferred
 abbrev pub ComparesContent : (value other : Value) → (before : DeferredPairs) → (answer : Bool)
     → (after : DeferredPairs) → Type 0
 ComparesContent value other before answer after =

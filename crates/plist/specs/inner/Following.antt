@@ -17,6 +17,7 @@ use Rattle.plist_base.specs.Expects.{change_of, changed, step, steps, expected_a
 use Rattle.plist_base.proofs.OneTree.{one_tree}
 use Rattle.plist_base.proofs.Stacks.{Stack, steps_items, steps_pairs}
 
+-- one more item adds its events at the end
 items-append : (ts : List Tree) (t : Tree)
     → bracketing_of_items (trees_of (ts ++ t ∷ [])) ≡ bracketing_of_items (trees_of ts)
     ++ bracketing t
@@ -25,6 +26,7 @@ items-append (u ∷ ts) t =
     ap (λ l. bracketing u ++ l) (items-append ts t)
     ∙ sym (append_assoc (bracketing u) (bracketing_of_items (trees_of ts)) (bracketing t))
 
+-- one more pair adds its key and the events of its value at the end
 pairs-append : (ps : TreePairs) (k : List ℕ) (t : Tree)
     → bracketing_of_pairs (members_of (ps ++ (k, t) ∷ [])) ≡ bracketing_of_pairs (members_of ps)
     ++ ScalarEvent (String k) ∷ bracketing t
@@ -57,12 +59,13 @@ tree-goes t (AfterKey ps k ∷ outer) ok =
           (StartDictionary None ∷ (before ++ ScalarEvent (String k) ∷ [])) (bracketing t)),
     )
 
--- after the events so far, the event is rejected, or what is kept then has their events and this
--- one, up to lengths
+-- the event is rejected, or the unfinished tree after it has the events so far and this one, apart
+-- from lengths
 abbrev Follows : Option FaultKind → List PlainEvent → PlainEvent → Option Unfinished → Type 0
 Follows refusal before e held = MatchOption held (refusal ≡ None → ⊥)
     (λ w. IsNested w × AreAlike (events_so_far w) (before ++ e ∷ []))
 
+-- where a value is expected, each event follows as `Follows` says
 value-goes : (outer : List OpenCollection) (e : PlainEvent) → AllTakeValue outer
     → Follows (refusal_of OneValue e) (events_around outer) e (at_value and_pair outer e)
 value-goes outer (StartArray n) ok =
@@ -90,6 +93,7 @@ closed-goes t start inside outer ok alike =
           (append_assoc (events_around outer) (start ∷ inside) (EndCollection ∷ []))),
     )
 
+-- inside an array, each event follows as `Follows` says
 array-goes : (ts : List Tree) (outer : List OpenCollection) (e : PlainEvent) → AllTakeValue outer
     → Follows (refusal_of Items e) (events_around outer ++ events_within (InArray ts)) e
     (in_array and_pair ts outer e)
@@ -97,6 +101,7 @@ array-goes ts outer EndCollection ok =
     closed-goes (Array (trees_of ts)) (StartArray None) _ outer ok refl
 array-goes ts outer e ok = value-goes (InArray ts ∷ outer) e (tt, ok)
 
+-- where a key is expected, each event follows as `Follows` says
 dictionary-goes : (ps : TreePairs) (outer : List OpenCollection) (e : PlainEvent)
     → AllTakeValue outer
     → Follows (refusal_of Pairs e) (events_around outer ++ events_within (InDictionary ps)) e
@@ -110,6 +115,7 @@ dictionary-goes ps outer (ScalarEvent (String s)) ok = (
 )
 dictionary-goes ps outer e ok = λ p. none-some _ (sym p)
 
+-- after an unfinished tree, each event follows as `Follows` says
 goes : (u : Unfinished) (e : PlainEvent) → IsNested u
     → Follows (refusal_at u e) (events_so_far u) e (and_event and_pair u e)
 goes NotBegun e ok = value-goes [] e tt
@@ -118,7 +124,7 @@ goes (Within (InDictionary ps) outer) e ok = dictionary-goes ps outer e ok
 goes (Within (AfterKey ps k) outer) e ok = value-goes (AfterKey ps k ∷ outer) e (tt, ok)
 goes (Complete t) e ok = λ p. none-some _ (sym p)
 
--- what is kept after an event has the events before it, and this one, up to lengths
+-- the unfinished tree after an event has the events before it and this one, apart from lengths
 pub extended : (u : Unfinished) (e : PlainEvent) (w : Unfinished) → IsNested u
     → and_event and_pair u e ≡ Some w
     → IsNested w × AreAlike (events_so_far w) (events_so_far u ++ e ∷ [])
@@ -139,27 +145,30 @@ taken_before u e ok r = by (and_event and_pair u e) refl (goes u e ok)
 
 -- ---- what is expected after the events so far
 
--- what is expected in a collection after a value that is open in it is complete
+-- what is expected in a collection once the collection that is open in it is complete
 abbrev expect_around : OpenCollection → Expect
 expect_around (InArray items) = Items
 expect_around (InDictionary pairs) = Pairs
 expect_around (AfterKey pairs key) = Pairs
 
--- what is expected after everything that is expected within a collection
+-- what is expected after `expected_within`: after a key's value, first the other pairs
 abbrev stack_within : OpenCollection → (round : Stack) → Stack
 stack_within (AfterKey pairs key) round = Pairs ∷ round
 stack_within collection round = round
 
+-- what is expected inside these collections, innermost first, or one value outside of all
 abbrev stack_around : List OpenCollection → Stack
 stack_around [] = OneValue ∷ []
 stack_around (collection ∷ outer) =
     expected_within collection ∷ stack_within collection (map expect_around outer)
 
+-- what is expected after the events of an unfinished tree
 abbrev stack_of : Unfinished → Stack
 stack_of NotBegun = stack_around []
 stack_of (Within collection outer) = stack_around (collection ∷ outer)
 stack_of (Complete tree) = []
 
+-- after a start where a value is expected, the content of its collection is expected
 starts : (outer : List OpenCollection) (es : List PlainEvent) → AllTakeValue outer
     → (steps (stack_around outer) (StartArray None ∷ es) ≡ steps (Items
     ∷ map expect_around outer) es)
@@ -170,6 +179,7 @@ starts (InArray ts ∷ outer) es ok = (refl, refl)
 starts (InDictionary ps ∷ outer) es ok = absurd ok.0
 starts (AfterKey ps k ∷ outer) es ok = (refl, refl)
 
+-- after the start of a dictionary and its pairs, more pairs are expected
 pairs-within : (ps : TreePairs) (outer : List OpenCollection) (es : List PlainEvent)
     → AllTakeValue outer
     → steps (stack_around outer) (events_within (InDictionary ps) ++ es) ≡ steps
@@ -178,6 +188,7 @@ pairs-within ps outer es ok =
     (starts outer (bracketing_of_pairs (members_of ps) ++ es) ok).1
     ∙ steps_pairs (members_of ps) (map expect_around outer) es
 
+-- after the events of an open collection, its stack is expected
 steps-within : (c : OpenCollection) (outer : List OpenCollection) (es : List PlainEvent)
     → AllTakeValue outer → steps (stack_around outer) (events_within c ++ es) ≡ steps
     (stack_around (c ∷ outer)) es
@@ -190,6 +201,7 @@ steps-within (AfterKey ps k) outer es ok =
     (append_assoc (bracketing_of_pairs (members_of ps)) (ScalarEvent (String k) ∷ []) es)
     ∙ pairs-within ps outer (ScalarEvent (String k) ∷ es) ok
 
+-- after the events of open collections, their stack is expected
 steps-round : (outer : List OpenCollection) (es : List PlainEvent) → AllTakeValue outer
     → expected_after (events_around outer ++ es) ≡ steps (stack_around outer) es
 steps-round [] es ok = refl
@@ -197,6 +209,7 @@ steps-round (c ∷ outer) es ok =
     ap expected_after (append_assoc (events_around outer) (events_within c) es)
     ∙ steps-round outer (events_within c ++ es) ok.1 ∙ steps-within c outer es ok.1
 
+-- after the events so far, `stack_of` is expected
 wanted : (u : Unfinished) → IsNested u → expected_after (events_so_far u) ≡ Some (stack_of u)
 wanted NotBegun ok = refl
 wanted (Within c outer) ok =
@@ -207,20 +220,24 @@ wanted (Complete t) ok = all_taken (bracketing t) t refl
 
 -- ---- an event that is rejected can't come next
 
+-- a change that rejects an event leaves no stack
 change-stops : (c : Change) (kind : FaultKind) (top : Expect) (rest : Stack)
     → (if_refused c kind ≡ None → ⊥) → changed c top rest ≡ None
 change-stops Refused kind top rest no_ = refl
 change-stops c kind top rest no_ = absurd (no_ refl)
 
+-- an event that is rejected where this is expected leaves no stack
 top-stops : (top : Expect) (rest : Stack) (e : PlainEvent) → (refusal_of top e ≡ None → ⊥)
     → step (top ∷ rest) e ≡ None
 top-stops top rest e no_ = change-stops (change_of top e) _ top rest no_
 
+-- an event that is rejected after an unfinished tree leaves no stack
 stops : (u : Unfinished) (e : PlainEvent) → (refusal_at u e ≡ None → ⊥) → step (stack_of u) e ≡ None
 stops NotBegun e no_ = top-stops OneValue [] e no_
 stops (Within c outer) e no_ = top-stops (expected_within c) _ e no_
 stops (Complete t) e no_ = refl
 
+-- an event that is rejected can't come next
 pub refused-ends : (u : Unfinished) (e : PlainEvent) → IsNested u → (refusal_at u e ≡ None → ⊥)
     → CanContinue (events_so_far u) e → ⊥
 refused-ends u e ok no_ can =
@@ -244,6 +261,7 @@ pub accepted-continues : (u : Unfinished) (e : PlainEvent) → IsNested u → re
 accepted-continues u e ok r =
     let w = taken_before u e ok r in taken-continues u w.0 e w.2 w.3
 
+-- an event that can come next isn't rejected
 pub continues-accepted : (u : Unfinished) (e : PlainEvent) → IsNested u
     → CanContinue (events_so_far u) e → refusal_at u e ≡ None
 continues-accepted u e ok c = by _ refl
@@ -261,22 +279,25 @@ refusal-last (Within (InDictionary ps) outer) e = refl
 refusal-last (Within (AfterKey ps k) outer) e = refl
 refusal-last (Complete t) e = refl
 
+-- a collection that takes a value still does with last values
 takes-last : (c : OpenCollection) → TakesValue c → TakesValue (last_wins_within c)
 takes-last (InArray ts) ok = ok
 takes-last (InDictionary ps) ok = ok
 takes-last (AfterKey ps k) ok = ok
 
+-- collections that take values still do with last values
 all-take-last : (outer : List OpenCollection) → AllTakeValue outer
     → AllTakeValue (map last_wins_within outer)
 all-take-last [] ok = tt
 all-take-last (c ∷ outer) ok = (takes-last c ok.0, all-take-last outer ok.1)
 
+-- nested collections are still nested with last values
 nested-last : (u : Unfinished) → IsNested u → IsNested (last_wins_so_far u)
 nested-last NotBegun ok = tt
 nested-last (Within c outer) ok = all-take-last _ ok
 nested-last (Complete t) ok = tt
 
--- what can come next after events is what can come next after their last values
+-- taking last values of events doesn't change what can follow them
 pub last-continues : (taken_before : Unfinished) (events : List PlainEvent) → IsNested taken_before
     → AreAlike (events_so_far taken_before) events
     → ContinueAlike (events_so_far (last_wins_so_far taken_before)) events

@@ -17,19 +17,21 @@ use Rattle.plist.specs.Building.{Unfinished, NotBegun, Within, Complete, Built, 
 use Rattle.plist.specs.Builder.{built_of, IsBuildingStep}
 use Rattle.plist.specs.inner.Following.{refused-ends, taken-continues, accepted-continues, last-continues}
 
--- the fault of an event that can't come next
+-- this kind of fault is that of an event that can't come next
 abbrev IsForOrder : FaultKind → Type 0
 IsForOrder kind = MatchKind kind (Unit {0}) ⊥ ⊥
 
+-- two equal kinds are both that of an event that can't come next, if one is
 for_order : (kind other : FaultKind) → Some other ≡ Some kind → IsForOrder other → IsForOrder kind
 for_order kind other p x = subst IsForOrder (same_Some other kind p) x
 
+-- the kind of a rejected change is that of an event that can't come next, if the given kind is
 change-order : (c : Change) (kind other : FaultKind) → if_refused c other ≡ Some kind
     → IsForOrder other → IsForOrder kind
 change-order change.Refused kind other p x = for_order _ _ p x
 change-order c kind other p x = absurd (none-some _ p)
 
--- an event that is rejected can't come next
+-- the kind of a rejection is that of an event that can't come next
 pub refusal-order : (u : Unfinished) (e : PlainEvent) (kind : FaultKind)
     → refusal_at u e ≡ Some kind → IsForOrder kind
 refusal-order NotBegun e kind p = change-order (change_of OneValue e) _ _ p tt
@@ -40,9 +42,11 @@ refusal-order (Complete tree) e kind p =
 -- what a rejection says of the event, and of the builder after it
 module _ (before after : Built) (event : PlainEvent) (unchanged : Type 0)
     (ok : IsNested before.unfinished) (f : before.failed ≡ false) where
+  -- the event can't come next, and the builder is unchanged
   abbrev Refused : Type 0
   Refused = (CanContinue (events_so_far before.unfinished) event → ⊥) × unchanged
 
+  -- if the event is rejected, `Refused` is true
   out_of_order : (kind : FaultKind) → refusal_at before.unfinished event ≡ Some kind → unchanged
       → Refused
   out_of_order kind r s = (
@@ -51,13 +55,16 @@ module _ (before after : Built) (event : PlainEvent) (unchanged : Type 0)
     s,
   )
 
+  -- if memory ran out, the event could come next, and the builder has failed
   wanting : refusal_at before.unfinished event ≡ None → after.failed ≡ true
       → CanContinue (events_so_far before.unfinished) event × (after.failed ≡ true)
   wanting r failed = (accepted-continues _ _ ok r, failed)
 
+  -- if the event is rejected, the kind is that of an event that can't come next
   never : (kind : FaultKind) → refusal_at before.unfinished event ≡ Some kind → IsForOrder kind
   never kind r = refusal-order _ _ _ r
 
+  -- what the law of writers says of each kind of fault
   refusal_law : (kind : FaultKind) → IsRefusedStep before event kind after unchanged
       → MatchKind kind Refused (CanContinue (events_so_far before.unfinished) event
       × (after.failed ≡ true)) ⊥
@@ -67,6 +74,7 @@ module _ (before after : Built) (event : PlainEvent) (unchanged : Type 0)
   refusal_law faults.WriterFailed r = absurd (true≢false (sym r.0 ∙ f))
   refusal_law kind r = absurd (never kind r.1)
 
+-- a builder that hasn't failed follows the law of writers
 pub building_law : (before : Builder) (event : PlainEvent) (answer : Answer) (after : Builder)
     → IsBuildingStep before event answer after → before.failed ≡ false
     → AnswersByOrder (events_so_far (built_of before).unfinished) event answer
@@ -92,6 +100,7 @@ failed_kind : (before after : Built) (event : PlainEvent) (unchanged : Type 0) (
 failed_kind before after event unchanged faults.WriterFailed r f = (refl, r.1)
 failed_kind before after event unchanged kind r f = absurd (true≢false (sym f ∙ r.0))
 
+-- a builder that has failed returns `WriterFailed`, and is unchanged
 pub failed_law : (before : Builder) (event : PlainEvent) (answer : Answer) (after : Builder)
     → IsBuildingStep before event answer after → before.failed ≡ true
     → (answer ≡ Err (fault_without_offset WriterFailed)) × (after ≡ before)

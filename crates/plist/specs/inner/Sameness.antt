@@ -9,6 +9,7 @@ use Rattle.plist_base.specs.Scalars.{bytes_is, bytes_refl, scalar_is, scalar_ref
 use Rattle.plist_base.specs.Trees.{Scalar, Tree, Leaf, Array, Dictionary, Trees, NoTrees, TreeAnd, Members, NoMembers, MemberAnd}
 use Rattle.plist.specs.Equal.{AreSameAt, first_value, is_among, if_found, has_keys, same, same_items, is_covered}
 
+-- `if_found` tests whether the other value is the same
 found_at : (o : Option Tree) (t : Tree)
     → (if_found o (λ u. same t u) ≡ true) ↔ AreSameAt (Some t) o
 found_at None t = (λ h. absurd (cc), λ h. absurd h)
@@ -36,6 +37,7 @@ covered_here : (b : Bool) (seen : List (List ℕ)) (l : List ℕ) (u : Tree) (ns
 covered_here true seen l u ns is f = rw is refl
 covered_here false seen l u ns is f = rw is ((found_at (first_value l ns) u).1 (f is))
 
+-- `is_covered` tests whether each key that hasn't been seen has the same value in the second
 covered : (seen : List (List ℕ)) (ms ns : Members) → (is_covered seen ms ns ≡ true)
     ↔ ((k : List ℕ) (t : Tree) → is_among k seen ≡ false → first_value k ms ≡ Some t
     → AreSameAt (Some t) (first_value k ns))
@@ -54,6 +56,7 @@ covered seen (MemberAnd l u ms) ns =
           let n = or_parts (bytes_eq k l) (is_among k seen) fresh in f k t n.1 (rw n.0 e))),
     )
 
+-- a key of the second is in the first: the key at the front is, and the later ones are
 key_there : (b : Bool) (ms : Members) (l : List ℕ) (u : Tree) (ns : Members) (k : List ℕ)
     → bytes_eq k l ≡ b → is_some (first_value l ms) ≡ true
     → is_some (cond (bytes_eq k l) (Some u) (first_value k ns)) ≡ true
@@ -62,11 +65,13 @@ key_there : (b : Bool) (ms : Members) (l : List ℕ) (u : Tree) (ns : Members) (
 key_there true ms l u ns k is h e later = rw (bytes_is k l is) h
 key_there false ms l u ns k is h e later = later (rw is at e)
 
+-- a key that is there is still there with one more pair
 key_more : (b : Bool) (u : Tree) (o : Option Tree) → is_some o ≡ true
     → is_some (cond b (Some u) o) ≡ true
 key_more true u o e = refl
 key_more false u o e = e
 
+-- `has_keys` tests whether each key of one dictionary is in the other
 keys_there : (ms ns : Members) → (has_keys ns ms ≡ true)
     ↔ ((k : List ℕ) → is_some (first_value k ns) ≡ true → is_some (first_value k ms) ≡ true)
 keys_there ms NoMembers = (λ h k e. absurd (cc), λ f. refl)
@@ -79,6 +84,8 @@ keys_there ms (MemberAnd l u ns) =
           (rest.1 (λ k e. f k (key_more (bytes_eq k l) u (first_value k ns) e))),
     )
 
+-- `AreSameAt` in two parts: the first value is the same in the second, and the second isn't there
+-- alone
 at_each : (a b : Option Tree) → AreSameAt a b
     ↔ (((t : Tree) → a ≡ Some t → AreSameAt (Some t) b) × (is_some b ≡ true → is_some a ≡ true))
 at_each None None = (λ h. (λ t e. absurd (cc), λ e. e), λ f. tt)
@@ -108,27 +115,32 @@ found_go : (b : Bool) (u : Tree) (o : Option Tree) (t : Tree) (P : Tree → Type
 found_go true u o t P e here later = rw (← same_Some u t e) here
 found_go false u o t P e here later = later e
 
+-- an optional tree is the same as itself, if its tree is
 refl_at : (o : Option Tree) → ((t : Tree) → o ≡ Some t → same t t ≡ true) → AreSameAt o o
 refl_at None f = tt
 refl_at (Some t) f = f t refl
 
 mutual
+  -- each tree is the same as itself
   pub refl_tree : (t : Tree) → same t t ≡ true
   refl_tree (Leaf x) = scalar_refl x
   refl_tree (Array ts) = refl_items ts
   refl_tree (Dictionary ms) =
       (dictionaries_alike ms ms).1 (λ k. refl_at _ (λ t e. refl_found ms k t e))
 
+  -- items are the same as themselves
   refl_items : (ts : Trees) → same_items ts ts ≡ true
   refl_items NoTrees = refl
   refl_items (TreeAnd t ts) = both_true (refl_tree t) (refl_items ts)
 
+  -- each value of a dictionary is the same as itself
   refl_found : (ms : Members) (k : List ℕ) (t : Tree) → first_value k ms ≡ Some t → same t t ≡ true
   refl_found NoMembers k t e = absurd (cc)
   refl_found (MemberAnd l u ms) k t e =
       found_go (bytes_eq k l) u (first_value k ms) t (λ v. same v v ≡ true) e (refl_tree u)
       (λ rest. refl_found ms k t rest)
 
+-- of three optional trees, the last two are the same if both are the same as the first
 both_at : (a b c : Option Tree) → AreSameAt a b → AreSameAt a c
     → ((t u v : Tree) → a ≡ Some t → same t u ≡ true → same t v ≡ true → same u v ≡ true)
     → AreSameAt b c
@@ -138,7 +150,7 @@ both_at (Some t) None c h g f = absurd h
 both_at (Some t) (Some u) None h g f = absurd g
 both_at (Some t) (Some u) (Some v) h g f = f t u v refl h g
 
--- trees that are the same as one tree are the same
+-- two trees that are the same as a third one are the same
 mutual
   both : (t u v : Tree) → same t u ≡ true → same t v ≡ true → same u v ≡ true
   both (Leaf x) (Leaf y) (Leaf z) h g = rw (← scalar_is x y h) g
@@ -150,6 +162,7 @@ mutual
       (λ t u v e. both_found ms k t u v e))
   both t u v h g = absurd (cc)
 
+  -- two lists of items that are the same as a third one are the same
   both_items : (ts us vs : Trees) → same_items ts us ≡ true → same_items ts vs ≡ true
       → same_items us vs ≡ true
   both_items NoTrees NoTrees vs h g = g
@@ -159,6 +172,7 @@ mutual
       both_true (both t u v p.0 q.0) (both_items ts us vs p.1 q.1)
   both_items ts us vs h g = absurd (cc)
 
+  -- two trees that are the same as a value of a dictionary are the same
   both_found : (ms : Members) (k : List ℕ) (t u v : Tree) → first_value k ms ≡ Some t
       → same t u ≡ true → same t v ≡ true → same u v ≡ true
   both_found NoMembers k t u v e h g = absurd (cc)
@@ -167,20 +181,25 @@ mutual
       (λ x. same x u ≡ true → same x v ≡ true → same u v ≡ true) e (λ p q. both w u v p q)
       (λ rest p q. both_found ms k t u v rest p q) h g
 
+-- sameness is symmetric
 pub sym_tree : (t u : Tree) → same t u ≡ true → same u t ≡ true
 sym_tree t u h = both t u t h (refl_tree t)
 
+-- sameness is transitive
 pub trans_tree : (t u v : Tree) → same t u ≡ true → same u v ≡ true → same t v ≡ true
 trans_tree t u v h g = both u t v (sym_tree t u h) g
 
 -- the laws of `==`, through a view
 module _ {V : Type 0} (tree : V → Tree) where
+  -- two values are the same if their trees are
   abbrev pub same_by : V → V → Bool
   same_by v w = same (tree v) (tree w)
 
+  -- each value is the same as itself
   pub same_by_refl : (v : V) → same_by v v ≡ true
   same_by_refl v = refl_tree (tree v)
 
+  -- sameness of values is an equivalence
   pub same_by_equiv : IsEquivalence same_by
   same_by_equiv =
       equiv (record {
@@ -194,5 +213,6 @@ module _ {V : Type 0} (tree : V → Tree) where
 pub symmetric : (t u : Tree) → same t u ≡ same u t
 symmetric t u = both_ways (same t u) (same u t) (sym_tree t u) (sym_tree u t)
 
+-- scalars are the same if and only if they are equal
 pub scalars_alike : (x y : Scalar) → (same (Leaf x) (Leaf y) ≡ true) ↔ (x ≡ y)
 scalars_alike x y = (scalar_is x y, λ e. rw (sym e) (scalar_refl x))

@@ -6,11 +6,13 @@ use Rattle.std.specs.Map.{values_of}
 use Rattle.plist.specs.declared.value.Value.{Value, fold-Value}
 use Rattle.plist.specs.declared.value.Value.TheOpen.{Dictionary-F, Value-F}
 
+-- one more than the weights in a collection, or 1 for a scalar
 abbrev pub weight_step : Value-F ℕ ℕ → ℕ
 weight_step (Value-F.Array items) = 1 + sum items.items
 weight_step (Value-F.Dictionary pairs) = 1 + pairs
 weight_step other = 1
 
+-- the weights of a dictionary's values together
 abbrev pub pairs_step : Dictionary-F ℕ ℕ → ℕ
 pairs_step dictionary = sum (values_of dictionary.pairs)
 
@@ -18,6 +20,7 @@ pairs_step dictionary = sum (values_of dictionary.pairs)
 abbrev pub weight : Value → ℕ
 weight = fold-Value ℕ ℕ weight_step pairs_step
 
+-- the number of values in these values, including themselves
 abbrev pub weights : List Value → ℕ
 weights values = sum (map weight values)
 
@@ -31,9 +34,9 @@ others (value ∷ values) = values
 abbrev pub to_drop : List Value → ℕ
 to_drop values = weights values * weights values + weights (others values)
 
--- Two lists of values joined into one, where the second was the content of a collection: there are
--- fewer values than with the collection, or as many, and no more after the first than the
--- collection contained.
+-- `joined` has the values of `left` and those of `below`, the content of a collection. There are
+-- fewer values than with the collection; or there are as many, and no more of them follow the first
+-- one than the collection contained.
 abbrev pub IsLess : (joined left below : List Value) → Type 0
 IsLess joined left below =
     (weights joined < weights left + 1 + weights below)

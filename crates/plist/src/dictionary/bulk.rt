@@ -28,8 +28,8 @@ impl Dictionary {
     ///
     /// # Errors
     ///
-    /// `OutOfMemory`: the pairs that precede the one that couldn't be stored are inserted; that one
-    /// and those after it are dropped.
+    /// `OutOfMemory`: the pairs before the one that couldn't be stored stay inserted; that pair and
+    /// those after it are dropped.
     pub fn extend<I: IntoIterator<Item = (String, Value)>>(&mut self, more: I) -> Result<(), Error>
         requires asked { IterableEnds I.into_iter_gives I.IntoIter.can_next I.IntoIter.remaining
             more }
@@ -44,7 +44,7 @@ impl Dictionary {
     ///
     /// # Errors
     ///
-    /// `OutOfMemory`; all pairs are dropped.
+    /// `OutOfMemory`: all pairs are dropped.
     pub fn from_pairs<I: IntoIterator<Item = (String, Value)>>(
         alloc: Global,
         pairs: I,

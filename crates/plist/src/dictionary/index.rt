@@ -1,4 +1,4 @@
-//! The value of a key by `dictionary[key]`.
+//! Indexing by key, as in `dictionary[key]`.
 
 ghost use Rattle.std.specs.Prelude.{◌≡◌, IsSome, Some};
 ghost use Rattle.std.specs.Map.{lookup};

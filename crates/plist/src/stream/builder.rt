@@ -66,7 +66,7 @@ impl Builder {
         }
     }
 
-    // Adds the event of an item, or returns the error that the item is.
+    // Adds an item's event, or returns its error.
     pub(crate) fn take_item<E: AnyEvent>(&mut self, item: Result<E, Error>) -> Result<(), Error>
         requires { (built_of self.old).failed ≡ false }
         ensures taken { OnOk result (TakesItem self.old (item_by E.plain item) self.new) }
@@ -80,7 +80,7 @@ impl Builder {
     ///
     /// # Errors
     ///
-    /// The builder is unchanged by an error.
+    /// An error leaves the builder unchanged.
     ///
     /// - `WriterFailed` if it has failed.
     /// - `UnexpectedEndOfEventStream` if the events aren't those of a value yet.

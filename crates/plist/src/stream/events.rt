@@ -21,7 +21,7 @@ enum Level<'a> {
     Dictionary(Iter<'a>),
 }
 
-// The next thing to do.
+// What `advance` found next.
 #[derive(Drop)]
 enum Next<'a> {
     Nothing,
@@ -55,7 +55,8 @@ impl<'a> Events<'a> {
         }
     }
 
-    // Removes and returns the next item or end of the innermost open collection, or the root.
+    // Removes and returns what is next: the root, or an item, a key, a value or the end of the
+    // innermost open collection.
     fn advance(&mut self) -> Next<'a>
         ensures { ComesNext self.old result self.new }
     {
@@ -98,7 +99,7 @@ impl<'a> Events<'a> {
         }
     }
 
-    // Returns the first event of a value, whose other events remain.
+    // Returns the first event of a value. Its other events remain to be yielded.
     fn begin(&mut self, value: &'a Value) -> Result<Event<'a>, Error>
         requires { self.old.value ≡ None }
         ensures { BeginsValue (tree_of value.now) self.old result self.new }

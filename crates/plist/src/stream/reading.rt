@@ -1,5 +1,5 @@
-//! Further items for reading: the format of a source, items under limits, and the traits and types
-//! that the readers' contracts name.
+//! Exports for reading that are needed less often: the format of a source, limits for any iterator
+//! over events, and the traits and types that the readers' contracts name.
 
 pub use plist_ascii::ByteReader;
 pub use plist_base::{

@@ -1,5 +1,5 @@
-//! Items for writers that are defined outside the library: the forms of objects, a table of events,
-//! and the calls that write a whole file.
+//! Exports for programs that write binary files in their own way: the forms of objects, a table of
+//! events, and the calls that write a whole file.
 
 pub use plist_base::{FixedBuffer, Sink};
 pub use plist_binwrite::{

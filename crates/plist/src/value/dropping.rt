@@ -1,6 +1,7 @@
-//! How values are dropped without recursion. The values that are still to be dropped are in one
-//! list. When the values of a collection are added, that list is stored among them as an array, in
-//! a slot that one of them leaves, so that no memory is allocated.
+//! Drops values without recursion. One list contains all values that are still to be dropped. When
+//! a collection is dropped, its values have to be joined with that list. No memory is allocated for
+//! that: the list moves into the collection's own list, as an array in the place of its first
+//! value.
 
 ghost use Rattle.std.specs.Prelude.{◌<◌, vec_len};
 ghost use Rattle.std.specs.Vec.{vec_capacity};
@@ -11,7 +12,7 @@ use crate::dictionary::Discard;
 use std::mem;
 
 impl Value {
-    // Returns the values in a collection, without its keys. A scalar is dropped.
+    // Returns the values in a collection, or `None` for a scalar. Keys and scalars are dropped.
     fn into_children(self) -> Option<Vec<Value>>
         ensures { SplitsInto result self }
     {
@@ -30,7 +31,7 @@ impl Value {
 
     /// Drops the value without recursion and without allocating memory, however deep it is.
     ///
-    /// When a value goes out of scope, the arrays in it are dropped recursively, and at some
+    /// When a value goes out of scope, the arrays in it are dropped recursively, and at about
     /// 100,000 levels of arrays the call stack overflows. Call this method instead for a value that
     /// may be that deep, such as one that was read from an untrusted file without [`Limits`].
     pub fn destroy(self) {
@@ -59,11 +60,12 @@ pub(crate) fn destroy_all(values: Vec<Value>) {
     left.destroy_empty();
 }
 
-// Joins the values that are still to be dropped and those that a collection contained into one
-// list.
+// Joins the values that are still to be dropped, `left`, and those of a collection, `below`, into
+// one list.
 //
-// It allocates no memory: the collection was taken out of the first list, which therefore has
-// capacity for one more value, and so has the second.
+// It allocates no memory. The collection was removed from `left`, which therefore has capacity for
+// one more value: the last one of `below`. So `below` has capacity for one more, too: its own first
+// value, whose place `left` takes as an array.
 fn joined(mut left: Vec<Value>, mut below: Vec<Value>) -> Vec<Value>
     requires { vec_len left < vec_capacity left }
     ensures { IsLess result.items left.items below.items }

@@ -28,8 +28,9 @@ module _ (objects : List (List PlainEvent)) where
       steps_of_events (follow_in objects (uid ∷ path)) (remaining_events level)
       ++ None ∷ unchecked_steps_in below path
 
-  -- In each open object the Uids before the events that were taken are settled, and the events that
-  -- were taken precede its remaining events. From an outer object the next inner one was taken.
+  -- In each open object, the events that were taken last precede the remaining ones, and the Uids
+  -- before them are settled. In an outer object, the event that was taken last is the Uid of the
+  -- next inner one.
   abbrev pub Covers : (uids : List ℕ) → List Events → (path : List ℕ) → (taken : List PlainEvent)
       → Type 0
   Covers uids [] path taken = ⊤
@@ -54,12 +55,15 @@ module _ (objects : List (List PlainEvent)) where
 abbrev pub objects_checked : Check → List (List PlainEvent)
 objects_checked check = objects_seen check.objects.now
 
+-- the open Uids, innermost first
 abbrev pub open_uids : Check → List ℕ
 open_uids check = reverse check.path.keys
 
+-- the remaining events of the open objects, innermost first
 abbrev pub check_levels : Check → List Events
 check_levels check = reverse check.levels.items
 
+-- the settled Uids, the last one first
 abbrev pub settled_uids : Check → List ℕ
 settled_uids check = settled_in check.ends
 
@@ -70,6 +74,7 @@ IsCheckAt check taken =
     IsCheckOf (objects_checked check) (open_uids check) (settled_uids check) (check_levels check)
     (get nat_eq check.ends) taken
 
+-- the state is consistent, and all events that were taken are processed
 abbrev pub IsCheck : Check → Type 0
 IsCheck check = IsCheckAt check []
 
@@ -77,6 +82,7 @@ IsCheck check = IsCheckAt check []
 abbrev pub IsReached : Check → ℕ → Type 0
 IsReached check uid = IsIn uid (open_uids check) ⊎ IsIn uid (settled_uids check)
 
+-- each Uid that was open or settled still is one of the two
 abbrev pub KeepsReached : (before after : Check) → Type 0
 KeepsReached before after = (uid : ℕ) → IsReached before uid → IsReached after uid
 
@@ -85,16 +91,17 @@ abbrev pub unchecked_steps : Check → List Step
 unchecked_steps check =
     unchecked_steps_in (objects_checked check) (check_levels check) (open_uids check)
 
--- the steps of a Uid, or those of an event, and then the remaining steps
+-- the steps of a Uid, and then the remaining steps
 abbrev pub unchecked_from : Check → ℕ → List Step
 unchecked_from check uid =
     follow_in (objects_checked check) (open_uids check) uid ++ unchecked_steps check
 
+-- the steps of an event, and then the remaining steps
 abbrev pub unchecked_from_event : Check → PlainEvent → List Step
 unchecked_from_event check event =
     steps_of_event (follow_in (objects_checked check) (open_uids check)) event ++ unchecked_steps check
 
--- this object was opened
+-- this object was opened, and is now the innermost one
 abbrev pub IsOpened : Check → ℕ → Value → Check → Type 0
 IsOpened old uid object new =
     (new.objects ≡ old.objects) × (new.path.keys ≡ old.path.keys ++ uid ∷ [])
@@ -109,6 +116,8 @@ IsCheckWith check left =
     IsCheckOf (objects_checked check) (open_uids check) (settled_uids check)
     (left ∷ check_levels check) (get nat_eq check.ends) []
 
+-- the remaining steps, given these remaining events of the innermost object, which were removed
+-- from it
 abbrev pub unchecked_with : Check → (left : Events) → List Step
 unchecked_with check left =
     unchecked_steps_in (objects_checked check) (left ∷ check_levels check) (open_uids check)

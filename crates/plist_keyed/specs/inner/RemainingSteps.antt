@@ -39,9 +39,11 @@ abbrev pub AllNameOnly : List Events → (uids : List ℕ) → Type 0
 AllNameOnly [] uids = ⊤
 AllNameOnly (level ∷ levels) uids = NameOnly (remaining_events level) uids × AllNameOnly levels uids
 
+-- the events of the objects
 abbrev pub objects_walked : Walk → List (List PlainEvent)
 objects_walked walk = objects_seen walk.objects.now
 
+-- the remaining events of the open objects, innermost first
 abbrev pub walk_levels : Walk → List Events
 walk_levels walk = reverse walk.levels.items
 
@@ -54,13 +56,15 @@ IsWalk walk =
 abbrev pub KeepsArchive : (before after : Walk) → Type 0
 KeepsArchive before after = (after.objects ≡ before.objects) × (after.ends ≡ before.ends)
 
+-- the remaining steps
 abbrev pub remaining_steps : Walk → List Step
 remaining_steps walk = steps_in_levels (objects_walked walk) (walk_levels walk)
 
--- the steps of a Uid, or those of an event, and then the remaining steps
+-- the steps of a Uid, and then the remaining steps
 abbrev pub remaining_from : Walk → ℕ → List Step
 remaining_from walk uid = steps_from (objects_walked walk) uid ++ remaining_steps walk
 
+-- the steps of an event, and then the remaining steps
 abbrev pub remaining_from_event : Walk → PlainEvent → List Step
 remaining_from_event walk event =
     steps_of_event (steps_from (objects_walked walk)) event ++ remaining_steps walk

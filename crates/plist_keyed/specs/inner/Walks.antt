@@ -28,7 +28,7 @@ events_given [] = []
 events_given (Ok event ∷ more) = event ∷ events_given more
 events_given (Err fault ∷ more) = events_given more
 
--- the number of a Uid's event
+-- the number of the Uid that an event is, if it is one
 abbrev pub uid_of_event : PlainEvent → Option ℕ
 uid_of_event (ScalarEvent scalar) = number_of_uid scalar
 uid_of_event event = None
@@ -39,6 +39,7 @@ steps_of_event follow (ScalarEvent scalar) =
     option_map_or follow (number_of_uid scalar) (Some (Ok (ScalarEvent scalar)) ∷ [])
 steps_of_event follow event = Some (Ok event) ∷ []
 
+-- the steps of these events, in order
 abbrev pub steps_of_events : (follow : ℕ → List Step) → List PlainEvent → List Step
 steps_of_events follow es = flat_map (steps_of_event follow) es
 
@@ -50,14 +51,14 @@ steps_found (Some object) true uid steps = Some (Err (RecursiveUid uid)) ∷ []
 steps_found (Some object) false uid steps = None ∷ (steps object ++ None ∷ [])
 
 module _ (objects : List (List PlainEvent)) where
-  -- the steps of a Uid inside the objects of the path; `fuel` objects aren't on it
+  -- the steps of a Uid while the objects on the path are open; `fuel` objects aren't on it
   unfoldable pub steps_at : (fuel : ℕ) (path : List ℕ) (uid : ℕ) → List Step
   steps_at zero path uid = steps_found (slice_get objects uid) true uid (λ object. [])
   steps_at (suc fuel) path uid =
       steps_found (slice_get objects uid) (list_any (nat_eq uid) path) uid
       (λ object. steps_of_events (steps_at fuel (uid ∷ path)) object)
 
-  -- the steps of a Uid after the path
+  -- the steps of a Uid while the objects on the path are open
   abbrev pub follow_in : (path : List ℕ) → ℕ → List Step
   follow_in path uid = steps_at (length objects - length path) path uid
 
