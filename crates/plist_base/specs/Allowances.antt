@@ -6,7 +6,7 @@ use Rattle.plist_base.specs.declared.limited_items.LimitedItems.{LimitedItems}
 use Rattle.plist_base.specs.Faults.{Fault, fault_of}
 use Rattle.plist_base.specs.Events.{PlainEvent, Item, event_of}
 
--- the inner iterator
+-- the inner iterator of a limited one
 abbrev pub iterator_of : {I A : Type 0} → LimitedItems I A → I
 iterator_of limited = limited.inner
 
@@ -17,24 +17,23 @@ HasEndedLimited limited = limited.ended ≡ true
 -- `lets` maps items to those that an allowance leaves of them, and `may_reach` says which faults
 -- may replace an event
 module _ {A : Type 0} (lets : A → List Item → List Item) (may_reach : Fault → Type 0) where
-  -- the event is replaced by a fault, and no item follows it
+  -- this fault, which is one that `may_reach` allows, replaces the event, and no item follows
   abbrev pub RefusesEvent : A → PlainEvent → Fault → Type 0
   RefusesEvent allowance event fault =
       may_reach fault × ((items : List Item) → lets allowance (Ok event ∷ items) ≡ Err fault ∷ [])
 
 module _ {A : Type 0} (lets : A → List Item → List Item) where
-  -- the event is admitted, and what follows it is decided by the new allowance
+  -- the event is admitted, and the new allowance decides on what follows it
   abbrev pub AdmitsEvent : (old : A) → PlainEvent → (new : A) → Type 0
   AdmitsEvent old event new =
       (items : List Item) → lets old (Ok event ∷ items) ≡ Ok event ∷ lets new items
 
-  -- the items that the allowance leaves of the inner iterator's
+  -- the inner iterator's items that the allowance leaves
   abbrev pub items_allowed : {I : Type 0} → LimitedItems I A → List Item → List Item
   items_allowed limited items = cond limited.ended [] (lets limited.limiter items)
 
 module _ {A : Type 0} (lets : A → List Item → List Item) (may_reach : Fault → Type 0) where
-  -- what is yielded for an item of the inner iterator: an admitted event as it is, a fault in place
-  -- of any other event, and a fault as it is; a fault ends the iterator
+  -- `given` is yielded for the inner item `asked`; a fault may replace an event, and ends the items
   abbrev pub Passes : (old : A) → (asked given : Result Event Error) → (new : A) → (ended : Bool)
       → Type 0
   Passes old (Ok event) given new ended = MatchResult given
@@ -42,16 +41,14 @@ module _ {A : Type 0} (lets : A → List Item → List Item) (may_reach : Fault 
       (λ error. RefusesEvent lets may_reach old (event_of event) (fault_of error) × (ended ≡ true))
   Passes old (Err error) given new ended = (given ≡ Err error) × (ended ≡ true)
 
-  -- what is yielded when the inner iterator is called: its `None` is passed on, and ends the
-  -- iterator
+  -- `given` is yielded when the inner iterator yields `asked`; `None` ends this iterator, too
   abbrev pub PassesNext : (old : A) → (asked given : Option (Result Event Error)) → (new : A)
       → (ended : Bool) → Type 0
   PassesNext old None given new ended = (given ≡ None) × (new ≡ old) × (ended ≡ true)
   PassesNext old (Some asked) given new ended =
       MatchOption given ⊥ (λ item. Passes old asked item new ended)
 
-  -- one call of `next`: after the end `None`, and else what is yielded for the next item of the
-  -- inner iterator
+  -- one call of `next`: it yields `None` after the end, and else calls the inner iterator
   abbrev pub GivesAllowed : {I : Type 0} → (I → Option (Result Event Error) → I → Type 0)
       → LimitedItems I A → Option (Result Event Error) → LimitedItems I A → Type 0
   GivesAllowed inner_gives old item new = MatchBool old.ended

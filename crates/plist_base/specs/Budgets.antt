@@ -17,8 +17,7 @@ abbrev pub total_bytes : List PlainEvent → ℕ
 total_bytes [] = 0
 total_bytes (event ∷ events) = bytes_in event + total_bytes events
 
--- The items up to their first fault. The first event whose string or data has more bytes than are
--- left is replaced by `OutOfMemory`, which ends the items.
+-- the items up to the first fault; an event with more bytes than are left becomes `OutOfMemory`
 abbrev pub within_bytes : (left : ℕ) → List Item → List Item
 within_bytes left [] = []
 within_bytes left (Ok event ∷ items) =
@@ -28,25 +27,27 @@ within_bytes left (Err fault ∷ items) = Err fault ∷ []
 
 -- ---- the items that a budget leaves
 
--- the items that the budget leaves of these
+-- the items that remain of these within the budget
 abbrev pub within_budget : ByteBudget → List Item → List Item
 within_budget budget = within_bytes budget.left
 
--- the fault that replaces an event
+-- the fault is the one that replaces an event
 abbrev pub IsBudgetUsedUp : Fault → Type 0
 IsBudgetUsedUp fault = fault ≡ fault_without_offset OutOfMemory
 
+-- the event is admitted, and the new budget decides on what follows it
 abbrev pub AdmitsWithin : (old : ByteBudget) → PlainEvent → (new : ByteBudget) → Type 0
 AdmitsWithin = AdmitsEvent within_budget
 
+-- the event is replaced by this fault, which is `OutOfMemory`, and no item follows it
 abbrev pub RefusesWithin : ByteBudget → PlainEvent → Fault → Type 0
 RefusesWithin = RefusesEvent within_budget IsBudgetUsedUp
 
--- the items that the budget leaves of the inner iterator's
+-- the inner iterator's items that remain within the budget
 abbrev pub items_within_budget : {I : Type 0} → LimitedItems I ByteBudget → List Item → List Item
 items_within_budget = items_allowed within_budget
 
--- one call of `next`
+-- one call of `next` within a budget of bytes
 abbrev pub GivesWithinBudget : {I : Type 0} → (I → Option (Result Event Error) → I → Type 0)
     → LimitedItems I ByteBudget → Option (Result Event Error) → LimitedItems I ByteBudget → Type 0
 GivesWithinBudget = GivesAllowed within_budget IsBudgetUsedUp

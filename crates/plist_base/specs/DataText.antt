@@ -14,7 +14,7 @@ use Rattle.plist_base.specs.contracts.data.Data.{the_row}
 use Rattle.plist_base.specs.declared.data.InvalidXmlData.{InvalidXmlData}
 use Rattle.plist_base.specs.declared.data.InvalidXmlData.TheVariants.{Decode, OutOfMemory}
 
--- data after new bytes are written over its own: just the new bytes, if there are as many
+-- the data after new bytes are written over its first ones; its length is unchanged
 abbrev pub overwritten : (bytes new : List ℕ) → List ℕ
 overwritten bytes new = take (length bytes) (new ++ drop (length new) bytes)
 
@@ -28,11 +28,11 @@ IsAllNew bytes new = overwritten bytes new ≡ new
 
 -- ---- what is written
 
--- the bytes of a line, counted from 0: 51, or fewer in the last line
+-- the bytes of a line: 51, or fewer in the last line; lines are counted from 0
 abbrev pub bytes_of_line : List ℕ → ℕ → List ℕ
 bytes_of_line bytes line = take 51 (drop (line * 51) bytes)
 
--- the base64 of the first lines
+-- the base64 of the first `count` lines
 abbrev pub first_lines : ℕ → List ℕ → List (List ℕ)
 first_lines count bytes =
     map (λ line. encode_of standard (bytes_of_line bytes line)) (range_with_len 0 count)
@@ -41,17 +41,17 @@ first_lines count bytes =
 abbrev pub line_count : List ℕ → ℕ
 line_count bytes = div_ceil (length bytes) 51
 
--- all lines, separated by LF
+-- the text form of data, which is all lines, separated by LF
 unfoldable pub data_text : List ℕ → List ℕ
 data_text bytes = join_with_byte 10 (first_lines (line_count bytes) bytes)
 
 -- ---- what is read
 
--- the text without its bytes 09, 0A, 0C, 0D and 20
+-- the text without its tabs, LFs, form feeds, CRs and spaces
 abbrev pub without_white : List ℕ → List ℕ
 without_white text = filter (λ byte. not (is_ascii_whitespace byte)) text
 
--- the bytes whose padded base64 is the text without white space, or none
+-- the bytes whose padded base64 is the text without white space, if there are any
 unfoldable pub data_of_text : List ℕ → Option (List ℕ)
 data_of_text text = decoded_of standard (without_white text)
 
@@ -60,22 +60,21 @@ abbrev pub IsReadWhereSpelled : (text bytes : List ℕ) → Type 0
 IsReadWhereSpelled text bytes =
     (data_of_text text ≡ Some bytes) ↔ (without_white text ≡ encode_of standard bytes)
 
--- the string grows at its end by these bytes
+-- these bytes are appended to the string
 abbrev pub GrowsByBytes : List ℕ → (old new : String Global) → Type 0
 GrowsByBytes bytes old new = string_bytes new ≡ string_bytes old ++ bytes
 
--- the error of parsing a text is that of decoding it; its offsets count bytes of the text without
--- white space
+-- unless it is `OutOfMemory`, the error is the decoder's for the text without white space
 abbrev pub IsFaultOfText : List ℕ → InvalidXmlData → Type 0
 IsFaultOfText text (Decode fault) = decode_of standard (without_white text) ≡ Err fault
 IsFaultOfText text OutOfMemory = ⊤
 
--- if parsing fails by such an error, no bytes have the text
+-- unless the error is `OutOfMemory`, the text is the base64 of no bytes
 abbrev pub IsNoData : List ℕ → InvalidXmlData → Type 0
 IsNoData text (Decode fault) = data_of_text text ≡ None
 IsNoData text OutOfMemory = ⊤
 
--- the error of parsing for an error of the decoder
+-- the error of parsing that reports this error of the decoder
 abbrev pub refusal_of_decoding : DecodeAllocError → InvalidXmlData
 refusal_of_decoding (decoding.DecodeError fault) = Decode fault
 refusal_of_decoding decoding.OutOfMemory = OutOfMemory
@@ -87,12 +86,13 @@ refusal_text OutOfMemory = codes "OutOfMemory"
 
 -- ---- worked examples
 
+-- no line, a full line, and a second line of one byte
 written : (data_text [] ≡ []) × (data_text (replicate 51 0) ≡ replicate 68 65)
     × (data_text (replicate 52 0) ≡ replicate 68 65 ++ 10 ∷ codes "AA==")
 unfolding base64_on_literals data_text
 written = (refl, refl, refl)
 
--- white space, missing padding, and surplus bits
+-- white space is ignored, and missing padding and surplus bits are rejected
 read : (data_of_text (codes "A A\n==") ≡ Some (0 ∷ [])) × (data_of_text (codes "AA=") ≡ None)
     × (data_of_text (codes "AB==") ≡ None)
 unfolding base64_on_literals data_of_text

@@ -1,4 +1,4 @@
--- Dates as texts.
+-- The text forms of dates.
 use Rattle.std.specs.Prelude.{◌≡◌, ℕ, List, ℤ, ◌+ℤ◌, ◌-ℤ◌, Option, None, Some, Result, Ok, Err, MatchResult, String, slice_index, string_bytes}
 use Rattle.std.specs.declared.alloc.Global.{Global}
 use Rattle.plist_base.specs.declared.error.Error.{Error}
@@ -6,25 +6,25 @@ use Rattle.plist_base.specs.Date.{IsDate, IsWhole, if_second_of_date, plist_epoc
 use Rattle.plist_base.specs.Faults.{FaultKind, OutOfMemory, fault_without_offset, fault_of}
 use Rattle.plist_base.specs.UnixSeconds.{HasFourDigitYear, IsTextOfSecond, unix_second_of_text}
 
--- the second of the date at a Unix second, or none outside the range of dates
+-- a Unix second, counted from the start of 2001, or none if it is outside the range of dates
 abbrev pub second_at : Option ℤ → Option ℤ
 second_at None = None
 second_at (Some unix) = if_second_of_date (unix -ℤ plist_epoch)
 
--- the second of the date that a text spells, or none
+-- the second of the date that a text spells, or none if it spells none
 abbrev pub second_of_text : List ℕ → Option ℤ
 second_of_text text = second_at (unix_second_of_text text)
 
--- the year of a date's second is one from 0 to 9999
+-- the year of the date is one from 0 to 9999
 abbrev pub HasTextYear : List ℕ → Type 0
 HasTextYear date =
     (second : ℤ) → second_of_bytes date ≡ Some second → HasFourDigitYear (second +ℤ plist_epoch)
 
--- the year of a date's second isn't one from 0 to 9999
+-- the year of the date isn't one from 0 to 9999
 abbrev pub HasOtherYear : List ℕ → Type 0
 HasOtherYear date = ¬ (HasTextYear date)
 
--- the text of a date: the date has no fraction, and the text is that of its second
+-- the date has no fraction, and this is the text of its second
 abbrev pub IsDateText : (date text : List ℕ) → Type 0
 IsDateText date text =
     IsDate date × IsWhole date × ((second : ℤ) → second_of_bytes date ≡ Some second
@@ -34,7 +34,7 @@ IsDateText date text =
 abbrev pub IsInUtc : List ℕ → Type 0
 IsInUtc text = (slice_index text 10 ≡ 84) × (slice_index text 19 ≡ 90)
 
--- parsing a text that a date prints returns just this date
+-- parsing returned this date
 abbrev pub ReadsAs : {E : Type 0} → List ℕ → Result (List ℕ) E → Type 0
 ReadsAs date (Ok read) = read ≡ date
 ReadsAs date (Err error) = ⊥
@@ -44,7 +44,7 @@ abbrev pub IsRefused : {A : Type 0} → FaultKind → Result A Error → Type 0
 IsRefused kind (Ok value) = ⊥
 IsRefused kind (Err error) = fault_of error ≡ fault_without_offset kind
 
--- this text is the only one that is printed; `OutOfMemory` may always be returned
+-- the call returned this text or `OutOfMemory`, without an offset
 abbrev pub PrintsOnly : List ℕ → Result (String Global) Error → Type 0
 PrintsOnly text answer = MatchResult answer (λ printed. string_bytes printed ≡ text)
     (λ error. fault_of error ≡ fault_without_offset OutOfMemory)

@@ -1,4 +1,4 @@
--- What is expected after some events: a stack that decides which event is accepted next.
+-- What is expected after some events. It is a stack, which decides what event is accepted next.
 use Rattle.std.specs.Prelude.{List, [], ◌∷◌, Option, Some, None, option_and_then}
 use Rattle.plist_base.specs.Events.{PlainEvent, EndCollection, ScalarEvent, shape_of}
 use Rattle.plist_base.specs.Trees.{String}
@@ -35,7 +35,7 @@ change_of OneValue event = change_of_value (shape_of event)
 change_of Items event = change_of_items (shape_of event)
 change_of Pairs event = change_of_pairs event
 
--- the stack after a change, topmost first
+-- the stack after a change of its top, topmost first, or none if the event is rejected
 abbrev pub changed : Change → Expect → List Expect → Option (List Expect)
 changed Refused top rest = None
 changed Popped top rest = Some rest
@@ -53,6 +53,6 @@ abbrev pub steps : List Expect → List PlainEvent → Option (List Expect)
 steps expects [] = Some expects
 steps expects (event ∷ events) = option_and_then (λ after. steps after events) (step expects event)
 
--- what is expected after these events, from the start of a tree
+-- the stack after these events, which begin a tree, or none if one is rejected
 abbrev pub expected_after : List PlainEvent → Option (List Expect)
 expected_after events = steps (OneValue ∷ []) events

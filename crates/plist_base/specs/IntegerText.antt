@@ -17,11 +17,11 @@ without_prefixes (a ∷ []) = a ∷ []
 without_prefixes (a ∷ b ∷ rest) =
     cond ((a == 48) && (b == 120)) (without_prefixes rest) (a ∷ b ∷ rest)
 
--- one digit or more, and nothing else
+-- has the text at least one digit, and nothing else?
 abbrev pub is_numeral : (radix : ℕ) → List ℕ → Bool
 is_numeral radix digits = nat_lt 0 (length digits) && list_all (λ c. is_digit c radix) digits
 
--- an unsigned number of 64 bits, with an optional plus sign
+-- the unsigned 64-bit number that the text spells, with an optional plus sign, or none
 abbrev pub unsigned_of_text : (radix : ℕ) → List ℕ → Option ℤ
 unsigned_of_text radix text =
     let digits = without_leading_plus text in
@@ -33,18 +33,18 @@ abbrev pub fits_signed : ℤ → Bool
 fits_signed (pos n) = nat_lt n (2 ^ 63)
 fits_signed (negsuc n) = nat_lt n (2 ^ 63)
 
--- a signed decimal number of 64 bits, with an optional sign
+-- the signed 64-bit number that the text spells in decimal, with an optional sign, or none
 abbrev pub signed_of_text : List ℕ → Option ℤ
 signed_of_text text =
     cond (is_numeral 10 (without_leading_sign text) && fits_signed (signed_digits_value 10 text))
     (Some (signed_digits_value 10 text)) None
 
--- the first value, or the second if there is no first one
+-- the first value, or else the second
 abbrev pub or_else : {A : Type 0} → Option A → Option A → Option A
 or_else (Some x) other = Some x
 or_else None other = other
 
--- hexadecimal after every leading `0x`; else signed decimal, else unsigned decimal
+-- the integer that a text spells: hexadecimal after `0x`, else signed or unsigned decimal
 unfoldable pub integer_of_text : List ℕ → Option ℤ
 integer_of_text text =
     cond (has_prefix text) (unsigned_of_text 16 (without_prefixes text))
@@ -58,10 +58,11 @@ SpellsInteger text answer =
 
 -- ---- worked examples
 
--- each of these texts spells the number beside it, or none
+-- each row has a text, and the integer that it spells or none
 abbrev AreRead : List (String × Option ℤ) → Type 0
 AreRead rows = map (λ row. integer_of_text (codes row.0)) rows ≡ map (λ row. row.1) rows
 
+-- the limits of the range, signs, leading zeros, prefixes, and texts without digits
 worked : AreRead (
     ("18446744073709551615", Some (pos (2 ^ 64 - 1)))
     ∷ ("18446744073709551616", None)

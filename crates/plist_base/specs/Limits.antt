@@ -13,7 +13,7 @@ use Rattle.plist_base.specs.Allowances.{AdmitsEvent, GivesAllowed, RefusesEvent,
 use Rattle.plist_base.specs.Faults.{Fault, LimitReached, fault_without_offset}
 use Rattle.plist_base.specs.Events.{PlainEvent, Item, shape_of}
 
--- is it the start of a collection?
+-- does an event of this shape open a collection?
 abbrev pub opens : EventShape → Bool
 opens shape.StartArray = true
 opens shape.StartDictionary = true
@@ -27,29 +27,28 @@ level_after shape.StartDictionary level = level + 1
 level_after shape.EndCollection level = level - 1
 level_after shape.Scalar level = level
 
--- the event doesn't open one collection too many, and `after` collections are open after it
+-- the event doesn't exceed the depth, and `after` collections are open after it
 abbrev pub IsLevelAfter : (depth level : ℕ) → EventShape → (after : ℕ) → Type 0
 IsLevelAfter depth level shape after =
     (after ≡ level_after shape level) × ((opens shape && nat_le depth level) ≡ false)
 
--- the event opens one collection too many, so it reaches the limit of the depth
+-- the event would exceed the depth, so `reached` is the limit of the depth
 abbrev pub IsTooDeep : (depth level : ℕ) → EventShape → Limit → Type 0
 IsTooDeep depth level shape reached =
     (reached ≡ limit.Depth) × ((opens shape && nat_le depth level) ≡ true)
 
--- the limit that an event reaches after `admitted` events, with `level` collections open: it is one
--- too many, or else opens one collection too many
+-- the limit that an event exceeds after `admitted` events, while `level` collections are open
 abbrev pub limit_at : Limits → (admitted level : ℕ) → PlainEvent → Option Limit
 limit_at limits admitted level event =
     cond (nat_le limits.items admitted) (Some limit.Items)
     (cond (opens (shape_of event) && nat_le limits.depth level) (Some limit.Depth) None)
 
--- an event and the items after it, or the fault of the limit that it reaches
+-- an event and the items after it, or the fault of the limit that it exceeds
 abbrev pub event_or_limit : Option Limit → PlainEvent → (more : List Item) → List Item
 event_or_limit None event more = Ok event ∷ more
 event_or_limit (Some limit) event more = Err (fault_without_offset (LimitReached limit)) ∷ []
 
--- the items after `admitted` events, while `level` collections are open
+-- the items that limits leave after `admitted` events, while `level` collections are open
 abbrev pub limited_from : Limits → (admitted level : ℕ) → List Item → List Item
 limited_from limits admitted level [] = []
 limited_from limits admitted level (Ok event ∷ items) =
@@ -57,18 +56,17 @@ limited_from limits admitted level (Ok event ∷ items) =
     (limited_from limits (admitted + 1) (level_after (shape_of event) level) items)
 limited_from limits admitted level (Err fault ∷ items) = Err fault ∷ []
 
--- The items up to their first fault, in which the first event that is one too many, or else opens
--- one collection too many, is replaced by the fault of that limit, which ends them.
+-- the items up to the first fault; the first event that exceeds a limit becomes its fault
 abbrev pub limited_items : Limits → List Item → List Item
 limited_items limits items = limited_from limits 0 0 items
 
 -- ---- the items that a counter under limits leaves
 
--- the items that the counter leaves of these
+-- the items that the counter leaves of a list of items
 abbrev pub limited_by : LimitCounter → List Item → List Item
 limited_by limiter = limited_from limiter.limits limiter.admitted limiter.level
 
--- the fault of a limit
+-- the fault is that of a limit
 abbrev pub IsLimitReached : Fault → Type 0
 IsLimitReached fault = (limit : Limit) × (fault ≡ fault_without_offset (LimitReached limit))
 
@@ -84,24 +82,26 @@ Refuses = RefusesEvent limited_by IsLimitReached
 abbrev pub RefusesBy : LimitCounter → PlainEvent → Limit → Type 0
 RefusesBy limiter event limit = Refuses limiter event (fault_without_offset (LimitReached limit))
 
--- `limited_by`, `Admits` and `Refuses` for optional limits: without limits every event is admitted
+-- the items that a counter leaves, or all of them without a counter
 abbrev pub limited_by_any : Option LimitCounter → List Item → List Item
 limited_by_any None items = items
 limited_by_any (Some limiter) items = limited_by limiter items
 
+-- the event is admitted, by a counter or without one
 abbrev pub AdmitsAny : (old : Option LimitCounter) → PlainEvent → (new : Option LimitCounter) → Type 0
 AdmitsAny old event new =
     (items : List Item) → limited_by_any old (Ok event ∷ items) ≡ Ok event ∷ limited_by_any new items
 
+-- there is a counter, which replaces the event by this fault
 abbrev pub RefusesAny : Option LimitCounter → PlainEvent → Fault → Type 0
 RefusesAny None event fault = ⊥
 RefusesAny (Some limiter) event fault = Refuses limiter event fault
 
--- the items that the limits leave of the inner iterator's
+-- the inner iterator's items that the limits leave
 abbrev pub items_admitted : {I : Type 0} → LimitedItems I LimitCounter → List Item → List Item
 items_admitted = items_allowed limited_by
 
--- one call of `next`
+-- one call of `next` under limits
 abbrev pub GivesLimited : {I : Type 0} → (I → Option (Result Event Error) → I → Type 0)
     → LimitedItems I LimitCounter → Option (Result Event Error) → LimitedItems I LimitCounter → Type 0
 GivesLimited = GivesAllowed limited_by IsLimitReached

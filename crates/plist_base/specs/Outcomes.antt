@@ -1,5 +1,4 @@
--- Words for the result of a call: the only errors that it returns, and what it says about known
--- bytes.
+-- Facts about the result of a call: which errors it returns, and what it says about known bytes.
 use Rattle.std.specs.Prelude.{◌≡◌, ℕ, List, Option, Result, IfOk, IfErr, IfSome}
 use Rattle.plist_base.specs.declared.error.Error.{Error}
 use Rattle.plist_base.specs.Faults.{Fault, Io, OutOfMemory, fault_without_offset, fault_of}

@@ -2,7 +2,7 @@
 use Rattle.std.specs.Prelude.{◌≡◌, ℕ, List, ◌++◌, Option}
 use Rattle.std.specs.Io.KnownBytes.{Appends}
 
--- the known bytes grew by a prefix of `all`
+-- a prefix of `all` was appended to the known bytes
 abbrev pub AppendsPrefix : Option (List ℕ) → Option (List ℕ) → (all : List ℕ) → Type 0
 AppendsPrefix old new all =
     (sent : List ℕ) × (more : List ℕ) × Appends old new sent × (all ≡ sent ++ more)

@@ -1,4 +1,4 @@
--- The number of a real's bytes.
+-- The number that the bytes of a real encode.
 use Rattle.std.specs.Prelude.{from_bits, to_bits}
 use Rattle.std.specs.Int.{w32, w64, from_be_bytes, to_be_bytes}
 use lib.Ieee.{Float, binary32, binary64}

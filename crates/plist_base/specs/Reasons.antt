@@ -8,13 +8,12 @@ use Rattle.plist_base.specs.declared.reason.Reason.{Reason}
 abbrev pub error_of_reason : Reason → Error
 error_of_reason reason = reason.error.now
 
--- the text of an I/O error is left open, since it has what the system reported; any other error has
--- its own text alone
+-- this text, or none for an I/O error, whose text depends on what the system reported
 abbrev pub text_unless_io : FaultKind → List ℕ → Option (List ℕ)
 text_unless_io Io text = None
 text_unless_io kind text = Some text
 
--- the text that is printed, unless it is left open
+-- the text that is printed, or none for an I/O error
 abbrev pub reason_text : Reason → Option (List ℕ)
 reason_text reason =
     text_unless_io (kind_of (error_kind_of (error_of_reason reason))) (fault_text (fault_of (error_of_reason reason)))

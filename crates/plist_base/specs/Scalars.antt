@@ -11,13 +11,13 @@ use Rattle.plist_base.specs.declared.real.RealBits.{RealBits}
 use Rattle.plist_base.specs.declared.real.RealBits.TheVariants.{Four, Eight}
 use Rattle.plist_base.specs.Trees.{Scalar, Boolean, Data, Date, Integer, Real, String, Uid}
 
--- reals of one width with the same bytes are equal
+-- are the reals of one width, with the same bytes?
 abbrev pub real_eq : RealBits → RealBits → Bool
 real_eq (Four a) (Four b) = bytes_eq a b
 real_eq (Eight a) (Eight b) = bytes_eq a b
 real_eq _ _ = false
 
--- scalars of one kind with the same content are equal
+-- are the scalars of one kind, with the same content?
 abbrev pub scalar_eq : Scalar → Scalar → Bool
 scalar_eq (Boolean a) (Boolean b) = cond a b (not b)
 scalar_eq (Data a) (Data b) = bytes_eq a b
@@ -39,32 +39,39 @@ writes_of_scalar (Real (Eight bytes)) = bytes ∷ []
 writes_of_scalar (String text) = text ∷ []
 writes_of_scalar (Uid number) = fed.u64 number
 
--- ---- the test decides whether two are equal
+-- ---- the tests decide whether two lists of bytes, reals or scalars are equal
 
+-- lists of bytes that pass the test are equal
 pub bytes_is : (k l : List ℕ) → bytes_eq k l ≡ true → k ≡ l
 bytes_is k l h = (bytes_eq-Decides k l).0 h
 
+-- a list of bytes passes the test with itself
 pub bytes_refl : (k : List ℕ) → bytes_eq k k ≡ true
 bytes_refl k = (bytes_eq-Decides k k).1 refl
 
+-- reals that pass the test are equal
 real_is : (a b : RealBits) → real_eq a b ≡ true → a ≡ b
 real_is (Four a) (Four b) h = ap Four (bytes_is a b h)
 real_is (Eight a) (Eight b) h = ap Eight (bytes_is a b h)
 real_is a b h = absurd (cc)
 
+-- a real passes the test with itself
 real_refl : (a : RealBits) → real_eq a a ≡ true
 real_refl (Four a) = bytes_refl a
 real_refl (Eight a) = bytes_refl a
 
+-- two Booleans that pass the test are equal
 boolean_is : (a b : Bool) → cond a b (not b) ≡ true → a ≡ b
 boolean_is true true h = refl
 boolean_is false false h = refl
 boolean_is a b h = absurd (cc)
 
+-- a Boolean passes the test with itself
 boolean_refl : (a : Bool) → cond a a (not a) ≡ true
 boolean_refl true = refl
 boolean_refl false = refl
 
+-- scalars that pass the test are equal
 pub scalar_is : (x y : Scalar) → scalar_eq x y ≡ true → x ≡ y
 scalar_is (Boolean a) (Boolean b) h = ap Boolean (boolean_is a b h)
 scalar_is (Data a) (Data b) h = ap Data (bytes_is a b h)
@@ -75,6 +82,7 @@ scalar_is (String a) (String b) h = ap String (bytes_is a b h)
 scalar_is (Uid a) (Uid b) h = ap Uid ((Decides-eqb a b).0 h)
 scalar_is x y h = absurd (cc)
 
+-- a scalar passes the test with itself
 pub scalar_refl : (x : Scalar) → scalar_eq x x ≡ true
 scalar_refl (Boolean a) = boolean_refl a
 scalar_refl (Data a) = bytes_refl a
@@ -86,10 +94,12 @@ scalar_refl (Uid a) = (Decides-eqb a a).1 refl
 
 -- ---- an equation between two scalars has at most one proof
 
+-- scalars are equal if they aren't different
 scalar_stable : (x y : Scalar) (same : Bool) → scalar_eq x y ≡ same → Stable (x ≡ y)
 scalar_stable x y true is apart = scalar_is x y is
 scalar_stable x y false is apart =
     absurd (apart (λ p. both_ways _ is (subst (λ z. scalar_eq x z ≡ true) p (scalar_refl x))))
 
+-- two proofs of an equation between scalars are equal
 pub scalar_set : IsSet Scalar
 scalar_set = Stable-paths→set (λ x y. scalar_stable x y _ refl)

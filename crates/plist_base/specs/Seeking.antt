@@ -6,6 +6,6 @@ use Rattle.plist_base.specs.declared.seeking.Seeking.{Seeking}
 abbrev pub failures_of : {R : Type 0} → Seeking R → ℕ
 failures_of source = source.failed
 
--- the reader inside
+-- the inner reader
 abbrev pub seekable_of : {R : Type 0} → Seeking R → R
 seekable_of source = source.inner

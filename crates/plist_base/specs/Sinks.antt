@@ -1,4 +1,4 @@
--- Bytes on their way to a writer through a sink: some are written, and the rest is pending.
+-- The bytes that are put into a sink: some are written to its writer, and the rest is pending.
 use Rattle.std.specs.Prelude.{◌≡◌, ℕ, ◌^◌, ◌-◌, List, ◌++◌, take, Option, Result, Ok, Err}
 use Rattle.std.specs.Io.KnownBytes.{Appends}
 use Rattle.plist_base.specs.declared.error.Error.{Error}
@@ -8,7 +8,7 @@ use Rattle.plist_base.specs.Faults.{Io, fault_without_offset}
 use Rattle.plist_base.specs.Prefixes.{AppendsPrefix}
 use Rattle.plist_base.specs.Writing.{Answer, answer_of}
 
--- the number of bytes of a buffer
+-- the number of bytes in a buffer
 abbrev pub sink_capacity : ℕ
 sink_capacity = 2 ^ 16
 
@@ -24,18 +24,18 @@ room buffer = sink_capacity - buffer.used
 abbrev pub pending : {W : Type 0} → Sink W → List ℕ
 pending sink = buffered sink.buffer.now
 
--- the sink has the same writer and the same buffer
+-- both sinks borrow the same writer and the same buffer
 pub record IsSameSink {W : Type 0} (old new : Sink W) : Type 0 where
   pub writer : new.writer.ghost_name ≡ old.writer.ghost_name
   pub buffer : new.buffer.ghost_name ≡ old.buffer.ghost_name
 
--- nothing was put
+-- no byte was put or written
 pub record PutsNothing {W : Type 0} (old new : Sink W) : Type 0 where
   pub same : IsSameSink old new
   pub writer : new.writer.now ≡ old.writer.now
   pub pending : pending new ≡ pending old
 
--- a prefix of the bytes `all` was appended to the known bytes, and the rest is pending
+-- a prefix of `all` was appended to the known bytes, and `rest` is the rest of `all`
 abbrev pub WritesBut : (old new : Option (List ℕ)) → (all rest : List ℕ) → Type 0
 WritesBut old new all rest = (written : List ℕ) × Appends old new written × (all ≡ written ++ rest)
 
@@ -44,8 +44,7 @@ module _ {W : Type 0} (contents : W → Option (List ℕ)) where
   abbrev pub written : Sink W → Option (List ℕ)
   written sink = contents sink.writer.now
 
-  -- the bytes follow what was pending: a prefix of both is written, and the rest is pending; or a
-  -- write failed, and a prefix of both is written
+  -- a prefix of the pending bytes and these is written; the rest is pending unless a write failed
   abbrev pub Follows : (old : Sink W) → (bytes : List ℕ) → Answer → (new : Sink W) → Type 0
   Follows old bytes (Ok done) new =
       WritesBut (written old) (written new) (pending old ++ bytes) (pending new)
@@ -53,12 +52,13 @@ module _ {W : Type 0} (contents : W → Option (List ℕ)) where
       (fault ≡ fault_without_offset Io)
       × AppendsPrefix (written old) (written new) (pending old ++ bytes)
 
-  -- what a call that puts these bytes does
+  -- a call puts these bytes, with this result as contracts see it
   pub record PutsBytes (old : Sink W) (bytes : List ℕ) (answer : Answer) (new : Sink W) : Type 0
     where
       pub same : IsSameSink old new
       pub follows : Follows old bytes answer new
 
+  -- a call puts these bytes, and returns this result
   abbrev pub Puts : (old : Sink W) → (bytes : List ℕ) → Result (Unit {0}) Error → (new : Sink W)
       → Type 0
   Puts old bytes result new = PutsBytes old bytes (answer_of result) new

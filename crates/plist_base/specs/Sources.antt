@@ -1,4 +1,4 @@
--- What a call of a source returns and leaves, and how a reader counts its failures.
+-- What the calls of a source return, and how the calls that fail are counted.
 use Rattle.std.specs.Prelude.{◌≡◌, ℕ, ◌+◌, ◌-◌, ◌^◌, ◌<◌, ◌≤◌, ◌⊎◌, List, length, take, drop, Option, None, Some, IfSome, MatchResult, MatchOption, Result, ⊤}
 use Rattle.plist_base.specs.declared.error.Error.{Error}
 use Rattle.plist_base.specs.Faults.{FaultKind, Fault, UnexpectedEof, Io, IsIo, MatchFault, kind_of, error_kind_of}
@@ -11,14 +11,13 @@ Rises old new = (new ≡ old + 1) ⊎ ((old ≡ 2 ^ 64 - 1) × (new ≡ 2 ^ 64 -
 abbrev pub CountsFailure : {A E : Type 0} → Result A E → ℕ → ℕ → Type 0
 CountsFailure answer old new = MatchResult answer (λ _. new ≡ old) (λ _. Rises old new)
 
--- `read_at` returned the first `count` of the bytes from this offset on, and none only if the
--- buffer is empty or no byte is left
+-- the buffer begins with `count` bytes from this offset on; `count` is 0 only if none fit or remain
 abbrev pub GivesAt : List ℕ → ℕ → ℕ → List ℕ → Type 0
 GivesAt bytes place count buffer =
     (take count buffer ≡ take count (drop place bytes))
     × (count ≡ 0 → (length buffer ≡ 0) ⊎ (length bytes ≤ place))
 
--- these are bytes from this offset on, as many as there are here
+-- `bytes_there` are the first of the bytes from this offset on
 abbrev pub LiesAt : (bytes : List ℕ) (place : ℕ) (bytes_there : List ℕ) → Type 0
 LiesAt bytes place bytes_there = bytes_there ≡ take (length bytes_there) (drop place bytes)
 
@@ -46,14 +45,12 @@ abbrev pub IsOffsetWithin : (start end : ℕ) → Option ℕ → Type 0
 IsOffsetWithin start end None = ⊥
 IsOffsetWithin start end (Some place) = (start ≤ place) × (place < end)
 
--- one of the reads of the `size` bytes from this offset on failed or returned no byte, and the
--- fault has the offset of that read
+-- a read of some of these `size` bytes failed or returned no byte, at the fault's offset
 pub record FailsReading (place size : ℕ) (fault : Fault) : Type 0 where
   pub kind : IsReadFault fault.kind
   pub at : IsOffsetWithin place (place + size) fault.offset
 
--- if the fault is that the bytes end too early, they end at its offset, or before it if that is the
--- first offset that was read
+-- an `UnexpectedEof` has the offset at which the bytes end, or `start` if they end before that
 abbrev pub EndsTooEarly : (start : ℕ) → List ℕ → Fault → Type 0
 EndsTooEarly start bytes fault = fault.kind ≡ UnexpectedEof → IfSome fault.offset
     (λ place. (length bytes ≤ place) × ((place ≡ start) ⊎ (place ≤ length bytes)))
@@ -63,6 +60,6 @@ abbrev pub FillsUpTo : (start : ℕ) → (buffer bytes : List ℕ) → Fault →
 FillsUpTo start buffer bytes fault = IfSome fault.offset
     (λ place. take (place - start) buffer ≡ take (place - start) (drop start bytes))
 
--- if all of the `size` bytes exist, reading them fails by an I/O error alone
+-- if all of these `size` bytes exist, the fault is an I/O error
 abbrev pub IsIoWithin : (place size : ℕ) → List ℕ → Fault → Type 0
 IsIoWithin place size bytes fault = place + size ≤ length bytes → IsIo fault.kind

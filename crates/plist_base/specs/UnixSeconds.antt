@@ -7,47 +7,47 @@ use Rattle.jiff_core.specs.Calendar.{days_from_civil, days_in_month, days_of_mon
 
 -- ---- numbers
 
--- the number of two digits
+-- the number that two digits spell, or none if one isn't a digit
 unfoldable pub two_digits : (tens ones : ℕ) → Option ℕ
 two_digits tens ones =
     cond (is_ascii_digit tens && is_ascii_digit ones) (Some ((tens - 48) * 10 + (ones - 48))) None
 
--- the number of the two digits at an offset of a text
+-- the number that the two digits at an offset of a text spell
 abbrev pub two_digits_at : (text : List ℕ) (place : ℕ) → Option ℕ
 two_digits_at text place = two_digits (slice_index text place) (slice_index text (place + 1))
 
--- what is made of two numbers, if both exist
+-- `make` applied to two numbers, if both exist
 abbrev pub of_both : {A : Type 0} → Option ℕ → Option ℕ → (ℕ → ℕ → Option A) → Option A
 of_both (Some a) (Some b) make = make a b
 of_both None b make = None
 of_both (Some a) None make = None
 
--- what is made of three numbers, if all exist
+-- `make` applied to three numbers, if all exist
 abbrev pub of_three : {A : Type 0} → Option ℕ → Option ℕ → Option ℕ → (ℕ → ℕ → ℕ → Option A)
     → Option A
 of_three (Some a) b c make = of_both b c (make a)
 of_three None b c make = None
 
--- the number of the four digits at an offset of a text
+-- the number that the four digits at an offset of a text spell
 abbrev pub four_digits_at : (text : List ℕ) (place : ℕ) → Option ℕ
 four_digits_at text place =
     of_both (two_digits_at text place) (two_digits_at text (place + 2)) (λ high low. Some (high * 100 + low))
 
 -- ---- the parts
 
--- the days from 1970-01-01 to a date, or none if the calendar doesn't have it
+-- the number of days from 1970-01-01 to a date, or none if the calendar doesn't have it
 unfoldable pub day_number : (year month day : ℕ) → Option ℤ
 day_number year month day =
     cond (is_in_range 1 12 month && is_in_range 1 (days_in_month (pos year) month) day)
     (Some (days_from_civil (pos year) month day)) None
 
--- the second of a day, which has no leap second
+-- the second of the day at this time, or none if a part is out of range
 unfoldable pub second_of_day : (hour minute second : ℕ) → Option ℕ
 second_of_day hour minute second =
     cond (nat_lt hour 24 && nat_lt minute 60 && nat_lt second 60)
     (Some (hour * 3600 + minute * 60 + second)) None
 
--- how many seconds a zone is ahead of UTC
+-- how many seconds a zone is ahead of UTC, or none if a part is out of range
 abbrev pub offset : (sign hours minutes : ℕ) → Option ℤ
 offset sign hours minutes =
     cond (nat_lt hours 24 && nat_lt minutes 60)
@@ -57,23 +57,22 @@ offset sign hours minutes =
 
 -- ---- the text
 
--- the text is long enough, with `-` in the date, `:` in the time, and one of `T`, `t` and the space
--- between them
+-- is the text long enough, with the separators of a date and a time at their offsets?
 abbrev pub has_separators : List ℕ → Bool
 has_separators text =
     nat_le 20 (length text) && (slice_index text 4 == 45) && (slice_index text 7 == 45)
     && ((slice_index text 10 == 84) || (slice_index text 10 == 116) || (slice_index text 10 == 32))
     && (slice_index text 13 == 58) && (slice_index text 16 == 58)
 
--- YYYY-MM-DD
+-- the number of days from 1970-01-01 to the `YYYY-MM-DD` at offset 0
 abbrev pub day_in : List ℕ → Option ℤ
 day_in text = of_three (four_digits_at text 0) (two_digits_at text 5) (two_digits_at text 8) day_number
 
--- HH:MM:SS
+-- the second of the day at the `HH:MM:SS` at offset 11
 abbrev pub time_in : List ℕ → Option ℕ
 time_in text = of_three (two_digits_at text 11) (two_digits_at text 14) (two_digits_at text 17) second_of_day
 
--- the zone at the end: `Z` or `z`, or a sign with HH:MM
+-- how many seconds the zone at the end, `Z`, `z` or a sign with `HH:MM`, is ahead of UTC
 abbrev pub zone_in : List ℕ → Option ℤ
 zone_in text =
     cond (length text == 20) (cond ((slice_index text 19 == 90) || (slice_index text 19 == 122))
@@ -81,25 +80,25 @@ zone_in text =
     (cond ((length text == 25) && (slice_index text 22 == 58))
     (of_both (two_digits_at text 20) (two_digits_at text 23) (offset (slice_index text 19))) None)
 
--- the Unix second of a day, a time and a zone
+-- the Unix second of a day, a second of the day and a zone, if all exist
 abbrev pub second_of_parts : Option ℤ → Option ℕ → Option ℤ → Option ℤ
 second_of_parts (Some day) (Some time) (Some offset) = Some ((day *ℤ pos 86400 +ℤ pos time) -ℤ offset)
 second_of_parts (Some day) (Some time) None = None
 second_of_parts (Some day) None offset = None
 second_of_parts None time offset = None
 
--- the Unix second that a text spells, or none
+-- the Unix second that a text spells, or none if it spells none
 unfoldable pub unix_second_of_text : List ℕ → Option ℤ
 unix_second_of_text text =
     cond (has_separators text) (second_of_parts (day_in text) (time_in text) (zone_in text)) None
 
--- a text as it is printed: it spells this second, with `T` and `Z`
+-- the text spells this second as it is printed, with `T` and `Z`
 pub record IsTextOfSecond (second : ℤ) (text : List ℕ) : Type 0 where
   pub spells : unix_second_of_text text ≡ Some second
   pub letter : slice_index text 10 ≡ 84
   pub utc : slice_index text 19 ≡ 90
 
--- a second of the years 0 to 9999
+-- the Unix second is one of the years 0 to 9999
 abbrev pub HasFourDigitYear : ℤ → Type 0
 HasFourDigitYear second =
     ((days_from_civil (pos 0) 1 1 *ℤ pos 86400) ≤ℤ second)

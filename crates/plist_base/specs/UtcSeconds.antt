@@ -3,11 +3,11 @@ use Rattle.std.specs.Prelude.{◌≡◌, ℕ, ◌-◌, ◌^◌, List, [], ◌∷
 use Rattle.std.specs.Fmt.{format_spec, styled_decimal}
 use Rattle.plist_base.specs.declared.utc_second.UtcSecond.{UtcSecond}
 
--- a number, with a zero before a single digit
+-- a number in decimal, with a zero before a single digit
 abbrev pub two_digit_text : ℕ → List ℕ
 two_digit_text number = styled_decimal (format_spec 32 0 4 2 (2 ^ 64 - 1)) number
 
--- YYYY-MM-DDTHH:MM:SSZ
+-- the second as `YYYY-MM-DDTHH:MM:SSZ`
 abbrev pub utc_text : UtcSecond → List ℕ
 utc_text utc =
     two_digit_text utc.century ++ (two_digit_text utc.year ++ 45

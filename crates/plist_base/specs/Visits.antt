@@ -12,11 +12,11 @@ use Rattle.plist_base.specs.Events.{PlainEvent, event_of}
 abbrev pub Flow : Type 0
 Flow = ControlFlow (Unit {0}) (Unit {0})
 
--- what a source hands over: an event, an error that replaces one, or nothing
+-- a source yields an event, an error that replaces one, or `None` at the end
 abbrev pub PlainItem : Type 0
 PlainItem = Option (Result PlainEvent Error)
 
--- what ended a visit: no event remained, the visitor wanted no more, or there was an error
+-- why a visit ended: the source ended, the visitor returned `Break`, or an error was yielded
 abbrev pub last_turn : Result Visited Error → Option (Result Flow Error)
 last_turn (Ok Ended) = None
 last_turn (Ok Stopped) = Some (Ok (Break tt))
@@ -28,7 +28,7 @@ plain_item None = None
 plain_item (Some (Ok event)) = Some (Ok (event_of event))
 plain_item (Some (Err error)) = Some (Err error)
 
--- what a call of an iterator's `next` hands over
+-- a call of an iterator's `next` yields this item
 abbrev pub YieldsPlain : {I : Type 0} → (next_gives : I → Option (Result Event Error) → I → Type 0)
     → I → PlainItem → I → Type 0
 YieldsPlain next_gives old item new =
@@ -43,13 +43,12 @@ YieldsAll {I} yields old (event ∷ events) new =
 
 module _ {I V : Type 0} (yields : I → PlainItem → I → Type 0)
     (step : V → PlainEvent → Flow → V → Type 0) where
-  -- one event is handed over, and this is what the visitor returns
+  -- the source yields this event, and the visitor takes it and returns `flow`
   pub record HandsOver (old : I × V) (event : PlainEvent) (flow : Flow) (new : I × V) : Type 0 where
     pub given : yields old.0 (Some (Ok event)) new.0
     pub taken : step old.1 event flow new.1
 
-  -- One event is handed over. Or an error replaces one, or no event remains, and then the visitor
-  -- is unchanged.
+  -- an event is handed over, or the source ends or yields an error and the visitor is unchanged
   abbrev pub TakesTurn : (old : I × V) → Option (Result Flow Error) → (new : I × V) → Type 0
   TakesTurn old None new = yields old.0 None new.0 × (new.1 ≡ old.1)
   TakesTurn old (Some (Ok flow)) new = (event : PlainEvent) × HandsOver old event flow new

@@ -5,7 +5,7 @@ use Rattle.plist_base.specs.Bracketing.{AreTreeEvents, CanContinue, ContinueAlik
 use Rattle.plist_base.specs.Events.{PlainEvent}
 use Rattle.plist_base.specs.Faults.{FaultKind, Fault, fault_of, UnexpectedEventType, ExpectedEndOfEventStream, Io, OutOfMemory, PlistTooLarge}
 
--- the result of a call: done, or a fault
+-- the result of a call, which is `Ok` or a fault
 abbrev pub Answer : Type 0
 Answer = Result (Unit {0}) Fault
 
@@ -14,8 +14,7 @@ abbrev pub answer_of : Result (Unit {0}) Error → Answer
 answer_of (Ok done) = Ok done
 answer_of (Err error) = Err (fault_of error)
 
--- a fact for an event that is accepted, one for an event that is rejected since it can't come next,
--- one for a failure of the writer, and one for every other result
+-- a fact for a fault that rejects the event, one for a failure of the writer, and one for any other
 abbrev pub MatchKind : FaultKind → (refused failed other : Type 0) → Type 0
 MatchKind (UnexpectedEventType expected found) refused failed other = refused
 MatchKind (ExpectedEndOfEventStream found) refused failed other = refused
@@ -24,20 +23,18 @@ MatchKind OutOfMemory refused failed other = failed
 MatchKind PlistTooLarge refused failed other = failed
 MatchKind kind refused failed other = other
 
+-- a fact for an accepted event; otherwise the fault has no offset, and `MatchKind` has the fact
 abbrev pub MatchAnswer : Answer → (accepted refused failed other : Type 0) → Type 0
 MatchAnswer (Ok done) accepted refused failed other = accepted
 MatchAnswer (Err fault) accepted refused failed other =
     (fault.offset ≡ None) × MatchKind fault.kind refused failed other
 
--- what the writer keeps after it accepted an event: unless the event completes a tree, what can
--- come next is exactly what can follow the events kept before and this one
+-- unless the event completes a tree, what can follow `after` is what can follow `before` and it
 abbrev pub IsHeldAfter : (before : List PlainEvent) → PlainEvent → (after : List PlainEvent) → Type 0
 IsHeldAfter before event after =
     AreTreeEvents (before ++ event ∷ []) ⊎ ContinueAlike after (before ++ event ∷ [])
 
--- While a writer hasn't failed, it accepts an event only if what it keeps can be continued with it.
--- An event that is rejected for the order can't come next, and nothing changes. Any other error
--- fails the writer, and is returned only if what it keeps can be continued with the event.
+-- a writer that hasn't failed rejects an event if and only if the event can't come next
 abbrev pub AnswersByOrder : (before : List PlainEvent) → PlainEvent → Answer
     → (after : List PlainEvent) → (failed : Bool) → (unchanged : Type 0) → Type 0
 AnswersByOrder before event answer after failed unchanged = MatchAnswer answer

@@ -7,7 +7,7 @@ ghost use Rattle.plist_base.specs.Budgets.{AdmitsWithin, RefusesWithin, within_b
 
 use crate::{Allowance, Error, ErrorKind, Event};
 
-/// The number of bytes that all further strings, including keys, and data may have together.
+/// The total number of bytes that further strings, including keys, and data may have.
 ///
 /// A string counts by its bytes in UTF-8, even if the file stores it in UTF-16, and it counts again
 /// for each further reference to it.

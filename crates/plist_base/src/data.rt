@@ -15,7 +15,7 @@ use std::alloc::{AllocError, Global};
 use std::fmt;
 use std::marker::Model;
 
-// A full line has 68 characters of base64.
+// The number of bytes that a full line encodes, in 68 characters of base64.
 const BYTES_A_LINE: usize = 51;
 
 /// Bytes, with the text form that data has in XML property lists.
@@ -38,7 +38,7 @@ impl Model for Data {
 /// The error of parsing data.
 #[derive(Clone, Copy, Debug, PartialEq, Eq)]
 pub enum InvalidXmlData {
-    /// The text isn't the base64 of any bytes. Offsets in the error count the text without its
+    /// The text isn't valid base64. Offsets in the error count the bytes of the text without its
     /// white space.
     Decode(DecodeError),
     /// An allocation failed.
@@ -53,13 +53,13 @@ impl Data {
         Data { bytes }
     }
 
-    /// Parses data: base64 in the standard alphabet, with padding. The bytes 09, 0A, 0C, 0D and 20
-    /// are ignored wherever they are.
+    /// Parses base64 in the standard alphabet, with padding. Tabs, line feeds, form feeds, carriage
+    /// returns and spaces are ignored, wherever they are.
     ///
     /// # Errors
     ///
-    /// [`InvalidXmlData::Decode`] if the other bytes aren't the base64 of any bytes, and
-    /// [`InvalidXmlData::OutOfMemory`] if memory runs out.
+    /// [`InvalidXmlData::Decode`] if the other characters aren't valid base64, and
+    /// [`InvalidXmlData::OutOfMemory`] if an allocation fails.
     pub fn from_xml_format(alloc: Global, text: &str) -> Result<Data, InvalidXmlData>
         ensures data { IfOk result (λ found. data_of_text text.now ≡ Some found) }
         ensures fault { IfErr result (λ error. IsFaultOfText text.now error) }
@@ -71,12 +71,13 @@ impl Data {
         Ok(Data::new(bytes))
     }
 
-    /// Formats this data as base64 in lines of 68 characters, which encode 51 bytes. The last line
-    /// may be shorter. Lines are separated by LF, and there is none at the end.
+    /// Formats this data as base64 in lines of 68 characters, each of which encodes 51 bytes. The
+    /// last line may be shorter. Lines are separated by a line feed; none follows the last one.
     ///
     /// # Errors
     ///
-    /// [`ErrorKind::OutOfMemory`](crate::ErrorKind::OutOfMemory) if memory runs out.
+    /// [`ErrorKind::OutOfMemory`](crate::ErrorKind::OutOfMemory), without an offset, if an
+    /// allocation fails.
     pub fn to_xml_format(&self, alloc: Global) -> Result<String, Error>
         ensures text { IfOk result (λ text. string_bytes text ≡ data_text self.now) }
         ensures back { IfOk result (λ text. data_of_text (string_bytes text) ≡ Some self.now) }
@@ -112,7 +113,8 @@ impl Data {
     ///
     /// # Errors
     ///
-    /// [`ErrorKind::OutOfMemory`](crate::ErrorKind::OutOfMemory) if memory runs out.
+    /// [`ErrorKind::OutOfMemory`](crate::ErrorKind::OutOfMemory), without an offset, if an
+    /// allocation fails.
     pub fn clone(&self) -> Result<Data, Error>
         ensures same { IfOk result (λ copy. copy ≡ self.now) }
         ensures memory { OnlyMemory result }
@@ -122,7 +124,7 @@ impl Data {
     }
 }
 
-// Returns a string's bytes without its white space.
+// Returns the bytes of a string without its ASCII white space.
 #[tactic(auto, using(crate::proofs::DataLines::spelled))]
 fn dark_bytes(alloc: Global, text: &str) -> Result<Vec<u8>, AllocError>
     ensures bytes { IfOk result (λ dark. dark.items ≡ without_white text.now) }
@@ -149,7 +151,7 @@ fn push_base64(text: &mut String, bytes: &[u8]) -> Result<(), AllocError>
     STANDARD.encode_string(bytes, text)
 }
 
-// Returns the lines of base64 of some bytes.
+// Formats bytes as lines of base64.
 fn text_of(alloc: Global, bytes: &[u8]) -> Result<String, Error>
     ensures text { IfOk result (λ text. string_bytes text ≡ data_text bytes.now) }
     ensures back { IfOk result (λ text. data_of_text (string_bytes text) ≡ Some bytes.now) }

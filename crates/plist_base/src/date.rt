@@ -1,4 +1,4 @@
-//! Dates.
+//! Dates, which are stored as the eight bytes of a real.
 
 ghost use Rattle.std.specs.Prelude.{◌≡◌, ℕ, ◌^◌, ◌<◌, ◌≤◌, ◌↔◌, not, ◌==◌, false, pos, ℤ, ◌*ℤ◌, ◌-ℤ◌, Some, None, IsSome, IfSome, IsErr, IfOk, IfErr, List, MatchOption};
 ghost use Rattle.plist_base.specs.Date.{IsDate, IsSecondOf, IsSecondOfDate, IsWhole, date_bytes, date_of_bytes, has_fraction, if_second_of_date, is_second_of_date, parts_in_second, parts_left, plist_epoch, real_bits, real_exponent, real_mantissa, real_parts, real_scale, rounded_down, second_of_bits, second_of_bytes, whole_seconds, HasNoSecond, IsExactly, IsOnlyAt, IsWholeAt};
@@ -7,7 +7,7 @@ ghost use Rattle.plist_base.specs.inner.DateBits.{whole_bits, AreBitsAt, IsNoneF
 use crate::ErrorKind;
 use std::marker::Model;
 
-// 2001-01-01T00:00:00Z in Unix seconds.
+// The Unix second of 2001-01-01T00:00:00Z, from which the seconds of property lists count.
 const PLIST_EPOCH: i64 = 978_307_200;
 
 /// A point in time from -9999-01-01T00:00:00Z to 9999-12-31T23:59:59Z, stored as the eight bytes of
@@ -34,10 +34,10 @@ impl Model for Date {
 }
 
 impl Date {
-    /// Makes a date from the eight bytes of a `binary64`, the highest first: seconds since
+    /// Makes a date from the big-endian bytes of a `binary64`, which counts the seconds since
     /// 2001-01-01T00:00:00Z.
     ///
-    /// The fraction is kept, and the sign of a zero is dropped.
+    /// The fraction is kept. A negative zero becomes a positive zero.
     ///
     /// # Errors
     ///
@@ -62,7 +62,7 @@ impl Date {
         Ok(Date { bytes })
     }
 
-    /// Returns the eight bytes of the date's `binary64`, the highest first.
+    /// Returns the big-endian bytes of the date's `binary64`.
     pub fn to_plist_real(&self) -> [u8; 8]
         ensures bytes { result ≡ self.now }
         ensures back { date_of_bytes result ≡ Some self.now }
@@ -106,7 +106,7 @@ impl Date {
         Date::from_plist_secs(second.checked_sub(PLIST_EPOCH)?)
     }
 
-    /// Returns the greatest second since 2001-01-01T00:00:00Z that isn't after this date.
+    /// Returns this date in seconds since 2001-01-01T00:00:00Z, rounded down.
     pub fn plist_secs(&self) -> i64
         ensures second { second_of_bytes self.now ≡ Some result }
         ensures greatest { IsSecondOf result (real_bits self.now) }
@@ -119,7 +119,7 @@ impl Date {
         }
     }
 
-    /// Returns the greatest Unix second that isn't after this date.
+    /// Returns this date in Unix seconds, rounded down.
     pub fn unix_secs(&self) -> i64
         ensures second { second_of_bytes self.now ≡ Some (result -ℤ plist_epoch) }
         ensures greatest { IsSecondOf (result -ℤ plist_epoch) (real_bits self.now) }
@@ -158,7 +158,7 @@ fn mantissa_of(bits: u64, exponent: u64) -> u64
     }
 }
 
-// A real whose absolute value is below 2^52.
+// A real whose absolute value is below 2^52. This value is `mantissa * 2^(scale - 1075)`.
 #[derive(Clone, Copy)]
 struct RealParts {
     mantissa: u64,
@@ -169,7 +169,8 @@ struct RealParts {
 }
 
 impl RealParts {
-    // Returns `None` if the absolute value is 2^52 or more, or the real is infinite or a NaN.
+    // Returns the parts of a real, or `None` if its absolute value is 2^52 or more, or if it is
+    // infinite or a NaN.
     #[tactic(auto, using(crate::proofs::DateShifts::scale_is))]
     fn from_bits(bits: u64) -> Option<RealParts>
         ensures range { IsNoneFrom 1075 (real_exponent bits) result }
@@ -186,7 +187,7 @@ impl RealParts {
         })
     }
 
-    // Returns the whole seconds of the absolute value.
+    // Returns the absolute value, rounded down to whole seconds.
     #[tactic(auto, using(crate::proofs::DateShifts::whole_parts))]
     fn whole(self) -> u64
         ensures is { result ≡ whole_seconds self.mantissa self.scale }
@@ -214,7 +215,7 @@ impl RealParts {
     }
 }
 
-// Returns whether the value lies between two seconds. No value of 2^52 or more does.
+// Returns whether the value lies between two seconds. No absolute value of 2^52 or more does.
 #[tactic(auto, using(crate::proofs::DateShifts::fraction_parts))]
 fn is_fractional(bits: u64) -> bool
     ensures { result ≡ has_fraction bits }
@@ -225,6 +226,7 @@ fn is_fractional(bits: u64) -> bool
     }
 }
 
+// Rounds a value down, given its sign, its whole seconds and whether it also has a fraction.
 fn round_down(negative: bool, whole: u64, is_left: bool) -> i64
     requires { whole < 2 ^ 52 }
     ensures { (left : ℕ) → is_left ≡ not (left == 0) → result ≡ rounded_down negative whole left }
@@ -246,7 +248,7 @@ fn in_range(second: i64) -> Option<i64>
     }
 }
 
-// Returns the greatest second that isn't above the value, if it is in the range of dates.
+// Returns the value rounded down to a second, or `None` if that isn't in the range of dates.
 #[tactic(auto, using(crate::proofs::DateShifts::second_far))]
 fn second_of_bits(bits: u64) -> Option<i64>
     ensures { result ≡ second_of_bits bits }

@@ -6,7 +6,7 @@ ghost use Rattle.plist_base.specs.UnixSeconds as spec;
 
 use jiff_core::civil::Date;
 
-// Returns the number of the two digits at an offset.
+// Returns the number that the two digits at an offset spell, or `None` if one isn't a digit.
 #[tactic(auto, unfolding(crate::specs::UnixSeconds::two_digits))]
 fn two_digits_at(text: &[u8], place: usize) -> Option<u8>
     requires { place + 1 < length text.now }
@@ -21,7 +21,7 @@ fn two_digits_at(text: &[u8], place: usize) -> Option<u8>
     }
 }
 
-// Returns the number of the four digits at an offset.
+// Returns the number that the four digits at an offset spell, or `None` if one isn't a digit.
 fn four_digits_at(text: &[u8], place: usize) -> Option<u16>
     requires { place + 3 < length text.now }
     ensures is { result ≡ spec.four_digits_at text.now place }
@@ -32,14 +32,14 @@ fn four_digits_at(text: &[u8], place: usize) -> Option<u16>
     Some(u16::from(high) * 100 + u16::from(low))
 }
 
-// Returns the days from 1970-01-01 to a date, or `None` if the calendar doesn't have it.
+// Returns the number of days from 1970-01-01 to a date, or `None` if the calendar doesn't have it.
 #[tactic(auto, unfolding(crate::specs::UnixSeconds::day_number))]
 fn day_number(year: u16, month: u8, day: u8) -> Option<i32>
     requires { year < 10000 }
     ensures is { result ≡ spec.day_number year month day }
     ensures bound { IfSome result (λ n. IsEpochDay n) }
 {
-    // Both must fit the calendar's signed parameters.
+    // A greater month or day might not fit into an `i8`, the type of the calendar's parameters.
     if month > 12 || day > 31 {
         return None;
     }
@@ -49,7 +49,7 @@ fn day_number(year: u16, month: u8, day: u8) -> Option<i32>
     }
 }
 
-// Parses YYYY-MM-DD.
+// Parses the `YYYY-MM-DD` at offset 0, and returns the number of days from 1970-01-01 to it.
 fn day_in(text: &[u8]) -> Option<i32>
     requires { 10 ≤ length text.now }
     ensures is { result ≡ spec.day_in text.now }
@@ -65,7 +65,7 @@ fn day_in(text: &[u8]) -> Option<i32>
     }
 }
 
-// Returns the second of a day, or `None` if a part is out of range.
+// Returns the second of the day at this time, or `None` if a part is out of range.
 #[tactic(auto, unfolding(crate::specs::UnixSeconds::second_of_day))]
 fn second_of_day(hour: u8, minute: u8, second: u8) -> Option<u32>
     ensures is { result ≡ spec.second_of_day hour minute second }
@@ -78,7 +78,7 @@ fn second_of_day(hour: u8, minute: u8, second: u8) -> Option<u32>
     }
 }
 
-// Parses HH:MM:SS.
+// Parses the `HH:MM:SS` at offset 11, and returns the second of the day.
 fn time_in(text: &[u8]) -> Option<u32>
     requires { 19 ≤ length text.now }
     ensures is { result ≡ spec.time_in text.now }
@@ -107,7 +107,7 @@ fn has_separators(text: &[u8]) -> bool
         && text[16] == b':'
 }
 
-// Applies a sign, `+` or `-`, to a number of seconds.
+// Returns the number of seconds with this sign, or `None` if the sign isn't `+` or `-`.
 fn signed(sign: u8, seconds: u32) -> Option<i32>
     requires { seconds < 86400 }
     ensures is { result ≡ cond (sign == 43) (Some (pos seconds))
@@ -121,7 +121,8 @@ fn signed(sign: u8, seconds: u32) -> Option<i32>
     }
 }
 
-// Returns how many seconds a zone is ahead of UTC, from its sign, hours and minutes.
+// Returns how many seconds the zone with this sign, hours and minutes is ahead of UTC, or `None` if
+// a part is out of range.
 fn offset(sign: u8, hours: u8, minutes: u8) -> Option<i32>
     ensures is { result ≡ spec.offset sign hours minutes }
     ensures bound { IfSome result (λ n. IsWithin 86399 n) }
@@ -132,8 +133,8 @@ fn offset(sign: u8, hours: u8, minutes: u8) -> Option<i32>
     signed(sign, u32::from(hours) * 3600 + u32::from(minutes) * 60)
 }
 
-// Parses a zone, which is `Z`, `z`, or a sign with HH:MM. Returns how many seconds it is ahead of
-// UTC.
+// Parses the zone at offset 19, which is `Z`, `z`, or a sign with `HH:MM`, and returns how many
+// seconds it is ahead of UTC.
 fn zone_in(text: &[u8]) -> Option<i32>
     requires { 20 ≤ length text.now }
     ensures is { result ≡ spec.zone_in text.now }
@@ -154,7 +155,8 @@ fn zone_in(text: &[u8]) -> Option<i32>
     offset(text[19], hours, minutes)
 }
 
-// Returns the Unix second of a day, a second of that day, and a zone.
+// Returns the Unix second, given the number of days since 1970-01-01, the second of the day, and
+// how many seconds the zone is ahead of UTC.
 fn unix_second(day: i32, time: u32, zone: i32) -> i64
     requires day { IsEpochDay day }
     requires time { time < 86400 }
@@ -166,8 +168,9 @@ fn unix_second(day: i32, time: u32, zone: i32) -> i64
 
 /// Returns the Unix second that a string spells, or `None` if it isn't a date.
 ///
-/// The form is `YYYY-MM-DD`, one of `T`, `t` and the space, `HH:MM:SS`, and `Z`, `z` or a sign with
-/// `HH:MM`, in the years 0 to 9999. The calendar must have the day, and there is no second 60.
+/// The form is `YYYY-MM-DD`, then `T`, `t` or a space, then `HH:MM:SS`, and then `Z`, `z` or a sign
+/// with `HH:MM`, in the years 0 to 9999. The calendar must have the day, and the second 60 isn't
+/// allowed.
 #[tactic(auto, unfolding(crate::specs::UnixSeconds::unix_second_of_text))]
 pub fn unix_second_of_text(text: &str) -> Option<i64>
     ensures is { result ≡ spec.unix_second_of_text text.now }

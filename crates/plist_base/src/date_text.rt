@@ -19,8 +19,8 @@ pub struct InvalidXmlDate;
 impl Date {
     /// Parses a date, such as `2001-01-01T00:00:00Z`.
     ///
-    /// The form is a year of four digits, `-MM-DD`, one of `T`, `t` and the space, `HH:MM:SS`, and
-    /// `Z`, `z` or a sign with `HH:MM`. It has no fraction and no second 60.
+    /// The form is a year of four digits and `-MM-DD`, then `T`, `t` or a space, then `HH:MM:SS`,
+    /// and then `Z`, `z` or a sign with `HH:MM`. Fractions and the second 60 aren't allowed.
     ///
     /// # Errors
     ///
@@ -49,9 +49,9 @@ impl Date {
     ///
     /// # Errors
     ///
-    /// [`ErrorKind::FractionalDate`] if it lies between two seconds, else
+    /// [`ErrorKind::FractionalDate`] if this date lies between two seconds, else
     /// [`ErrorKind::YearOutOfRange`] if its year isn't from 0 to 9999, else
-    /// [`ErrorKind::OutOfMemory`] if memory runs out.
+    /// [`ErrorKind::OutOfMemory`] if an allocation fails. No error has an offset.
     pub fn to_xml_format(&self, alloc: Global) -> Result<String, Error>
         // Result.
         ensures text { IfOk result (λ text. IsDateText self.now (string_bytes text)) }

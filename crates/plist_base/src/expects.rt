@@ -6,7 +6,7 @@ ghost use Rattle.plist_base.specs.Expects.{change_of, change_of_value, change_of
 
 use crate::{Event, EventShape};
 
-/// What the next events have to be.
+/// What the next events must be.
 #[derive(Clone, Copy, Drop)]
 pub enum Expect {
     /// A value.
@@ -22,11 +22,11 @@ pub enum Expect {
 pub enum Change {
     /// The event isn't allowed here.
     Refused,
-    /// The expectation is met, and is popped from the stack.
+    /// The event completes what was expected, which is popped from the stack.
     Popped,
-    /// The expectation stays.
+    /// The stack is unchanged.
     Kept,
-    /// The expectation stays, and this one is pushed on top of it.
+    /// This expectation is pushed onto the stack.
     Pushed(Expect),
     /// This expectation replaces the topmost one.
     Replaced(Expect),

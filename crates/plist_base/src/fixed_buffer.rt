@@ -7,22 +7,22 @@ use crate::Error;
 use itoa::write_digits;
 use std::alloc::Global;
 
-/// How many bytes a [`FixedBuffer`] has, and how many a [`Sink`](crate::Sink) buffers at most.
+/// The number of bytes in a [`FixedBuffer`], and the most that a [`Sink`](crate::Sink) buffers.
 pub const SINK_CAPACITY: usize = 1 << 16;
 
 /// A buffer of [`SINK_CAPACITY`] bytes. It never grows.
 ///
-/// Bytes are written where they stay, and room is tested once for all the bytes of a line.
+/// Pushing requires enough room, so that a caller can check the room once for a whole line.
 #[derive(Drop)]
 pub struct FixedBuffer {
-    // The bytes that were pushed, and others after them.
+    // The first `used` bytes are those that were pushed, and the others are unspecified.
     bytes: Vec<u8>,
     used: usize,
     ghost size: { length bytes.items ≡ 2 ^ 16 },
     ghost within: { used ≤ 2 ^ 16 },
 }
 
-// Returns how many digits a number with more than six has.
+// Returns the number of decimal digits in a number that has more than six.
 #[tactic(auto, using(crate::proofs::Digits::digits))]
 fn digits_of_large(number: u64) -> usize
     requires { 1000000 ≤ number }
@@ -46,7 +46,8 @@ fn digits_of_large(number: u64) -> usize
     }
 }
 
-// Returns how many digits a number has. Small numbers are the most frequent.
+// Returns the number of decimal digits in a number. Small numbers are tested first, since they are
+// the most frequent.
 #[inline(always)]
 #[tactic(auto, using(crate::proofs::Digits::digits))]
 fn digits_of(number: u64) -> usize
@@ -69,11 +70,11 @@ impl FixedBuffer {
     ghost use Rattle.plist_base.specs.Outcomes.{OnlyMemory};
     ghost use Rattle.plist_base.specs.Sinks.{buffered, room};
 
-    /// Allocates a buffer without pushed bytes.
+    /// Allocates an empty buffer.
     ///
     /// # Errors
     ///
-    /// `OutOfMemory`, without an offset.
+    /// `OutOfMemory`, without an offset, if the allocation fails.
     pub fn new(alloc: Global) -> Result<FixedBuffer, Error>
         ensures empty { IfOk result (λ buffer. buffered buffer ≡ []) }
         ensures memory { OnlyMemory result }
@@ -90,14 +91,14 @@ impl FixedBuffer {
         SINK_CAPACITY - self.used
     }
 
-    /// Returns the bytes that were pushed.
+    /// Returns the bytes that were pushed since the last [`FixedBuffer::clear`].
     pub fn as_slice(&self) -> &[u8]
         ensures { result.now ≡ buffered self.now }
     {
         &self.bytes[..self.used]
     }
 
-    /// Removes the bytes that were pushed.
+    /// Removes all pushed bytes.
     pub fn clear(&mut self)
         ensures empty { buffered self.new ≡ [] }
         ensures room { room self.new ≡ 2 ^ 16 }
@@ -105,7 +106,7 @@ impl FixedBuffer {
         self.used = 0;
     }
 
-    /// Pushes bytes.
+    /// Appends bytes, which must fit into the room.
     #[inline(always)]
     pub fn push(&mut self, bytes: &[u8])
         requires room { length bytes.now ≤ room self.old }
@@ -117,7 +118,8 @@ impl FixedBuffer {
         self.used = end;
     }
 
-    /// Pushes the decimal digits of a number, which are at most twenty.
+    /// Appends the decimal digits of a number. There must be room for twenty bytes, the most digits
+    /// that a `u64` has.
     #[inline(always)]
     pub fn push_decimal(&mut self, number: u64)
         requires room { 20 ≤ room self.old }

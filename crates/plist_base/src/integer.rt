@@ -1,4 +1,4 @@
-//! Integers.
+//! Integers from `i64::MIN` to `u64::MAX`.
 
 ghost use Rattle.std.specs.Prelude.{◌≡◌, pos, negsuc, codes, ◌-◌, ◌^◌, ◌≤◌, ◌≤ℤ◌, ◌<ℤ◌, ◌↔◌, IsSome, IfSome, Some};
 ghost use Rattle.std.specs.Fmt.{signed_decimal, styled_signed_decimal};
@@ -9,8 +9,8 @@ use std::fmt;
 use std::marker::Model;
 use std::str::FromStr;
 
-// An integer in 64 bits, and whether it is negative. A value in 128 bits would be aligned to 16
-// bytes, and so would every event.
+// An integer in 64 bits, and whether it is negative. An `i128` would be aligned to 16 bytes, and so
+// would every event.
 #[derive(Clone, Copy, PartialEq, Eq, Hash)]
 enum Number {
     Negative(i64),
@@ -89,7 +89,7 @@ impl Integer {
         }
     }
 
-    // Returns the value in 128 bits.
+    // Returns the value as an `i128`.
     pub(crate) fn widened(self) -> i128
         ensures { result ≡ self }
     {
@@ -256,7 +256,7 @@ impl fmt::Display for InvalidInteger {
 
 impl std::error::Error for InvalidInteger {}
 
-// Parses a signed decimal number with an optional sign.
+// Parses a decimal number with an optional sign, or returns `None` if it doesn't fit into an `i64`.
 #[tactic(auto, using(crate::proofs::Numerals::signed_texts))]
 fn signed(text: &str) -> Option<Integer>
     ensures { result ≡ signed_of_text text.now }
@@ -267,7 +267,7 @@ fn signed(text: &str) -> Option<Integer>
     }
 }
 
-// Parses an unsigned number with an optional plus sign.
+// Parses a number with an optional plus sign, or returns `None` if it doesn't fit into a `u64`.
 #[tactic(auto, using(crate::proofs::Numerals::unsigned_ok, crate::proofs::Numerals::unsigned_err))]
 fn unsigned(text: &str, radix: u32) -> Option<Integer>
     requires radix { (2 ≤ radix) × (radix ≤ 36) }
@@ -290,7 +290,7 @@ fn strip_prefixes(text: &str) -> &str
     rest
 }
 
-// Returns the integer that a string spells.
+// Returns the integer that a string spells, or `None` if it spells none.
 #[tactic(auto, using(crate::proofs::Numerals::integer_texts))]
 fn number_in(text: &str) -> Option<Integer>
     ensures { result ≡ integer_of_text text.now }

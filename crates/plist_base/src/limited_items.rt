@@ -18,17 +18,17 @@ pub trait Allowance: Drop {
     ghost use Rattle.plist_base.specs.Events.{Item};
     ghost use Rattle.plist_base.specs.Faults.{Fault};
 
-    // the items that the allowance leaves of these
+    // Maps a list of items to those that are yielded under this allowance.
     ghost lets: { Self → List Item → List Item };
 
-    // the faults that may replace an event
+    // The faults that may replace an event.
     ghost may_reach: { Fault → Type 0 };
 
     /// Admits an event.
     ///
     /// # Errors
     ///
-    /// The error that replaces the event, if the event isn't allowed.
+    /// The error that replaces the event if the event isn't allowed.
     fn admit(&mut self, event: &Event<'_>) -> Result<(), Error>
         ensures admitted { OnOk result (AdmitsEvent lets self.old (event_of event.now) self.new) }
         ensures refused { IfFault result (RefusesEvent lets may_reach self.old
@@ -51,8 +51,8 @@ pub struct LimitedItems<I, A = LimitCounter> {
 }
 
 impl<I> LimitedItems<I, LimitCounter> {
-    /// Limits the number of items and the depth: the first event that is one too many, or else
-    /// opens one collection too many, is replaced by `LimitReached`.
+    /// Limits the number of items and the depth: the first event that exceeds the limit of items,
+    /// or else that of the depth, is replaced by `LimitReached`, without an offset.
     pub fn new(inner: I, limits: Limits) -> Self
         ensures items { items_admitted result ≡ limited_items limits }
         ensures inner { iterator_of result ≡ inner }
@@ -67,8 +67,8 @@ impl<I> LimitedItems<I, LimitCounter> {
 
 impl<I> LimitedItems<I, ByteBudget> {
     /// Limits the bytes that all strings, including keys, and data have together: the first event
-    /// that exceeds the budget is replaced by `OutOfMemory`, since the memory that the caller
-    /// allows is used up. A string counts by its bytes in UTF-8.
+    /// that exceeds the budget is replaced by `OutOfMemory`, without an offset, since the memory
+    /// that the caller allows is used up. A string counts by its bytes in UTF-8.
     pub fn within_bytes(inner: I, bytes: u64) -> Self
         ensures items { items_within_budget result ≡ within_bytes bytes }
         ensures inner { iterator_of result ≡ inner }

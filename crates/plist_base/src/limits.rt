@@ -15,18 +15,18 @@ use crate::{Allowance, Error, ErrorKind, Event, EventShape};
 /// ```
 #[derive(Clone, Copy, Debug, PartialEq, Eq)]
 pub struct Limits {
-    /// The greatest number of collections that may be open at once.
+    /// The maximum number of collections that may be open at once.
     pub depth: u64,
-    /// The greatest number of events.
+    /// The maximum number of events.
     pub items: u64,
 }
 
 /// Which of the [`Limits`] was reached.
 #[derive(Clone, Copy, Debug, PartialEq, Eq)]
 pub enum Limit {
-    /// [`Limits::depth`]: a start would open one collection too many.
+    /// The start of a collection would exceed [`Limits::depth`].
     Depth,
-    /// [`Limits::items`]: there would be one event too many.
+    /// An event would exceed [`Limits::items`].
     Items,
 }
 
@@ -42,7 +42,8 @@ impl Limit {
     }
 }
 
-// Returns how many collections are open after an event if `level` were open before it.
+// Returns how many collections are open after an event of this shape if `level` were open before
+// it, or fails if that would be more than `depth`.
 fn level_after(depth: u64, level: u64, shape: EventShape) -> Result<u64, Limit>
     ensures value { IfOk result (IsLevelAfter depth level shape) }
     ensures refused { IfErr result (IsTooDeep depth level shape) }
@@ -107,8 +108,8 @@ impl Allowance for LimitCounter {
     ///
     /// # Errors
     ///
-    /// `LimitReached`, without an offset, if the event is one too many, or else opens one
-    /// collection too many. The counts are unchanged then.
+    /// `LimitReached`, without an offset, if the event would exceed the limit of items, or else
+    /// that of the depth. The counts are unchanged then.
     fn admit(&mut self, event: &Event<'_>) -> Result<(), Error>
         ensures admitted { OnOk result (Admits self.old (event_of event.now) self.new) }
         ensures refused { IfFault result (Refuses self.old (event_of event.now)) }

@@ -1,12 +1,12 @@
-//! Reals, by their bytes.
+//! Reals, which are stored as their bytes.
 
 ghost use Rattle.std.specs.Prelude.{◌≡◌};
 ghost use Rattle.plist_base.specs.Reals.{number_of_real, real_of};
 
 use std::num::{f32_from_bits_with_nan, f64_from_bits_with_nan, f64_to_bits_with_nan};
 
-/// The bytes of a binary real, the highest first: four of a `binary32`, or eight of a `binary64`.
-/// [`RealBits::to_f64`] returns their number, and [`RealBits::from_f64`] encodes a number:
+/// A real, stored as its big-endian bytes: four of a `binary32`, or eight of a `binary64`.
+/// [`RealBits::to_f64`] converts it to an `f64`, and [`RealBits::from_f64`] encodes an `f64`:
 ///
 /// ```text
 /// let number = value.as_real()?.to_f64();
@@ -24,10 +24,10 @@ pub enum RealBits {
 }
 
 impl RealBits {
-    /// Returns the number of these bytes. It is exact, since every `binary32` number is a
-    /// `binary64` number.
+    /// Returns the number that these bytes encode. The conversion is exact, since every `binary32`
+    /// number is a `binary64` number.
     ///
-    /// The bytes of a NaN become a NaN, of which nothing else is kept.
+    /// Any NaN is converted to a NaN, whose sign and payload are unspecified.
     pub fn to_f64(self) -> f64
         ensures value { result ≡ number_of_real self }
     {

@@ -3,7 +3,7 @@
 use crate::{Error, ErrorKind};
 use std::fmt;
 
-/// An error that prints the system's reason, too. [`Error::reason`] makes one.
+/// An error whose `Display` also prints the system's reason. [`Error::reason`] returns one.
 #[derive(Drop)]
 pub struct Reason<'a> {
     error: &'a Error,
@@ -13,8 +13,8 @@ impl Error {
     ghost use Rattle.std.specs.Prelude.{◌≡◌};
     ghost use Rattle.plist_base.specs.Reasons.{error_of_reason};
 
-    /// Returns this error for printing with its reason: its kind and its offset and, for an I/O
-    /// error, what the system reported, after a colon. The error's own `Display` leaves that out.
+    /// Returns a value that prints this error's kind and offset and, for an I/O error, the system's
+    /// reason after a colon. The error's own `Display` omits the reason.
     ///
     /// ```text
     /// Io (offset 4096): Input/output error (os error 5)

@@ -14,11 +14,11 @@ use std::io::{Read, Seek, SeekFrom};
 /// change them.
 ///
 /// It buffers windows of the file, so that many small reads near one another cost one read of `R`,
-/// also if they alternate between several parts of the file. [`Source::buffered`] lends their
-/// bytes. Without an allocator it has eight windows of 512 bytes. With one it has at first eight
-/// windows of 8 KiB, and up to 8,192 if windows have to be filled again. Anything that begins in a
-/// window and has at most 64 bytes is buffered completely, unless the read of the window was short.
-/// A read or seek that fails with `Interrupted` isn't tried again.
+/// even if they alternate between several parts of the file. [`Source::buffered`] returns the bytes
+/// of a window. Without an allocator there are eight windows of 512 bytes. With one there are at
+/// first eight windows of 8 KiB, and up to 8,192 if windows have to be filled again. Anything that
+/// begins in a window and has at most 64 bytes is buffered completely, unless the read of the
+/// window was short. A read or seek that fails with `Interrupted` isn't retried.
 ///
 /// The struct itself has less than 5 KiB, so that it can be moved on a small call stack.
 #[derive(Drop)]
@@ -43,9 +43,9 @@ impl<R: Read + Seek> Seeking<R> {
     /// Creates a source over this reader whose windows have 8 KiB.
     ///
     /// It allocates eight windows when it fills the first one. If windows have to be filled again,
-    /// it doubles their number, up to 8,192 windows (68 MB). Unless it has only eight, they are
-    /// fewer than twice as many as the file has. If an allocation fails, it continues with the
-    /// windows that it has, which are at first those of [`Seeking::new`].
+    /// it doubles their number, up to 8,192 windows (68 MB). Unless there are only eight, there are
+    /// fewer than twice as many windows as the file has. If an allocation fails, it continues with
+    /// the windows that it has, which are at first those of [`Seeking::new`].
     pub fn with_windows(alloc: Global, inner: R) -> Self
         ensures inner { seekable_of result ≡ inner }
         ensures failures { failures_of result ≡ 0 }
@@ -64,7 +64,7 @@ impl<R: Read + Seek> Seeking<R> {
         }
     }
 
-    /// Returns the reader, whose position is unspecified.
+    /// Returns the inner reader. Its position is unspecified.
     pub fn into_inner(self) -> R
         ensures { result ≡ seekable_of self }
     {
@@ -87,8 +87,8 @@ impl<R: Read + Seek> Seeking<R> {
         answer
     }
 
-    // Copies the bytes from this offset on out of their window, which is filled first if it has to
-    // be.
+    // Copies bytes from this offset on out of a window, which is filled first if it has none of
+    // them.
     fn copy_from_window(&mut self, place: u64, buf: &mut [u8]) -> Result<usize, io::Error>
         ensures bound { IfOk result (λ count. count ≤ length buf.new) }
         ensures failures { failures_of self.new ≡ failures_of self.old }
@@ -157,7 +157,7 @@ impl<R: Read + Seek + Drop> Source for Seeking<R> {
         self.read_unbuffered(place, buf)
     }
 
-    /// Returns the bytes of a window, without a read.
+    /// Returns the bytes of a window from this offset on, without reading.
     #[inline(always)]
     fn buffered(&self, place: u64) -> &[u8] {
         self.windows.buffered(place)

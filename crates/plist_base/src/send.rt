@@ -10,7 +10,7 @@ use crate::{Error, ErrorKind};
 use std::io;
 use std::io::Write;
 
-/// Writes all the bytes. A failed write isn't tried again, not even after `Interrupted`.
+/// Writes all the bytes. A failed write isn't retried, not even after `Interrupted`.
 ///
 /// # Errors
 ///
@@ -54,8 +54,8 @@ pub fn flush<W: Write>(writer: &mut W) -> Result<(), Error>
 ///
 /// # Errors
 ///
-/// `Io`, without an offset, if a write fails or accepts no byte, after a prefix of the bytes was
-/// written; or if the flush fails, after all of them were.
+/// `Io`, without an offset. If a write fails or accepts no byte, a prefix of the bytes was written;
+/// if the flush fails, all of them were.
 #[tactic(auto, using(crate::proofs::WriterBytes::front_whole))]
 pub fn send_and_flush<W: Write>(writer: &mut W, bytes: &[u8]) -> Result<(), Error>
     ensures sent { OnOk result (Appends (W.contents writer.old) (W.contents writer.new) bytes.now) }

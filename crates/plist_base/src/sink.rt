@@ -12,9 +12,9 @@ use std::io::Write;
 
 /// Writes bytes to a writer through a buffer of [`SINK_CAPACITY`] bytes.
 ///
-/// Bytes that fit into the buffer are pending there. When they don't fit, the sink first writes
-/// what is pending and then the bytes themselves, so no call allocates memory. [`Sink::finish`]
-/// writes the rest.
+/// Bytes that fit into the buffer stay pending in it. For bytes that don't fit, the sink writes the
+/// pending bytes and then the new ones directly, so that no call allocates memory. [`Sink::finish`]
+/// writes the bytes that are still pending.
 ///
 /// ```text
 /// let mut buffer = FixedBuffer::new(alloc)?;
@@ -26,8 +26,8 @@ use std::io::Write;
 /// # Errors
 ///
 /// Each call returns `Io`, without an offset, if a write fails or accepts no byte. A failed write
-/// isn't tried again, not even after `Interrupted`. A prefix of all the bytes that were put is
-/// written then, and the sink is of no further use.
+/// isn't retried, not even after `Interrupted`. A prefix of all the bytes that were put is written
+/// then, and the sink must not be used any more.
 #[derive(Drop)]
 pub struct Sink<'s, W> {
     /// The writer.
@@ -36,7 +36,7 @@ pub struct Sink<'s, W> {
     pub buffer: &'s mut FixedBuffer,
 }
 
-// Pushes bytes. Copying from a local array of a few bytes avoids a call that copies memory.
+// Pushes bytes. Copying a few bytes from a local array avoids a call that copies memory.
 #[inline(always)]
 fn push_bytes(buffer: &mut FixedBuffer, bytes: &[u8])
     requires { length bytes.now ≤ room buffer.old }
@@ -52,7 +52,7 @@ fn push_bytes(buffer: &mut FixedBuffer, bytes: &[u8])
 }
 
 impl<'s, W: Write> Sink<'s, W> {
-    /// Creates a sink over a writer and a buffer. What the buffer contains is pending.
+    /// Creates a sink over a writer and a buffer. The bytes that the buffer contains are pending.
     pub fn new(buffer: &'s mut FixedBuffer, writer: &'s mut W) -> Sink<'s, W>
         ensures writer { result.writer.ghost_name ≡ writer.entry.ghost_name }
         ensures buffer { result.buffer.ghost_name ≡ buffer.entry.ghost_name }
@@ -71,8 +71,8 @@ impl<'s, W: Write> Sink<'s, W> {
     }
 
     /// Puts bytes if they fit into the buffer, and returns whether they do. A loop that puts small
-    /// numbers calls this first, because its result is smaller than that of [`Sink::put`], which
-    /// is zeroed on every call.
+    /// numbers calls this first: a return slot is zeroed on every call, and a `bool` is smaller
+    /// than the result of [`Sink::put`].
     #[inline(always)]
     pub fn try_put(&mut self, bytes: &[u8]) -> bool
         ensures put { result ≡ true → PutsBytes W.contents self.old bytes.now (Ok tt) self.new }
@@ -85,7 +85,7 @@ impl<'s, W: Write> Sink<'s, W> {
         true
     }
 
-    /// Writes what is pending.
+    /// Writes the pending bytes, and empties the buffer.
     #[cold]
     #[inline(never)]
     pub fn write_pending(&mut self) -> Result<(), Error>
@@ -98,7 +98,7 @@ impl<'s, W: Write> Sink<'s, W> {
         Ok(())
     }
 
-    // Writes what is pending, and then these bytes.
+    // Writes the pending bytes, and then these.
     #[cold]
     #[inline(never)]
     fn write_through(&mut self, bytes: &[u8]) -> Result<(), Error>
@@ -108,7 +108,7 @@ impl<'s, W: Write> Sink<'s, W> {
         send(self.writer, bytes)
     }
 
-    /// Puts bytes: they follow all that was put before.
+    /// Puts bytes after all that were put before.
     pub fn put(&mut self, bytes: &[u8]) -> Result<(), Error>
         ensures { Puts W.contents self.old bytes.now result self.new }
     {
@@ -153,12 +153,13 @@ impl<'s, W: Write> Sink<'s, W> {
         self.put_apart(first, second)
     }
 
-    /// Writes what is pending, and then flushes the writer once.
+    /// Writes the pending bytes, and then flushes the writer once. The buffer isn't emptied, so a
+    /// second call would write the same bytes again.
     ///
     /// # Errors
     ///
-    /// `Io`, without an offset, if a write fails or accepts no byte, after a prefix of what is
-    /// pending was written; or if the flush fails, after all of it was.
+    /// `Io`, without an offset. If a write fails or accepts no byte, a prefix of the pending bytes
+    /// was written; if the flush fails, all of them were.
     pub fn finish(&mut self) -> Result<(), Error>
         ensures sent { OnOk result (Appends (written W.contents self.old)
             (written W.contents self.new) (pending self.old)) }

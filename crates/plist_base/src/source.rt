@@ -1,4 +1,4 @@
-//! Sources, from which readers take their bytes.
+//! Sources, from which readers read bytes.
 
 ghost use Rattle.std.specs.Prelude.{◌≡◌, ℕ, ◌+◌, ◌-◌, ◌^◌, ◌<◌, ◌≤◌, List, length, drop, Some, Option, IfOk, IfSome, OnOk};
 ghost use Rattle.plist_base.specs.Sources.{CountsFailure, GivesAt, LiesAt, AnswersIo, FailsReading, FillsUpTo, EndsTooEarly, IsIoWithin};
@@ -9,8 +9,8 @@ use std::io;
 
 /// A source of bytes that can be read at any offset.
 ///
-/// Its contract says whether its bytes are known, and counts its failures. Slices, vectors and
-/// files are sources:
+/// Its contract says what a read returns if the bytes are known, and counts the calls that fail.
+/// Slices and vectors are sources, and so is a [`Seeking`](crate::Seeking) over a file:
 ///
 /// ```text
 /// Value::from_reader(alloc, bytes.as_slice())
@@ -20,27 +20,26 @@ use std::io;
 pub trait Source: Drop {
     /// The bytes, if they are known.
     ghost known: { Self → Option (List ℕ) };
-    /// The number of calls that failed. It stays at `u64::MAX`.
+    /// The number of calls that failed. It doesn't increase beyond `u64::MAX`.
     ghost failures: { Self → ℕ };
 
-    /// Returns the number of bytes.
+    /// Returns the number of bytes. Known bytes don't change.
     ///
     /// # Errors
     ///
-    /// Any I/O error. The call isn't tried again, not even after `Interrupted`. Known bytes don't
-    /// change.
+    /// Any I/O error. The call isn't retried, not even after `Interrupted`.
     fn size(&mut self) -> Result<u64, io::Error>
         ensures length { DecodesBy result (known self.old) length }
         ensures unchanged { known self.new ≡ known self.old }
         ensures failures { CountsFailure result (failures self.old) (failures self.new) };
 
     /// Reads bytes from offset `place` on into the front of the buffer, and returns their number.
-    /// It may read fewer bytes than there are, but returns 0 only if the buffer is empty or no byte
-    /// is left.
+    /// It may read fewer bytes than fit into the buffer. If the bytes are known, it returns 0 only
+    /// if the buffer is empty or no byte remains from this offset on.
     ///
     /// # Errors
     ///
-    /// Any I/O error. The call isn't tried again, not even after `Interrupted`. The contents of the
+    /// Any I/O error. The call isn't retried, not even after `Interrupted`. The contents of the
     /// buffer are unspecified then.
     fn read_at(&mut self, place: u64, buf: &mut [u8]) -> Result<usize, io::Error>
         ensures bound { IfOk result (λ count. count ≤ length buf.new) }
@@ -48,8 +47,8 @@ pub trait Source: Drop {
         ensures unchanged { known self.new ≡ known self.old }
         ensures failures { CountsFailure result (failures self.old) (failures self.new) };
 
-    /// Returns bytes from offset `place` on that the source has in memory, without a read. There
-    /// may be any number of them, and often there are none. By default it returns none.
+    /// Returns the bytes from offset `place` on that are in memory, without reading. The slice may
+    /// have any length, and is often empty. The default implementation returns an empty slice.
     fn buffered(&self, place: u64) -> &[u8]
         ensures bytes { IfSome (known self.now) (λ bytes. LiesAt bytes place result.now) }
     {
@@ -57,7 +56,7 @@ pub trait Source: Drop {
     }
 }
 
-// Returns the bytes from an offset on.
+// Returns the bytes from an offset on, or an empty slice if the offset isn't below the length.
 pub(crate) fn rest_from(bytes: &[u8], place: u64) -> &[u8]
     ensures bytes { result.now ≡ drop place bytes.now }
 {
@@ -130,13 +129,13 @@ impl Source for Vec<u8> {
     }
 }
 
-/// Fills the buffer with the bytes from offset `place` on, by as many reads as it takes. A failed
-/// read isn't tried again, not even after `Interrupted`.
+/// Fills the buffer with the bytes from offset `place` on, with as many reads as necessary. A
+/// failed read isn't retried, not even after `Interrupted`.
 ///
 /// # Errors
 ///
-/// `Io` if a read fails and `UnexpectedEof` if the bytes end too early, each with the offset of
-/// that read. The buffer then contains the bytes that precede this offset.
+/// `Io` if a read fails and `UnexpectedEof` if a read returns no byte, each with the offset of that
+/// read. The front of the buffer then contains the bytes from `place` up to this offset.
 pub fn read_exact_at<S: Source>(source: &mut S, place: u64, buf: &mut [u8]) -> Result<(), Error>
     requires { place + length buf.old < 2 ^ 64 }
     // Result.

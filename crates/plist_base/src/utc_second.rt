@@ -40,7 +40,7 @@ impl UtcSecond {
     }
 }
 
-// Returns the calendar parts of a second of a day.
+// Returns the calendar parts of this second of a day.
 fn utc_second_of(date: Date, second: u32) -> UtcSecond
     requires year { pos 0 ≤ℤ date.year }
     requires second { second < 86400 }

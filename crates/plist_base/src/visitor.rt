@@ -18,7 +18,7 @@ pub trait EventVisitor {
     ghost use Rattle.plist_base.specs.Events.{EndCollection, PlainEvent, StartArray, StartDictionary, event_of};
     ghost use Rattle.plist_base.specs.Visits.{Flow};
 
-    /// What a call that takes an event does: the visitor before it, the event, the result, and the
+    /// Relates the visitor before a call, the event that the call takes, its result, and the
     /// visitor after it.
     ghost step: { Self → PlainEvent → Flow → Self → Type 0 };
 
@@ -112,7 +112,7 @@ pub trait EventVisitor {
 pub enum Visited {
     /// All events were handed over.
     Ended,
-    /// The visitor wanted no more of them.
+    /// The visitor returned `Break`.
     Stopped,
 }
 
@@ -120,25 +120,26 @@ pub enum Visited {
 pub trait EventSource {
     ghost use Rattle.plist_base.specs.Visits.{PlainItem, Visits};
 
-    /// What the source does to yield one item: an event, an error, or nothing at the end.
+    /// Relates the source before it yields an item, the item, and the source after it. The item is
+    /// an event, an error, or `None` at the end.
     ghost yields: { Self → PlainItem → Self → Type 0 };
 
-    /// Hands the remaining events to a visitor, one by one, until no event is left, an error
-    /// replaces one, or the visitor wants no more.
+    /// Hands the remaining events to a visitor, one by one, until no event remains, an error
+    /// replaces one, or the visitor returns `Break`.
     ///
     /// # Errors
     ///
-    /// The error that replaces an event.
+    /// The error that replaces an event. The events that precede it were handed over.
     fn visit<V: EventVisitor>(&mut self, visitor: &mut V) -> Result<Visited, Error>
         ensures { Visits yields V.step (self.old, visitor.old) result (self.new, visitor.new) };
 }
 
-/// Hands the owned events of an iterator to a visitor, as [`EventSource::visit`] does those of a
-/// source.
+/// Hands the remaining events of an iterator to a visitor, one by one, until the iterator ends or
+/// yields an error, or the visitor returns `Break`.
 ///
 /// # Errors
 ///
-/// The error that replaces an event.
+/// The error that the iterator yields. The events that precede it were handed over.
 pub fn visit_items<I: Iterator<Item = Result<OwnedEvent, Error>>, V: EventVisitor>(
     items: &mut I,
     visitor: &mut V,

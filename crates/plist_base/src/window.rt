@@ -1,4 +1,5 @@
-//! Windows of a file in two slices: a header for each window, and the bytes of all windows.
+//! Windows of a file, stored in two slices: one has a header for each window, the other the bytes
+//! of all windows.
 
 ghost use Rattle.std.specs.Prelude.{◌≡◌, ◌+◌, ◌*◌, ◌<◌, ◌≤◌, length, drop, take, IfSome, OnErr};
 ghost use Rattle.plist_base.specs.inner.Windows.{IsWindowOf, LendsFrom};
@@ -6,21 +7,21 @@ ghost use Rattle.plist_base.specs.inner.Windows.{IsWindowOf, LendsFrom};
 use std::io;
 use std::io::{Read, Seek, SeekFrom};
 
-/// A window also contains this many bytes of the next one, so anything that begins in a window and
-/// is no longer than this lies completely in it.
+/// The number of bytes that each window has beyond its size. Anything that begins within the size
+/// of a window and has at most this many bytes lies completely in the window.
 pub(crate) const OVERLAP: usize = 64;
 
-/// The greatest number of windows.
+/// The maximum number of windows.
 pub(crate) const MAX_WINDOWS: usize = 8192;
 
-/// Which bytes of the file a window contains.
+/// Describes which bytes of the file a window contains.
 #[derive(Clone, Copy)]
 pub(crate) struct Header {
-    // The offset at which the window begins, and the number of bytes that it contains.
+    // The offset in the file at which the window begins, and the number of bytes that it contains.
     start: u64,
     filled: usize,
-    // Whether the second window of the slot is to be filled next. Only the header of the slot's
-    // first window stores this.
+    // Whether the second window of a slot is filled next. A slot consists of two windows, and only
+    // the header of its first window stores this.
     turn: bool,
 }
 
@@ -31,7 +32,8 @@ pub(crate) const UNFILLED: Header = Header {
     turn: false,
 };
 
-// Returns the index of the first of the two windows in the slot for this window of the file.
+// Returns the index of the first window of the slot in which window `number` of the file may be
+// buffered.
 #[inline(always)]
 fn first_window(count: usize, number: u64) -> usize
     ensures { result + 1 < 8192 }
@@ -40,7 +42,8 @@ fn first_window(count: usize, number: u64) -> usize
     2 * ((number & last_slot) as usize % (MAX_WINDOWS / 2))
 }
 
-/// Returns the index of the window that contains this offset, or `None` if it isn't buffered.
+/// Returns the index of the window to which this offset belongs, or `None` if that window isn't
+/// buffered.
 #[inline(always)]
 pub(crate) fn window_at(headers: &[Header], size: usize, place: u64) -> Option<usize>
     requires { 0 < size }
@@ -60,7 +63,7 @@ pub(crate) fn window_at(headers: &[Header], size: usize, place: u64) -> Option<u
     }
 }
 
-// Returns the `size` bytes from this index on, or fewer if the slice ends before.
+// Returns `size` bytes from this index on, or fewer if the slice ends earlier.
 #[inline(always)]
 fn part(bytes: &[u8], first: usize, size: usize) -> &[u8]
     ensures { result.now ≡ take size (drop first bytes.now) }
@@ -69,7 +72,7 @@ fn part(bytes: &[u8], first: usize, size: usize) -> &[u8]
     &rest[..size.min(rest.len())]
 }
 
-/// Returns the buffered bytes from this offset on, often none.
+/// Returns the buffered bytes from this offset on. The slice is empty if none are buffered.
 #[inline(always)]
 pub(crate) fn buffered_in<'a>(
     headers: &[Header],
@@ -91,8 +94,8 @@ pub(crate) fn buffered_in<'a>(
     part(bytes, i * (size + OVERLAP) + from, filled - from)
 }
 
-// Returns the index of the window to fill for this offset: the one that contains it already, or
-// else the one of the slot's two windows that was filled earlier.
+// Returns the index of the window to fill for this offset: the window to which the offset already
+// belongs, or else one of the slot's two windows, which take turns.
 fn window_for(headers: &mut [Header], size: usize, place: u64) -> usize
     requires { 0 < size }
     ensures within { result < 8192 }
@@ -110,7 +113,7 @@ fn window_for(headers: &mut [Header], size: usize, place: u64) -> usize
     if turn { first + 1 } else { first }
 }
 
-// Fills a window from its start on, by one read. If that fails, the window is empty.
+// Fills a window with one read from `start` on. If the seek or the read fails, the window is empty.
 fn fill_window<R: Read + Seek>(
     header: &mut Header,
     memory: &mut [u8],
@@ -127,7 +130,7 @@ fn fill_window<R: Read + Seek>(
     Ok(())
 }
 
-/// Fills the window for this offset, if the slices have one.
+/// Fills the window to which this offset belongs. Does nothing if the slices have no window for it.
 pub(crate) fn fill_in<R: Read + Seek>(
     headers: &mut [Header],
     bytes: &mut [u8],

@@ -8,11 +8,11 @@ use std::alloc::Global;
 use std::io;
 use std::io::{Read, Seek};
 
-// The size of a short window, which begins at a multiple of it.
+// The size of a short window in bytes. The window begins at a multiple of its size.
 const SHORT_WINDOW: usize = 512;
 
-// The size of a long window, which begins at a multiple of it. One read of a file usually returns
-// as many bytes.
+// The size of a long window in bytes. The window begins at a multiple of its size. One read of a
+// file usually returns that many bytes.
 const LONG_WINDOW: usize = 8192;
 
 // The number of windows before the first doubling.
@@ -21,7 +21,8 @@ const INITIAL_WINDOWS: usize = 8;
 // Filling a window again counts as much as filling this many windows for the first time.
 const REFILL_WEIGHT: u64 = 8;
 
-// The windows of the first 512 MiB of a file: only for these is it stored whether they were filled.
+// The number of windows in the first 512 MiB of a file. Whether a window was ever filled is stored
+// only for these.
 const TRACKED_WINDOWS: usize = 65_536;
 
 // Short windows, which need no allocation.
@@ -33,17 +34,17 @@ struct ShortWindows {
 
 // Long windows on the heap; there are none at first.
 //
-// Their number doubles when refills outnumber the windows, up to 8,192 windows. Refills that are
-// rare among first fills don't count: a file that is read in order needs few windows. There are
-// always fewer than twice as many windows as the file has, since with as many as the file has none
-// replaces another.
+// Their number doubles when refills outnumber the windows, up to 8,192 windows. Each first fill
+// cancels an eighth of a refill, so that a file that is read in order keeps few windows. Unless
+// there are only eight, there are fewer than twice as many windows as the file has: once there are
+// as many, no window replaces another.
 #[derive(Drop)]
 struct LongWindows {
     headers: Vec<Header>,
     bytes: Vec<u8>,
-    // A bit for each window of the file: whether it was ever filled.
+    // Has a bit for each tracked window of the file, which is set once the window was filled.
     ever_filled: Vec<u64>,
-    // The refills so far, weighted, less the first fills.
+    // The weighted refills since the last doubling, minus the first fills. It is never negative.
     refills: u64,
 }
 
@@ -77,7 +78,8 @@ impl LongWindows {
         self.extend_to(INITIAL_WINDOWS)
     }
 
-    // Stores that a window is filled, and returns whether it was filled before.
+    // Stores that window `number` of the file is filled, and returns whether it was filled before.
+    // Returns `false` for a window that isn't tracked.
     fn mark_filled(&mut self, number: u64) -> bool
         ensures { KeepsWindows self.old self.new }
     {
@@ -123,7 +125,8 @@ impl LongWindows {
     }
 }
 
-/// The windows of a file: eight short ones, or at first eight long ones on the heap.
+/// The windows of a file: eight short ones, or long ones on the heap, of which there are eight at
+/// first.
 #[derive(Drop)]
 pub(crate) struct Windows {
     short: ShortWindows,
@@ -146,7 +149,7 @@ impl Windows {
         }
     }
 
-    /// Returns the size of a window. Shorter reads are served by windows.
+    /// Returns the size of a window in bytes. Only shorter reads are served from windows.
     pub(crate) fn size(&self) -> usize {
         match &self.long {
             Some(_) => LONG_WINDOW,
@@ -154,7 +157,7 @@ impl Windows {
         }
     }
 
-    /// Returns the buffered bytes from this offset on, often none.
+    /// Returns the buffered bytes from this offset on. The slice is empty if none are buffered.
     #[inline(always)]
     pub(crate) fn buffered(&self, place: u64) -> &[u8]
         ensures bytes { Lends self.now place result.now }

@@ -11,20 +11,23 @@ pub trait Sealed {}
 
 /// A writer takes the events of a property list, one by one.
 ///
-/// Until a writer fails, it accepts an event only if the events that it keeps (`held`) and this one
-/// can be continued to those of a property list. It rejects an event (`UnexpectedEventType`,
-/// `ExpectedEndOfEventStream`) only if they can't, and then nothing has changed. Any other error
-/// (`OutOfMemory`, `Io`, `PlistTooLarge`) is returned only for an event that can come next, and the
-/// writer has failed then: each later call returns `WriterFailed` and changes nothing. No error of
-/// a writer has an offset. The lengths of starts are hints, which decide nothing.
+/// An event can come next if the events that the writer keeps (`held`) and this one can be
+/// continued to those of a property list. Until the writer fails, it returns `UnexpectedEventType`
+/// or `ExpectedEndOfEventStream` for any other event, and is unchanged. It returns `OutOfMemory`,
+/// `Io` and `PlistTooLarge` only for an event that can come next. It has failed then: each later
+/// call returns `WriterFailed` and changes nothing. No error of a writer has an offset. The length
+/// of a start is a hint, which has no effect on what can come next.
 pub trait Writer: Sealed {
     ghost use Rattle.plist_base.specs.Events.{EndCollection, PlainEvent, StartArray, StartDictionary, event_of};
     ghost use Rattle.plist_base.specs.Writing.{Answer, AnswersByOrder, answer_of};
 
+    /// The events that the writer keeps, which decide what can come next.
     ghost held: { Self → List PlainEvent };
 
+    /// Whether an earlier call returned `OutOfMemory`, `Io` or `PlistTooLarge`.
     ghost failed: { Self → Bool };
 
+    /// Relates the writer before a call, the event, the result, and the writer after the call.
     ghost Step: { Self → PlainEvent → Answer → Self → Type 0 };
 
     /// Writes an event. Each of the other methods writes the event that it names, and fails as this
@@ -32,20 +35,23 @@ pub trait Writer: Sealed {
     ///
     /// # Errors
     ///
-    /// `UnexpectedEventType` and `ExpectedEndOfEventStream` if the event can't come next: nothing
-    /// has changed. `OutOfMemory`, `Io` and `PlistTooLarge` if it can, and `WriterFailed` after one
-    /// of these three: the writer has failed.
+    /// - `WriterFailed` if an earlier call returned `OutOfMemory`, `Io` or `PlistTooLarge`. The
+    ///   writer is unchanged.
+    /// - Otherwise `UnexpectedEventType` or `ExpectedEndOfEventStream` if the event can't come
+    ///   next. The writer is unchanged.
+    /// - Otherwise `OutOfMemory`, `Io` or `PlistTooLarge` if the event can't be stored or written.
+    ///   The writer has failed then.
     fn write(&mut self, event: Event<'_>) -> Result<(), Error>
         ensures { Step self.old (event_of event.entry) (answer_of result) self.new };
 
-    /// Begins an array.
+    /// Begins an array. The length is a hint of its number of items.
     fn write_start_array(&mut self, length: Option<u64>) -> Result<(), Error>
         ensures { Step self.old (StartArray length) (answer_of result) self.new }
     {
         self.write(Event::StartArray(length))
     }
 
-    /// Begins a dictionary.
+    /// Begins a dictionary. The length is a hint of its number of pairs.
     fn write_start_dictionary(&mut self, length: Option<u64>) -> Result<(), Error>
         ensures { Step self.old (StartDictionary length) (answer_of result) self.new }
     {
@@ -108,7 +114,7 @@ pub trait Writer: Sealed {
         self.write(Event::Uid(uid))
     }
 
-    // What a call returns and leaves while the writer hasn't failed.
+    // Until the writer fails, the result of a call depends on whether the event can come next.
     ghost law: { (before : Self) (event : PlainEvent) (answer : Answer) (after : Self)
         → Step before event answer after → failed before ≡ false
         → AnswersByOrder (held before) event answer (held after) (failed after) (after ≡ before) };

@@ -10,8 +10,7 @@ use Rattle.plist_format.specs.declared.marker.CountedKind.TheVariants as kind
 use Rattle.plist_format.specs.declared.marker.Marker.{Marker}
 use Rattle.plist_format.specs.declared.marker.Marker.TheVariants as marker
 
--- the high half of the marker of an object with a length; the low half says the length, or that it
--- follows
+-- the high half of the markers of this kind, whose low half is the length or says that it follows
 abbrev pub high_half : CountedKind → ℕ
 high_half kind.Data = 0x4
 high_half kind.Text = 0x5
@@ -36,12 +35,12 @@ byte_of (marker.Counted kind low) = high_half kind * 16 + low
 byte_of (marker.Uid width) = 0x7f + width
 byte_of (marker.Unknown byte) = byte
 
--- the kind of object and the low half if the marker has a length
+-- the kind of object and the low half, or none if objects with this marker have no length
 abbrev pub counted_in : Marker → Option (CountedKind × ℕ)
 counted_in (marker.Counted kind low) = Some (kind, low)
 counted_in other = None
 
--- what follows a marker with a length, for references of this width
+-- the layout of an object of this kind, for references of this width
 abbrev pub counted_layout : (width : ℕ) → CountedKind → Layout
 counted_layout width kind.Data = Counted 1 (λ _ content. Scalar (Data content))
 counted_layout width kind.Text = Counted 1 (λ _. text)
@@ -51,7 +50,7 @@ counted_layout width kind.Array =
 counted_layout width kind.Dictionary = Counted (2 * width)
     (λ count content. dictionary count (numbers_spelled width content))
 
--- what follows any marker
+-- the layout of an object with this marker, for references of this width
 abbrev pub layout_after_marker : (width : ℕ) → Marker → Layout
 layout_after_marker width marker.Null = Refused NullObjectUnimplemented
 layout_after_marker width (marker.Boolean value) = Fixed 0 (λ _. Scalar (Boolean value))

@@ -2,7 +2,7 @@
 //! file unfolds to.
 //!
 //! The reader and the writer are both proved against these definitions, and neither depends on the
-//! other. The only code is that of the markers, which one reads and the other writes.
+//! other. The only code is [`Marker`], which the reader decodes and the writer encodes.
 #![tactic(auto)]
 
 mod marker;

@@ -1,4 +1,4 @@
-//! The marker of an object: its first byte, which says what follows.
+//! The marker of an object, which is its first byte and determines what follows.
 
 ghost use Rattle.std.specs.Prelude.{◌≡◌, ℕ, ◌%◌, ◌<◌, ◌≤◌, IfNone, IfSome};
 ghost use Rattle.plist_format.specs.Marker.{byte_of, counted_in, high_half, layout_after_marker};
@@ -7,7 +7,7 @@ ghost use Rattle.plist_format.specs.Object.{layout_of};
 use std::marker::Model;
 
 /// The low half of the marker of an object that has a length: the length itself if it is below 15,
-/// or a mark that the length follows.
+/// or 15, which means that the length follows the marker.
 #[derive(Clone, Copy)]
 pub struct LowHalf {
     value: u8,
@@ -34,7 +34,7 @@ impl LowHalf {
         LowHalf { value: byte % 16 }
     }
 
-    /// Returns the low half for a length, or `None` if the length has to follow.
+    /// Returns the low half for a length, or `None` if the length has to follow the marker.
     #[inline(always)]
     pub fn of_length(length: u64) -> Option<LowHalf>
         ensures short { IfSome result (λ low. (low ≡ length) × (length < 15)) }
@@ -49,7 +49,7 @@ impl LowHalf {
         }
     }
 
-    /// Returns the low half that says that the length follows.
+    /// Returns the low half of a marker that the length follows.
     #[inline(always)]
     pub fn follows() -> LowHalf
         ensures { result ≡ 15 }
@@ -57,7 +57,7 @@ impl LowHalf {
         LowHalf { value: 15 }
     }
 
-    /// Returns the length, or `None` if it follows.
+    /// Returns the length, or `None` if it follows the marker.
     #[inline(always)]
     pub fn length(self) -> Option<u64>
         ensures short { IfSome result (λ length. (length ≡ self) × (self < 15)) }
@@ -90,7 +90,7 @@ impl Model for UidWidth {
 }
 
 impl UidWidth {
-    /// Creates a width of this many bytes.
+    /// Creates a width of this many bytes, which must be from 1 to 8.
     #[inline(always)]
     pub fn new(bytes: usize) -> UidWidth
         requires { (1 ≤ bytes) × (bytes ≤ 8) }
@@ -109,7 +109,7 @@ impl UidWidth {
     }
 }
 
-/// The kinds of objects that have a length, in the marker or after it.
+/// The kind of an object that has a length, in its marker or after it.
 #[derive(Clone, Copy)]
 pub enum CountedKind {
     /// Data.
@@ -125,7 +125,7 @@ pub enum CountedKind {
 }
 
 impl CountedKind {
-    // Returns the high half of its marker.
+    // Returns the high half of the markers of this kind.
     #[inline(always)]
     fn high_half(self) -> u8
         ensures value { result ≡ high_half self }
@@ -144,7 +144,7 @@ impl CountedKind {
 /// The marker of an object. Only this type depends on the bytes of markers.
 #[derive(Clone, Copy)]
 pub enum Marker {
-    /// A null, which no property list contains.
+    /// A null, which isn't allowed in a property list.
     Null,
     /// A Boolean.
     Boolean(bool),
@@ -156,9 +156,9 @@ pub enum Marker {
     Integer2,
     /// An unsigned integer of four bytes.
     Integer4,
-    /// An integer of eight bytes.
+    /// A signed integer of eight bytes.
     Integer8,
-    /// An integer of sixteen bytes.
+    /// A signed integer of sixteen bytes.
     Integer16,
     /// A real of four bytes.
     Real4,
@@ -175,7 +175,7 @@ pub enum Marker {
 }
 
 impl Marker {
-    /// Returns the marker of this byte.
+    /// Decodes a marker from its byte. A byte that isn't a marker becomes [`Marker::Unknown`].
     #[inline(always)]
     pub fn decode(byte: u8) -> Marker
         ensures byte { byte_of result ≡ byte }
@@ -204,7 +204,8 @@ impl Marker {
         }
     }
 
-    /// Returns the kind of object and the low half if the marker has a length.
+    /// Returns the kind of object and the low half, or `None` if objects with this marker have no
+    /// length.
     #[inline(always)]
     pub fn counted(self) -> Option<(CountedKind, LowHalf)>
         ensures { result ≡ counted_in self }

@@ -1,4 +1,4 @@
--- What calls that visit all pairs do.
+-- The effects of calls that insert or keep many pairs.
 use Rattle.std.specs.Prelude.{◌≡◌, ℕ, ◌++◌, ◌∷◌, [], Bool, List, Option, String, Result, Ok, Err, map, string_bytes, bytes_eq}
 use Rattle.std.specs.Borrow.{Bor}
 use Rattle.std.specs.Iterator.{Count, Drains, IsFiniteIterable, Yields}
@@ -10,6 +10,7 @@ use Rattle.plist_pairs.specs.Keys.{IsAbsent}
 use Rattle.plist_pairs.specs.Shown.{shown_owned_pair}
 use Rattle.plist_base.specs.declared.error.Error.{Error}
 
+-- pairs as contracts see them, with each key as its bytes
 abbrev pub Rows : Type 0 → Type 0
 Rows V = List (List ℕ × V)
 
@@ -21,15 +22,14 @@ module _ {F V : Type 0} (g : Shared F (Bor (String Global) × (Bor V × Unit {0}
     pub shows : (string_bytes key.now ≡ pair.0) × (value.now ≡ pair.1)
     pub says : g.post f (key, (value, tt)) answer
 
-  -- the pairs for which the closure returned `true`, in their order
+  -- the new pairs are those for which the closure returned `true`, in their order
   abbrev pub Retains : Rows V → Rows V → Type 0
   Retains old new =
       (answers : List Bool) × AllZip AnswersAtPair old answers
       × (new ≡ items_where_true answers old)
 
 module _ {I V : Type 0} (next_gives : I → Option (String Global × V) → I → Type 0) (iter : I) where
-  -- The pairs of the iterator are inserted in turn: all of them, or after an error all that were
-  -- taken except the last one, whose key isn't among the pairs.
+  -- all pairs of the iterator are inserted, or after an error those before a pair with a new key
   abbrev pub ExtendsBy : Rows V → Result (Unit {0}) Error → Rows V → Type 0
   ExtendsBy old (Ok _) new =
       (taken : List (String Global × V)) × Drains next_gives iter taken
@@ -40,23 +40,24 @@ module _ {I V : Type 0} (next_gives : I → Option (String Global × V) → I �
       × (new ≡ insert_all bytes_eq old (map shown_owned_pair taken))
       × IsAbsent (string_bytes refused.0) new
 
-  -- all pairs of the iterator, inserted in turn
+  -- these are all pairs of the iterator, inserted in turn
   abbrev pub IsMadeOf : Rows V → Type 0
   IsMadeOf made =
       (taken : List (String Global × V)) × Drains next_gives iter taken
       × (made ≡ insert_all bytes_eq [] (map shown_owned_pair taken))
 
--- for a value that becomes an iterator: the pairs are those of some iterator that it becomes
 module _ {I J V : Type 0} (becomes : J → I → Type 0)
     (next_gives : I → Option (String Global × V) → I → Type 0) (made : J) where
+  -- `ExtendsBy` is true of an iterator that the value becomes
   abbrev pub ExtendsByIterable : Rows V → Result (Unit {0}) Error → Rows V → Type 0
   ExtendsByIterable old answer new =
       (iter : I) × becomes made iter × ExtendsBy next_gives iter old answer new
 
+  -- `IsMadeOf` is true of an iterator that the value becomes
   abbrev pub IsMadeOfIterable : Rows V → Type 0
   IsMadeOfIterable pairs = (iter : I) × becomes made iter × IsMadeOf next_gives iter pairs
 
--- each iterator that the value becomes can be called, and ends
+-- each iterator that the value becomes can be called, and ends after finitely many items
 abbrev pub IterableEnds : {J I : Type 0} → (becomes : J → I → Type 0) → (can_next : I → Type 0)
     → (remaining : I → Count) → J → Type 0
 IterableEnds becomes can_next remaining made = IsFiniteIterable becomes can_next remaining made

@@ -5,7 +5,7 @@ pub use Rattle.indexmap.specs.IndexMap.{set_value_at}
 use denote.RattleType.{RattleType}
 use Rattle.plist_pairs.specs.contracts.dictionary.Pairs.{the_row}
 
--- when the reference ends, its last value is that at the index
+-- the last value of the reference becomes the value at the index
 abbrev pub LendsIndex : (V : RattleType) → MutBor (List (List ℕ × V.Denot)) → ℕ → MutBor V.Denot
     → Fml
 LendsIndex V pairs index value = Lends (the_row V) V pairs value (set_value_at pairs.now index)

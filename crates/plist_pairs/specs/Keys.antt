@@ -8,10 +8,11 @@ module _ {V : Type 0} where
   abbrev pub IsAbsent : (key : List ℕ) → List (List ℕ × V) → Type 0
   IsAbsent key pairs = is_some (lookup (bytes_eq key) pairs) ≡ false
 
-  -- the pairs after a key's value is set, and after the key is removed
+  -- the new pairs are the old ones with this value at this key
   abbrev pub IsSetAt : (old : List (List ℕ × V)) → List ℕ → V → (new : List (List ℕ × V)) → Type 0
   IsSetAt old key value new = new ≡ insert_entry bytes_eq old key value
 
+  -- the new pairs are the old ones without this key, to whose index the last pair moves
   abbrev pub IsTakenAt : (old : List (List ℕ × V)) → List ℕ → (new : List (List ℕ × V)) → Type 0
   IsTakenAt old key new = new ≡ swap_remove_entry (bytes_eq key) old
 
@@ -20,6 +21,6 @@ module _ {V : Type 0} (key : List ℕ) (pairs : List (List ℕ × V)) where
   abbrev pub HasNone : Type 0
   HasNone = lookup (bytes_eq key) pairs ≡ None
 
-  -- the key's index
+  -- this is the key's index
   abbrev pub IsIndexOf : ℕ → Type 0
   IsIndexOf index = (index < length pairs) × (Some index ≡ position (bytes_eq key) (keys_of pairs))

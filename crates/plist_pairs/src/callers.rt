@@ -1,5 +1,4 @@
-//! Proved callers whose proofs cite lemmas of this crate: a list's pairs are inserted, and only
-//! some pairs are kept.
+//! Example callers of [`Pairs`], whose proofs cite lemmas of this crate.
 
 ghost use Rattle.std.specs.Prelude.{◌≡◌, [], IfOk, OnOk, filter, map, string_bytes};
 ghost use Rattle.std.specs.Str.{bytes_eq};
@@ -11,21 +10,29 @@ use crate::dictionary::Discard;
 use plist_base::Error;
 use std::alloc::Global;
 
-/// Inserts the pairs of a list, in their order. The only error is `OutOfMemory`.
+/// Inserts the pairs of a list, in their order.
+///
+/// # Errors
+///
+/// `OutOfMemory`, without an offset. The pairs are as [`Pairs::extend`] leaves them after an error.
 pub fn insert_each<V: Discard>(to: &mut Pairs<V>, all: Vec<(String, V)>) -> Result<(), Error>
     ensures { OnOk result (to.new ≡ insert_all bytes_eq to.old (map shown_owned_pair all.items)) }
 {
     to.extend(all)
 }
 
-/// Makes pairs from a list, inserted in their order. The only error is `OutOfMemory`.
+/// Makes a `Pairs` from a list, whose pairs are inserted in their order.
+///
+/// # Errors
+///
+/// `OutOfMemory`, without an offset: all pairs are dropped.
 pub fn of_list<V: Discard>(alloc: Global, all: Vec<(String, V)>) -> Result<Pairs<V>, Error>
     ensures { IfOk result (λ made. made ≡ insert_all bytes_eq [] (map shown_owned_pair all.items)) }
 {
     Pairs::from_pairs(alloc, all)
 }
 
-/// Keeps only the pair with this key.
+/// Drops all pairs except the one with this key.
 pub fn keep_only<V: Discard>(pairs: &mut Pairs<V>, name: &str)
     ensures { pairs.new ≡ filter (λ pair. bytes_eq pair.0 name.now) pairs.old }
 {

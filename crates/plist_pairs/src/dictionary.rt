@@ -29,7 +29,7 @@ use std::marker::Model;
 /// see the list of the pairs, with each key as its bytes.
 #[derive(Drop)]
 pub struct Pairs<V> {
-    // `None` before the first insert, so that an empty `Pairs` is small.
+    // It is `None` before the first insert, so that an empty `Pairs` is small.
     store: Option<Box<Store<V>>>,
     alloc: Global,
 }
@@ -85,7 +85,7 @@ impl<V> Pairs<V> {
         Pairs { store: None, alloc }
     }
 
-    /// Removes all pairs, and keeps the memory for later ones.
+    /// Removes all pairs. The capacity stays allocated for later inserts.
     pub fn clear(&mut self)
     where
         V: Discard,
@@ -97,7 +97,7 @@ impl<V> Pairs<V> {
         }
     }
 
-    /// Returns the value of the key, or `None` if the key isn't there.
+    /// Returns a reference to the key's value, or `None` if the key isn't present.
     pub fn get(&self, key: &str) -> Option<&V>
         ensures value { option_copied result ≡ lookup (bytes_eq key.now) self.now }
         ensures member { IfSome result (λ value. IsAmong (values_of self.now) value.now) }
@@ -105,7 +105,7 @@ impl<V> Pairs<V> {
         self.store.as_ref()?.get(key)
     }
 
-    /// Returns whether the key is there.
+    /// Returns whether the key is present.
     pub fn contains_key(&self, key: &str) -> bool
         ensures { result ≡ is_some (lookup (bytes_eq key.now) self.now) }
     {
@@ -115,7 +115,7 @@ impl<V> Pairs<V> {
         }
     }
 
-    /// Returns a mutable reference to the key's value, or `None` if the key isn't there.
+    /// Returns a mutable reference to the key's value, or `None` if the key isn't present.
     pub fn get_mut(&mut self, key: &str) -> Option<&mut V>
         ensures value { option_copied_mut result ≡ lookup (bytes_eq key.now) self.old }
         ensures member { IfSome result (λ lent. IsAmong (values_of self.old) lent.now) }
@@ -129,12 +129,12 @@ impl<V> Pairs<V> {
 
     /// Sets the key's value, and returns the value that it had.
     ///
-    /// A key that is there keeps its index, and a new one is last.
+    /// A key that is present keeps its index, and the pair of a new key is last.
     ///
     /// # Errors
     ///
-    /// If memory runs out, which is only possible for a new key, the pairs are unchanged, and the
-    /// key and the value are returned.
+    /// If an allocation fails, which is only possible for a new key, the pairs are unchanged, and
+    /// the error is the key and the value.
     pub fn insert(&mut self, key: String, value: V) -> Result<Option<V>, (String, V)>
         // Result.
         ensures old { IfOk result (λ old. old ≡ lookup (bytes_eq (string_bytes key)) self.old) }
@@ -152,7 +152,7 @@ impl<V> Pairs<V> {
         Ok(None)
     }
 
-    /// Removes the key and returns its value, or returns `None` if the key isn't there.
+    /// Removes the key and returns its value, or returns `None` if the key isn't present.
     ///
     /// The last pair moves to the index of the removed one.
     pub fn remove(&mut self, key: &str) -> Option<V>

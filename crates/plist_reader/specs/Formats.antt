@@ -5,11 +5,11 @@ use Rattle.plist_format.specs.Container.{magic}
 use Rattle.plist_reader.specs.declared.format.Format.{Format}
 use Rattle.plist_reader.specs.declared.format.Format.TheVariants.{Binary, Xml, Ascii}
 
--- the bytes that are read from the start on; no input is longer than 2^64 - 1 bytes
+-- the bytes that can be read, which are at most the first 2^64 - 1
 abbrev pub input_front : List ℕ → List ℕ
 input_front bytes = take (2 ^ 64 - 1) bytes
 
--- tab, LF, form feed, CR, space
+-- is the byte a tab, LF, form feed, CR or space?
 abbrev pub is_white : ℕ → Bool
 is_white c = list_any (λ d. c == d) (9 ∷ 10 ∷ 12 ∷ 13 ∷ 32 ∷ [])
 
@@ -17,6 +17,7 @@ is_white c = list_any (λ d. c == d) (9 ∷ 10 ∷ 12 ∷ 13 ∷ 32 ∷ [])
 abbrev pub byte_order_mark : List ℕ
 byte_order_mark = 0xEF ∷ 0xBB ∷ 0xBF ∷ []
 
+-- the length of the byte order mark with which the bytes begin, or 0
 abbrev pub byte_order_mark_length : List ℕ → ℕ
 byte_order_mark_length bytes = cond (starts_with nat_eq bytes byte_order_mark) 3 0
 
@@ -24,16 +25,17 @@ byte_order_mark_length bytes = cond (starts_with nat_eq bytes byte_order_mark) 3
 abbrev pub past_white : (place : ℕ) → List ℕ → ℕ
 past_white place bytes = place + prefix_len is_white (drop place bytes)
 
--- that offset, if the byte there is `<`
+-- the offset of the first byte after white space, if that byte is `<`
 abbrev pub xml_place : (place : ℕ) → List ℕ → Option ℕ
 xml_place place bytes =
     cond (get_or bytes (past_white place bytes) 0 == 60) (Some (past_white place bytes)) None
 
+-- XML if there is such an offset, and else ASCII
 abbrev pub text_format : Option ℕ → Format
 text_format None = Ascii
 text_format (Some place) = Xml place
 
--- binary by the first eight bytes, XML by the first byte after white space, and else ASCII
+-- the format: binary by the first eight bytes, XML by the first after white space, else ASCII
 unfoldable pub format_of : List ℕ → Format
 format_of bytes =
     cond (starts_with nat_eq bytes magic) Binary

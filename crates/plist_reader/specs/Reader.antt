@@ -35,45 +35,48 @@ use Rattle.plist_reader.specs.Formats.{input_front, format_of}
 use Rattle.plist_reader.specs.Streams as stream
 use Rattle.plist_reader.specs.Streams.{stream_bytes_left}
 
--- the items of some bytes in this format; ASCII is read in this dialect
+-- the items of some bytes in this format, and in this dialect if it is ASCII
 abbrev pub items_in_format : Dialect → Format → List ℕ → List Item
 items_in_format dialect format.Binary bytes = items_of_file bytes
 items_in_format dialect (format.Xml place) bytes = Err (fault_at XmlUnsupported place) ∷ []
 items_in_format dialect format.Ascii bytes =
     items_of_ascii (ends_bare dialect) (input_front bytes) 0
 
--- the items of some bytes in the format that their first bytes indicate
+-- the items of some bytes in the indicated format, and in this dialect if it is ASCII
 abbrev pub items_of_dialect : Dialect → List ℕ → List Item
 items_of_dialect dialect bytes = items_in_format dialect (format_of bytes) bytes
 
--- the items in a format, and those in the indicated format, in the lax dialect
+-- the items of some bytes in this format, and in the lax dialect if it is ASCII
 abbrev pub items_by : Format → List ℕ → List Item
 items_by shown bytes = items_in_format Lax shown bytes
 
+-- the items of some bytes in the indicated format, and in the lax dialect if it is ASCII
 abbrev pub items_of_input : List ℕ → List Item
 items_of_input bytes = items_by (format_of bytes) bytes
 
--- the items under these limits
+-- the items of an input under these limits
 abbrev pub limited_input : Limits → List ℕ → List Item
 limited_input limits bytes = limited_items limits (items_of_input bytes)
 
--- the items under optional limits, of an input and of a binary file
+-- the items of an input in this dialect under optional limits
 abbrev pub input_within : Dialect → Option Limits → List ℕ → List Item
 input_within dialect None bytes = items_of_dialect dialect bytes
 input_within dialect (Some limits) bytes = limited_items limits (items_of_dialect dialect bytes)
 
+-- the items of a binary file under optional limits
 abbrev pub file_within : Option Limits → List ℕ → List Item
 file_within None bytes = items_of_file bytes
 file_within (Some limits) bytes = limited_items limits (items_of_file bytes)
 
--- the reader of a binary source, which counts nothing, and that of a source in ASCII
+-- the type of the reader of a binary source, which doesn't count what it decodes
 abbrev pub BinaryReaderOf : (R : Type 0) → Ghosts R → Type 0
 BinaryReaderOf R g = BinaryReader R Uncounted g ghosts
 
+-- the type of the reader of a source in ASCII
 abbrev pub AsciiReaderOf : Type 0 → Type 0
 AsciiReaderOf R = AsciiReader (BufferedSource R)
 
--- the items that a reader of ASCII hasn't yielded yet
+-- the items that a reader of ASCII hasn't yielded yet, if the source's bytes are known
 abbrev pub ascii_items_to_come : {R : Type 0} (known : R → Option (List ℕ)) → AsciiReaderOf R
     → Option (List Item)
 ascii_items_to_come known reader =
@@ -81,8 +84,7 @@ ascii_items_to_come known reader =
     (ascii.untaken_bytes (stream_bytes_left known) reader)
 
 module _ {R : Type 0} {g : Ghosts R} (known : R → Option (List ℕ)) where
-  -- the items that remain, if the source's bytes are known: before the choice those of the source,
-  -- and then those of the chosen reader
+  -- the remaining items, of the source or of the chosen reader, if the source's bytes are known
   abbrev pub state_items : State R g → Option (List Item)
   state_items (state.Unread source limits dialect) =
       option_map (input_within dialect limits) (known source)
@@ -94,10 +96,11 @@ module _ {R : Type 0} {g : Ghosts R} (known : R → Option (List ℕ)) where
   state_items (state.Refused source) = Some []
   state_items state.Moved = Some []
 
+  -- the items that a reader hasn't yielded yet, if the source's bytes are known
   abbrev pub reader_items : Reader R g → Option (List Item)
   reader_items reader = state_items reader.state
 
--- the source
+-- the source in a state, which has none only while the first item is read
 abbrev pub source_in : {R : Type 0} {g : Ghosts R} → State R g → Option R
 source_in (state.Unread source limits dialect) = Some source
 source_in (state.Binary reader) = Some (binary.binary_source reader)
@@ -107,22 +110,20 @@ source_in (state.Limited reader) = Some (stream.stream_source (ascii.device_of
 source_in (state.Refused source) = Some source
 source_in state.Moved = None
 
--- the source of a reader
+-- the source of a reader, which has none only while the first item is read
 abbrev pub reader_source : {R : Type 0} {g : Ghosts R} → Reader R g → Option R
 reader_source reader = source_in reader.state
 
--- `next` hasn't been called: the reader has all items of this source left, under these limits and,
--- if it is in ASCII, in this dialect
+-- `next` hasn't been called, and the reader has this source, these limits and this dialect
 abbrev pub IsUnread : {R : Type 0} {g : Ghosts R} → Reader R g → (source : R) → Option Limits
     → Dialect → Type 0
 IsUnread reader source limits dialect = reader.state ≡ state.Unread source limits dialect
 
--- `next` hasn't been called: the reader has all items of this source left, without limits and in
--- the lax dialect
+-- `next` hasn't been called, and the reader has this source, no limits and the lax dialect
 abbrev pub IsNewReader : {R : Type 0} {g : Ghosts R} → Reader R g → (source : R) → Type 0
 IsNewReader reader source = IsUnread reader source None Lax
 
--- the reader has ended
+-- a reader in this state has ended
 abbrev pub HasEndedState : {R : Type 0} {g : Ghosts R} → State R g → Type 0
 HasEndedState (state.Unread source limits dialect) = ⊥
 HasEndedState (state.Binary reader) = binary.HasEndedBinary reader
@@ -131,7 +132,7 @@ HasEndedState (state.Limited reader) = HasEndedLimited reader
 HasEndedState (state.Refused source) = ⊤
 HasEndedState state.Moved = ⊤
 
--- does the reader have limits?
+-- does a reader in this state have limits?
 abbrev pub is_limited_in : {R : Type 0} {g : Ghosts R} → State R g → Bool
 is_limited_in (state.Unread source limits dialect) = is_some limits
 is_limited_in (state.Binary reader) = binary.has_limits reader
@@ -140,12 +141,11 @@ is_limited_in (state.Limited reader) = true
 is_limited_in (state.Refused source) = false
 is_limited_in state.Moved = false
 
+-- does the reader have limits?
 abbrev pub reader_is_limited : {R : Type 0} {g : Ghosts R} → Reader R g → Bool
 reader_is_limited reader = is_limited_in reader.state
 
--- The item is the first of those that remained, and the others remain. There is no item only if
--- none remained. After `Io` and `OutOfMemory` none remains, and `OutOfMemory` is yielded only if
--- one remained.
+-- the first remaining item, if there is one, is yielded, or an `Io` or `OutOfMemory` that is last
 abbrev pub GivesItem : (before : List Item) → Option (Result Event Error) → (after : List Item)
     → Type 0
 GivesItem before item after =
@@ -155,7 +155,7 @@ GivesItem before item after =
     × SomeRemain before)
     (before ≡ Err (fault_of error) ∷ after)))
 
--- the item is the first of those that remained, if these are known
+-- `GivesItem` is true of the remaining items if these are known
 abbrev pub GivesIfKnown : (before : Option (List Item)) → Option (Result Event Error)
     → (after : Option (List Item)) → Type 0
 GivesIfKnown before item after =
@@ -170,65 +170,67 @@ MatchText InvalidOctalString text other = text
 MatchText InvalidUtf16String text other = text
 MatchText kind text other = other
 
--- after `None`, and after a fault that no ASCII can have, the reader has ended
+-- after `None`, and after a fault that ASCII can't have, the reader has ended
 abbrev pub EndsAfter : Option (Result Event Error) → Type 0 → Type 0
 EndsAfter item ended =
     MatchOption item ended (λ answer. MatchResult answer (λ _. ⊤)
     (λ error. MatchText (kind_of (error_kind_of error)) ⊤ ended))
 
--- a fault that one of the readers can yield or, under limits, that of a limit
+-- one of the readers can yield a fault of this kind, that of a limit only under limits
 abbrev pub IsReaderFault : (limited : Bool) → FaultKind → Type 0
 IsReaderFault limited XmlUnsupported = ⊤
 IsReaderFault limited kind = MatchText kind ⊤ (MatchGiven kind ⊤ ⊤ ⊤ (limited ≡ true))
 
+-- the fault of the item, if it has one, is one that a reader can yield
 abbrev pub IsReaderItem : (limited : Bool) → Option (Result Event Error) → Type 0
 IsReaderItem limited item = MatchOption item ⊤ (λ answer. MatchResult answer (λ _. ⊤)
     (λ error. IsReaderFault limited (kind_of (error_kind_of error))))
 
--- the source is still there, and its count of failures rose if the item is `Io`, and else is
--- unchanged
+-- the source is kept, and its count of failures rises if the item is `Io`, and else is unchanged
 abbrev pub HoldsSource : {R : Type 0} (failed : R → ℕ) (old : Option R)
     → Option (Result Event Error) → (new : Option R) → Type 0
 HoldsSource failed old item new =
     MatchOption old ⊤ (λ source. MatchOption new ⊥
     (λ kept. ItemCountsIo item (failed source) (failed kept)))
 
--- the fault of a source that isn't read, or that couldn't be
+-- the fault is that the source is XML, or that a read failed
 abbrev pub IsRefusedKind : FaultKind → Type 0
 IsRefusedKind XmlUnsupported = ⊤
 IsRefusedKind Io = ⊤
 IsRefusedKind kind = ⊥
 
+-- the item is such a fault
 abbrev pub IsSourceRefusal : Option (Result Event Error) → Type 0
 IsSourceRefusal item = MatchOption item ⊥ (λ answer. MatchResult answer (λ _. ⊥)
     (λ error. IsRefusedKind (kind_of (error_kind_of error))))
 
--- a fact for `OutOfMemory` and `LimitReached`, which have no offset, and one for every other fault
--- of a reader
+-- a fact for `OutOfMemory` and `LimitReached`, and one for every other fault of a reader
 abbrev pub MatchOffset : FaultKind → (without placed : Type 0) → Type 0
 MatchOffset OutOfMemory without placed = without
 MatchOffset (LimitReached limit) without placed = without
 MatchOffset kind without placed = placed
 
+-- the fault has an offset, unless it is `OutOfMemory` or `LimitReached`, which have none
 abbrev pub FaultHasOffset : Fault → Type 0
 FaultHasOffset fault = MatchOffset fault.kind (fault.offset ≡ None) (HasOffset fault.offset)
 
--- an item's fault has an offset, unless it is `OutOfMemory` or `LimitReached`
+-- `FaultHasOffset` is true of the item's fault, if it has one
 abbrev pub ItemHasOffset : Option (Result Event Error) → Type 0
 ItemHasOffset item = MatchOption item ⊤ (λ answer. IfErr answer (λ error. FaultHasOffset (fault_of error)))
 
--- one call of the chosen reader
+-- one call of the binary reader's `next`
 abbrev pub BinaryGives : {R : Type 0} {g : Ghosts R} (known : R → Option (List ℕ)) (failed : R → ℕ)
     → BinaryReaderOf R g → Option (Result Event Error) → BinaryReaderOf R g → Type 0
 BinaryGives known failed = binary.GivesBinary known failed ⊥ (λ _. 0)
 
+-- one call of the ASCII reader's `next`
 abbrev pub AsciiGives : {R : Type 0} (known : R → Option (List ℕ)) (failed : R → ℕ)
     → AsciiReaderOf R → Option (Result Event Error) → AsciiReaderOf R → Type 0
 AsciiGives known failed =
     ascii.GivesAscii (stream_bytes_left known) (λ bytes. Some (failed (stream.stream_source bytes)))
 
 module _ {R : Type 0} {g : Ghosts R} (known : R → Option (List ℕ)) (failed : R → ℕ) where
-  -- the first item is that of a reader that has yielded none, or the source isn't read
+  -- the first item is that of a new reader, or a fault because no reader was chosen
   abbrev pub BeginsInside : Option Limits → Dialect → Option (Result Event Error) → State R g → Type 0
   BeginsInside limits dialect item (state.Binary new) = (fresh : BinaryReaderOf R g)
       × (binary.is_new fresh ≡ true) × (binary.has_limits fresh ≡ is_some limits)
@@ -256,7 +258,7 @@ module _ {R : Type 0} {g : Ghosts R} (known : R → Option (List ℕ)) (failed :
       × (new ≡ state.Limited reader) × GivesLimited (AsciiGives known failed) old item reader
   GivesInside old item new = (item ≡ None) × (new ≡ old)
 
--- one call of `next`
+-- one call of `next`, as it changes the state
 pub record StateGives {R : Type 0} {g : Ghosts R} (known : R → Option (List ℕ)) (failed : R → ℕ)
     (old : State R g) (item : Option (Result Event Error)) (new : State R g) : Type 0 where
   pub items : GivesIfKnown (state_items known old) item (state_items known new)
@@ -268,6 +270,7 @@ pub record StateGives {R : Type 0} {g : Ghosts R} (known : R → Option (List �
   pub limits : is_limited_in old ≡ false → is_limited_in new ≡ false
   pub inside : GivesInside known failed old item new
 
+-- one call of `next`, as it changes the reader
 abbrev pub Gives : {R : Type 0} {g : Ghosts R} (known : R → Option (List ℕ)) (failed : R → ℕ)
     (old : Reader R g) (item : Option (Result Event Error)) (new : Reader R g) → Type 0
 Gives known failed old item new = StateGives known failed old.state item new.state
@@ -285,14 +288,14 @@ steps_in_state (state.Limited reader) = ascii.ascii_steps (iterator_of reader)
 steps_in_state (state.Refused source) = 0
 steps_in_state state.Moved = 0
 
--- if `next` hasn't been called, this is the first item, and the state after it
+-- if `next` hasn't been called, this call yields the first item, and changes the state
 abbrev pub GivesFirst : {R : Type 0} {g : Ghosts R} (known : R → Option (List ℕ)) (failed : R → ℕ)
     → State R g → Option (Result Event Error) → State R g → Type 0
 GivesFirst {R} known failed old item new = (source : R) (limits : Option Limits) (dialect : Dialect)
     → old ≡ state.Unread source limits dialect
     → StateGives known failed (state.Unread source limits dialect) item new
 
--- if `next` hasn't been called and there is an item, fewer steps are left
+-- if `next` hasn't been called and there is an item, the bound is lower after it
 abbrev pub FirstAdvances : {R A : Type 0} {g : Ghosts R} → State R g → Option A → State R g → Type 0
 FirstAdvances {R} old item new = (source : R) (limits : Option Limits) (dialect : Dialect)
     → old ≡ state.Unread source limits dialect → IfSome item (λ _. steps_in_state new < all_steps)

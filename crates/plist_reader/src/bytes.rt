@@ -1,4 +1,4 @@
-//! A source's bytes, which are taken one after another from the first one on.
+//! Reads the bytes of a source one after another, from the first one on.
 
 ghost use Rattle.std.specs.Prelude.{◌≡◌, ◌≤◌, Some, slice_get};
 ghost use Rattle.plist_base.specs.Sources.{CountsFailure};
@@ -8,7 +8,11 @@ use plist_ascii::ByteReader;
 use plist_base::Source;
 use std::io;
 
-/// Reads the byte at an offset, or returns `None` after the end.
+/// Reads the byte at an offset, or returns `None` if the source ends before it.
+///
+/// # Errors
+///
+/// The I/O error of the read. Known bytes don't change.
 pub fn read_byte<S: Source>(source: &mut S, place: u64) -> Result<Option<u8>, io::Error>
     ensures byte { DecodesBy result (S.known source.old) (λ bytes. slice_get bytes place) }
     ensures unchanged { S.known source.new ≡ S.known source.old }
@@ -25,15 +29,17 @@ pub fn read_byte<S: Source>(source: &mut S, place: u64) -> Result<Option<u8>, io
 // The number of bytes that one read of the source requests.
 const WINDOW: usize = 512;
 
-/// A source that is read from its first byte on, at most 2^64 - 1 bytes. It counts its failures.
+/// Reads a source from its first byte on, at most 2^64 - 1 bytes.
 ///
-/// It reads only if a byte is requested and none is buffered, and buffers what the read returned.
+/// It calls the source only if a byte is requested and none is buffered, and buffers all bytes that
+/// the call returned. The failures that it counts are those of the source.
 #[derive(Drop)]
 pub struct BufferedSource<R> {
     source: R,
-    // The number of bytes that have been read.
+    // The number of bytes that were read from the source, which is the offset of the next read.
     place: u64,
-    // The bytes that the last read returned, up to `end`. Those before `from` have been taken.
+    // The bytes up to `end` are those that the last read returned. The bytes up to `from` have been
+    // consumed.
     window: [u8; WINDOW],
     from: usize,
     end: usize,
@@ -60,7 +66,7 @@ impl<R: Source> BufferedSource<R> {
         }
     }
 
-    // Reads more if no byte is buffered.
+    // Reads from the source if no byte is buffered. None is buffered afterwards only at the end.
     fn fill(&mut self) -> Result<(), io::Error>
         ensures bytes { OnOk result (stream_bytes_left R.known self.new
             ≡ stream_bytes_left R.known self.old) }

@@ -27,7 +27,7 @@ pub enum Format {
     Ascii,
 }
 
-// Returns whether the bytes begin with these.
+// Returns whether the source begins with these bytes.
 fn begins_with<S: Source, const N: usize>(source: &mut S, front: &[u8; N]) -> Result<bool, Error>
     // Result.
     ensures value { DecodesBy result (S.known source.old) (λ b. starts_with nat_eq b front.now) }
@@ -65,7 +65,7 @@ fn byte_order_mark_length<S: Source>(source: &mut S) -> Result<u64, Error>
     Ok(if marked { 3 } else { 0 })
 }
 
-// Reads the byte at an offset, or returns `None` after the end.
+// Reads the byte at an offset, or returns `None` if the source ends before it.
 fn byte_at<S: Source>(source: &mut S, place: u64) -> Result<Option<u8>, Error>
     ensures byte { DecodesBy result (S.known source.old) (λ bytes. slice_get bytes place) }
     ensures refused { OnlyFault result (fault_at Io place) }
@@ -78,14 +78,14 @@ fn byte_at<S: Source>(source: &mut S, place: u64) -> Result<Option<u8>, Error>
     }
 }
 
-// Returns whether it is white space.
+// Returns whether the byte is white space.
 fn is_white(byte: u8) -> bool
     ensures { result ≡ is_white byte }
 {
     matches!(byte, b'\t' | b'\n' | 0x0c | b'\r' | b' ')
 }
 
-// Returns the offset of the first byte after white space if that byte is `<`.
+// Returns the offset of the first byte from `start` on that isn't white space, if it is `<`.
 fn xml_place<S: Source>(source: &mut S, start: u64) -> Result<Option<u64>, Error>
     // Result.
     ensures value { DecodesBy result (S.known source.old) (λ b. xml_place start (input_front b)) }

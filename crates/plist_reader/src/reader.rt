@@ -26,7 +26,7 @@ pub(crate) enum State<R: Source> {
     Ascii(AsciiReader<BufferedSource<R>>),
     // A reader of ASCII under limits.
     Limited(LimitedItems<AsciiReader<BufferedSource<R>>>),
-    // The source is in a format that isn't supported, or a read failed before the format was known.
+    // The source is XML, or a read failed before the format was known.
     Refused(R),
     // The state while the first item is read.
     Moved,
@@ -111,19 +111,20 @@ fn begin<R: Source>(
 
 /// Reads a property list of either format as events, from its first byte on.
 ///
-/// If the first eight bytes are `bplist00`, it acts as a [`BinaryReader`]. Otherwise it acts as an
-/// [`AsciiReader`], also for empty and short input. But if the first byte after an optional byte
-/// order mark (EF BB BF) and white space is `<`, the only item is `XmlUnsupported`, with the offset
-/// of that byte. The reader chooses on the first call of `next`.
+/// If the first eight bytes are `bplist00`, it acts as a [`BinaryReader`]. If the first byte after
+/// an optional byte order mark (EF BB BF) and white space is `<`, its only item is
+/// `XmlUnsupported`, with the offset of that byte. Otherwise, even for empty input, it acts as an
+/// [`AsciiReader`]. The reader chooses on the first call of `next`.
 ///
 /// # Errors
 ///
-/// - `XmlUnsupported`; the reader has ended then.
-/// - `Io`, with the offset of the failed read, if a read fails while the reader chooses; it has
-///   ended then, too.
+/// - `XmlUnsupported` if the input is XML. The reader has ended then.
+/// - `Io`, with the offset of the failed read, if a read fails while the reader chooses. The reader
+///   has ended then.
 /// - After the choice, the errors of the chosen reader. A binary reader has ended after each of its
-///   errors, and an ASCII reader continues after those of its bytes.
-/// - `LimitReached` if there are limits ([`Reader::with_limits`]).
+///   errors. An ASCII reader without limits continues after an error in its bytes.
+/// - `LimitReached`, without an offset, if a limit of [`Reader::with_limits`] is exceeded. The
+///   reader has ended then.
 #[derive(Drop)]
 pub struct Reader<R: Source> {
     alloc: Global,
@@ -161,9 +162,9 @@ impl<R: Source> Reader<R> {
         }
     }
 
-    /// Creates a reader under these limits, which also ends at its first error: the first event
-    /// that is one too many, or else a start that would open one collection too many, is replaced
-    /// by `LimitReached`, without an offset.
+    /// Creates a reader under these limits: the first event that exceeds the limit of items, or
+    /// else that of the depth, is replaced by `LimitReached`, without an offset. Under limits a
+    /// reader has ended after its first error of any kind.
     pub fn with_limits(alloc: Global, source: R, limits: Limits) -> Self
         ensures items { reader_items R.known result ≡ option_map (limited_input limits)
             (R.known source) }
@@ -177,8 +178,8 @@ impl<R: Source> Reader<R> {
         }
     }
 
-    // Reads the first item. Only this call moves the state, which may be as large as the windows of
-    // a source.
+    // Reads the first item. Only this call moves the state, which is large if the source stores
+    // windows.
     fn first(&mut self) -> Option<Result<OwnedEvent, Error>>
         ensures yields { GivesFirst R.known R.failures self.old.state result self.new.state }
         ensures falls { FirstAdvances self.old.state result self.new.state }

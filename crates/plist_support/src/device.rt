@@ -1,4 +1,4 @@
-//! Devices that fail, or end too early.
+//! Devices that fail or end too early.
 
 ghost use Rattle.std.specs.Prelude.{None};
 ghost use Rattle.plist_base.specs.Sources.{CountsFailure};
@@ -15,7 +15,7 @@ use std::{fmt, io};
 pub enum DeviceFault {
     /// The call fails with an error of this kind.
     Fails(ErrorKind),
-    /// A read returns no byte, or a write accepts no byte, which is a failure.
+    /// A read returns no byte, or a write accepts none. The write is counted as a failure.
     MovesNothing,
     /// From then on the device has only this many bytes.
     Shrinks(usize),
@@ -24,12 +24,12 @@ pub enum DeviceFault {
 /// The message of each error of a device. No error of the libraries or of the system has it.
 pub const DEVICE_MESSAGE: &str = "the device failed";
 
-/// Returns a device's own error.
+/// Returns the error of a device, of this kind.
 pub fn device_error(kind: ErrorKind) -> io::Error {
     io::Error::new(kind, DEVICE_MESSAGE)
 }
 
-/// Errors of a device, each of which ends a reader.
+/// The kinds of errors of a device in the examples. Each of them must end a reader.
 pub const READ_FAILURES: [ErrorKind; 4] = [
     ErrorKind::Interrupted,
     ErrorKind::TimedOut,
@@ -37,19 +37,19 @@ pub const READ_FAILURES: [ErrorKind; 4] = [
     ErrorKind::UnexpectedEof,
 ];
 
-/// A device that moves one byte per call, except at one call. That call has a fault; a second try
-/// of it would succeed.
+/// A device that moves one byte per call. One of its calls has a fault; a retry of that call would
+/// succeed.
 #[derive(Drop)]
 pub struct Device {
-    /// The bytes that `read` returns, or `write` has accepted.
+    /// The bytes that `read` returns, to which `write` appends.
     pub bytes: Vec<u8>,
     /// The number of bytes that `read` has returned, or `write` has accepted.
     pub moved: usize,
     /// The offset of the last call, or 0 if that asked for the size.
     pub place: u64,
-    /// The number of bytes that `write` had accepted at the last flush.
+    /// The value of `moved` at the last flush.
     pub flushed: usize,
-    /// The greatest number of bytes in the buffer of a `write`.
+    /// The length of the longest buffer that `write` was called with.
     pub longest: usize,
     /// The number of calls.
     pub calls: u64,
@@ -60,13 +60,13 @@ pub struct Device {
 }
 
 impl Device {
-    /// Makes a device that fails at this call, counted from 0, with `Interrupted`. Other callers
-    /// would try again.
+    /// Makes a device whose call with this index fails with `Interrupted`, after which most callers
+    /// would retry.
     pub fn new(bytes: Vec<u8>, fails_at: u64) -> Device {
         Device::with_fault(bytes, fails_at, DeviceFault::Fails(ErrorKind::Interrupted))
     }
 
-    /// Makes a device with this fault at this call, counted from 0.
+    /// Makes a device whose call with this index has this fault.
     pub fn with_fault(bytes: Vec<u8>, faulty_call: u64, fault: DeviceFault) -> Device {
         Device {
             bytes,
@@ -81,7 +81,7 @@ impl Device {
         }
     }
 
-    // Counts a call, and returns whether it moves a byte.
+    // Counts a call at this offset, and returns whether it may move a byte.
     fn call(&mut self, place: u64) -> io::Result<bool>
         ensures failures { CountsFailure result self.old.failures self.new.failures }
     {
@@ -124,7 +124,7 @@ impl Source for Device {
     }
 }
 
-// A reader borrows the device, so that it can be inspected afterwards.
+// An example reads from a borrowed device, so that it can inspect the device afterwards.
 impl<'a> Source for &'a mut Device {
     ghost known = { λ _. None };
 
@@ -174,7 +174,7 @@ impl Write for Device {
     }
 }
 
-// The rest of a text that is compared with what is written, part by part.
+// What remains of a text that is compared, part by part, with what is written.
 #[derive(Drop)]
 struct Remaining<'a> {
     text: &'a str,
@@ -229,7 +229,7 @@ pub fn expect_io<T: Drop>(
     expect_failure(answer, kind, DEVICE_MESSAGE, offset)
 }
 
-// Checks that the device failed once, at its last call, and that the items found are these,
+// Checks that the device failed once, at its last call, and that `items` are the items `before`
 // followed by the error of that call, with its offset and the device's message.
 pub(crate) fn expect_cut(
     alloc: Global,
@@ -253,9 +253,9 @@ pub(crate) fn expect_cut(
 #[derive(Drop)]
 pub struct Disk {
     inner: Cursor<Vec<u8>>,
-    /// The greatest number of bytes that a read returns.
+    /// The maximum number of bytes that a read returns.
     pub most: usize,
-    /// The kind of its error.
+    /// The kind of the error with which the call fails.
     pub kind: ErrorKind,
     /// The number of calls.
     pub calls: u64,
@@ -265,7 +265,7 @@ pub struct Disk {
 }
 
 impl Disk {
-    /// Makes a file of these bytes that fails at this call, counted from 0.
+    /// Makes a file of these bytes whose call with this index fails.
     pub fn new(bytes: Vec<u8>, fails_at: u64) -> Disk {
         Disk {
             inner: Cursor::new(bytes),

@@ -1,4 +1,4 @@
-//! Events written as words, and what a writer returns for them.
+//! Parses events that are written as words, and checks what a writer returns for them.
 
 use crate::words::add_words;
 use crate::wrong::{Wrong, fail};
@@ -12,7 +12,7 @@ fn no_event<T>(alloc: Global, word: &str) -> Result<T, Wrong> {
     fail(format!(in alloc; "no event is {word}"))
 }
 
-// Returns the text between two marks.
+// Returns the text between two marks, or `None` if the word doesn't begin and end with them.
 fn between(word: &str, first: char, last: char) -> Option<&str> {
     match word.strip_prefix(first) {
         None => None,
@@ -93,7 +93,7 @@ fn plain(alloc: Global, word: &str) -> Result<Event<'static>, Wrong> {
     }
 }
 
-/// Returns the event that a word stands for.
+/// Returns the event that a word denotes, or an error if it denotes none.
 pub fn event_of<'a>(alloc: Global, word: &'a str) -> Result<Event<'a>, Wrong> {
     if let Some(text) = between(word, '\'', '\'') {
         return Ok(Event::String(CowStr::Borrowed(text)));
@@ -113,7 +113,7 @@ pub fn event_of<'a>(alloc: Global, word: &'a str) -> Result<Event<'a>, Wrong> {
     }
 }
 
-/// Writes the events of these words to a writer, which must accept them.
+/// Writes the events of these words to a writer, and fails if it returns an error.
 pub fn write_all<W: Writer>(alloc: Global, writer: &mut W, words: &str) -> Result<(), Wrong> {
     for word in words.split(' ') {
         let event = event_of(alloc, word)?;
@@ -125,8 +125,8 @@ pub fn write_all<W: Writer>(alloc: Global, writer: &mut W, words: &str) -> Resul
     Ok(())
 }
 
-/// Checks what a writer returns for the events of these words, separated by semicolons: `ok`, or
-/// the text of the error.
+/// Checks that a writer returns these answers for the events of these words. An answer is `ok` or
+/// the text of the error, and answers are separated by `; `.
 pub fn expect_answers<W: Writer>(
     alloc: Global,
     writer: &mut W,

@@ -1,9 +1,9 @@
-//! Files of the binary format, in hexadecimal.
+//! Files of the binary format, which are written in hexadecimal.
 
 use crate::wrong::{Wrong, fail};
 use std::alloc::{AllocError, Global};
 
-/// Returns the bytes that hexadecimal digits spell. Blanks between them are ignored.
+/// Returns the bytes that hexadecimal digits spell. Spaces between bytes are ignored.
 pub fn bytes_of(alloc: Global, digits: &str) -> Result<Vec<u8>, Wrong> {
     let mut bytes = Vec::new(alloc);
     for word in digits.split(' ') {
@@ -15,9 +15,9 @@ pub fn bytes_of(alloc: Global, digits: &str) -> Result<Vec<u8>, Wrong> {
     Ok(bytes)
 }
 
-/// Makes a file of the magic, these objects with their offset table, and a trailer with the widths
-/// of an offset and of a reference, the number of objects, the number of the root and the offset of
-/// the table.
+/// Makes a file of the magic, `body`, which is the objects and the offset table, and a trailer. The
+/// widths are those of an offset and of a reference, in bytes. The numbers are the number of
+/// objects, the index of the root, and the offset of the table.
 pub fn file_of(
     alloc: Global,
     body: &[u8],
@@ -34,7 +34,7 @@ pub fn file_of(
     Ok(bytes)
 }
 
-/// Makes a file whose objects and table are given in hexadecimal.
+/// Makes a file as [`file_of`] does, of objects and a table in hexadecimal.
 pub fn file(
     alloc: Global,
     body: &str,
@@ -44,7 +44,7 @@ pub fn file(
     Ok(file_of(alloc, bytes_of(alloc, body)?.as_slice(), widths, numbers)?)
 }
 
-/// Makes a file of this one object, which is given in hexadecimal, with widths of one byte.
+/// Makes a file of one object in hexadecimal. Both widths are one byte.
 pub fn file_of_object(alloc: Global, object: &str) -> Result<Vec<u8>, Wrong> {
     let mut body = bytes_of(alloc, object)?;
     let table = 8 + body.len() as u64;
@@ -52,7 +52,7 @@ pub fn file_of_object(alloc: Global, object: &str) -> Result<Vec<u8>, Wrong> {
     Ok(file_of(alloc, body.as_slice(), [1, 1], [1, 0, table])?)
 }
 
-/// Returns at most this many of the first bytes.
+/// Returns the first `count` bytes, or all if there are fewer.
 pub fn front(bytes: &[u8], count: usize) -> &[u8] {
     &bytes[..bytes.len().min(count)]
 }

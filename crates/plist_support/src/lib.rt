@@ -1,7 +1,7 @@
-//! What the examples share: files in hexadecimal, events as words, and devices that fail.
+//! Helpers that the examples share: files in hexadecimal, events as words, and devices that fail.
 //!
-//! Nothing here ends the process: when an example doesn't find what it expects, its test ends with
-//! a `Wrong`.
+//! Nothing here ends the process: if an example doesn't find what it expects, its test fails with a
+//! [`Wrong`].
 #![tactic(auto)]
 
 mod device;

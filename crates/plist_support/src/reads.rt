@@ -11,29 +11,33 @@ use plist_reader::Reader;
 use std::alloc::{AllocError, Global};
 use std::io::{ErrorKind, Read};
 
-/// The reader of the device.
+/// Which reader is called.
 #[derive(Clone, Copy)]
 pub enum By {
+    /// The binary reader.
     Binary,
+    /// The binary reader under limits.
     Limited(Limits),
-    /// A reader under limits, and within a budget of bytes of strings and data.
+    /// The binary reader under limits, and within a budget of bytes for strings and data.
     Within(Limits, u64),
+    /// The ASCII reader in the lax dialect.
     Ascii,
+    /// The ASCII reader in the tight dialect.
     Tight,
-    /// A reader of ASCII over a source that is read from its start on.
+    /// The ASCII reader over a [`Sequential`], which reads the source from its start on.
     Sequential,
     /// The reader that chooses by the format of the first bytes.
     Either,
 }
 
-// A reader of bytes.
+// Which reader reads which bytes.
 #[derive(Clone, Copy)]
 struct Reading<'a> {
     by: By,
     bytes: &'a [u8],
 }
 
-// More items than any example has.
+// Each example has fewer items than this.
 const MAX_ITEMS: usize = 100;
 
 /// Returns the words of the items of a source, up to this many.
@@ -77,8 +81,8 @@ fn device_of(
 
 const INTERRUPTED: DeviceFault = DeviceFault::Fails(ErrorKind::Interrupted);
 
-// Checks a device that fails at this call, which is made for the item after the items `before`:
-// `Io`, with the offset of the read, replaces that item, and nothing more is yielded.
+// Checks what is yielded if this call fails, which is made for the item that follows the items
+// `before`: `Io`, with the offset of the read, replaces that item, and no item follows.
 fn expect_failure(
     alloc: Global,
     reading: Reading<'_>,
@@ -98,8 +102,8 @@ fn expect_failure(
     Ok(())
 }
 
-// Calls a reader for up to this many items, and returns their words and the number of calls of the
-// device.
+// Calls a reader for up to this many items, and returns their words and how many calls of the
+// device were made.
 fn run_over(alloc: Global, reading: Reading<'_>, most: usize) -> Result<(String, u64), Wrong> {
     let mut device = device_of(alloc, reading.bytes, u64::MAX, INTERRUPTED)?;
     let found = words_over(alloc, reading.by, &mut device, most)?;
@@ -130,8 +134,8 @@ pub fn expect_on_devices(alloc: Global, by: By, bytes: &[u8], items: &str) -> Re
     fail(format!(in alloc; "more than {MAX_ITEMS} items"))
 }
 
-// Checks a source that has `left` bytes after its first call: it yields these items, or a prefix of
-// them and then the end at the first offset without a byte.
+// Checks what is yielded if the source has only `left` bytes from its second call on: these items,
+// or a prefix of them and then `UnexpectedEof`, with the offset of the last call.
 fn expect_shrunk(alloc: Global, bytes: &[u8], items: &str, left: usize) -> Result<(), Wrong> {
     let mut device = device_of(alloc, bytes, 1, DeviceFault::Shrinks(left))?;
     let found = words_over(alloc, By::Binary, &mut device, usize::MAX)?;
@@ -148,7 +152,8 @@ fn expect_shrunk(alloc: Global, bytes: &[u8], items: &str, left: usize) -> Resul
     }
 }
 
-/// Checks that every reader of these bytes ends, wherever the source ends after its first call.
+/// Checks that reading these bytes ends, whatever length the source shrinks to at its second call,
+/// and that the binary reader yields these items, or a prefix of them and `UnexpectedEof`.
 pub fn expect_on_shrinking_devices(alloc: Global, bytes: &[u8], items: &str) -> Result<(), Wrong> {
     for left in 0..bytes.len() {
         expect_shrunk(alloc, bytes, items, left)?;

@@ -1,4 +1,4 @@
-//! Events as words, separated by blanks.
+//! Events as words, which are separated by spaces.
 //!
 //! `[2` and `{2` are starts with a length, `[` and `{` are starts without one, and `end` is an end.
 //! `true`, `false` and numbers are written as they are. `'a'` is a string, `<00ff>` is data in
@@ -74,7 +74,7 @@ fn add_item(
     add_words(all, " ", word.as_str())
 }
 
-/// Appends words, separated by this mark from the ones before them.
+/// Appends words. If they aren't the first, this mark separates them from those before.
 pub fn add_words(all: &mut String, mark: &str, words: &str) -> Result<(), AllocError> {
     if !all.is_empty() {
         all.push_str(mark)?;

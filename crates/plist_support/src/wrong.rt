@@ -1,4 +1,4 @@
-//! What an example finds instead of what it expects.
+//! The error of an example that doesn't find what it expects.
 
 use std::alloc::{AllocError, Global};
 use std::io::ErrorKind;
@@ -10,9 +10,9 @@ pub enum Wrong {
     OutOfMemory,
     /// The result isn't an error, but should be.
     NoFault,
-    /// The error has this offset and, if it is an I/O error, this kind.
+    /// The error, which wasn't expected, has this offset and, if it is an I/O error, this kind.
     OtherFault(Option<u64>, Option<ErrorKind>),
-    /// An I/O error has another text.
+    /// An I/O error has a text that wasn't expected.
     OtherMessage,
     /// Anything else, in words.
     Words(String),
@@ -29,7 +29,7 @@ pub fn fail<T>(text: Result<String, AllocError>) -> Result<T, Wrong> {
     Err(Wrong::Words(text?))
 }
 
-/// Checks that both texts are equal.
+/// Checks that both strings are equal.
 pub fn expect_same(alloc: Global, found: &str, wanted: &str) -> Result<(), Wrong> {
     if found == wanted {
         return Ok(());
@@ -46,7 +46,7 @@ pub fn expect_bytes(alloc: Global, found: &[u8], wanted: &[u8]) -> Result<(), Wr
     fail(format!(in alloc; "the bytes {found} came"))
 }
 
-/// Checks a condition, which the text describes.
+/// Checks that a condition is true. If it isn't, the error contains the text.
 pub fn expect_that(alloc: Global, holds: bool, text: &str) -> Result<(), Wrong> {
     if holds {
         return Ok(());

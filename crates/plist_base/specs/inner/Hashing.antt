@@ -1,4 +1,4 @@
--- What an event writes to a hasher: its content, in one write.
+-- What an event writes to a hasher. Equal events write the same.
 use Rattle.std.specs.Prelude.{◌≡◌, ◌==◌, ℕ, Bool, true, List, []}
 use Rattle.std.proofs.Common.{ap, refl, rules}
 use Rattle.std.specs.Bool.{Decides}
@@ -15,17 +15,20 @@ use Rattle.plist_base.specs.Events.{PlainEvent, ScalarEvent, event_of}
 use Rattle.plist_base.specs.Scalars.{writes_of_scalar}
 use Rattle.plist_base.specs.Trees.{Data, Date, Real, String}
 
+-- the writes of an event: one write of its content, or none for a start or an end
 abbrev pub writes_of : PlainEvent → List (List ℕ)
 writes_of (ScalarEvent scalar) = writes_of_scalar scalar
 writes_of event = []
 
+-- does the code find these events equal?
 abbrev pub eq_of_events : Event → Event → Bool
 eq_of_events x y = (impl.ghosts).eq x y
 
+-- the test of two lists of bytes decides whether they are equal
 pub same_list : (a b : List ℕ) → Decides (pointwise (λ x y. x == y) a b) (a ≡ b)
 same_list a b = slice_eq-Decides Decides-eqb a b _ refl
 
--- equal events have the same content
+-- events that the code finds equal have the same content
 pub same_event : (x y : Event) → eq_of_events x y ≡ true → event_of x ≡ event_of y
 same_event (event.Data a) (event.Data b) h =
     ap (λ l. ScalarEvent (Data l)) ((same_list (cow_slice_items a) (cow_slice_items b)).0 h)
@@ -38,6 +41,7 @@ same_event (event.Real (real.Eight a)) (event.Real (real.Eight b)) h =
     ap (λ l. ScalarEvent (Real (real.Eight l))) ((same_list a b).0 h)
 same_event x y h = search (comparing, rules, bytes_eq-Decides, h)
 
+-- events that the code finds equal have the same writes
 pub same_writes : (x y : Event) → eq_of_events x y ≡ true → writes_of (event_of x) ≡ writes_of
     (event_of y)
 same_writes x y h = ap writes_of (same_event x y h)

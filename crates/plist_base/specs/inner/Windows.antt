@@ -4,25 +4,23 @@ use Rattle.plist_base.specs.declared.window.Header.{Header}
 use Rattle.plist_base.specs.declared.windows.LongWindows.{LongWindows}
 use Rattle.plist_base.specs.declared.windows.Windows.{Windows}
 
--- this window is the one that contains this offset
+-- this window is the one to which the offset belongs
 abbrev pub IsWindowOf : (size : ℕ) → List Header → (window place : ℕ) → Type 0
 IsWindowOf size headers i place =
     (header : Header) × (slice_get headers i ≡ Some header) × (header.start ≡ place - place % size)
 
--- the bytes that one read returned from a window's start on; a window has 64 bytes more than its
--- size
+-- the bytes that the last read of a window returned; a window may have 64 bytes beyond its size
 abbrev pub bytes_of_window : (size : ℕ) → Header → List ℕ → (window : ℕ) → List ℕ
 bytes_of_window size header bytes i = take header.filled (drop (i * (size + 64)) bytes)
 
--- no bytes, or those from this offset on of the window that contains it
+-- `lent` is empty, or the bytes from this offset on of the window to which it belongs
 abbrev pub LendsFrom : (size : ℕ) → List Header → (bytes : List ℕ) → (place : ℕ) → (lent : List ℕ) → Type 0
 LendsFrom size headers bytes place lent =
     (lent ≡ []) ⊎ ((i : ℕ) × (header : Header) × (slice_get headers i ≡ Some header)
     × (header.start ≡ place - place % size)
     × (lent ≡ drop (place % size) (bytes_of_window size header bytes i)))
 
--- the bytes that are lent from an offset on are those of a long window if there is any, and else
--- those of a short one
+-- `lent` are bytes from this offset on, of a long window or of a short one
 abbrev pub Lends : Windows → (place : ℕ) → (lent : List ℕ) → Type 0
 Lends windows place lent =
     ((long : LongWindows) × (windows.long ≡ Some long)
@@ -33,7 +31,7 @@ Lends windows place lent =
 abbrev pub IsBeginning : {A : Type 0} → (front whole : List A) → Type 0
 IsBeginning {A = A} front whole = (more : List A) × (whole ≡ front ++ more)
 
--- the windows that there were are kept
+-- the old windows are kept, and new ones may follow them
 abbrev pub KeepsWindows : (old new : LongWindows) → Type 0
 KeepsWindows old new =
     IsBeginning old.headers.items new.headers.items × IsBeginning old.bytes.items new.bytes.items

@@ -19,19 +19,19 @@ lengths : AreWorked (
     ∷ (one_object "53eda080", refused InvalidUtf8String 9)
     -- a zero byte is a character
     ∷ (one_object "5100", scalar (String (0 ∷ [])) ∷ [])
-    -- no characters
+    -- an empty string
     ∷ (one_object "50", scalar (String []) ∷ [])
     -- the length is missing
     ∷ (one_object "5f", refused ObjectOffsetTooLarge 9)
-    -- the number of the length is missing
+    -- the length's marker is there, but its number is missing
     ∷ (one_object "5f10", refused ObjectOffsetTooLarge 9)
-    -- a long length of zero
+    -- a length of zero that follows the marker
     ∷ (one_object "5f1000", scalar (String []) ∷ [])
     -- a length of two bytes
     ∷ (one_object "5f11000161", scalar (String (codes "a")) ∷ [])
-    -- only the low two bits of a length byte count
+    -- only the low two bits of a length's marker count
     ∷ (one_object "5f400161", scalar (String (codes "a")) ∷ [])
-    -- two bits that say eight bytes
+    -- two bits that encode a width of eight bytes
     ∷ (one_object "5fff000000000000000161", scalar (String (codes "a")) ∷ [])
     -- a length of fourteen fits into the marker
     ∷ (one_object "5e6161616161616161616161616161", scalar (String (codes "aaaaaaaaaaaaaa")) ∷ [])

@@ -1,4 +1,4 @@
--- Sameness of pairs is an equivalence if that of their values is, and look-ups decide it.
+-- Equality of pairs is an equivalence if equality of their values is.
 use Rattle.plist_pairs.specs.Bulk.{Rows}
 use Rattle.std.proofs.Common.{ℕ, Bool, List}
 use Rattle.std.specs.Str.{bytes_eq}
@@ -8,11 +8,12 @@ use Rattle.std_collections.specs.HashMap.Eq.{hash_map_eq_symm, hash_map_eq_trans
 use Rattle.std_collections.specs.Layout.HashMap.{HashMap, hash_map}
 use Rattle.plist_pairs.specs.Equal.{same_pairs}
 
--- the pairs as a map
+-- the pairs as the model of a hash map
 abbrev pub as_map : {V : Type 0} → Rows V → HashMap (List ℕ) V (Unit {0})
 as_map ps = hash_map ps tt 0
 
 module _ {V : Type 0} {E : V → V → Bool} where
+  -- `same_pairs` is symmetric and transitive if equality of values is
   pub same_pairs_partial : IsPartialEquivalence E → IsPartialEquivalence (same_pairs E)
   same_pairs_partial laws = record {
     symm = λ ps qs. hash_map_eq_symm bytes_eq E laws.symm (as_map ps) (as_map qs);
@@ -21,6 +22,7 @@ module _ {V : Type 0} {E : V → V → Bool} where
         (as_map qs) (as_map rs);
   }
 
+  -- `same_pairs` is an equivalence if equality of values is
   pub same_pairs_equiv : IsEquivalence E → IsEquivalence (same_pairs E)
   same_pairs_equiv laws =
       equiv (same_pairs_partial (partial_equiv_from_equiv laws))

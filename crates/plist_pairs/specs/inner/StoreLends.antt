@@ -6,14 +6,13 @@ use Rattle.indexmap.specs.IndexMap.{set_value_at}
 use denote.RattleType.{RattleType}
 use Rattle.plist_pairs.specs.contracts.dictionary.store.Store.{the_row}
 
--- when the reference ends, its last value is that of the key; without a reference the pairs are
--- unchanged
+-- the last value of the reference becomes the key's; without a reference no pair changes
 abbrev pub StoreLendsAtKey : (V : RattleType) → MutBor (List (List ℕ × V.Denot)) → List ℕ
     → Option (MutBor V.Denot) → Fml
 StoreLendsAtKey V pairs key value =
     LendsIf (the_row V) V pairs value (set_value (bytes_eq key) pairs.now) pairs.now
 
--- when the reference ends, its last value is that at the index
+-- the last value of the reference becomes the value at the index
 abbrev pub StoreLendsIndex : (V : RattleType) → MutBor (List (List ℕ × V.Denot)) → ℕ
     → MutBor V.Denot → Fml
 StoreLendsIndex V pairs index value = Lends (the_row V) V pairs value (set_value_at pairs.now index)

@@ -1,4 +1,4 @@
-//! Calls that visit all pairs.
+//! Calls that insert, keep or sort many pairs, and [`Pairs::set`], by which they insert one.
 
 ghost use Rattle.std.specs.Prelude.{◌≡◌, IfOk, OnErr, OnOk, IsPermutation, IsSorted, string_bytes};
 ghost use Rattle.std.specs.Cmp.Lexicographic.{slice_cmp};
@@ -36,7 +36,8 @@ impl<V> Pairs<V> {
     ///
     /// # Errors
     ///
-    /// `OutOfMemory`: the pairs are unchanged, and the new value is dropped.
+    /// `OutOfMemory`, without an offset: the pairs are unchanged, and the key and the value are
+    /// dropped.
     pub fn set(&mut self, key: String, value: V) -> Result<(), Error>
     where
         V: Discard,
@@ -62,8 +63,8 @@ impl<V> Pairs<V> {
     ///
     /// # Errors
     ///
-    /// `OutOfMemory`: the pairs that precede the one that couldn't be stored are inserted; that one
-    /// and those after it are dropped.
+    /// `OutOfMemory`, without an offset: the pairs that precede the one that couldn't be stored are
+    /// inserted. That pair and those after it are dropped.
     pub fn extend<I: IntoIterator<Item = (String, V)>>(&mut self, more: I) -> Result<(), Error>
     where
         V: Discard,
@@ -84,7 +85,7 @@ impl<V> Pairs<V> {
     ///
     /// # Errors
     ///
-    /// `OutOfMemory`; all pairs are dropped.
+    /// `OutOfMemory`, without an offset: all pairs are dropped.
     pub fn from_pairs<I: IntoIterator<Item = (String, V)>>(
         alloc: Global,
         pairs: I,
@@ -111,8 +112,8 @@ impl<V> Pairs<V> {
     ///
     /// # Errors
     ///
-    /// `OutOfMemory`: the pairs are unchanged, since memory is allocated before the first pair
-    /// moves.
+    /// `OutOfMemory`, without an offset: the pairs are unchanged, since all memory is allocated
+    /// before the first pair moves.
     pub fn sort_keys(&mut self) -> Result<(), Error>
     where
         V: Drop,

@@ -8,14 +8,18 @@ use crate::dictionary::{Discard, Pairs};
 use plist_base::Error;
 use std::alloc::{AllocError, Global};
 
-/// A type whose values can be copied, unless memory runs out. Contracts see the view of a value.
+/// A type whose values can be copied unless an allocation fails.
 pub trait TryCopy: Sized {
-    /// What contracts see of a value.
+    /// The type of what contracts see of a value.
     ghost View: { Type 0 };
-    /// The view of a value.
+    /// What contracts see of a value: its view.
     ghost shown: { Self → View };
 
     /// Copies the value. The copy has the same view.
+    ///
+    /// # Errors
+    ///
+    /// `AllocError` if an allocation fails.
     fn try_copy(&self, alloc: Global) -> Result<Self, AllocError>
         ensures { IfOk result (λ copy. shown copy ≡ shown self.now) };
 }
@@ -45,7 +49,7 @@ impl<V: TryCopy + Discard> Pairs<V> {
     ///
     /// # Errors
     ///
-    /// `OutOfMemory`.
+    /// `OutOfMemory`, without an offset: the copies that were already made are dropped.
     pub fn clone(&self) -> Result<Pairs<V>, Error>
         ensures copy { IfOk result (λ copy. with_shown V.shown copy ≡ with_shown V.shown self.now) }
         ensures memory { OnlyMemory result }

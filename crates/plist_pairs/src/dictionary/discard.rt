@@ -2,7 +2,8 @@
 
 ghost use Rattle.std.specs.Prelude.{◌≡◌, take};
 
-/// A type whose values are dropped by a call, since a value may be too deep for a recursive drop.
+/// A type whose values are dropped by an explicit call, since a recursive drop of a deeply nested
+/// value could overflow the stack.
 pub trait Discard: Drop {
     /// Drops the value.
     fn discard(self);

@@ -1,4 +1,4 @@
-//! The value of a key by `pairs[key]`.
+//! Access to the value of a key by `pairs[key]`.
 
 ghost use Rattle.std.specs.Prelude.{◌≡◌, IsSome, Some};
 ghost use Rattle.std.specs.Map.{lookup};
@@ -7,7 +7,8 @@ ghost use Rattle.std.specs.Str.{bytes_eq};
 use crate::dictionary::Pairs;
 use std::ops::{Index, IndexMut};
 
-/// Returns the value of a key, which must be there; [`Pairs::contains_key`] tests that.
+/// Returns a reference to the value of a key, which must be present. [`Pairs::contains_key`] tests
+/// that.
 impl<'q, V> Index<&'q str> for Pairs<V> {
     type Output = V;
 
@@ -20,7 +21,7 @@ impl<'q, V> Index<&'q str> for Pairs<V> {
     }
 }
 
-/// Returns a mutable reference to the value of a key, which must be there.
+/// Returns a mutable reference to the value of a key, which must be present.
 impl<'q, V> IndexMut<&'q str> for Pairs<V> {
     ghost use Rattle.std.specs.Borrow.{sem};
     ghost use Rattle.plist_pairs.specs.Lends.{LendsValue};

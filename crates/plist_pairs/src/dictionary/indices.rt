@@ -13,14 +13,14 @@ impl<V> Pairs<V> {
     ghost use Rattle.std.specs.List.{IsDistinct};
     ghost use Rattle.plist_pairs.specs.EntryLends.{IsRemovedAt, LendsIndex};
 
-    /// Returns the index of a key, or `None` if the key isn't there.
+    /// Returns the index of a key, or `None` if the key isn't present.
     pub fn index_of(&self, key: &str) -> Option<usize>
         ensures { MatchOption result (HasNone key.now self.now) (IsIndexOf key.now self.now) }
     {
         self.store.as_ref()?.index_of(key)
     }
 
-    /// Returns the key at an index.
+    /// Returns the key at an index, which must be less than the number of pairs.
     pub fn key_at(&self, index: usize) -> &String
         requires { index < length self.now }
         ensures { slice_get (keys_of self.now) index ≡ Some (string_bytes result.now) }
@@ -28,7 +28,8 @@ impl<V> Pairs<V> {
         self.store.as_ref().unwrap().key_at(index)
     }
 
-    /// Returns a mutable reference to the value at an index.
+    /// Returns a mutable reference to the value at an index, which must be less than the number of
+    /// pairs.
     pub fn value_at(&mut self, index: usize) -> &mut V
         requires { index < length self.old }
         ensures value { slice_get (values_of self.old) index ≡ Some result.now }
@@ -37,11 +38,11 @@ impl<V> Pairs<V> {
         self.store.as_mut().unwrap().value_at(index)
     }
 
-    /// Adds a pair whose key must not be there.
+    /// Appends a pair, whose key must not be present.
     ///
     /// # Errors
     ///
-    /// If memory runs out, the pairs are unchanged, and the key and the value are returned.
+    /// If an allocation fails, the pairs are unchanged, and the error is the key and the value.
     pub fn push(&mut self, key: String, value: V) -> Result<(), (String, V)>
         requires { IsAbsent (string_bytes key) self.old }
         ensures pairs { OnOk result (self.new ≡ self.old ++ (string_bytes key, value) ∷ []) }
@@ -60,7 +61,8 @@ impl<V> Pairs<V> {
         answer
     }
 
-    /// Removes the pair at an index, to which the last pair moves, and returns its value.
+    /// Removes the pair at an index, which must be less than the number of pairs, and returns its
+    /// value. The last pair moves to this index.
     pub fn swap_remove_at(&mut self, index: usize) -> V
         requires { index < length self.old }
         ensures value { slice_get (values_of self.old) index ≡ Some result }
@@ -69,7 +71,7 @@ impl<V> Pairs<V> {
         self.store.as_mut().unwrap().swap_remove_at(index)
     }
 
-    // Swaps two pairs. It allocates nothing.
+    // Swaps the pairs at two indices, without an allocation.
     pub(crate) fn swap(&mut self, first: usize, second: usize)
         requires first { first < length self.old }
         requires second { second < length self.old }
@@ -78,12 +80,12 @@ impl<V> Pairs<V> {
         self.store.as_mut().unwrap().swap(first, second);
     }
 
-    /// Returns the allocator of the pairs.
+    /// Returns the allocator that the pairs use.
     pub fn allocator(&self) -> Global {
         self.alloc
     }
 
-    /// Returns the number of pairs, whose keys are distinct.
+    /// Returns the number of pairs. Its contract also states that their keys are distinct.
     #[tactic(auto, using(crate::proofs::PairColumns::no_keys))]
     pub fn pair_count(&self) -> usize
         ensures count { result ≡ length self.now }
@@ -95,7 +97,7 @@ impl<V> Pairs<V> {
         }
     }
 
-    /// Returns the pair at an index.
+    /// Returns the pair at an index, which must be less than the number of pairs.
     pub fn pair_at(&self, index: usize) -> (&str, &V)
         requires { index < length self.now }
         ensures { slice_get self.now index ≡ Some (result.0.now, result.1.now) }

@@ -1,5 +1,5 @@
-//! The iterators over a dictionary. Contracts see each as the list of its remaining items, with
-//! keys as their bytes.
+//! The iterators over a dictionary. Contracts see an iterator as the list of its remaining items,
+//! in which a key is its bytes.
 
 ghost use Rattle.std.specs.Prelude.{◌≡◌, length, Some, IfSome, map, string_bytes};
 ghost use Rattle.std.specs.Iterator.{at_most, UpTo};

@@ -15,8 +15,8 @@ use std::alloc::Global;
 use std::marker::Model;
 use std::mem;
 
-/// A store of pairs. Contracts see the list of the pairs, with each key as its bytes, and no key
-/// twice.
+/// A store of pairs. Contracts see it as the list of the pairs, in which a key is its bytes and no
+/// key occurs twice.
 #[derive(Drop)]
 pub(crate) struct Store<V> {
     keys: IndexSet<String>,
@@ -97,7 +97,8 @@ impl<V> Store<V> {
         }
     }
 
-    // Sets the key's value, and returns the value that it had.
+    // Sets the key's value, and returns the value that it had. If an allocation fails, the pairs
+    // are unchanged, and the key and the value are returned.
     #[tactic(auto, using(crate::proofs::ColumnAppends::inserting))]
     pub(crate) fn insert(&mut self, key: String, value: V) -> Result<Option<V>, (String, V)>
         // Result.
@@ -119,7 +120,7 @@ impl<V> Store<V> {
         }
     }
 
-    // Adds a pair whose key must not be there.
+    // Appends a pair, whose key must not be present.
     #[tactic(auto, using(crate::proofs::ColumnAppends::inserting))]
     pub(crate) fn push(&mut self, key: String, value: V) -> Result<(), (String, V)>
         requires { IsAbsent (string_bytes key) self.old }
@@ -140,7 +141,7 @@ impl<V> Store<V> {
         }
     }
 
-    // Removes the key. The last pair moves to its index.
+    // Removes the key, and returns its value. The last pair moves to its index.
     pub(crate) fn remove(&mut self, key: &str) -> Option<V>
         ensures value { result ≡ lookup (bytes_eq key.now) self.old }
         ensures pairs { IsTakenAt self.old key.now self.new }
@@ -207,7 +208,7 @@ impl<V> Store<V> {
         &mut self.items[index]
     }
 
-    // Removes the pair at an index, to which the last pair moves.
+    // Removes the pair at an index, and returns its value. The last pair moves to this index.
     pub(crate) fn swap_remove_at(&mut self, index: usize) -> V
         requires { index < length self.old }
         ensures value { slice_get (values_of self.old) index ≡ Some result }
@@ -226,7 +227,7 @@ impl<V> Store<V> {
         self.items.swap(first, second);
     }
 
-    // Returns the number of pairs, whose keys are distinct.
+    // Returns the number of pairs. The contract also states that their keys are distinct.
     pub(crate) fn pair_count(&self) -> usize
         ensures count { result ≡ length self.now }
         ensures distinct { IsDistinct bytes_eq (keys_of self.now) }

@@ -1,4 +1,4 @@
--- `Pairs` as a type that may contain the type that contains it, by the values in its store.
+-- `Pairs` in recursive types: the type of the values may itself contain such pairs.
 use Rattle.std.specs.Prelude.{◌≡◌, ℕ, List, [], Option, None, Some}
 use mathlib.Core.Path.{refl}
 use mathlib.Core.Logic.{◌⊎◌, inl, inr}
@@ -28,18 +28,23 @@ use Rattle.plist_pairs.specs.contracts.dictionary.Pairs.TheInside as I
 use Rattle.plist_pairs.specs.contracts.dictionary.store.Store as stored
 use Rattle.plist_pairs.specs.formers.dictionary.store.Store as store
 
+-- pairs of a key and one of g's values
 abbrev pub the_former : Former {0} → Former {0}
 the_former g = list (store.entry g)
 
+-- the weight of pairs, which is that of their store
 abbrev pub the_weighed : {g : Former {0}} → Weighed g → Weighed (the_former g)
 the_weighed w = store.the_weighed w
 
+-- no pairs, whose values are of an empty type
 pub the_empty : List (List ℕ × ⊥)
 the_empty = []
 
+-- the values of the pairs
 abbrev pub the_items : (X : Type 0) → List (List ℕ × X) → List X
 the_items X ps = store.the_items X ps
 
+-- the values of the pairs are the former's children
 pub the_items_listed : (X : Type 0) (ps : List (List ℕ × X))
     → listed _ (children (the_former this) X ps) ≡ the_items X ps
 the_items_listed X ps = store.the_items_listed X ps
@@ -49,33 +54,40 @@ abbrev Boxed : Type 0 → Type 0
 Boxed X = Box (List (List ℕ × X)) Global
 
 module _ {X : Type 0} where
+  -- an optional box of pairs as nothing, or its pointer, its allocator and its pairs
   abbrev split : Option (Boxed X) → Unit {0} ⊎ (Ptr × Global) × List (List ℕ × X)
   split None = inl tt
   split (Some b) = inr ((b.ptr, b.alloc), b.value)
 
+  -- the optional box that `split` takes apart
   abbrev join : Unit {0} ⊎ (Ptr × Global) × List (List ℕ × X) → Option (Boxed X)
   join (inl u) = None
   join (inr v) = Some (record { ptr = v.0.0; alloc = v.0.1; value = v.1 })
 
+  -- `join` undoes `split`
   join-split : (o : Option (Boxed X)) → join (split o) ≡ o
   join-split None = refl
   join-split (Some b) = refl
 
+  -- `split` undoes `join`
   split-join : (v : Unit {0} ⊎ (Ptr × Global) × List (List ℕ × X)) → split (join v) ≡ v
   split-join (inl u) = refl
   split-join (inr v) = refl
 
+-- the former of the field `store`
 abbrev stores : Former {0}
 stores =
     via (or (const (Unit {0})) (pair (const (Ptr × Global)) (list (store.entry this))))
     (λ X. Option (Boxed X)) (λ X. split) (λ X. join) (λ X. join-split) (λ X. split-join)
 
+-- the former of both fields
 abbrev fields : Former {0}
 fields =
     via (pair stores (const Global)) Inside (λ X a. (a.store, a.alloc))
     (λ X v. record { store = v.0; alloc = v.1 }) (λ X a. refl) (λ X v. refl)
 
 module _ (X : Type 0) where
+  -- the fields, with this store
   abbrev with_store : Inside X → Option (Boxed X) → Inside X
   with_store u o = record { store = o; alloc = u.alloc }
 
@@ -90,9 +102,11 @@ module _ (X : Type 0) where
   natural Y h u None = refl
   natural Y h u (Some b) = refl
 
+-- the box, with this value
 abbrev with_value : {X Y : Type 0} → Box X Global → Y → Box Y Global
 with_value b y = record { ptr = b.ptr; alloc = b.alloc; value = y }
 
+-- the type of a box of such values
 abbrev box_of : RattleType → RattleType
 box_of R = box.the_row R heap.the_row ghosts
 
@@ -108,13 +122,16 @@ module _ (R S : RattleType) (h : R.Denot → S.Denot) where
   }
 
 module _ (R S : RattleType) (h : R.Denot → S.Denot) where
+  -- the box, with `h` applied to each value of its pairs
   abbrev moved : Boxed R.Denot → Boxed S.Denot
   moved b = with_value b ((the_former this).map R.Denot S.Denot h b.value)
 
+  -- the optional box, with `h` applied to each value of its pairs
   abbrev over_store : Option (Boxed R.Denot) → Option (Boxed S.Denot)
   over_store None = None
   over_store (Some b) = Some (moved b)
 
+  -- the former of the field `store` maps an optional box as `over_store` does
   same_store : (o : Option (Boxed R.Denot)) → stores.map R.Denot S.Denot h o ≡ over_store o
   same_store None = refl
   same_store (Some b) = refl

@@ -17,7 +17,8 @@ use std::alloc::{AllocError, Global};
 use std::cmp::Ordering;
 use std::mem;
 
-// Memory that is reserved for pairs, in rows and in the columns of a store.
+// Memory that is reserved for pairs: once in rows of a key and a value, and once in the two columns
+// of a store.
 #[derive(Drop)]
 pub(crate) struct Capacity<V> {
     rows: Vec<(String, V)>,
@@ -49,7 +50,7 @@ fn capacity_for<V: Drop>(alloc: Global, count: usize) -> Result<Capacity<V>, All
     })
 }
 
-// Returns the pairs in the order of their keys, in the memory that is reserved for them.
+// Returns the pairs in the order of their keys. They move to the reserved memory.
 fn sorted<V: Drop>(pairs: Store<V>, capacity: Capacity<V>) -> Store<V>
     requires { HasCapacity (length pairs) capacity }
     ensures sorted { IsSorted (slice_cmp nat_cmp) (keys_of result) }
@@ -65,7 +66,7 @@ fn sorted<V: Drop>(pairs: Store<V>, capacity: Capacity<V>) -> Store<V>
     store_of(rows, keys, items)
 }
 
-// Moves the pairs into rows, in the memory that is reserved for them.
+// Moves the pairs into rows, for which memory is reserved.
 fn rows_of<V: Drop>(pairs: Store<V>, capacity: Vec<(String, V)>) -> Vec<(String, V)>
     requires empty { capacity.items ≡ [] }
     requires fits { length pairs ≤ vec_capacity capacity }
@@ -79,7 +80,7 @@ fn rows_of<V: Drop>(pairs: Store<V>, capacity: Vec<(String, V)>) -> Vec<(String,
     rows
 }
 
-// Moves the pairs of these rows into columns, in which memory is reserved for them.
+// Moves the pairs of these rows into columns, for which memory is reserved.
 fn store_of<V: Drop>(
     rows: Vec<(String, V)>,
     mut keys: IndexSet<String>,

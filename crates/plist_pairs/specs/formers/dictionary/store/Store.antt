@@ -1,4 +1,4 @@
--- `Store` as a type that may contain the type that contains it, by its values.
+-- `Store` in recursive types: the type of the values may itself contain such stores.
 use Rattle.std.specs.Prelude.{◌≡◌, ℕ, List, [], ◌∷◌, map, length, string_bytes, String, zip, bytes_eq}
 use Rattle.std.specs.List.{IsDistinct, IsDistinct-prop}
 use Rattle.std.specs.Map.{values_of}
@@ -28,18 +28,21 @@ use Rattle.plist_pairs.specs.declared.dictionary.store.Store.TheView.{view, inva
 use Rattle.plist_pairs.specs.contracts.dictionary.store.Store as C
 use Rattle.plist_pairs.specs.contracts.dictionary.store.Store.TheInside as I
 
--- a key with one of g's values
+-- a pair of a key and one of g's values
 abbrev pub entry : Former {0} → Former {0}
 entry g = pair (const (List ℕ)) g
 
+-- pairs of a key and one of g's values
 abbrev pub the_former : Former {0} → Former {0}
 the_former g = list (entry g)
 
+-- the greatest of the numbers of all pairs is that of their values
 pub most_values : {Y : Type 0} (f : Y → ℕ) (es : List (List ℕ × Y))
     → most (λ p. max 0 (f p.1)) es ≡ most f (values_of es)
 most_values f [] = refl
 most_values f (e ∷ es) = λ i. max (sym (none_max (f e.1)) i) (most_values f es i)
 
+-- the weight of pairs, which is the greatest weight of a value
 abbrev pub the_weighed : {g : Former {0}} → Weighed g → Weighed (the_former g)
 the_weighed w = record {
   weight = λ X μ ps. most (w.weight X μ) (values_of ps);
@@ -48,30 +51,35 @@ the_weighed w = record {
       ∙ ap (λ a. max a (deepest μ n t)) (most_values (w.weight X μ) ps);
 }
 
+-- no pairs, whose values are of an empty type
 pub the_empty : List (List ℕ × ⊥)
 the_empty = []
 
+-- the values of the pairs
 abbrev pub the_items : (X : Type 0) → List (List ℕ × X) → List X
 the_items X ps = values_of ps
 
+-- the values of the pairs are the former's children
 pub the_items_listed : (X : Type 0) (ps : List (List ℕ × X))
     → listed _ (children (the_former this) X ps) ≡ the_items X ps
 the_items_listed X [] = refl
 the_items_listed X (p ∷ ps) = ap (λ l. p.1 ∷ l) (the_items_listed X ps)
 
--- the set that stores the keys
+-- the type of the set that stores the keys
 abbrev Keys : Type 0
 Keys = IndexSet (String Global) (BuildHasherDefault FoldHasher)
 
+-- the former of both fields
 abbrev fields : Former {0}
 fields =
     via (pair (const Keys) (vec.the_former this Global)) Inside (λ X a. (a.keys, a.items))
     (λ X v. record { keys = v.0; items = v.1 }) (λ X a. refl) (λ X v. refl)
 
--- the pair, with h applied to its value
+-- the pair, with `h` applied to its value
 abbrev pub on_value : {X Y : Type 0} → (X → Y) → List ℕ × X → List ℕ × Y
 on_value h p = (p.0, h p.1)
 
+-- applying `h` to the values before or after they are paired with keys is the same
 zip-map : {X Y : Type 0} (h : X → Y) (ks : List (List ℕ)) (vs : List X)
     → zip ks (map h vs) ≡ map (on_value h) (zip ks vs)
 zip-map h [] vs = refl
@@ -91,6 +99,7 @@ abbrev Sound : {X : Type 0} → Inside X → Type 0
 Sound u =
     (length u.items.items ≡ length u.keys.keys) × IsDistinct bytes_eq (map string_bytes u.keys.keys)
 
+-- `Sound` has at most one proof
 Sound-prop : {X : Type 0} (u : Inside X) → IsProp (Sound u)
 Sound-prop u = ×_prop (ℕ_set _ _) (IsDistinct-prop bytes_eq _)
 
