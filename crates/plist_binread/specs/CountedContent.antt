@@ -36,7 +36,7 @@ IsLengthCut low rest = (length rest < 9) × (length_in low rest ≡ None)
 abbrev pub LiesAfter : (rest : List ℕ) → ℕ × Bor (List ℕ) → Type 0
 LiesAfter rest found = drop (length rest - length found.1.now) rest ≡ found.1.now
 
--- the bytes are a whole number of elements
+-- the number of bytes is a multiple of the size of an element
 abbrev pub AreUnits : (size : ℕ) (bytes : List ℕ) → Type 0
 AreUnits size bytes = (count : ℕ) × (length bytes ≡ count * size)
 

@@ -1,7 +1,4 @@
 //! Defines a visitor that keeps one event.
-
-ghost use Rattle.std.specs.Prelude.{◌≡◌};
-
 use plist_base::{Error, ErrorKind, Event, EventVisitor, OwnedEvent};
 use std::alloc::Global;
 use std::ops::ControlFlow;

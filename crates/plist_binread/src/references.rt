@@ -3,7 +3,7 @@
 ghost use Rattle.std.specs.Prelude.{◌≡◌, ◌+◌, ◌-◌, ◌^◌, ◌<◌, ◌≤◌, IfErr, IfNone, IfOk, IfSome, OnOk};
 ghost use Rattle.plist_binread.specs.DecodeOutcome.{reference_place, reference_index};
 ghost use Rattle.plist_binread.specs.FaultOffsets.{ErrWithin};
-ghost use Rattle.plist_binread.specs.Reading.{HasNoChild, FindsReferences, HasNoChildren, HasPairs, AreReferencesOfSeen, AreReferencesOf, RefusesNumber, ReadsChildAt, ReadsNumber, ShowsLength};
+ghost use Rattle.plist_binread.specs.Reading.{HasNoChild, FindsReferences, HasNoChildren, HasPairs, AreReferencesOfSeen, RefusesNumber, ReadsChildAt, ReadsNumber, ShowsLength};
 ghost use Rattle.plist_binread.specs.Step.{RefusesEach};
 ghost use Rattle.plist_base.specs.Sources.{AnswersIo};
 ghost use Rattle.plist_binread.specs.Slot.{AnswersInSlot, answer_in, found_in};
@@ -213,7 +213,7 @@ pub struct ReferenceReader {
 impl ReferenceReader {
     ghost use Rattle.std.specs.Prelude.{◌≡◌, ◌^◌, ◌≤◌, IfErr, IfOk, OnOk, Option, List, ℕ};
     ghost use Rattle.plist_binread.specs.FaultOffsets.{ErrWithin};
-    ghost use Rattle.plist_binread.specs.Reading.{AreReferencesOf, IfFound, IsNumberAt, ReadsChildAt};
+    ghost use Rattle.plist_binread.specs.Reading.{IfFound, IsNumberAt, ReadsChildAt};
     ghost use Rattle.plist_binread.specs.Runs.{AreRunsOf, KnowsReferences};
     ghost use Rattle.plist_binread.specs.Slot.{AnswersInSlot, answer_in};
     ghost use Rattle.plist_binread.specs.Step.{RefusesEach};

@@ -17,7 +17,8 @@ use std::ops::ControlFlow;
 // which are then unchanged.
 #[inline(always)]
 fn take(alloc: Global, pending: &mut EventBuffer, event: Event<'_>) -> Result<bool, AllocError>
-    ensures taken { IfOkIs result true (HoldsMore (is_whole pending.new) (buffered_events pending.old)
+    ensures taken { IfOkIs result true (HoldsMore (is_whole pending.new)
+        (buffered_events pending.old)
         (event_of event.entry) (buffered_events pending.new)) }
     ensures refused { TestsWhole (is_whole pending.old) (buffered_events pending.old)
         → IfOkIs result false (CanContinue (buffered_events pending.old) (event_of event.entry)
