@@ -1,4 +1,5 @@
 //! Defines a visitor that keeps one event.
+
 use plist_base::{Error, ErrorKind, Event, EventVisitor, OwnedEvent};
 use std::alloc::Global;
 use std::ops::ControlFlow;
