@@ -1,6 +1,7 @@
-//! Proved callers whose proofs cite lemmas of this crate: values built from events, files written
-//! by a value's events, entries that are written through, and `==` with its laws. The callers of
-//! pairs are in `plist_pairs`, and those that need only clauses are in `plist_callers`.
+//! Proved callers whose proofs cite lemmas of this crate: values that are built from events, files
+//! that are written by a value's events, entries through which values are written, and `==` with
+//! its laws. The callers of pairs are in `plist_pairs`, and those whose proofs need only clauses
+//! are in `plist_callers`.
 
 ghost use Rattle.std.specs.Prelude.{◌≡◌, IfOk, IfSome, option_map, string_bytes, true};
 ghost use Rattle.std.specs.Map.{lookup};
@@ -23,7 +24,7 @@ pub use plist_pairs::callers::{insert_each, keep_only, of_list};
 use std::alloc::Global;
 use std::mem;
 
-/// Returns the value of a binary property list, by a reader that the caller makes.
+/// Returns the value of a binary property list, whose reader is made by the caller.
 pub fn value_of_binary<R: Source>(alloc: Global, source: R) -> Result<Value, Error>
     ensures value { ReadsItems items_of_file (R.known source) result }
 {

@@ -9,8 +9,8 @@ use crate::stream::builder::{AnyEvent, Builder};
 use plist_base::Error;
 use std::alloc::Global;
 
-// Builds a value from an iterator's items. It fails at the first item that is an error, or an event
-// that can't come next, and takes no item after that one.
+// Builds a value from an iterator's items. It fails at the first item that is an error, or whose
+// event can't come next, and takes no item after that one.
 fn collect_from<E: AnyEvent, I: Iterator<Item = Result<E, Error>>>(
     alloc: Global,
     rest: &mut I,
@@ -26,8 +26,8 @@ fn collect_from<E: AnyEvent, I: Iterator<Item = Result<E, Error>>>(
     builder.finish()
 }
 
-/// Builds a value from an iterator's items. It fails at the first item that is an error, or an
-/// event that can't come next.
+/// Builds a value from an iterator's items. It fails at the first item that is an error, or whose
+/// event can't come next.
 pub(crate) fn collect<E: AnyEvent, I: Iterator<Item = Result<E, Error>> + Drop>(
     alloc: Global,
     items: I,

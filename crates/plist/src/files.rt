@@ -102,8 +102,8 @@ impl<'a, R: Files> LazyFile<'a, R> {
     ///
     /// # Errors
     ///
-    /// Those of [`Value::to_writer_binary`]. `OutOfMemory` and `PlistTooLarge` are returned before
-    /// a file is created or truncated.
+    /// The errors are those of [`Value::to_writer_binary`]. `OutOfMemory` and `PlistTooLarge` are
+    /// returned before a file is created or truncated.
     pub fn store(&mut self, alloc: Global, value: &Value) -> Result<(), Error>
         ensures sent { SendsValue (λ output. contents_of R.File.contents output.file) value.now
             result self.old self.new }
@@ -121,7 +121,7 @@ impl Value {
     ///
     /// - `Io`, without an offset, if the file can't be opened. [`Error::as_io`] returns the reason,
     ///   which the error's own text leaves out.
-    /// - Those of [`Value::from_reader`].
+    /// - Any error of [`Value::from_reader`].
     pub fn from_file<R: Files>(rt: &R, alloc: Global, path: &str) -> Result<Value, Error>
         ensures read { IsReadFromFile R.File Dialect.Lax (built_tree result) }
         ensures fault { IfFault result (IsFileFault false) }
@@ -130,12 +130,12 @@ impl Value {
     }
 
     /// Like [`Value::from_file`], but reads a file in ASCII in this dialect. [`Dialect::Tight`]
-    /// reads the files that other programs write with one value a line, without quotes or `;`
+    /// reads the files that other programs write with one value per line, without quotes or `;`
     /// between them.
     ///
     /// # Errors
     ///
-    /// Those of [`Value::from_file`].
+    /// The errors are those of [`Value::from_file`].
     pub fn from_file_with_dialect<R: Files>(
         rt: &R,
         alloc: Global,
@@ -160,7 +160,7 @@ impl Value {
     /// # Errors
     ///
     /// - `LimitReached`, as in [`Value::from_reader_with_limits`].
-    /// - Those of [`Value::from_file`].
+    /// - Any error of [`Value::from_file`].
     pub fn from_file_with_limits<R: Files>(
         rt: &R,
         alloc: Global,

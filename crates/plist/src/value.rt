@@ -145,7 +145,7 @@ impl Value {
     /// - `UnexpectedEventType` for an event that can't come next, and `ExpectedEndOfEventStream`
     ///   for one after a whole value.
     /// - `UnexpectedEndOfEventStream` if the events end before the value does.
-    /// - `OutOfMemory`.
+    /// - `OutOfMemory` if an allocation fails.
     pub fn from_events<E: AnyEvent, I: IntoIterator<Item = Result<E, Error>>>(
         alloc: Global,
         events: I,
@@ -188,7 +188,7 @@ impl Value {
     /// - `UnexpectedEventType` for an event that can't come next, and `ExpectedEndOfEventStream`
     ///   for one after a whole value.
     /// - `UnexpectedEndOfEventStream` if the items end before the value does.
-    /// - `OutOfMemory`.
+    /// - `OutOfMemory` if an allocation fails.
     pub fn from_reader<R: Source>(alloc: Global, source: R) -> Result<Value, Error>
         ensures value { ReadsItems items_of_input (R.known source) result }
         ensures read { IsReadByReader R.known R.failures source (built_tree result) }
@@ -202,7 +202,7 @@ impl Value {
     ///
     /// # Errors
     ///
-    /// Those of [`Value::from_reader`].
+    /// The errors are those of [`Value::from_reader`].
     pub fn from_reader_with_dialect<R: Source>(
         alloc: Global,
         source: R,
@@ -232,7 +232,7 @@ impl Value {
     ///
     /// - `LimitReached` for the first event that exceeds a limit, either because it is one event
     ///   too many or because it opens one collection too many, unless an earlier item is an error.
-    /// - Those of [`Value::from_reader`].
+    /// - Any error of [`Value::from_reader`].
     pub fn from_reader_with_limits<R: Source>(
         alloc: Global,
         source: R,
@@ -258,7 +258,7 @@ impl Value {
     ///
     /// - `OutOfMemory` if an allocation fails, and for the first string or data that exceeds the
     ///   bytes that the caller allows, unless an earlier item is an error.
-    /// - Those of [`Value::from_reader_with_limits`].
+    /// - Any error of [`Value::from_reader_with_limits`].
     pub fn from_reader_within<R: Source>(
         alloc: Global,
         source: R,
@@ -283,7 +283,8 @@ impl Value {
     ///
     /// # Errors
     ///
-    /// Those of [`Value::from_reader`], with the errors of [`AsciiReader`].
+    /// The errors are those of [`Value::from_reader`], but with the errors of [`AsciiReader`] in
+    /// place of those of [`Reader`].
     pub fn from_reader_ascii<R: ByteReader + Drop>(alloc: Global, reader: R) -> Result<Value, Error>
         ensures value { ReadsItems (items_of_text lax_stops) (R.remaining reader) result }
         ensures read { IsReadAsAscii R.remaining R.failures reader Dialect.Lax (built_tree result) }
@@ -296,7 +297,7 @@ impl Value {
     ///
     /// # Errors
     ///
-    /// Those of [`Value::from_reader_ascii`].
+    /// The errors are those of [`Value::from_reader_ascii`].
     pub fn from_reader_ascii_with_dialect<R: ByteReader + Drop>(
         alloc: Global,
         reader: R,
@@ -312,7 +313,7 @@ impl Value {
     ///
     /// # Errors
     ///
-    /// `OutOfMemory`.
+    /// `OutOfMemory` if an allocation fails.
     pub fn clone(&self, alloc: Global) -> Result<Value, Error>
         ensures copy { IfOk result (λ copy. tree_of copy ≡ tree_of self.now) }
         ensures memory { OnlyMemory result }
@@ -324,7 +325,7 @@ impl Value {
     ///
     /// # Errors
     ///
-    /// `OutOfMemory`.
+    /// `OutOfMemory` if an allocation fails.
     pub fn try_from_str(alloc: Global, text: &str) -> Result<Value, Error>
         ensures value { IfOk result (λ value. tree_of value ≡ Leaf (String text.now)) }
         ensures memory { OnlyMemory result }

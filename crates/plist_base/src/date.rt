@@ -158,7 +158,7 @@ fn mantissa_of(bits: u64, exponent: u64) -> u64
     }
 }
 
-// A real whose absolute value is below 2^52. This value is `mantissa * 2^(scale - 1075)`.
+// A real whose absolute value is `mantissa * 2^(scale - 1075)`, which is below 2^52.
 #[derive(Clone, Copy)]
 struct RealParts {
     mantissa: u64,
@@ -226,7 +226,7 @@ fn is_fractional(bits: u64) -> bool
     }
 }
 
-// Rounds a value down, given its sign, its whole seconds and whether it also has a fraction.
+// Rounds a value down, given its sign, its whole seconds, and whether it has a fraction as well.
 fn round_down(negative: bool, whole: u64, is_left: bool) -> i64
     requires { whole < 2 ^ 52 }
     ensures { (left : ℕ) → is_left ≡ not (left == 0) → result ≡ rounded_down negative whole left }
@@ -267,7 +267,7 @@ fn bits_of_whole(number: u64) -> u64
         return 0;
     }
     let zeros = u64::from(number.leading_zeros());
-    // The mantissa's highest bit adds one to the exponent.
+    // The highest bit of the shifted mantissa adds one to the exponent.
     (1085 - zeros) * 4_503_599_627_370_496 + (number << (zeros - 11))
 }
 

@@ -14,7 +14,7 @@ const SECONDS_A_DAY: i64 = 86_400;
 #[derive(Clone, Copy)]
 pub struct UtcSecond {
     century: u8,
-    // The year within the century.
+    // The year within its century.
     year: u8,
     month: u8,
     day: u8,

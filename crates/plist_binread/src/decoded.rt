@@ -47,7 +47,7 @@ pub struct Content {
     pub count: u64,
 }
 
-/// An object that was decoded from its first bytes, or the reason why it can't be decoded.
+/// An object that was decoded from its first bytes, or the reason why it couldn't be decoded.
 ///
 /// Each variant has a few small fields followed by at most one `u64`, so that a value is passed in
 /// two registers.
@@ -101,7 +101,7 @@ pub enum ObjectFault {
     Unknown(u8),
     /// The integer doesn't fit into a `u64`.
     OutOfRange,
-    /// The date overflows or is NaN.
+    /// The date's real is infinite or a NaN, or its second is outside the range of dates.
     NoDate,
     /// The bytes of a string aren't UTF-8.
     NotUtf8,

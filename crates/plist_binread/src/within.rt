@@ -7,7 +7,7 @@ use std::ops::ControlFlow;
 
 /// Passes events on to another visitor as long as the limits admit them.
 ///
-/// This visitor stops the walk at the first event that isn't admitted.
+/// After the first event that isn't admitted, this visitor stops the walk.
 #[derive(Drop)]
 pub struct Within<'v, V> {
     limiter: &'v mut LimitCounter,

@@ -19,7 +19,8 @@ pub fn count_objects(alloc: Global, bytes: &[u8]) -> (usize, usize)
     (before, reader.objects_in_file())
 }
 
-/// Returns the number of objects in a file whose root isn't one of them, which is that of its head.
+/// Returns the number of objects in a file whose root isn't one of them. It is the number in the
+/// head.
 pub fn count_without_root(alloc: Global, bytes: &[u8]) -> Option<usize>
     ensures { IfSome result (λ count. count ≡ objects_in_head bytes.now) }
 {
@@ -33,7 +34,7 @@ pub fn count_without_root(alloc: Global, bytes: &[u8]) -> Option<usize>
     }
 }
 
-/// Returns what a reader yields after an error, even a limit's or an I/O error: nothing.
+/// Returns the item after an error, even after `LimitReached` or `Io`. There is none.
 pub fn next_after_a_fault<R: Source>(
     reader: &mut BinaryReader<R>,
 ) -> Option<Result<OwnedEvent, Error>>
@@ -45,8 +46,8 @@ pub fn next_after_a_fault<R: Source>(
     }
 }
 
-/// Returns whether a reader without limits reaches one, at its first item or at the second. It
-/// never does, whatever the source does.
+/// Returns whether a reader without limits yields `LimitReached` as its first or its second item.
+/// It never does, whatever the source does.
 pub fn reaches_a_limit<R: Source>(alloc: Global, source: R) -> bool
     ensures { result ≡ false }
 {
@@ -61,7 +62,8 @@ pub fn reaches_a_limit<R: Source>(alloc: Global, source: R) -> bool
     }
 }
 
-/// Returns how many objects a reader reports before and after one more item: equally many.
+/// Calls a reader once, and returns how many objects it reports before and after a further call.
+/// Both numbers are equal.
 pub fn count_again<R: Source>(reader: &mut BinaryReader<R>) -> (usize, usize)
     ensures { result.0 ≡ result.1 }
 {

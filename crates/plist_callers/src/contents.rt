@@ -1,5 +1,5 @@
-//! Proved callers of the conversions into values and of the accessors: what was converted is found
-//! by the accessors of its kind, and by no others.
+//! Proved callers of the conversions into values and of the accessors: what was converted is
+//! returned by the accessors of its kind, and by no others.
 
 ghost use Rattle.std.specs.Prelude.{◌≡◌, IfErr, IfOk, IsSome, IsTrue, None, Some, option_map, string_bytes, true};
 ghost use Rattle.std.specs.Option.{option_copied};
@@ -55,7 +55,7 @@ pub fn text_again(text: String) -> Option<String>
     Value::from(text).into_string()
 }
 
-/// Takes the content out of a value and makes a value of it, which is the same one.
+/// Takes the content out of a value, and makes a value of it again, which is the same one.
 pub fn value_again(value: Value) -> Value
     ensures { result ≡ value }
 {
@@ -185,7 +185,7 @@ pub fn lends_its_text(text: String) -> bool
     }
 }
 
-/// Returns the number of a string, which is `None`, whatever it spells.
+/// Returns the number of a value that is a string. There is none, whatever the string spells.
 pub fn number_of_text(text: String) -> Option<i64>
     ensures { result ≡ None }
 {

@@ -1,5 +1,6 @@
-//! Proved callers of data: its bytes are those from which it was made, it is equal if they are, its
-//! text is read back as the data, and what isn't such a text is rejected at its first wrong symbol.
+//! Proved callers of data: its bytes are those from which it was made, data with equal bytes is
+//! equal, its text is read back as the data, and a text that isn't that of data is rejected at its
+//! first wrong symbol.
 
 ghost use Rattle.std.specs.Prelude.{◌≡◌, ◌<◌, ◌↔◌, Err, IfErr, IfOk, IfSome, IsTrue, codes, length, slice_get, slice_set, string_bytes};
 ghost use Rattle.base64.specs.Engines.{standard};
@@ -23,7 +24,7 @@ pub fn bytes_again(bytes: Vec<u8>) -> Vec<u8>
 ///
 /// # Errors
 ///
-/// `OutOfMemory`.
+/// `OutOfMemory` if an allocation fails.
 pub fn bytes_of_copy(first: &Data) -> Result<Vec<u8>, Error>
     ensures { IfOk result (λ bytes. bytes.items ≡ first.now) }
 {
@@ -54,19 +55,19 @@ pub fn are_same(first: &Data, other: &Data) -> bool
     first == other
 }
 
-/// Prints the error of parsing what isn't data.
+/// Prints the error of parsing a text that isn't that of data.
 ///
 /// # Errors
 ///
-/// An allocation fails.
+/// `AllocError` if an allocation fails.
 pub fn text_of_no_data(alloc: Global) -> Result<String, AllocError>
     ensures { IfOk result (λ text. string_bytes text ≡ codes "Invalid XML data") }
 {
     InvalidXmlData::Decode(DecodeError::InvalidPadding).to_string(alloc)
 }
 
-/// Returns the first byte of a text that isn't in base64, if that is why the text isn't data, with
-/// its offset in the text without white space.
+/// Returns the first byte that isn't valid in base64, and its offset in the text without white
+/// space, if that byte is why the text isn't that of data.
 pub fn wrong_symbol(alloc: Global, text: &str) -> Option<(usize, u8)>
     ensures { IfSome result (λ found.
         decode_of standard (without_white text.now) ≡ Err (fault.InvalidByte found.0 found.1)) }
@@ -83,7 +84,7 @@ pub fn wrong_symbol(alloc: Global, text: &str) -> Option<(usize, u8)>
 ///
 /// # Errors
 ///
-/// `OutOfMemory`.
+/// `OutOfMemory` if an allocation fails.
 pub fn text_of_bytes(alloc: Global, bytes: Vec<u8>) -> Result<String, Error>
     ensures { IfOk result (λ text. string_bytes text ≡ data_text bytes.items) }
 {
@@ -94,7 +95,7 @@ pub fn text_of_bytes(alloc: Global, bytes: Vec<u8>) -> Result<String, Error>
 ///
 /// # Errors
 ///
-/// [`InvalidXmlData::OutOfMemory`] if memory runs out.
+/// [`InvalidXmlData::OutOfMemory`] if an allocation fails.
 pub fn data_again(alloc: Global, first: &Data) -> Result<Data, InvalidXmlData>
     ensures same { IfOk result (λ again. again ≡ first.now) }
     ensures memory { IfErr result (λ error. error ≡ refusal.OutOfMemory) }

@@ -1,5 +1,5 @@
-//! Proved callers of dates and their texts: each is read back as itself, and some reals have no
-//! date, and some dates no text.
+//! Proved callers of dates and their texts: each text is read back as its date, some reals aren't
+//! dates, and some dates have no text.
 
 ghost use Rattle.std.specs.Prelude.{◌≡◌, IfOk, None, Some, string_bytes};
 ghost use Rattle.plist_base.specs.Date.{IsWhole};
@@ -9,7 +9,7 @@ ghost use Rattle.plist_base.specs.Faults.{FractionalDate, InvalidDateString, Yea
 use plist_base::{Date, Error, ErrorKind};
 use std::alloc::Global;
 
-/// Returns the text of a text's date: the same text, if it has `T` and `Z`.
+/// Returns the text of the date that a text spells. It is the same text if that has `T` and `Z`.
 ///
 /// # Errors
 ///
@@ -27,7 +27,7 @@ pub fn text_again(alloc: Global, text: &str) -> Result<String, Error>
 ///
 /// # Errors
 ///
-/// Those of [`Date::to_xml_format`]: a date without a text, or `OutOfMemory`.
+/// The errors are those of [`Date::to_xml_format`]: the date has no text, or an allocation fails.
 pub fn date_again(alloc: Global, date: &Date) -> Result<Date, Error>
     ensures same { IfOk result (λ again. again ≡ date.now) }
 {

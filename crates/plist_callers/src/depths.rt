@@ -1,5 +1,5 @@
-//! Proved callers of the calls of a dictionary that borrow or yield values: each value is less deep
-//! than the dictionary, so a recursion over the values ends, whichever call they are from.
+//! Proved callers of the calls of a dictionary that borrow or yield values. Each value is less deep
+//! than the dictionary, so a recursion over the values ends, whichever call yields them.
 
 use plist::dictionary::Entry;
 use plist::{Dictionary, Error, ErrorKind, Value};
@@ -78,7 +78,7 @@ pub fn levels_at(pairs: &Dictionary, key: &str) -> u64 {
     }
 }
 
-/// Counts the dictionaries that are nested under this key in a value.
+/// Counts the values that are nested under this key in a value.
 pub fn levels_in(value: &Value, key: &str) -> u64 {
     match value.as_dictionary() {
         Some(pairs) => match pairs.get(key) {
@@ -184,18 +184,18 @@ pub fn try_count_dictionaries(pairs: Dictionary) -> Result<u64, Error> {
     Ok(count)
 }
 
-/// Merges a dictionary into another one. Where both have a dictionary at a key, these are merged,
-/// and otherwise the value is set.
+/// Merges a dictionary into another one. If both have a dictionary at a key, these are merged;
+/// otherwise the value at the key is replaced.
 ///
 /// # Errors
 ///
-/// `OutOfMemory`; then a part has been merged.
+/// `OutOfMemory` if an allocation fails; a part has been merged then.
 pub fn merge(base: &mut Dictionary, over: Dictionary) -> Result<(), Error> {
     merge_into(over, base)
 }
 
-// Merges a dictionary into another one. The parameter that gets less deep is first, which proves
-// that the recursion ends.
+// Merges a dictionary into another one. The dictionary that gets less deep is the first parameter,
+// by which the prover finds that the recursion ends.
 fn merge_into(over: Dictionary, base: &mut Dictionary) -> Result<(), Error> {
     for (key, value) in over {
         match value {
@@ -213,11 +213,11 @@ fn merge_into(over: Dictionary, base: &mut Dictionary) -> Result<(), Error> {
     Ok(())
 }
 
-/// Like [`merge`], by entries.
+/// Like [`merge`], but by entries.
 ///
 /// # Errors
 ///
-/// `OutOfMemory`; a part has been merged then.
+/// `OutOfMemory` if an allocation fails; a part has been merged then.
 pub fn merge_by_entries(over: Dictionary, base: &mut Dictionary) -> Result<(), Error> {
     for (key, value) in over {
         match value {
@@ -237,11 +237,11 @@ pub fn merge_by_entries(over: Dictionary, base: &mut Dictionary) -> Result<(), E
     Ok(())
 }
 
-/// Like [`merge`], by taking both apart.
+/// Like [`merge`], but takes both dictionaries by value, and returns the merged one.
 ///
 /// # Errors
 ///
-/// `OutOfMemory`.
+/// `OutOfMemory` if an allocation fails.
 pub fn merge_by_value(over: Dictionary, mut base: Dictionary) -> Result<Dictionary, Error> {
     for (key, value) in over {
         let new = match (value, base.remove(key.as_str())) {
@@ -255,11 +255,11 @@ pub fn merge_by_value(over: Dictionary, mut base: Dictionary) -> Result<Dictiona
     Ok(base)
 }
 
-/// Like [`merge`], of two dictionaries that stay as they are.
+/// Like [`merge`], but leaves both dictionaries unchanged, and returns a new one.
 ///
 /// # Errors
 ///
-/// `OutOfMemory`.
+/// `OutOfMemory` if an allocation fails.
 pub fn merged(alloc: Global, over: &Dictionary, base: &Dictionary) -> Result<Dictionary, Error> {
     let mut all = base.clone()?;
     for (key, value) in over {
@@ -274,11 +274,12 @@ pub fn merged(alloc: Global, over: &Dictionary, base: &Dictionary) -> Result<Dic
     Ok(all)
 }
 
-/// Merges a value into another one: two dictionaries as [`merge`] does, and else the value is set.
+/// Merges a value into another one. Two dictionaries are merged as [`merge`] does; any other value
+/// replaces the old one.
 ///
 /// # Errors
 ///
-/// `OutOfMemory`; a part has been merged then.
+/// `OutOfMemory` if an allocation fails; a part has been merged then.
 #[cycle(merging)]
 pub fn merge_value(over: Value, base: &mut Value) -> Result<(), Error> {
     match over {
@@ -296,7 +297,7 @@ pub fn merge_value(over: Value, base: &mut Value) -> Result<(), Error> {
     }
 }
 
-// Merges each value of a dictionary into the one of its key.
+// Merges each value of a dictionary into the value at its key in another one.
 #[cycle(merging)]
 fn merge_each(over: Dictionary, base: &mut Dictionary) -> Result<(), Error> {
     for (key, value) in over {

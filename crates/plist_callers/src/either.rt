@@ -1,4 +1,4 @@
-//! Proved callers of the reader: what it yields after its end, and the offset of an I/O error.
+//! Proved callers of the reader: what it yields after its end, and that an I/O error has an offset.
 
 ghost use Rattle.std.specs.Prelude.{◌≡◌, false, true};
 
@@ -6,7 +6,8 @@ use plist_base::{ErrorKind, Source};
 use plist_reader::Reader;
 use std::alloc::Global;
 
-/// Returns whether an item follows the end, or an error that no ASCII has. None does.
+/// Returns whether an item follows the end, or an error that isn't one in ASCII text. It never
+/// does.
 pub fn comes_after_end<R: Source>(reader: &mut Reader<R>) -> bool
     ensures { result ≡ false }
 {
@@ -24,7 +25,7 @@ pub fn comes_after_end<R: Source>(reader: &mut Reader<R>) -> bool
     }
 }
 
-/// Returns whether the next item, if it is an I/O error, has an offset, which is always true.
+/// Returns whether the next item has an offset if it is an I/O error, which is always true.
 pub fn has_its_place<R: Source>(reader: &mut Reader<R>) -> bool
     ensures { result ≡ true }
 {
@@ -34,7 +35,8 @@ pub fn has_its_place<R: Source>(reader: &mut Reader<R>) -> bool
     }
 }
 
-/// Returns whether an item follows XML, or a collection that contains itself. None does.
+/// Returns whether an item follows the error for XML, or that for a collection that contains
+/// itself. It never does.
 pub fn comes_after_refusal<R: Source>(reader: &mut Reader<R>) -> bool
     ensures { result ≡ false }
 {
@@ -47,7 +49,7 @@ pub fn comes_after_refusal<R: Source>(reader: &mut Reader<R>) -> bool
     }
 }
 
-/// Returns whether a reader yields an error that only a writer has. It doesn't.
+/// Returns whether a reader yields an error that only a writer has. It never does.
 pub fn fails_as_a_writer<R: Source>(reader: &mut Reader<R>) -> bool
     ensures { result ≡ false }
 {
@@ -62,8 +64,8 @@ pub fn fails_as_a_writer<R: Source>(reader: &mut Reader<R>) -> bool
     }
 }
 
-/// Returns whether a reader without limits reaches one, at its first item or at the second. It
-/// doesn't.
+/// Returns whether a reader without limits yields `LimitReached` as its first or its second item.
+/// It never does.
 pub fn reaches_a_limit<R: Source>(alloc: Global, source: R) -> bool
     ensures { result ≡ false }
 {

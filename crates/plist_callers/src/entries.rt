@@ -1,5 +1,5 @@
-//! Proved callers of entries: the entry of a key has that key and its value, and by it the key's
-//! value is set and removed.
+//! Proved callers of entries: the entry of a key has that key and its value, which is set and
+//! removed through the entry.
 
 ghost use Rattle.std.specs.Prelude.{◌≡◌, IfErr, IfOk, OnErr, OnOk, OnSome, string_bytes, unwrap_or, option_and_then, false};
 ghost use Rattle.std.specs.Map.{lookup};
@@ -43,8 +43,8 @@ pub fn flag_or_false(pairs: &mut Dictionary, key: String) -> Result<Option<bool>
     Ok(lent.as_boolean())
 }
 
-/// Returns the Boolean of a key. If the key isn't there, it is added with `false`, or the error is
-/// `OutOfMemory`.
+/// Returns the Boolean of a key. If the key isn't there, it is added with `false`, unless an
+/// allocation fails; then the error is `OutOfMemory`.
 pub fn flag_or_fault(pairs: &mut Dictionary, key: String) -> Result<Option<bool>, Error>
     ensures flag { IfOk result (λ flag. flag ≡ boolean_in (tree_of
         (unwrap_or (lookup (bytes_eq (string_bytes key)) (pairs_of pairs.old))

@@ -12,7 +12,7 @@ use std::alloc::Global;
 use std::borrow::CowSlice;
 use std::hash::{DefaultHasher, Hash, Hasher};
 
-/// Writes an event by the method that it names. It is just this event.
+/// Writes an event by the method for events of its kind, which writes exactly this event.
 pub fn write_by_name<W: Writer>(writer: &mut W, event: Event<'_>) -> Result<(), Error>
     ensures { W.Step writer.old (event_of event.entry) (answer_of result) writer.new }
 {
@@ -30,7 +30,7 @@ pub fn write_by_name<W: Writer>(writer: &mut W, event: Event<'_>) -> Result<(), 
     }
 }
 
-/// Writes a copy of an event, and then a copy of that. Each is the event itself.
+/// Writes a copy of an event's copy, which is equal to the event.
 pub fn write_copies<W: Writer>(
     alloc: Global,
     writer: &mut W,

@@ -1,4 +1,4 @@
-//! Proved callers of errors: what an error says of itself.
+//! Proved callers of errors: their kinds, their offsets, and the I/O errors in them.
 
 ghost use Rattle.std.specs.Prelude.{◌≡◌, IfOk, MatchResult, None, Ok, Some, false, string_bytes, true};
 ghost use Rattle.std.specs.IoError.{error_kind};
@@ -51,11 +51,11 @@ pub fn failure_passed_on(failure: io::Error) -> Result<io::Error, Error>
     Error::from(failure).into_io()
 }
 
-/// Prints an error with its reason, if it isn't an I/O error.
+/// Prints an error that isn't an I/O error by its `reason`, which then is the error's own text.
 ///
 /// # Errors
 ///
-/// An allocation fails.
+/// `AllocError` if an allocation fails.
 pub fn text_with_reason(alloc: Global, place: u64) -> Result<String, AllocError>
     ensures { IfOk result (λ text. string_bytes text ≡ fault_text (fault_at InvalidMagic place)) }
 {
@@ -63,7 +63,7 @@ pub fn text_with_reason(alloc: Global, place: u64) -> Result<String, AllocError>
     error.reason().to_string(alloc)
 }
 
-/// Returns an error that isn't an I/O error unchanged.
+/// Converts an error that isn't an I/O error by `into_io`, which returns it unchanged.
 pub fn fault_again(place: u64) -> Result<io::Error, Error>
     ensures { MatchResult result (λ _. ⊥) (λ fault. fault_of fault ≡ fault_at InvalidMagic place) }
 {

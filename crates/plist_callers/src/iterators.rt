@@ -1,5 +1,5 @@
-//! Proved callers of the iterators over a dictionary: how many items each reports, and its first
-//! item.
+//! Proved callers of the iterators over a dictionary: how many items each iterator reports, and its
+//! first item.
 
 ghost use Rattle.std.specs.Prelude.{◌≡◌, length, option_map, slice_get, Some};
 ghost use Rattle.std.specs.Map.Iter.{deref};
@@ -9,7 +9,7 @@ ghost use Rattle.plist_pairs.specs.Shown.{shown_key, shown_owned_pair, shown_pai
 
 use plist::{Dictionary, Value};
 
-/// What an iterator reported before its first call, and what that call returned.
+/// The numbers that an iterator reported before its first call, and what that call returned.
 pub struct FirstCall<T> {
     /// The number of remaining items.
     pub left: usize,

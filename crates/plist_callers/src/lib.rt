@@ -1,10 +1,10 @@
-//! Proved callers of the property-list crates: small functions, each proved by nothing but the
-//! clauses of what it calls, so that none of those clauses can be weakened unnoticed.
+//! Proved callers of the property-list crates: small functions, each of which is proved from the
+//! clauses of what it calls alone, so that none of these clauses can be weakened unnoticed.
 //!
-//! From the lowest layer up: `faults`, `texts`, `dates`, `reals`, `hashes`, `events`, `sources`,
-//! `limits`, `data`; the readers `binary`, `ascii` and `either`, and the `writer`; `values` and
-//! their `contents`, what `writers` write of them, dictionaries by `pairs`, `entries` and
-//! `iterators`, and `depths`, the recursions over them; and `archives`.
+//! They are listed from the lowest layer up: `faults`, `texts`, `dates`, `reals`, `hashes`,
+//! `events`, `sources`, `limits`, `data`; the readers `binary`, `ascii` and `either`, and the
+//! `writer`; `values` and their `contents`, what `writers` write of them, dictionaries by `pairs`,
+//! `entries` and `iterators`, and `depths`, the recursions over them; and `archives`.
 #![tactic(auto)]
 
 pub mod archives;

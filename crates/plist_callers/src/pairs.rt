@@ -57,7 +57,7 @@ pub fn set_where_there(pairs: &mut Dictionary, key: String, value: Value) -> Opt
     }
 }
 
-/// Sets a key's value. If memory runs out, the pairs are unchanged, and the error says so.
+/// Sets a key's value. If memory runs out, the pairs are unchanged, and the error is `OutOfMemory`.
 pub fn set_or_fault(pairs: &mut Dictionary, key: String, value: Value) -> Result<(), Error>
     ensures done { OnOk result (IsSetAt (pairs_of pairs.old) (string_bytes key) value
         (pairs_of pairs.new)) }

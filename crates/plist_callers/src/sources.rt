@@ -81,8 +81,8 @@ pub fn read_front<S: Source>(source: S, buf: &mut [u8]) -> (io::Result<usize>, S
     (answer, reader.into_inner())
 }
 
-/// Returns the length of a slice, if a read past its end reports it. Then the bytes from the offset
-/// on are in the buffer.
+/// Returns the length of a slice if a read past its end reports it. Then the buffer begins with the
+/// bytes from the offset on.
 pub fn end_told(bytes: &[u8], place: u64, buf: &mut [u8]) -> Option<u64>
     requires fits { place + length buf.old < 2 ^ 64 }
     requires begins { place ≤ length bytes.now }

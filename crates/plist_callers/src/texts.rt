@@ -31,7 +31,7 @@ pub fn limit(alloc: Global) -> Result<String, AllocError>
     ErrorKind::LimitReached(Limit::Depth).to_string(alloc)
 }
 
-/// Prints an `EventKind` that stands for a choice of two kinds.
+/// Prints an `EventKind` that names a choice of two kinds.
 pub fn choice(alloc: Global) -> Result<String, AllocError>
     ensures { IfOk result (λ text. string_bytes text ≡ codes "value or start collection") }
 {

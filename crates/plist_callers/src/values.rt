@@ -50,7 +50,7 @@ pub fn shallow_file<R: Files>(rt: &R, alloc: Global, path: &str) -> Result<Value
     Value::from_file_with_limits(rt, alloc, path, limits)
 }
 
-/// Returns whether a builder has no value after it has returned one, which is always true.
+/// Returns whether a builder that has returned a value has no other value, which is always true.
 pub fn finishes_once(builder: &mut Builder) -> bool
     ensures { result ≡ true }
 {
@@ -77,7 +77,7 @@ pub fn finish_without_memory(
     }
 }
 
-/// Returns whether an early end of a file is why a value couldn't be stored, which it never is.
+/// Returns whether the error of storing a value is `UnexpectedEof`, which it never is.
 pub fn meets_an_end<R: Files>(rt: &R, alloc: Global, value: &Value, path: &str) -> bool
     ensures { result ≡ false }
 {
@@ -95,7 +95,7 @@ pub fn copy_of(pairs: &Dictionary) -> Result<Dictionary, Error>
     pairs.clone()
 }
 
-/// Returns whether a copy of a value is equal to it, as it always is.
+/// Returns whether a copy of a value is equal to it, which is always true.
 pub fn equals_its_copy(alloc: Global, value: &Value) -> Result<bool, Error>
     ensures equal { IfOk result (λ equal. equal ≡ true) }
 {

@@ -1,5 +1,5 @@
-//! Proved callers of a writer: a new one returns the inner writer that it was given and hasn't
-//! failed; one that ran out of memory for an event has.
+//! Proved callers of a writer: a new one hasn't failed, and returns the inner writer that it was
+//! given; one that ran out of memory for an event has failed.
 
 ghost use Rattle.std.specs.Prelude.{◌≡◌, Err, IfErr, IfSome, ⊤};
 ghost use Rattle.plist_base.specs.Faults.{WriterFailed, error_kind_of, fault_without_offset, kind_of};
@@ -11,7 +11,7 @@ use plist_binwrite::BinaryWriter;
 use std::alloc::Global;
 use std::io::Write;
 
-/// Returns an inner writer, through a writer: it is unchanged.
+/// Returns an inner writer unchanged, through a writer.
 pub fn inner_again<W: Write>(alloc: Global, inner: W) -> W
     ensures { result ≡ inner }
 {
@@ -23,7 +23,7 @@ pub fn inner_again<W: Write>(alloc: Global, inner: W) -> W
 ///
 /// # Errors
 ///
-/// Those of a [`BinaryWriter`] other than `WriterFailed`.
+/// The errors are those of a [`BinaryWriter`] other than `WriterFailed`.
 pub fn begin_with<W: Write + Drop>(alloc: Global, inner: W, event: Event<'_>) -> Result<(), Error>
     ensures { IfErr result (λ error. MatchKind (kind_of (error_kind_of error)) ⊤ ⊤ ⊥) }
 {
@@ -31,8 +31,8 @@ pub fn begin_with<W: Write + Drop>(alloc: Global, inner: W, event: Event<'_>) ->
     writer.write(event)
 }
 
-/// Returns the result of a call after an event for which memory ran out, and the inner writer; or
-/// `None` if there was memory. The writer has failed, and nothing was written.
+/// Returns the result of a further call if memory ran out for an event, and the inner writer; or
+/// `None` if memory didn't run out. The writer has failed then, and nothing was written.
 pub fn next_without_memory<W: Write + Drop>(
     writer: BinaryWriter<W>,
     event: Event<'_>,

@@ -1,5 +1,5 @@
-//! Proved callers of what writers write of a value to a vector: it is a file of the value, as each
-//! writer states, and is read back as the value.
+//! Proved callers of the writers, for a value that is written to a vector: what they write is a
+//! file of the value, and is read back as the value.
 
 ghost use Rattle.std.specs.Prelude.{◌≡◌, IfErr, IfOk};
 ghost use Rattle.plist_base.specs.Faults.{error_kind_of, kind_of};
@@ -36,7 +36,7 @@ pub fn write_back(alloc: Global, value: &Value) -> Result<Value, Error>
 ///
 /// # Errors
 ///
-/// Those of [`BinaryWriter`](plist_binwrite::BinaryWriter).
+/// The errors are those of [`BinaryWriter`](plist_binwrite::BinaryWriter).
 pub fn plain_file(alloc: Global, value: &Value) -> Result<Vec<u8>, Error>
     ensures file { IfOk result (λ file. IsFileOf (tree_of value.now) file.items) }
 {
@@ -48,7 +48,7 @@ pub fn plain_file(alloc: Global, value: &Value) -> Result<Vec<u8>, Error>
 ///
 /// # Errors
 ///
-/// Those of [`SharingWriter`](plist_share::SharingWriter).
+/// The errors are those of [`SharingWriter`](plist_share::SharingWriter).
 pub fn shared_file(alloc: Global, value: &Value) -> Result<Vec<u8>, Error>
     ensures file { IfOk result (λ file. IsSharedFileOf (tree_of value.now) file.items) }
     ensures count { IfOk result (λ f. HasObjects f.items (distinct_subtrees (tree_of value.now))) }

@@ -30,12 +30,12 @@ impl<'a, R: Env> Env for ProgramWords<'a, R> {
     }
 }
 
-/// Returns the arguments after the program's name, or an empty list if one of them isn't UTF-8: the
-/// program accepts no such argument.
+/// Returns the arguments after the program's name, or an empty list if one of them isn't UTF-8,
+/// because no command has such an argument.
 ///
 /// # Errors
 ///
-/// `OutOfMemory`, without an offset.
+/// `OutOfMemory`, without an offset, if an allocation fails.
 pub fn program_arguments<R: Env>(rt: &R, alloc: Global) -> Result<Vec<String>, Error>
     ensures { OnlyMemory result }
 {

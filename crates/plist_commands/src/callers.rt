@@ -25,7 +25,7 @@ use std::io::Write;
 ///
 /// # Errors
 ///
-/// The first fault, or `OutOfMemory`.
+/// The first fault, or `OutOfMemory` if an allocation fails.
 pub fn print_bytes(alloc: Global, bytes: &[u8], out: &mut Vec<u8>) -> Result<(), Error>
     ensures printed { OnOk result
         (PrintsAll (items_of_file bytes.now) (Some out.old.items) (Some out.new.items)) }
@@ -42,7 +42,7 @@ pub fn print_bytes(alloc: Global, bytes: &[u8], out: &mut Vec<u8>) -> Result<(),
 ///
 /// # Errors
 ///
-/// Those of [`convert_binary`].
+/// The errors are those of [`convert_binary`].
 pub fn convert_bytes(alloc: Global, bytes: &[u8], out: &mut Vec<u8>) -> Result<Streamed, Error>
     ensures sent { IfOkIs result Sent (SendsBytes bytes.now out.old.items out.new.items) }
     ensures left { IfOkIs result NeedsValue (LeavesToValue (Some bytes.now) out.old out.new) }

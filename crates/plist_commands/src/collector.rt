@@ -53,7 +53,7 @@ pub(crate) struct Collector {
     pub(crate) pending: EventBuffer,
     /// Whether the collector pauses after each event.
     pub(crate) pauses: bool,
-    // Why the collector wants no more events; unspecified while it does.
+    // The reason why the collector wants no more events. It is unspecified while more are wanted.
     stop: StopReason,
 }
 

@@ -78,8 +78,8 @@ fn hold_any<S: Source>(alloc: Global, source: S, collector: &mut Collector) -> R
     collector.answer(visited)
 }
 
-// Buffers the events of a source, and returns whether they are those of a tree. It drops the
-// source.
+// Buffers the events of a source, and returns whether they are those of a tree. The source is
+// dropped.
 fn hold_source<S: Source>(
     alloc: Global,
     source: S,

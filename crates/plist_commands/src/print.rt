@@ -380,7 +380,7 @@ pub(crate) fn print_source<I: EventSource, W: Write>(
 ///
 /// # Errors
 ///
-/// Those of [`print_events`].
+/// The errors are those of [`print_events`].
 pub fn print_reader<S: Source, W: Write>(
     alloc: Global,
     reader: &mut BinaryReader<S>,

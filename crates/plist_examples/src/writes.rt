@@ -19,8 +19,8 @@ pub(crate) enum Way {
     Whole,
 }
 
-// What is written: the events of these words, or their value. The file is this one, and the device
-// has this fault.
+// What is written, as words and as a value, with the file that it must become, the fault of the
+// device, and the ways in which it is written.
 #[derive(Clone, Copy)]
 pub(crate) struct Sending<'a> {
     pub words: &'a str,
@@ -30,7 +30,7 @@ pub(crate) struct Sending<'a> {
     pub ways: &'a [Way],
 }
 
-// The greatest number of bytes of small forms that are pending.
+// The number of bytes that a writer buffers before it calls the device.
 const ROOM: usize = 65_536;
 
 // An event of each kind.
@@ -191,7 +191,7 @@ fn expect_by<S: Sharing>(
     expect_answer(alloc, sending, &device, answer, call)
 }
 
-// Checks, for each way, whether the device fails at this call.
+// Checks, for each way, whether writing fails at this call.
 fn expect_sent<S: Sharing>(
     alloc: Global,
     sending: Sending<'_>,
@@ -215,8 +215,8 @@ fn is_tried(call: u64, size: usize) -> bool {
     size < 200 || call.saturating_add(1) == size as u64 || call == 65_535 || call == 65_537
 }
 
-// Checks that the whole file is written to a device that accepts one byte per call, and a prefix of
-// it if a call fails. The flush is one more call.
+// Checks that the whole file is written to a device that accepts one byte per call, and that a
+// prefix of it is written if a call fails. The flush is one more call.
 pub(crate) fn expect_file_on_devices<S: Sharing>(
     alloc: Global,
     sending: Sending<'_>,

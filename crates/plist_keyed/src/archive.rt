@@ -49,7 +49,7 @@ fn dictionary_at<'a>(pairs: &'a Dictionary, key: &str) -> Option<&'a Dictionary>
 }
 
 impl<'a> Archive<'a> {
-    /// Opens the archive that a property list is. It allocates nothing.
+    /// Opens an archive, given its property list. It allocates nothing.
     ///
     /// # Errors
     ///

@@ -14,7 +14,8 @@ use std::alloc::Global;
 ///
 /// # Errors
 ///
-/// `OutOfMemory`, without an offset. The pairs are as [`Pairs::extend`] leaves them after an error.
+/// `OutOfMemory`, without an offset, if an allocation fails. The pairs are as [`Pairs::extend`]
+/// leaves them after an error.
 pub fn insert_each<V: Discard>(to: &mut Pairs<V>, all: Vec<(String, V)>) -> Result<(), Error>
     ensures { OnOk result (to.new ≡ insert_all bytes_eq to.old (map shown_owned_pair all.items)) }
 {
@@ -25,7 +26,7 @@ pub fn insert_each<V: Discard>(to: &mut Pairs<V>, all: Vec<(String, V)>) -> Resu
 ///
 /// # Errors
 ///
-/// `OutOfMemory`, without an offset: all pairs are dropped.
+/// `OutOfMemory`, without an offset, if an allocation fails. All pairs are dropped then.
 pub fn of_list<V: Discard>(alloc: Global, all: Vec<(String, V)>) -> Result<Pairs<V>, Error>
     ensures { IfOk result (λ made. made ≡ insert_all bytes_eq [] (map shown_owned_pair all.items)) }
 {

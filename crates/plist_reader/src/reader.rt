@@ -121,8 +121,8 @@ fn begin<R: Source>(
 /// - `XmlUnsupported` if the input is XML. The reader has ended then.
 /// - `Io`, with the offset of the failed read, if a read fails while the reader chooses. The reader
 ///   has ended then.
-/// - After the choice, the errors of the chosen reader. A binary reader has ended after each of its
-///   errors. An ASCII reader without limits continues after an error in its bytes.
+/// - After the choice, the errors are those of the chosen reader. A binary reader has ended after
+///   each of its errors. An ASCII reader without limits continues after an error in its bytes.
 /// - `LimitReached`, without an offset, if a limit of [`Reader::with_limits`] is exceeded. The
 ///   reader has ended then.
 #[derive(Drop)]

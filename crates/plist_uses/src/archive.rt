@@ -13,7 +13,7 @@ use std::alloc::Global;
 ///
 /// # Errors
 ///
-/// Those of [`Archive::open`] and [`Archive::tree`].
+/// The errors are those of [`Archive::open`] and [`Archive::tree`].
 pub fn root_of(alloc: Global, archive: &Value) -> Result<Option<Value>, KeyedError>
     ensures root { IfOk result (λ top. IfSome top (λ root. IsRootOf archive.now (tree_of root))) }
     ensures none { IfOk result (λ top. IfNone top (HasNoRoot archive.now)) }

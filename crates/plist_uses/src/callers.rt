@@ -37,7 +37,8 @@ pub fn text_of<'a>(settings: &'a Settings, name: &str) -> Option<&'a str>
 ///
 /// # Errors
 ///
-/// Those of [`Settings::open`] and [`Settings::save`], and `OutOfMemory`.
+/// The errors are those of [`Settings::open`] and [`Settings::save`], and `OutOfMemory` if an
+/// allocation fails.
 pub fn changed<R: Source>(
     alloc: Global,
     file: R,
@@ -57,7 +58,7 @@ pub fn changed<R: Source>(
 ///
 /// # Errors
 ///
-/// Those of [`convert`].
+/// The errors are those of [`convert`].
 pub fn converted(alloc: Global, bytes: &[u8]) -> Result<Vec<u8>, Error>
     ensures file { IfOk result (λ file. IsFileOfInput bytes.now file.items) }
 {
@@ -70,7 +71,7 @@ pub fn converted(alloc: Global, bytes: &[u8]) -> Result<Vec<u8>, Error>
 ///
 /// # Errors
 ///
-/// Those of [`root_of`].
+/// The errors are those of [`root_of`].
 pub fn root_text(alloc: Global, archive: &Value) -> Result<Option<String>, KeyedError>
     ensures root { IfOk result (λ r. IfSome r (λ t. IsRootText archive.now (string_bytes t))) }
 {
@@ -84,7 +85,7 @@ pub fn root_text(alloc: Global, archive: &Value) -> Result<Option<String>, Keyed
 ///
 /// # Errors
 ///
-/// Those of [`count`].
+/// The errors are those of [`count`].
 pub fn counted(alloc: Global, bytes: &[u8]) -> Result<Counts, Error>
     ensures counts { AreCountedOf (items_of_input bytes.now) result }
 {
@@ -95,7 +96,7 @@ pub fn counted(alloc: Global, bytes: &[u8]) -> Result<Counts, Error>
 ///
 /// # Errors
 ///
-/// Those of [`write_readings`].
+/// The errors are those of [`write_readings`].
 pub fn write_one<W: Writer>(reading: Reading, writer: &mut W) -> Result<(), Error>
     ensures written { OnOk result
         (TakesAll W.Step writer.old (list_events (reading ∷ [])) writer.new) }
@@ -107,7 +108,7 @@ pub fn write_one<W: Writer>(reading: Reading, writer: &mut W) -> Result<(), Erro
 ///
 /// # Errors
 ///
-/// Those of [`read_upload`].
+/// The errors are those of [`read_upload`].
 pub fn uploaded(alloc: Global, bytes: &[u8]) -> Result<Value, Error>
     ensures shallow { IfOk result (λ value. NestsWithin (tree_of value) 64) }
 {

@@ -13,7 +13,7 @@ use std::io::Write;
 ///
 /// # Errors
 ///
-/// Those of [`Value::from_reader`] and of [`Value::to_writer_binary`].
+/// The errors are those of [`Value::from_reader`] and of [`Value::to_writer_binary`].
 pub fn convert<R: Source, W: Write>(
     alloc: Global,
     source: R,

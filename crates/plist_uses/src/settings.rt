@@ -79,7 +79,8 @@ impl Settings {
     ///
     /// # Errors
     ///
-    /// `OutOfMemory`: nothing changes, and the name and the setting are dropped.
+    /// `OutOfMemory` if an allocation fails. Nothing changes then, and the name and the setting are
+    /// dropped.
     pub fn set(&mut self, name: String, setting: Value) -> Result<(), Error>
         ensures done { OnOk result (Sets self.old (string_bytes name) setting self.new) }
         ensures memory { OnlyMemory result }
@@ -93,7 +94,7 @@ impl Settings {
     ///
     /// # Errors
     ///
-    /// Those of [`Value::to_writer_binary`].
+    /// The errors are those of [`Value::to_writer_binary`].
     pub fn save<W: Write>(self, alloc: Global, out: &mut W) -> Result<(), Error>
         ensures sent { SendsTree W.contents (tree_in self) (answer_of result) out.old out.new }
     {

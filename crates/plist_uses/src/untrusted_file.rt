@@ -19,7 +19,7 @@ use std::alloc::Global;
 ///
 /// # Errors
 ///
-/// Those of [`Value::from_reader_within`].
+/// The errors are those of [`Value::from_reader_within`].
 pub fn read_upload(alloc: Global, bytes: &[u8]) -> Result<Value, Error>
     ensures value { IsValueOf (items_of_upload bytes.now) (built_tree result) }
     ensures shallow { IfOk result (λ value. NestsWithin (tree_of value) 64) }

@@ -28,8 +28,8 @@ impl Dictionary {
     ///
     /// # Errors
     ///
-    /// `OutOfMemory`: the pairs before the one that couldn't be stored stay inserted; that pair and
-    /// those after it are dropped.
+    /// `OutOfMemory` if an allocation fails. The pairs before the one that couldn't be stored stay
+    /// inserted then; that pair and those after it are dropped.
     pub fn extend<I: IntoIterator<Item = (String, Value)>>(&mut self, more: I) -> Result<(), Error>
         requires asked { IterableEnds I.into_iter_gives I.IntoIter.can_next I.IntoIter.remaining
             more }
@@ -44,7 +44,7 @@ impl Dictionary {
     ///
     /// # Errors
     ///
-    /// `OutOfMemory`: all pairs are dropped.
+    /// `OutOfMemory` if an allocation fails. All pairs are dropped then.
     pub fn from_pairs<I: IntoIterator<Item = (String, Value)>>(
         alloc: Global,
         pairs: I,
@@ -65,8 +65,8 @@ impl Dictionary {
     ///
     /// # Errors
     ///
-    /// `OutOfMemory`: the pairs are unchanged, since memory is allocated before the first pair
-    /// moves.
+    /// `OutOfMemory` if an allocation fails. The pairs are unchanged then, since memory is
+    /// allocated before the first pair moves.
     pub fn sort_keys(&mut self) -> Result<(), Error>
         ensures sorted { OnOk result (IsSorted (slice_cmp nat_cmp) (keys_of (pairs_of self.new))) }
         ensures pairs { OnOk result (IsPermutation (pairs_of self.old) (pairs_of self.new)) }
@@ -80,7 +80,7 @@ impl Dictionary {
     ///
     /// # Errors
     ///
-    /// `OutOfMemory`.
+    /// `OutOfMemory` if an allocation fails.
     pub fn clone(&self) -> Result<Dictionary, Error>
         ensures copy { IfOk result (λ copy.
             tree_pairs (pairs_of copy) ≡ tree_pairs (pairs_of self.now)) }

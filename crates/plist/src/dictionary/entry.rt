@@ -168,7 +168,7 @@ impl<'a> Entry<'a> {
     ///
     /// # Errors
     ///
-    /// Those of [`VacantEntry::insert`].
+    /// The errors are those of [`VacantEntry::insert`].
     pub fn or_insert(self, value: Value) -> Result<&'a mut Value, (String, Value)>
         ensures value { IfOk result (λ lent. lent.now ≡ unwrap_or (entry_value self.entry) value) }
         ensures absent { OnErr result (entry_value self.entry ≡ None) }
@@ -189,7 +189,7 @@ impl<'a> Entry<'a> {
     ///
     /// # Errors
     ///
-    /// Those of [`VacantEntry::insert`].
+    /// The errors are those of [`VacantEntry::insert`].
     pub fn or_insert_with<F: FnOnce() -> Value>(
         self,
         value: F,

@@ -117,7 +117,7 @@ pub trait AnyEvent: Drop {
     ///
     /// # Errors
     ///
-    /// Those of the builder's `write`.
+    /// The errors are those of the builder's `write`.
     fn write_to(self, builder: &mut Builder) -> Result<(), Error>
         requires { (built_of builder.old).failed ≡ false }
         ensures taken { OnOk result (TakesItem builder.old (Ok (plain self)) builder.new) }

@@ -36,8 +36,8 @@ impl<V> Pairs<V> {
     ///
     /// # Errors
     ///
-    /// `OutOfMemory`, without an offset: the pairs are unchanged, and the key and the value are
-    /// dropped.
+    /// `OutOfMemory`, without an offset, if an allocation fails. The pairs are unchanged then, and
+    /// the key and the value are dropped.
     pub fn set(&mut self, key: String, value: V) -> Result<(), Error>
     where
         V: Discard,
@@ -63,8 +63,8 @@ impl<V> Pairs<V> {
     ///
     /// # Errors
     ///
-    /// `OutOfMemory`, without an offset: the pairs that precede the one that couldn't be stored are
-    /// inserted. That pair and those after it are dropped.
+    /// `OutOfMemory`, without an offset, if an allocation fails. The pairs that precede the one
+    /// that couldn't be stored are inserted then; that pair and those after it are dropped.
     pub fn extend<I: IntoIterator<Item = (String, V)>>(&mut self, more: I) -> Result<(), Error>
     where
         V: Discard,
@@ -85,7 +85,7 @@ impl<V> Pairs<V> {
     ///
     /// # Errors
     ///
-    /// `OutOfMemory`, without an offset: all pairs are dropped.
+    /// `OutOfMemory`, without an offset, if an allocation fails. All pairs are dropped then.
     pub fn from_pairs<I: IntoIterator<Item = (String, V)>>(
         alloc: Global,
         pairs: I,
@@ -112,8 +112,8 @@ impl<V> Pairs<V> {
     ///
     /// # Errors
     ///
-    /// `OutOfMemory`, without an offset: the pairs are unchanged, since all memory is allocated
-    /// before the first pair moves.
+    /// `OutOfMemory`, without an offset, if an allocation fails. The pairs are unchanged then,
+    /// since all memory is allocated before the first pair moves.
     pub fn sort_keys(&mut self) -> Result<(), Error>
     where
         V: Drop,

@@ -49,7 +49,8 @@ impl<V: TryCopy + Discard> Pairs<V> {
     ///
     /// # Errors
     ///
-    /// `OutOfMemory`, without an offset: the copies that were already made are dropped.
+    /// `OutOfMemory`, without an offset, if an allocation fails. The copies that were already made
+    /// are dropped then.
     pub fn clone(&self) -> Result<Pairs<V>, Error>
         ensures copy { IfOk result (λ copy. with_shown V.shown copy ≡ with_shown V.shown self.now) }
         ensures memory { OnlyMemory result }
