@@ -43,7 +43,7 @@ child_of bytes bounds object index =
 module _ (known : Option (List ℕ)) (bounds : Bounds) (old mid : Walk) (object index : ℕ)
     (h : object < walk_objects mid) (none : unmarked (get_or mid.tags.items object 0) ≡ 0)
     (taken : IfSome known (λ bytes. ChildTaken bytes bounds old (Child object index) mid)) where
-  -- the number that was read is that of the child
+  -- if the bytes are known, the number that was read is that of the child, or the read failed
   pub child_read : (answer : Result ℕ Error)
       → ReadsChildAt answer known bounds (get_or mid.contents.items object 0) index
       → IfSome known (λ bytes. ChildTaken bytes bounds old (Child object index) mid
@@ -57,7 +57,7 @@ module _ (known : Option (List ℕ)) (bounds : Bounds) (old mid : Walk) (object 
       none ∙ ap place_at there in
       (taken, rw there ((rw place at (reads k.within)) (rw there at taken.0.1))))
 
-  -- a read of the reference failed
+  -- if the read of the reference failed, its error is possible in place of the next item
   pub child_failed : (e : Error)
       → ReadsChildAt (Err e) known bounds (get_or mid.contents.items object 0) index
       → IfSome known (λ bytes. Explains (until_fault (remaining_in bytes bounds old)) e)
@@ -65,11 +65,11 @@ module _ (known : Option (List ℕ)) (bounds : Bounds) (old mid : Walk) (object 
       MatchFault-weaker (kind_of (error_kind_of e)) (λ _. child.0.0.2) (λ none. absurd none)
       (λ none. absurd none) child.1)
 
-  -- the child is entered, where the source is read no more
+  -- the child is entered, and the known bytes are unchanged since its reference was read
   module _ (now : Option (List ℕ)) (same : now ≡ known) (number : ℕ)
       (reads : ReadsChildAt (Ok number) known bounds (get_or mid.contents.items object 0) index)
     where
-      -- the items of the child come first
+      -- the items of the child are the first of those that remain
       child_first : IfSome known (λ bytes. remaining_in bytes bounds old
           ≡ remaining_entering bytes bounds mid (get_or mid.contents.items object 0) number)
       child_first = IfSome_then known (child_read (Ok number) reads) (λ bytes child.
@@ -87,7 +87,7 @@ module _ (known : Option (List ℕ)) (bounds : Bounds) (old mid : Walk) (object 
       child_yields answer current new yields = IfSome-both known child_first (rw same at yields)
           (λ bytes first yields. rw first yields)
 
-      -- and it is cached if it is small
+      -- the child is cached if its event is that of a small scalar
       pub child_kept : (answer : Result Flow Error) (current : PlainEvent) (tags : List ℕ)
           → IfSome now (λ bytes. IsCurrentCached (Some number) (Some answer) current tags)
           → IfSome known (λ bytes. IsCurrentCached

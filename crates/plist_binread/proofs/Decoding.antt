@@ -44,7 +44,7 @@ use Rattle.plist_binread.proofs.FaultOffsets.{counts_at, from_fault}
 use Rattle.plist_binread.proofs.UnknownBytes.{IfSome-all}
 use Rattle.plist_binread.proofs.ObjectFronts.{known_front, object_front}
 
--- ---- what is wrong
+-- ---- faults
 
 by_kind : (kind : FaultKind) (place : ℕ) (e : Error) → fault_of e ≡ fault_at kind place
     → MatchFault kind ⊥ ⊥ ⊤ → MatchReader kind ⊥ ⊥ ⊤
@@ -56,7 +56,8 @@ by_kind kind place e is inside reader = (
   λ count. counts_at e kind place count count is inside refl,
 )
 
--- the error of an object's fault at its place
+-- the error that reports an object's fault is the error of the object, with an offset, and leaves
+-- the count of failures unchanged
 pub fault_there : (f : ObjectFault) (kind : FaultKind) (place : ℕ) (e : Error)
     → (f ≡ fault.NoMemory → ⊥) → kind ≡ kind_of_object_fault f → fault_of e ≡ fault_at kind place
     → ((object : Object) → IsObjectFault object f → IsRefusedAs object place e)
@@ -79,9 +80,9 @@ fault_there fault.NotUtf8 kind place e other same is =
 fault_there fault.NotUtf16 kind place e other same is =
     by_kind faults.InvalidUtf16String place e (is ∙ ap (λ k. fault_at k place) same) tt tt
 
--- ---- a text or data
+-- ---- strings and data
 
--- of which only the length was looked at
+-- strings and data of which only the length was read
 pub long_decoded : (kind : ContentKind) (low count first : ℕ) (rest behind more : List ℕ)
     → length_in low (rest ++ more) ≡ Some (count, behind ++ more)
     → count * unit_size kind ≤ length (behind ++ more) → length behind ≤ length rest
@@ -99,7 +100,7 @@ long_decoded kind low count first rest behind more is fits short lies long =
       long,
     )
 
--- few bytes of data
+-- data of at most eight bytes
 pub small_data : (low count content first : ℕ) (rest behind bytes more : List ℕ)
     → length_in low (rest ++ more) ≡ Some (count, behind ++ more) → count ≤ length behind → count ≤ 8
     → bytes ≡ take count behind → take (length bytes) (content_bytes content) ≡ bytes
@@ -115,7 +116,7 @@ small_data low count content first rest behind bytes more is seen small cut pack
       small,
     )
 
--- few bytes of a text, whatever they mean
+-- strings and data whose content is among the bytes that were read
 pub few_bytes : (kind : ContentKind) (low count size first : ℕ) (rest behind bytes more : List ℕ)
     (answer : Decoded)
     → length_in low (rest ++ more) ≡ Some (count, behind ++ more) → size ≡ count * unit_size kind
@@ -130,9 +131,9 @@ few_bytes kind low count size first rest behind bytes more answer is same seen c
     subst (λ object. IsDecodedAs (first ∷ (rest ++ more)) object answer) (sym e)
     (means (first ∷ (rest ++ more)))
 
--- ---- what is seen of an object
+-- ---- the bytes that were read of an object
 
--- its marker and what lies after it
+-- the bytes that were read are a marker and the bytes after it
 pub seen_after : (w m to_trailer : ℕ) (seen rest : List ℕ) (answer : Decoded)
     → seen ≡ m ∷ rest → DecodesAfter (to_trailer - 1) (object_with w m) rest answer
     → DecodesSeen to_trailer (object_in w) seen answer
@@ -145,7 +146,7 @@ seen_after w m to_trailer seen rest answer is means = λ more whole.
     (subst (λ all. IsDecodedAs all (object_with w m (rest ++ more)) answer) (sym e)
     (means m more n))
 
--- over known bytes
+-- if the bytes are known, the object at the offset is the one that was decoded
 seen_answers : (known : Option (List ℕ)) (bounds : Bounds) (place : ℕ) (seen : List ℕ)
     (answer : Decoded)
     → place + length seen ≤ bounds.trailer → IfSome known (λ bytes. LiesAt bytes place seen)
@@ -160,7 +161,7 @@ seen_answers known bounds place seen answer buffered is means = IfSome_then know
     subst (λ all. IsDecodedAs all (object_in bounds.reference_width all) answer) (sym cut.1)
     (means cut.0 to_trailer))
 
--- it was read
+-- a decoded object is one that was decoded or couldn't be read
 read_as : (all : List ℕ) (object : Object) (place : ℕ) (d : Decoded) (slot : FaultSlot)
     → IsDecodedAs all object d → IsDecodedOrUnread all object place d slot
 read_as all object place (decoded.Small kind content) slot is = is
@@ -180,7 +181,7 @@ seen_decodes known bounds place seen answer slot buffered is means =
     IfSome_then known (seen_answers known bounds place seen answer buffered is means)
     (λ bytes there fits. read_as _ _ place answer slot (there fits))
 
--- whatever the bytes are
+-- what was decoded ends before the trailer, whatever the bytes are
 decoded_fits : (trailer place : ℕ) (all : List ℕ) (object : Object) (d : Decoded)
     → place + length all ≤ trailer → IsDecodedAs all object d → FitsBefore trailer place d
 decoded_fits trailer place all object (decoded.Small kind content) h is = is.3
@@ -192,7 +193,7 @@ decoded_fits trailer place all object (decoded.Dictionary count) h is = omega (a
 decoded_fits trailer place all object (decoded.Faulty fault) h is = tt
 decoded_fits trailer place all object decoded.Unread h is = is
 
--- an answer for bytes that are seen
+-- some bytes before the trailer decode to this result
 pub seen_as : (bounds : Bounds) (place : ℕ) (seen : List ℕ) (answer : Decoded)
     → place + length seen ≤ bounds.trailer
     → DecodesSeen (bounds.trailer - place) (object_in bounds.reference_width) seen answer
@@ -213,7 +214,7 @@ seen_fits bounds place seen answer h means =
     let a = seen_as bounds place seen answer h means in
     decoded_fits bounds.trailer place a.0 _ answer a.1 a.2
 
--- and they were read
+-- an object that was decoded isn't unread
 read_all : (all : List ℕ) (object : Object) (d : Decoded) → IsDecodedAs all object d
     → is_unread d ≡ false
 read_all all object (decoded.Small kind content) is = refl
@@ -313,7 +314,7 @@ collection-named (Dictionary pairs) start count h = ap Some (sym h.0)
 collection-named (Scalar scalar) start count h = absurd h
 collection-named (Faulty kind) start count h = absurd h
 
--- of a small scalar that is unpacked
+-- the event of a small scalar that is unpacked
 pub small-named : (all : List ℕ) (object : Object) (kind : PackedKind) (content : ℕ)
     (current : PlainEvent) → scalar_event (unpacked kind content) ≡ Some current
     → IsDecodedAs all object (decoded.Small kind content) → event_of_object object ≡ Some current
@@ -325,7 +326,7 @@ grows-small (trees.String text) h = tt
 grows-small (trees.Data bytes) h = tt
 grows-small scalar h = absurd h
 
--- a small object is refused where allocation fails
+-- `OutOfMemory` is the error of a small scalar that may need memory
 pub small-refused : (all : List ℕ) (object : Object) (place : ℕ) (kind : PackedKind) (content : ℕ)
     (e : Error) → fault_of e ≡ fault_without_offset OutOfMemory → MayAllocate (unpacked kind content)
     → IsDecodedAs all object (decoded.Small kind content) → IsRefusedAs object place e
@@ -342,7 +343,7 @@ long_bytes content_kind.Data count bytes is h = omega (arith, is, h)
 long_bytes content_kind.Text count bytes is h = omega (arith, is, h)
 long_bytes content_kind.WideText count bytes is h = tt
 
--- one that is lent
+-- the event of a content that is borrowed
 pub lent_sets : {A : Type 0} (known : Option (List ℕ)) (kind : ContentKind) (start size place : ℕ)
     (buffered : List ℕ) (answer : Result A Error) (current : PlainEvent)
     → IfSome known (λ bytes. LiesAt bytes start buffered) → size ≤ length buffered
@@ -355,7 +356,7 @@ lent_sets known kind start size place buffered answer current is h sets =
     ap (take size) is ∙ take-take size (length buffered) (drop start bytes) h in
     subst (λ xs. SetsEvent (content_means kind xs) place answer current) e sets)
 
--- one that is read
+-- the event of a content that is read
 pub read_sets : (known : Option (List ℕ)) (kind : ContentKind) (start size : ℕ)
     (event current : PlainEvent) → current ≡ event
     → IfSome known (λ bytes. start + size ≤ length bytes
@@ -365,7 +366,7 @@ pub read_sets : (known : Option (List ℕ)) (kind : ContentKind) (start size : �
 read_sets known kind start size event current same read = IfSome_then known read (λ bytes read fits.
     scalar_event-named _ _ (read fits) ∙ ap Some (sym same))
 
--- that of the object at a place
+-- a content's event is the event of the object that has this content
 pub long_sets : {A : Type 0} (known : Option (List ℕ)) (bounds : Bounds) (place : ℕ)
     (content : Content) (answer : Result A Error) (current : PlainEvent)
     → place + content.start + content_size content ≤ bounds.trailer
@@ -383,7 +384,7 @@ long_sets known bounds place content answer current lies sets =
     subst (λ object. SetsEvent object place answer current) (sym there)
     (sets (omega (arith, lies, fits))))
 
--- ---- a text or data that isn't small
+-- ---- strings and data that aren't small
 
 pub large_data : (bytes : List ℕ) (current : PlainEvent) → 8 < length bytes
     → event_of_object (data_of_content bytes) ≡ Some current → is_small_event current ≡ false
@@ -409,14 +410,14 @@ pub large_on : {A : Type 0} (answer : Result A Error) (object : Object) (place :
 large_on (Ok value) object place current sets large = large sets
 large_on (Err error) object place current sets large = tt
 
--- what isn't small is of no small object
+-- if the event isn't that of a small scalar, the object need not have been decoded as one
 pub large_unlike : {A E : Type 0} (answer : Result A E) (d : Decoded) (current : PlainEvent)
     → OnOk answer (is_small_event current ≡ false)
     → OnOk answer (is_small_event current ≡ true → small_count d ≡ 1)
 large_unlike (Ok value) d current large = λ small. absurd (false≢true (sym large ∙ small))
 large_unlike (Err error) d current large = tt
 
--- an object that was cached, if its event is small
+-- if the event is that of a small scalar, the object is cached
 pub cached_if : {A : Type 0} (known : Option (List ℕ)) (number : ℕ) (answer : Result A StepError)
     (slot : FaultSlot) (current : PlainEvent) (d : Decoded) (tags : List ℕ)
     → OnOk answer (is_small_event current ≡ true → small_count d ≡ 1)
@@ -426,7 +427,7 @@ cached_if known number (Ok value) slot current d tags small caches =
     IfSome-all known (λ _ is. caches (small is))
 cached_if known number (Err error) slot current d tags small caches = IfSome-all known (λ _. tt)
 
--- the event of what was decoded, whatever the bytes are
+-- a statement about the event, for all bytes that decode to this result, is true of the known ones
 pub sets_all : {A : Type 0} (known : Option (List ℕ)) (bounds : Bounds) (place : ℕ) (d : Decoded)
     (answer : Result A Error) (current : PlainEvent)
     → ((all : List ℕ) (object : Object) → IsDecodedAs all object d
@@ -434,7 +435,7 @@ pub sets_all : {A : Type 0} (known : Option (List ℕ)) (bounds : Bounds) (place
 sets_all None bounds place d answer current h = tt
 sets_all (Some bytes) bounds place d answer current h = λ fits is. h _ _ is
 
--- a content of few bytes is seen whole
+-- if the content is short, all of its bytes are among those that were read
 pub content_enough : (size to_trailer rest behind : ℕ) → (rest < 25 → to_trailer ≤ rest)
     → rest - behind + size ≤ to_trailer → behind ≤ rest → rest ≤ behind + 9 → size ≤ 16 → size ≤ behind
 content_enough size to_trailer rest behind shown within short near few = elim (cases_lt rest 25) [
@@ -449,7 +450,7 @@ pub large_on_slot : {A : Type 0} (answer : Result A StepError) (slot : FaultSlot
 large_on_slot (Ok value) slot object place current sets large = large sets
 large_on_slot (Err refused) slot object place current sets large = tt
 
--- the text of units
+-- the string of UTF-16 units without an unpaired surrogate
 pub units_text : (units bytes : List ℕ) → has_unpaired_surrogate units ≡ false
     → bytes ≡ encode_utf8_all (utf16_lossy_chars units)
     → text_of_units units ≡ Scalar (trees.String bytes)

@@ -12,28 +12,28 @@ place_wider : (offset : Option ℕ) (s e s' e' : ℕ) → s' ≤ s → e ≤ e' 
 place_wider None s e s' e' low high h = absurd h
 place_wider (Some place) s e s' e' low high h = (omega arith, omega arith)
 
--- what follows for the fault of a read
+-- the fact for the error of a read can be replaced by one that follows from it
 MatchGiven-read : (kind : FaultKind) {A A' : Type 0} (B C D : Type 0) → (A → A')
     → MatchGiven kind A B C D → MatchGiven kind A' B C D
 MatchGiven-read UnexpectedEof B C D f h = f h
 MatchGiven-read Io B C D f h = f h
 MatchGiven-read kind B C D f h = h
 
--- a smaller range
+-- an error in a range is in each range that contains it
 pub from_within : (fault : Fault) (p q s e : ℕ) → FailsWithin p q fault → s ≤ p → q ≤ e
     → FailsWithin s e fault
 from_within fault p q s e h low high = record {
   placed = MatchGiven-read fault.kind _ _ _ (place_wider fault.offset p q s e low high) h.placed;
 }
 
--- the fault of a read is one of a reader's
+-- the fact for the error of a read is enough for such an error
 MatchGiven-from_read : (kind : FaultKind) {A : Type 0} (B C D : Type 0) → IsReadFault kind → A
     → MatchGiven kind A B C D
 MatchGiven-from_read UnexpectedEof B C D h a = a
 MatchGiven-from_read Io B C D h a = a
 MatchGiven-from_read kind B C D h a = absurd h
 
--- a read within the range
+-- the error of a read within the range is in the range
 pub from_reading : (fault : Fault) (p n s e : ℕ) → FailsReading p n fault → s ≤ p → p + n ≤ e
     → FailsWithin s e fault
 from_reading fault p n s e h low high = record {
@@ -41,7 +41,7 @@ from_reading fault p n s e h low high = record {
       (place_wider fault.offset p (p + n) s e low high h.at);
 }
 
--- a fault of the bytes, which has a place
+-- an error in the bytes has an offset
 pub from_fault : (fault : Fault) (kind : FaultKind) (place s e : ℕ) → fault ≡ fault_at kind place
     → MatchReader kind ⊥ ⊥ ⊤ → FailsWithin s e fault
 from_fault fault kind place s e is other = rw is (record { placed = by kind _ _ _ other })
@@ -53,7 +53,7 @@ from_fault fault kind place s e is other = rw is (record { placed = by kind _ _ 
     by (LimitReached limit) A B D h = absurd h
     by kind A B D h = h
 
--- nor was memory wanted
+-- an error that is neither `Io` nor `OutOfMemory` leaves the count of failures unchanged
 pub counts_fault : (error : Error) (old new : ℕ)
     → MatchFault (kind_of (error_kind_of error)) ⊥ ⊥ ⊤ → new ≡ old → CountsIo error old new
 counts_fault error old new other same =
@@ -67,14 +67,14 @@ counts_at error kind place old new is other same =
     counts_fault error old new
     (MatchFault-at _ kind _ _ _ (ap (λ (f : Fault). f.kind) is) other) same
 
--- ---- the same of an answer
+-- ---- results
 
 pub err_within : {A : Type 0} (answer : Result A Error) (p q s e : ℕ) → ErrWithin p q answer
     → s ≤ p → q ≤ e → ErrWithin s e answer
 err_within (Ok value) p q s e within low high = tt
 err_within (Err error) p q s e within low high = from_within _ p q s e within low high
 
--- the error that a `?` returns
+-- the result is the error that `?` returns
 pub passed : {A E : Type 0} (answer : Result A E) {error : E} → IsErrAnd answer (λ e. e ≡ error)
     → answer ≡ Err error
 passed (Ok value) h = absurd h

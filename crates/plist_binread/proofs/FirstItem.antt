@@ -32,7 +32,7 @@ use Rattle.std.proofs.lemmas.Option.{IfSome_then}
 use Rattle.plist_binread.proofs.UnknownBytes.{IfSome-all, IfSome-both}
 use Rattle.std.proofs.lemmas.List.{nil_from_length}
 
--- memory is wanted only where some items remain
+-- if the first item may need memory, some items remain
 remaining_if_wanted : (items : List Item) → AllocatesFirst items → SomeRemain items
 remaining_if_wanted [] h = absurd h
 remaining_if_wanted (item ∷ items) h = omega arith
@@ -42,7 +42,7 @@ remaining_alone : (object : Object) (place : ℕ) (child : ℕ → List Item)
 remaining_alone object place child =
     rw (← append-nil (items_of place object child)) (remaining_at object place child [])
 
--- what a reference finds begins with an item
+-- the items of a reference begin with some item
 unfolding_remaining : (before places : List ℕ) (width at i : ℕ)
     → SomeRemain (until_fault (unfolding_of (table_of before width places) (length places) [] at i))
 unfolding_remaining before [] width at i =
@@ -55,7 +55,7 @@ unfolding_remaining before (p ∷ places) width at i = elim (cases_lt i (length 
       (slice_get-beyond before (p ∷ places) width i high)) (omega arith)
 ]
 
--- and so does a file
+-- a file has some item
 remaining_with : (bytes : List ℕ) (head : Result Head Fault) → SomeRemain (items_with bytes head)
 remaining_with bytes (Err fault) = omega arith
 remaining_with bytes (Ok head) =
@@ -65,7 +65,7 @@ remaining_file : (bytes : List ℕ) → SomeRemain (items_of_file bytes)
 unfolding items_of_file
 remaining_file bytes = remaining_with _ _
 
--- the fault of a head is the file's one item
+-- if the head has a fault, this is the only item of the file
 file_refused : (bytes : List ℕ) (fault : Fault) → head_of bytes ≡ Err fault
     → items_of_file bytes ≡ Err fault ∷ []
 unfolding items_of_file
@@ -80,7 +80,7 @@ module _ (bytes : List ℕ) (head : code.Head) (bounds : Bounds)
   unfolding items_of_file
   file_walked = rw (is, trailer, width) refl
 
-  -- what is known once the head was read
+  -- after the head was read, the walk stores the offset of each object
   known_first : (tags : List ℕ) (n : ℕ) → tags ≡ replicate n 0 → n ≡ length head.places.items
       → head.trailer ≤ length bytes → MatchesFile bytes bounds tags head.places.items []
   known_first tags n zeros count within = record {
@@ -99,7 +99,7 @@ module _ (bytes : List ℕ) (head : code.Head) (bounds : Bounds)
           let there = found bytes bounds number (rw is less) in
           rw (zeros, get_or-zeros n number, there, is) refl
 
--- the answer to the first call
+-- the result of the first step
 abbrev pub Begins : List ℕ → Result Flow Error → PlainEvent → List Item → Type 0
 Begins bytes answer current after = MatchResult answer
     (λ _. items_of_file bytes ≡ Ok current ∷ until_fault after) (RefusesFirst bytes)
@@ -159,7 +159,7 @@ known_begun known now head bounds tags fs gs answer current same len count trail
     (unfolding_of (entries_of bytes bounds) (length head.places.items) [] head.trailer
     head.root)))) yields)
 
--- ---- how many objects there are
+-- ---- the number of objects
 
 pub known_counted : (known : Option (List ℕ)) (head : code.Head)
     (answer : Result Flow StepError) (slot : FaultSlot) (walk : Walk)
@@ -172,7 +172,7 @@ known_counted known head (Err refused) slot walk count read = IfSome_then known 
     MatchFault-all (kind_of (error_kind_of slot.fault)) tt tt
     (count ∙ sym (ap (λ head. length (places_with head)) is)))
 
--- a head that isn't read counts none
+-- if the head isn't read, the reader counts no objects
 pub known_uncounted : (known : Option (List ℕ)) (e : Error) (count : ℕ) → count ≡ 0
     → IfSome known (λ bytes. MatchFault (kind_of (error_kind_of e)) ⊤ ⊤
     (head_of bytes ≡ Err (fault_of e)))

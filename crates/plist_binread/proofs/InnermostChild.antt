@@ -12,7 +12,7 @@ use Rattle.plist_binread.specs.Remaining.{path_of, MarksOpenPath, MatchesFile, c
 use Rattle.std.proofs.lemmas.List.{drop_all, get_or_default}
 use Rattle.plist_binread.proofs.WalkInvariant.{known_with}
 
--- the frame with another number of its next child
+-- the frame with this number as the index of its next child
 abbrev pub with_next : Frame → ℕ → Frame
 with_next f n = record { object = f.object; next = n; count = f.count }
 
@@ -47,7 +47,7 @@ module _ (bytes tags contents : List ℕ) (bounds : Bounds) (f : Frame) (fs : Li
   abbrev children : List ℕ
   children = children_at (slice_get table f.object)
 
-  -- its next child
+  -- if a child is left, its items are the first of those that remain
   pub child_remaining : f.next < f.count
       → ((remaining_items table (f ∷ fs) ≡ unfolding_of table (length table - length (after f ∷ fs))
       (path_of (after f ∷ fs)) (place_at (slice_get table f.object)) (get_or children f.next 0)
@@ -70,7 +70,7 @@ module _ (bytes tags contents : List ℕ) (bounds : Bounds) (f : Frame) (fs : Li
         (k.counts.0, k.counts.1),
   )
 
-  -- or its end
+  -- if no child is left, the end is the first item that remains
   pub closed_remaining : (new : List ℕ) → f.count ≤ f.next → MarkChanged f.object false tags new
       → (remaining_items table (f ∷ fs) ≡ Ok EndCollection ∷ remaining_items table fs)
       × MatchesFile bytes bounds new contents fs

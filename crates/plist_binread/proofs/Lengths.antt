@@ -9,7 +9,7 @@ use Rattle.plist_binread.proofs.Extents.{leb_short, length_beyond}
 
 -- ---- the length
 
--- a slice from a place on is all that lies there
+-- all bytes from an offset on
 pub tail_whole : (w : ℕ) (xs : List ℕ) → take (length xs - w) (drop w xs) ≡ drop w xs
 tail_whole w xs = take_all (length xs - w) (drop w xs) (omega (arith, length-drop w xs))
 
@@ -29,7 +29,7 @@ module _ (m byte w : ℕ) (rest behind : List ℕ) (beyond : 15 ≤ m % 16) (is 
         cut,
       ) refl
 
-  -- it isn't all there
+  -- if the number of the length is cut off, the object has no length
   pub length_cut : w ≤ 8 → length behind < w → (length rest < 9) × (length_in m rest ≡ None)
   length_cut small short = (
     omega (arith, ap length is),
@@ -43,7 +43,7 @@ lies_behind byte w rest behind tail is h cut =
     (arith, ap length is, length-drop w behind) in
     rw (cut, n, is) refl
 
--- ---- what lies after it
+-- ---- what follows the length
 
 module _ (m size left count : ℕ) (rest behind more : List ℕ)
     (is : length_in m (rest ++ more) ≡ Some (count, behind ++ more))
@@ -54,28 +54,28 @@ module _ (m size left count : ℕ) (rest behind more : List ℕ)
       × (count * size ≤ length (behind ++ more))
   count_there fits = (is, omega arith)
 
-  -- or it doesn't
+  -- the content doesn't end before the trailer
   pub count_cut : left < count * size → (meaning : ℕ → List ℕ → Object)
       → meaning_counted size meaning (length_in m (rest ++ more)) ≡ Faulty ObjectOffsetTooLarge
   count_cut cut meaning =
       let short : length (behind ++ more) < count * size = omega arith in
       rw (is, leb_short (count * size) (length (behind ++ more)) short) refl
 
--- this many bytes lie between the length and the trailer
+-- the number of bytes between the length and the trailer
 pub length_left : (to_trailer : ℕ) (rest behind more : List ℕ) → length (rest ++ more) ≡ to_trailer
     → length behind ≤ length rest
     → length (behind ++ more) ≡ to_trailer - (length rest - length behind)
 length_left to_trailer rest behind more whole short =
     omega (arith, length-append rest more, length-append behind more)
 
--- nothing lies after bytes that reach so far
+-- if the bytes reach up to the trailer, no bytes follow them
 pub nothing_more : (to_trailer : ℕ) (seen more : List ℕ) → length (seen ++ more) ≡ to_trailer
     → to_trailer ≤ length seen → seen ++ more ≡ seen
 nothing_more to_trailer seen [] whole far = append-nil seen
 nothing_more to_trailer seen (x ∷ more) whole far =
     absurd (omega (arith, length-append seen (x ∷ more)))
 
--- a length that isn't there
+-- if the length is cut off, the object doesn't end before the trailer
 pub count_none : (m size to_trailer : ℕ) (rest more : List ℕ) → length (rest ++ more) ≡ to_trailer
     → (length rest < 16 → to_trailer ≤ length rest) → (length rest < 9) × (length_in m rest ≡ None)
     → (meaning : ℕ → List ℕ → Object)
@@ -83,7 +83,7 @@ pub count_none : (m size to_trailer : ℕ) (rest more : List ℕ) → length (re
 count_none m size to_trailer rest more whole far cut meaning =
     rw (nothing_more to_trailer rest more whole (far (omega (arith, cut.0))), cut.1) refl
 
--- a content that is all seen
+-- if all bytes of the content are among these, they are its meaning
 pub content_seen : (m size count : ℕ) (rest behind more : List ℕ)
     → length_in m (rest ++ more) ≡ Some (count, behind ++ more) → count * size ≤ length behind
     → (meaning : List ℕ → Object) → meaning_counted size (λ _. meaning) (length_in m (rest ++ more))

@@ -10,7 +10,7 @@ use Rattle.std.proofs.lemmas.Option.{IfSome_then}
 use Rattle.plist_binread.proofs.UnknownBytes.{IfSome-both}
 use Rattle.plist_binread.specs.Reading.{AreFirstNumbers}
 
--- what lies within the front of a list lies in the list
+-- a slice within the front of a list is a slice of the list
 pub take-drop-take : (a k m : ℕ) (xs : List ℕ) → a + k ≤ m
     → take k (drop a (take m xs)) ≡ take k (drop a xs)
 take-drop-take a k m xs h =
@@ -26,7 +26,7 @@ window xs p w n k h =
     let fits : k * w + w ≤ n * w = omega arith in
     cc (take-drop-take (k * w) w (n * w) (drop p xs) fits, drop-drop (k * w) p xs)
 
--- numbers read one by one are those of the bytes in which they stand
+-- the numbers that are read one by one are those that the bytes encode
 pub numbers_of-reads : (xs : List ℕ) (p w n : ℕ) → 0 < w → p + n * w ≤ length xs
     → map (λ k. number_at xs (p + k * w) w) (range_with_len 0 n)
     ≡ numbers_spelled w (take (n * w) (drop p xs))
@@ -58,14 +58,14 @@ numbers_more known numbers now p w x is next so_far =
     ∙ sym (map-range_with_len_more f 0 j j (zero-add j))
     ∙ ap (λ k. map f (range_with_len 0 k)) (sym n))
 
--- a number that is at hand
+-- a number that is buffered
 pub known_at_hand : (known : Option (List ℕ)) (outcome : List ℕ) (place w n : ℕ) → w ≤ length outcome
     → n ≡ number_of (take w outcome) → IfSome known (λ bytes. LiesAt bytes place outcome)
     → IfSome known (λ bytes. n ≡ number_at bytes place w)
 known_at_hand known outcome place w n enough number is = IfSome_then _ is (λ bytes is.
     number ∙ ap number_of (ap (take w) is ∙ take-take w _ (drop place bytes) enough))
 
--- all of them
+-- all numbers
 pub numbers_whole : (known : Option (List ℕ)) (xs : List ℕ) (p w i n : ℕ) → 0 < w → i ≡ n
     → IfSome known (λ bytes. xs ≡ map (λ k. number_at bytes (p + k * w) w) (range_with_len 0 i))
     → IfSome known (λ bytes. p + n * w ≤ length bytes
@@ -74,14 +74,14 @@ numbers_whole known xs p w i n pos end all =
     let all' = rw end at all in
     IfSome_then known all' (λ bytes all fits. all ∙ numbers_of-reads _ p w n pos fits)
 
--- each of them lies among them all
+-- the bytes of a number end before those of all numbers do
 pub number_within : (w i n : ℕ) → i < n → i * w + w ≤ n * w
 number_within w i n h =
     let le : suc i * w ≤ n * w = mul-le-mul_right w (let s : suc i ≤ n = omega arith in s) in
     let e : suc i * w ≡ i * w + w = omega arith in
     omega arith
 
--- the next one, in what is at hand after them
+-- the next number among the buffered bytes
 pub numbers_at_hand : (known : Option (List ℕ)) (seen numbers : List ℕ) (p w read i x : ℕ)
     → i * w + w ≤ length seen → length numbers ≡ read + i
     → x ≡ number_of (take w (drop (i * w) seen))

@@ -27,7 +27,7 @@ use Rattle.plist_binread.proofs.WalkInvariant.{IsPlaceIn, entry_of, entry_there,
 use Rattle.std.proofs.lemmas.Option.{IfSome_then}
 use Rattle.plist_binread.proofs.UnknownBytes.{IfSome-both, IfSome-three}
 
--- the object of a number is what was decoded at its place
+-- the object of this number, which lies at `place`, was decoded as `d`
 pub record IsDecodedAt (bytes : List ℕ) (bounds : Bounds) (number place : ℕ) (d : Decoded) : Type 0
   where
     pub entry : slice_get (entries_of bytes bounds) number ≡ Some (entry_of bytes bounds number)
@@ -36,7 +36,7 @@ pub record IsDecodedAt (bytes : List ℕ) (bounds : Bounds) (number place : ℕ)
     pub within : bounds.trailer ≤ length bytes
     pub decoded : IsDecodedAs (bytes_at bounds place bytes) (object_at bounds place bytes) d
 
--- what was read is decoded
+-- an object that isn't unread was decoded
 was_read : (all : List ℕ) (object : Object) (place : ℕ) (d : Decoded) (slot : FaultSlot)
     → is_unread d ≡ false → IsDecodedOrUnread all object place d slot → IsDecodedAs all object d
 was_read all object place (decoded.Small kind content) slot read is = is
@@ -54,7 +54,7 @@ pub known_read : (known : Option (List ℕ)) (bounds : Bounds) (place : ℕ) (d 
 known_read known bounds place d slot read decodes = IfSome_then known decodes (λ bytes decodes fits.
     was_read _ _ place d slot read (decodes fits))
 
--- what wasn't is refused
+-- if the object's bytes couldn't be read, the error is possible for the object
 pub known_unread : (known : Option (List ℕ)) (bounds : Bounds) (place : ℕ) (d : Decoded)
     (slot : FaultSlot) → is_unread d ≡ true → DecodesAt known bounds place d slot
     → IfSome known (λ bytes. bounds.trailer ≤ length bytes
@@ -67,7 +67,7 @@ known_unread known bounds place d slot unread decodes = IfSome_then known decode
     by decoded.Unread all object unread is = is
     by other all object unread is = absurd (false≢true unread)
 
--- the same of the answer with the error that is kept
+-- what is true after `Ok` is true of the result with the error that the slot stores
 pub on_answer : {A : Type 0} (P : Type 0) (answer : Result A StepError) (slot : FaultSlot)
     → OnOk answer P
     → OnOk (answer_in answer slot) P
@@ -76,7 +76,7 @@ on_answer P (Err refused) slot h = tt
 
 module _ (known : Option (List ℕ)) (bounds : Bounds) (walk : Walk) (number : ℕ)
     (k : IsKnownWalk known bounds walk) (h : number < walk_objects walk) where
-  -- a scalar that is cached
+  -- the event of a scalar that is cached is the first item that remains
   pub known_unpacked : (at : ℕ) (current : PlainEvent)
       → is_marked (get_or walk.tags.items number 0) ≡ false
       → 0 < unmarked (get_or walk.tags.items number 0)
@@ -89,7 +89,7 @@ module _ (known : Option (List ℕ)) (bounds : Bounds) (walk : Walk) (number : �
       number h free current (ap scalar_event (held_scalar bytes bounds walk.tags.items
       walk.contents.items (open_in walk) k number h some) ∙ is))
 
-  -- an object that is refused at its place
+  -- the error of an object is possible in place of its first item
   pub known_refused : (at place : ℕ) (e : Error)
       → is_marked (get_or walk.tags.items number 0) ≡ false → IsPlaceIn walk number place
       → IfSome known (λ bytes. bounds.trailer ≤ length bytes
@@ -101,7 +101,7 @@ module _ (known : Option (List ℕ)) (bounds : Bounds) (walk : Walk) (number : �
       number h free e
       (rw (place_is bytes bounds walk k number place h is) at (refused k.within)))
 
-  -- the object of a number is what is decoded at its place
+  -- the object of this number was decoded from the bytes at its offset
   pub known_decoded : (place : ℕ) (d : Decoded) (slot : FaultSlot) → IsPlaceIn walk number place
       → is_unread d ≡ false → DecodesAt known bounds place d slot
       → IfSome known (λ bytes. IsDecodedAt bytes bounds number place d)
@@ -113,7 +113,8 @@ module _ (known : Option (List ℕ)) (bounds : Bounds) (walk : Walk) (number : �
     decoded = was_read _ _ place d slot read (decodes k.within);
   })
 
-  -- its event comes, or it is refused
+  -- the event of the object is the first item that remains, or the result is the error of the
+  -- object
   pub known_set : {A : Type 0} (at place : ℕ) (d : Decoded) (new : Walk) (now : Option (List ℕ))
       (answer : Result A Error) (current : PlainEvent) → now ≡ known
       → is_marked (get_or walk.tags.items number 0) ≡ false
@@ -144,7 +145,7 @@ module _ (known : Option (List ℕ)) (bounds : Bounds) (walk : Walk) (number : �
           found_refused bytes bounds walk.tags.items walk.contents.items (open_in walk) k walk.path
           at number h free e (subst (λ p. IsRefusedAs (object_at bounds p bytes) p e) t.at_place sets)
 
-  -- the walk goes on with it
+  -- after the object was entered, the walk is still one over the file
   pub known_opens : (place : ℕ) (d : Decoded) (new : Walk)
       → IfSome known (λ bytes. IsDecodedAt bytes bounds number place d)
       → OpensObject number d walk new → IfSome known (λ bytes. IsWalkOf bytes bounds new)

@@ -10,13 +10,13 @@ use Rattle.plist_format.specs.Object.{Object, layout_of, length_in, object_after
 use Rattle.plist_binread.proofs.NumberRuns.{take-drop-take}
 use Rattle.std.proofs.lemmas.Option.{IfSome_then}
 
--- the object after a marker
+-- the object with a marker and the bytes after it
 pub object_front : (w m : ℕ) (xs ys : List ℕ) → xs ≡ m ∷ ys
     → object_in w xs ≡ object_after_marker m (layout_of w m) ys
 unfolding object_in
 object_front w m xs ys is = rw is refl
 
--- bytes before the trailer
+-- the bytes before the trailer begin with those that were read
 pub front_lies : (bytes outcome : List ℕ) (t p w : ℕ) → p + w ≤ t
     → outcome ≡ take (length outcome) (drop p bytes) → w ≤ length outcome
     → drop p (take t bytes) ≡ take w outcome ++ drop w (drop p (take t bytes))
@@ -35,7 +35,7 @@ known_front known outcome found t p w buffered h cut is = IfSome_then known is (
       ∙ ap (λ ys. ys ++ drop w (drop p (take t bytes))) (sym cut),
 ))
 
--- what holds of an object by what is seen of it, where that lies before the trailer
+-- what is true of each object that begins with these bytes is true of the object at the offset
 pub known_seen : (known : Option (List ℕ)) (t w p : ℕ) (seen : List ℕ) (P : Object → Type 0)
     → p + length seen ≤ t → IfSome known (λ bytes. LiesAt bytes p seen)
     → ((more : List ℕ) → length (seen ++ more) ≡ t - p → P (object_in w (seen ++ more)))
@@ -47,7 +47,7 @@ known_seen known t w p seen P buffered is means = IfSome_then known is (λ bytes
     ∙ length-drop p (take t bytes) ∙ ap (λ m. m - p) (length-take-le t bytes fits) in
     rw cut.1 (means _ to_trailer))
 
--- a beginning of bytes that lie there lies there
+-- a front of bytes that lie at an offset lies there, too
 pub known_prefix : (known : Option (List ℕ)) (p k : ℕ) (buffered : List ℕ) → k ≤ length buffered
     → IfSome known (λ bytes. LiesAt bytes p buffered)
     → IfSome known (λ bytes. LiesAt bytes p (take k buffered))
@@ -55,7 +55,7 @@ known_prefix known p k buffered h is = IfSome_then known is (λ bytes is.
     let n = length-take-le k buffered h in
     rw n (ap (take k) is ∙ take-take k (length buffered) (drop p bytes) h))
 
--- what follows a few of the bytes that lie there lies after those
+-- the bytes after a front of bytes that lie at an offset lie after that front
 pub known_suffix : (known : Option (List ℕ)) (p k n place : ℕ) (found : List ℕ) → p ≤ place
     → k ≡ place - p → k ≤ n → n ≤ length found
     → IfSome known (λ bytes. LiesAt bytes p (take n found))
@@ -74,7 +74,7 @@ known_suffix known p k n place found above is within short lies = IfSome_then kn
     ∙ ap (λ m. drop k (take m (drop p bytes))) whole ∙ drop-take k (n - k) (drop p bytes)
     ∙ ap (take (n - k)) (drop-drop k p bytes)))
 
--- where the references of a collection stand whose length is seen
+-- where the references of a collection begin, if its length was read
 pub front_slots : (w m low : ℕ) (k : CountedKind) (count pairs start : ℕ)
     (seen rest behind more : List ℕ) → HasPairs k count pairs → 0 < w
     → object_with w m (rest ++ more) ≡ object_counted w k low (rest ++ more)

@@ -16,7 +16,7 @@ pub length-path_of : (fs : List Frame) → length (path_of fs) ≡ length fs
 length-path_of [] = refl
 length-path_of (f ∷ fs) = ap suc (length-path_of fs)
 
--- the marks after one more object is opened
+-- the marks after one more object was opened
 marks_push : (i q : ℕ) (tags new xs : List ℕ) → MarkChanged i true tags new
     → is_marked (get_or tags q 0) ≡ list_any (nat_eq q) xs
     → is_marked (get_or new q 0) ≡ list_any (nat_eq q) (i ∷ xs)
@@ -26,7 +26,7 @@ marks_push i q tags new xs m was =
       | inr e ↦ cc (m.others q e.0)
     ]
 
--- and after it is closed
+-- the marks after the innermost object was closed
 marks_pop : (i q : ℕ) (tags new xs : List ℕ) → MarkChanged i false tags new
     → list_any (nat_eq i) xs ≡ false → is_marked (get_or tags q 0) ≡ list_any (nat_eq q) (i ∷ xs)
     → is_marked (get_or new q 0) ≡ list_any (nat_eq q) xs
@@ -36,7 +36,7 @@ marks_pop i q tags new xs m none was =
       | inr e ↦ cc (m.others q e.0)
     ]
 
--- an object that is marked isn't cached, where its tag is as it was or it was opened now
+-- an object that is marked isn't cached, if its tag is unchanged or it was opened now
 uncached_with : (i q : ℕ) (marked : Bool) (tags new : List ℕ) → MarkChanged i marked tags new
     → unmarked (get_or tags i 0) ≡ 0
     → (is_marked (get_or tags q 0) ≡ true → unmarked (get_or tags q 0) ≡ 0)
@@ -47,12 +47,12 @@ uncached_with i q marked tags new m none was h =
       | inr e ↦ cc (m.others q e.0, was (sym (ap is_marked (m.others q e.0)) ∙ h))
     ]
 
--- an object without tag and mark isn't open
+-- an object whose tag is 0 isn't open
 pub not_open : {tags : List ℕ} {fs : List Frame} {i : ℕ} → MarksOpenPath tags fs → i < length tags
     → get_or tags i 0 ≡ 0 → list_any (nat_eq i) (path_of fs) ≡ false
 not_open {i = i} o h none = cc (o.marks i h)
 
--- the innermost one is marked, and has a tag
+-- the innermost object has a tag
 pub first_below : (tags : List ℕ) (f : Frame) (fs : List Frame) → MarksOpenPath tags (f ∷ fs)
     → f.object < length tags
 first_below tags f fs o =
@@ -63,7 +63,7 @@ pub first_uncached : (tags : List ℕ) (f : Frame) (fs : List Frame) → MarksOp
 first_uncached tags f fs o =
     o.uncached _ (cc (o.marks f.object (first_below tags f fs o), eq-eqb f.object f.object refl))
 
--- one more object may be opened
+-- after one more object was opened, exactly the open objects are marked
 pub IsOpen-push : (tags new : List ℕ) (f : Frame) (fs : List Frame) → MarksOpenPath tags fs
     → f.object < length tags → list_any (nat_eq f.object) (path_of fs) ≡ false
     → unmarked (get_or tags f.object 0) ≡ 0 → MarkChanged f.object true tags new → MarksOpenPath new (f ∷ fs)
@@ -75,7 +75,7 @@ IsOpen-push tags new f fs o h apart none m = record {
   uncached = λ q. uncached_with f.object q true tags new m none (o.uncached q);
 }
 
--- what is left when the innermost one closes
+-- after the innermost object was closed, exactly the open objects are marked
 pub IsOpen-pop : (tags new : List ℕ) (f : Frame) (fs : List Frame) → MarksOpenPath tags (f ∷ fs)
     → MarkChanged f.object false tags new → MarksOpenPath new fs
 unfolding IsDistinct
@@ -89,12 +89,12 @@ IsOpen-pop tags new f fs o m = record {
       (o.uncached q);
 }
 
--- never more objects are open than there are
+-- no more objects are open than there are objects
 pub IsOpen-length : (tags : List ℕ) (fs : List Frame) → MarksOpenPath tags fs → length fs ≤ length tags
 IsOpen-length tags fs o =
     rw (← length-path_of fs) (path_fuel (record { distinct = o.distinct; below = o.below }))
 
--- there is room for an object that isn't open
+-- if an object isn't open, fewer objects are open than there are objects
 pub admits_more : (tags : List ℕ) (i : ℕ) (fs : List Frame) → MarksOpenPath tags fs → i < length tags
     → list_any (nat_eq i) (path_of fs) ≡ false → length fs < length tags
 admits_more tags i fs o h new =
@@ -106,7 +106,7 @@ get_or-zeros zero q = refl
 get_or-zeros (suc n) zero = refl
 get_or-zeros (suc n) (suc q) = get_or-zeros n q
 
--- where no frame is kept, none is open
+-- if all tags are 0 and there are no frames, no object is open
 pub IsOpen-none : (n : ℕ) (tags : List ℕ) (fs : List Frame) → tags ≡ replicate n 0 → length fs ≡ 0
     → MarksOpenPath tags (reverse fs)
 unfolding IsDistinct
@@ -122,7 +122,7 @@ pub IsOpen-empty : (tags : List ℕ) (fs : List Frame) → length tags ≡ 0 →
     → MarksOpenPath tags (reverse fs)
 IsOpen-empty tags fs none h = IsOpen-none 0 _ fs (nil_from_length _ none) h
 
--- ---- how many are cached
+-- ---- the number of cached objects
 
 same_count : (xs ys : List ℕ) → length xs ≡ length ys
     → ((i : ℕ) → unmarked (get_or xs i 0) ≡ unmarked (get_or ys i 0))
@@ -156,12 +156,12 @@ one_more (suc n) (x ∷ xs) (y ∷ ys) h less all was now =
     (λ t. cond {A = ℕ} (nat_lt 0 (unmarked t)) 1 0) (all 0 (eqb-zero-suc n)) in
     omega arith
 
--- marks don't count
+-- a mark doesn't change the number of cached objects
 pub cached_count-mark : (i : ℕ) (marked : Bool) (tags new : List ℕ) → MarkChanged i marked tags new
     → cached_count new ≡ cached_count tags
 cached_count-mark i marked tags new m = same_count new _ m.size m.tags
 
--- and one more is cached
+-- caching an object raises the number of cached objects by one
 pub cached_count-keep : (i : ℕ) (kind : PackedKind) (tags new : List ℕ) → i < length tags
     → unmarked (get_or tags i 0) ≡ 0 → KindChanged i kind tags new
     → cached_count new ≡ cached_count tags + 1

@@ -17,14 +17,15 @@ use Rattle.plist_binread.proofs.OpenObjects.{IsOpen-length}
 use Rattle.plist_binread.proofs.UnknownBytes.{IfSome-all}
 use Rattle.std.proofs.lemmas.Option.{IfSome_then}
 
--- what is known of a file is known with its head
+-- a walk over a file has the bounds and the number of objects of the file's head
 pub holds_head : (known : Option (List ℕ)) (bounds : Bounds) (walk : Walk) (walking : Type 0)
     → IsKnownWalk known bounds walk → IfSome known (λ bytes. walking
     → AreBoundsOf (head_of bytes) bounds × (walk_objects walk ≡ length (places_of bytes)))
 holds_head known bounds walk walking k =
     IfSome_then known k (λ bytes k w. (k.head, sym k.size))
 
--- no list is longer than there are objects in the file, or else in the reader
+-- no list is longer than the number of objects in the file, if the bytes are known, and in the
+-- reader otherwise
 lists_within : (known : Option (List ℕ)) (tags contents : List ℕ) (fs : List Frame)
     → length fs ≤ length tags → length contents ≡ length tags
     → IfSome known (λ bytes. length tags ≤ length (places_of bytes))
@@ -46,7 +47,7 @@ left_behind known counts count old new counted bounded =
     walk.same bounded in
     record { nested = within.0; marked = walk.path; counted = counted; lists = within.1 }
 
--- nothing comes of what has ended
+-- a reader that has ended yields nothing
 pub nothing_ended : (known : Option (List ℕ))
     → IfSome known (λ bytes. GivesAs {A = PlainEvent} (λ event. event) false [] None [])
 nothing_ended known = IfSome-all known (λ bytes. (refl, refl))

@@ -16,9 +16,10 @@ use Rattle.plist_binread.specs.FaultOffsets.{HasOffset, IsGivenWithin, MatchGive
 use Rattle.plist_base.proofs.Refusals.{MatchFault-weaker}
 use Rattle.std.proofs.lemmas.Option.{IfSome_then}
 
--- ---- where a fault is
+-- ---- the error of a limit
 
--- a refusal comes of a limit, whose fault is the one item that comes then
+-- if limits reject an event, there is a limiter, and the limit's error is the only item that
+-- remains
 by-limit : (limiter : Option LimitCounter) (event : PlainEvent) (fault : Fault)
     → RefusesAny limiter event fault → (is_some limiter ≡ true) × (limit : Limit)
     × (fault ≡ fault_without_offset (LimitReached limit))
@@ -26,7 +27,7 @@ by-limit : (limiter : Option LimitCounter) (event : PlainEvent) (fault : Fault)
 by-limit None event fault r = absurd r
 by-limit (Some limiter) event fault r = (refl, r.0.0, r.0.1, r.1)
 
--- the fault of a limit is neither a device's nor lack of memory
+-- the error of a limit is neither `Io` nor `OutOfMemory`
 limit-fault : (fault : Fault) (limit : Limit) (X Y Z : Type 0)
     → fault ≡ fault_without_offset (LimitReached limit) → Z → MatchFault fault.kind X Y Z
 limit-fault fault limit X Y Z is z = rw is z
@@ -56,7 +57,7 @@ still-given start end limited fault h = record { placed = by fault.kind h.placed
     by (LimitReached limit) h = let no : false ≡ true → ⊥ = λ q. cc in absurd (no h.0)
     by kind h = h
 
--- ---- what is to come
+-- ---- the remaining items
 
 none-under : (limiter : Option LimitCounter) → limited_by_any limiter [] ≡ []
 none-under None = refl
@@ -70,7 +71,8 @@ fault-under (Some limiter) fault = refl
 one-remaining : (x : Item) (xs : List Item) → SomeRemain (x ∷ xs)
 one-remaining x xs = omega arith
 
--- what the first item decides of a list holds behind limits, where it holds of a limit's fault
+-- a fact about a list that depends on its first item alone is true of the list under limits, if it
+-- is true of the error of a limit
 module _ (P : List Item → Type 0)
     (first : (event : PlainEvent) (items others : List Item) → P (Ok event ∷ items)
     → P (Ok event ∷ others))
@@ -111,9 +113,9 @@ either-under true limiter items h = remaining-under limiter items h
 either-under false limiter items h =
     under-of AllocatesFirst event-allocates (λ fault items h. h) (λ limit. tt) limiter items h
 
--- ---- what a call gives
+-- ---- the result of a call
 
--- what a call gives of the items before, and what it gives of them behind limits
+-- the items that a call yields without limits, and those that it yields under limits
 module _ (new : Bool) (current : PlainEvent) (known : Option (List ℕ)) (old now : Option LimitCounter)
     (before after : List ℕ → List Item) where
   abbrev Gave : PlainItem → Type 0

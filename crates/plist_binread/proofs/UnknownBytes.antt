@@ -1,24 +1,24 @@
 -- Facts about bytes that may be unknown.
 use Rattle.std.proofs.Common.{Option, None, Some, IfSome}
 
--- what holds of any bytes
+-- a fact that is true of all bytes
 pub IfSome-all : {X : Type 0} (known : Option X) {P : X → Type 0} → ((bytes : X) → P bytes)
     → IfSome known P
 IfSome-all None f = tt
 IfSome-all (Some bytes) f = f _
 
--- what follows from what is never so
+-- a fact under a premise that is never true
 pub IfSome-never : {X : Type 0} (known : Option X) {A : Type 0} (P : X → Type 0) → (A → ⊥)
     → IfSome known (λ bytes. A → P bytes)
 IfSome-never known P f = IfSome-all known (λ bytes a. absurd (f a))
 
--- what follows from two facts
+-- a fact that follows from two others
 pub IfSome-both : {X : Type 0} (known : Option X) {P Q S : X → Type 0} → IfSome known P
     → IfSome known Q → ((bytes : X) → P bytes → Q bytes → S bytes) → IfSome known S
 IfSome-both None p q f = tt
 IfSome-both (Some bytes) p q f = f _ p q
 
--- and from three
+-- a fact that follows from three others
 pub IfSome-three : {X : Type 0} (known : Option X) {P Q R S : X → Type 0} → IfSome known P
     → IfSome known Q → IfSome known R → ((bytes : X) → P bytes → Q bytes → R bytes → S bytes)
     → IfSome known S

@@ -32,29 +32,29 @@ use Rattle.std.proofs.lemmas.Option.{IfSome_then}
 
 -- ---- the state
 
--- it is never fresh again
+-- after a step, the reader isn't fresh
 pub not_fresh : {E : Type 0} (item : Option (Result Flow E)) (after : WalkState)
     → after ≡ state_after item → is_fresh after ≡ true → ⊥
 not_fresh None after is fresh = let no = ap is_fresh is in absurd (cc)
 not_fresh (Some (Ok value)) after is fresh = let no = ap is_fresh is in absurd (cc)
 not_fresh (Some (Err error)) after is fresh = let no = ap is_fresh is in absurd (cc)
 
--- it walks only where an event was given
+-- the reader is walking only after an event
 pub walks_on_ok : {E : Type 0} (answer : Result Flow E) (after : WalkState) (P : Type 0)
     → after ≡ state_after (Some answer) → OnOk answer P → is_walking after ≡ true → P
 walks_on_ok (Ok value) after P is known walking = known
 walks_on_ok (Err error) after P is known walking = let no = ap is_walking is in absurd (cc)
 
--- ---- how many objects there are
+-- ---- the number of objects
 
--- where they are told, they are told in the place of an event
+-- the number of objects is also right after an error
 pub tells_fault : (known : Option (List ℕ)) (error : Error) (count : ℕ)
     → IfSome known (λ bytes. count ≡ objects_in_head bytes)
     → IfSome known (λ bytes. CountsObjects {A = PlainEvent} bytes (Err error) count)
 tells_fault known error count same = IfSome_then known same (λ bytes same.
     MatchFault-all (kind_of (error_kind_of error)) tt tt same)
 
--- ---- all of it
+-- ---- the whole step
 
 module _ {R C : Type 0} {g : Ghosts R} {h : CounterGhosts C} (known : R → Option (List ℕ))
     (failed : R → ℕ) (counts : Type 0) (count : C → ℕ) (old new : BinaryReader R C g h)

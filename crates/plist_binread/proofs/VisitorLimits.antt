@@ -11,7 +11,7 @@ use Rattle.plist_binread.specs.Handing.{HandsItem}
 use Rattle.plist_binread.specs.declared.fault_slot.StepError.{StepError}
 use Rattle.plist_binread.specs.declared.within.Within.{Within}
 
--- an event came that reaches a limit, with this error
+-- the walk yielded an event that exceeds a limit, with this error
 pub record Reached {V : Type 0} (old new : Within V)
     (P : Option (Result Flow StepError) → PlainEvent → Type 0) (error : Error) : Type 0 where
   pub flow : Flow
@@ -42,7 +42,7 @@ reached_limit step old new (Some (Ok flow)) P error before after h = elim h.take
       }
 ]
 
--- the limiter of a reader refuses the event that its visitor was refused
+-- a reader's limiter rejects the event that the visitor's copy of it rejected
 pub refuses_any : (limiter : Option LimitCounter) (limits now : LimitCounter) (event : PlainEvent)
     (fault given : Fault) → limiter ≡ Some limits → now ≡ limits → given ≡ fault
     → Refuses now event given → RefusesAny limiter event fault

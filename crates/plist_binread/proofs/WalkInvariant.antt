@@ -33,7 +33,8 @@ use Rattle.std.proofs.lemmas.Bool.{eqb-false}
 not_zero : (t : ℕ) → 0 < t → nat_eq t 0 ≡ false
 not_zero t h = grind (arith, nat_tests)
 
--- what is held and isn't a place is this scalar, and memory is wanted for it where it may be
+-- a content that isn't an offset stores this scalar, and if the scalar may need memory it is a
+-- string or data
 held_as : (b : Bool) (scalar : Option Scalar) (content : ℕ) (entry : Option TableEntry) → b ≡ false
     → HoldsPlaceOr b scalar content entry
     → (scalar_at entry ≡ scalar) × (MayAllocate scalar → IsTextOrData scalar)
@@ -41,7 +42,7 @@ held_as true scalar content entry b h = absurd (cc)
 held_as false None content entry b h = absurd h
 held_as false (Some s) content entry b h = (h, λ wanted. wanted)
 
--- the scalar of this event
+-- the scalar of an event that is one
 abbrev unsingle : Option PlainEvent → Option Scalar
 unsingle (Some (ScalarEvent scalar)) = Some scalar
 unsingle event = None
@@ -89,12 +90,12 @@ module _ (bytes : List ℕ) (bounds : Bounds) where
           → slice_get table number ≡ Some (entry_of number)
       entry_there number h = found _ (rw k.size h)
 
-      -- an object that isn't cached is at the place that is held
+      -- the content of an object that isn't cached is the object's offset
       pub held_place : (number : ℕ) → number < length tags → unmarked (get_or tags number 0) ≡ 0
           → get_or contents number 0 ≡ place_at (slice_get table number)
       held_place number h none = rw none at (k.held _ h)
 
-      -- and one that is cached is the scalar that is held
+      -- the tag and the content of a cached object encode its scalar
       pub held_scalar : (number : ℕ) → number < length tags → 0 < unmarked (get_or tags number 0)
           → scalar_in (entry_of number).object
           ≡ cached (get_or tags number 0) (get_or contents number 0)
@@ -102,7 +103,8 @@ module _ (bytes : List ℕ) (bounds : Bounds) where
           sym (ap scalar_at (entry_there number h))
           ∙ (held_as _ _ _ _ (not_zero _ some) (k.held number h)).0
 
-      -- the same with other tags, contents and open collections
+      -- the same walk with other tags, contents and open collections is one over the file, if these
+      -- are right
       pub known_with : (new others : List ℕ) (gs : List Frame) → length new ≡ length tags
           → ((q : ℕ) → q < length tags
           → IsHeld (slice_get table q) (get_or new q 0) (get_or others q 0))
@@ -116,7 +118,7 @@ module _ (bytes : List ℕ) (bounds : Bounds) where
         counts = counts;
       }
 
-      -- one more object is open
+      -- after one more object was opened, the walk is still one over the file
       pub known_opened : (new : List ℕ) (f : Frame) (start : PlainEvent) (entry : TableEntry)
           → MarkChanged f.object true tags new → slice_get table f.object ≡ Some entry
           → IsCollection entry.object start f.count → MatchesFile bytes bounds new contents (f ∷ fs)
@@ -124,7 +126,7 @@ module _ (bytes : List ℕ) (bounds : Bounds) where
           known_with new contents (f ∷ fs) m.size (λ q less. rw (m.tags q) (k.held q less))
           (rw is (collection_count entry.object start f.count collection), k.counts)
 
-      -- one more object is cached
+      -- after one more object was cached, the walk is still one over the file
       pub known_kept : (number : ℕ) (kind : PackedKind) (content : ℕ) (new : List ℕ)
           (event : PlainEvent) → number < length tags → length contents ≡ length tags
           → KindChanged number kind tags new → scalar_event (unpacked kind content) ≡ Some event
@@ -153,7 +155,7 @@ module _ (bytes : List ℕ) (bounds : Bounds) where
                 (k.held q less)
           ]
 
-      -- ---- a number that isn't entered
+      -- ---- an object that isn't entered
 
       module _ (o : MarksOpenPath tags fs) (at number : ℕ) where
         abbrev before : List Item
@@ -170,7 +172,7 @@ module _ (bytes : List ℕ) (bounds : Bounds) where
             (λ _. ap (λ items. until_fault (items ++ remaining_items table fs))
             (only ∙ ap (λ f. Err f ∷ []) (sym is))) inside)
 
-        -- it has no tag
+        -- no object has this number
         pub unfound_beyond : (e : Error) → length tags ≤ number
             → fault_of e ≡ fault_at ObjectReferenceTooLarge at → Explains (until_fault before) e
         unfound_beyond e h is =
@@ -179,7 +181,7 @@ module _ (bytes : List ℕ) (bounds : Bounds) where
             (slice_get-beyond _ (places_of _) _
             _ (rw k.size h)))
 
-        -- it is open
+        -- the object of this number is open
         pub unfound_open : (e : Error) → number < length tags
             → is_marked (get_or tags number 0) ≡ true
             → fault_of e ≡ fault_at RecursiveObject (get_or contents number 0)
@@ -193,7 +195,7 @@ module _ (bytes : List ℕ) (bounds : Bounds) where
             ∙ ap place_at (entry_there _ h))))
 
         module _ (h : number < length tags) (free : is_marked (get_or tags number 0) ≡ false) where
-          -- it is found, and is a scalar, or refused
+          -- the object of this number is a scalar, whose event is the first item that remains
           pub found_scalar : (event : PlainEvent)
               → scalar_event_in (entry_of number).object ≡ Some event
               → until_fault before ≡ Ok event ∷ until_fault (remaining_items table fs)
@@ -206,7 +208,7 @@ module _ (bytes : List ℕ) (bounds : Bounds) where
           found_refused = yields_refused table tags as_many fs at number (entry_of number) o h
               (entry_there number h) (sym (o.marks number h) ∙ free)
 
-          -- memory was wanted for the scalar that is held
+          -- an allocation for a cached scalar failed
           pub unfound_memory : (e : Error) → 0 < unmarked (get_or tags number 0)
               → fault_of e ≡ fault_without_offset OutOfMemory
               → MayAllocate (cached (get_or tags number 0) (get_or contents number 0))
@@ -227,7 +229,7 @@ pub second : (known : Option (List ℕ)) (P Q : List ℕ → Type 0)
     → IfSome known (λ bytes. P bytes × Q bytes) → IfSome known Q
 second known P Q h = IfSome_then known h (λ bytes h. h.1)
 
--- the object isn't cached, and this is its place
+-- the object isn't cached, and lies at this offset
 abbrev pub IsPlaceIn : Walk → (number place : ℕ) → Type 0
 IsPlaceIn walk number place = (unmarked (get_or walk.tags.items number 0) ≡ 0)
     × (place ≡ get_or walk.contents.items number 0)
@@ -240,7 +242,7 @@ place_is bytes bounds walk k number place h is = cc (
   entry_there bytes bounds walk.tags.items walk.contents.items (open_in walk) k number h,
 )
 
--- a collection for which room is wanted
+-- an allocation for a collection failed
 pub known_full : (known : Option (List ℕ)) (bounds : Bounds) (place : ℕ) (d : Decoded) (e : Error)
     → fault_of e ≡ fault_without_offset OutOfMemory → IsCollectionStart d
     → IfSome known (λ bytes. bounds.trailer ≤ length bytes

@@ -17,9 +17,9 @@ use Rattle.plist_binread.specs.Decoding.{IsCollection, children_in, scalar_in, s
 use Rattle.plist_binread.specs.Packed.{is_small_event, IsTextOrData}
 use Rattle.plist_binread.proofs.OpenObjects.{admits_more}
 
--- ---- what an object's items begin with
+-- ---- the first item of an object
 
--- this item, if there is one
+-- the items that consist of this event, or no items
 abbrev one_item : Option PlainEvent → List Item
 one_item None = []
 one_item (Some event) = Ok event ∷ []
@@ -43,7 +43,7 @@ collection_count (Array items) start count h = h.1
 collection_count (Dictionary pairs) start count h = h.1
 collection_count object start count h = absurd h
 
--- a collection's start isn't small
+-- the start of a collection isn't the event of a small scalar
 pub collection_large : (object : Object) (start : PlainEvent) (count : ℕ)
     → IsCollection object start count → is_small_event start ≡ false
 collection_large (Array items) start count h = ap is_small_event h.0
@@ -68,24 +68,24 @@ wanted_at (Faulty InvalidUtf8String) place child more h = tt
 wanted_at (Faulty InvalidUtf16String) place child more h = tt
 wanted_at (Faulty kind) place child more h = absurd h
 
--- a collection's start is a place where memory is wanted
+-- a collection needs memory
 pub grows_at-collection : (object : Object) (start : PlainEvent) (count : ℕ)
     → IsCollection object start count → Allocates object
 grows_at-collection (Array items) start count h = tt
 grows_at-collection (Dictionary pairs) start count h = tt
 grows_at-collection object start count h = absurd h
 
--- ---- what is found
+-- ---- the object of a reference
 
 module _ (table : List TableEntry) where
-  -- no object has the number
+  -- the items if no object has the number
   pub items_beyond : (fuel : ℕ) (path : List ℕ) (at i : ℕ) → slice_get table i ≡ None
       → unfolding_of table fuel path at i ≡ Err (fault_at ObjectReferenceTooLarge at) ∷ []
   unfolding unfolding_of
   items_beyond zero path at i none = rw none refl
   items_beyond (suc fuel) path at i none = rw none refl
 
-  -- the object is open
+  -- the items if the object is open
   pub items_open : (fuel : ℕ) (path : List ℕ) (at i : ℕ) (entry : TableEntry)
       → slice_get table i ≡ Some entry → list_any (nat_eq i) path ≡ true
       → unfolding_of table fuel path at i ≡ Err (fault_at RecursiveObject entry.place) ∷ []
@@ -107,7 +107,7 @@ module _ (table : List TableEntry) where
     abbrev child : ℕ → List Item
     child c = unfolding_of table (length table - suc (length fs)) (i ∷ path_of fs) entry.place c
 
-    -- what remains where the object is to be entered
+    -- what remains when the object is about to be entered
     abbrev before : List Item
     before = unfolding_of table (length tags - length fs) (path_of fs) at i
         ++ remaining_items table fs
@@ -119,14 +119,14 @@ module _ (table : List TableEntry) where
         let e : length tags - length fs ≡ suc (length table - suc (length fs)) = omega arith in
         rw e (items_step _ _ at i _ is any)
 
-    -- it is a scalar
+    -- if the object is a scalar, its event is the first item
     pub yields_scalar : (event : PlainEvent) → scalar_event_in entry.object ≡ Some event
         → until_fault before ≡ Ok event ∷ until_fault (remaining_items table fs)
     yields_scalar event scalar =
         ap (λ items. until_fault (items ++ remaining_items table fs))
         (entered ∙ single_items _ _ _ _ scalar)
 
-    -- or a collection
+    -- if the object is a collection, its start is the first item
     pub yields_collection : (start : PlainEvent) (f : Frame) (gs : List Frame) → gs ≡ f ∷ fs
         → f.object ≡ i → f.next ≡ 0 → IsCollection entry.object start f.count
         → until_fault before ≡ Ok start ∷ until_fault (remaining_items table gs)
@@ -138,7 +138,7 @@ module _ (table : List TableEntry) where
         (remaining_items table fs))
         ∙ rw (grown, object, next, is) refl
 
-    -- or refused
+    -- if the object has an error, this is possible in place of the first item
     pub yields_refused : (e : Error) → IsRefusedAs entry.object entry.place e
         → Explains (until_fault before) e
     yields_refused e refused =
@@ -152,9 +152,9 @@ module _ (table : List TableEntry) where
         (record { kind = kind_of (error_kind_of e); offset = offset }) ∷ []) (sym faulty.1))
         refused)
 
--- ---- the falling number
+-- ---- the number that falls with each step
 
--- a start costs more than its children weigh
+-- opening a collection costs more than its children weigh
 pub start_falls : (n k : ℕ) (fs : List Frame) → length fs < n → k < 2 ^ 64
     → k * walk_steps (n - suc (length fs)) + 1 + walk_weight n fs
     < walk_weight n fs + walk_steps (n - length fs)
@@ -186,7 +186,7 @@ steps_more (suc d) k =
 pub steps_up : (a b : ℕ) → a ≤ b → walk_steps a ≤ walk_steps b
 steps_up a b h = let e : b ≡ a + (b - a) = omega arith in rw e (steps_more _ a)
 
--- lack of memory is a refusal of a collection
+-- `OutOfMemory` is possible for a collection
 pub refused_memory : (object : Object) (place : ℕ) (e : Error) (start : PlainEvent) (count : ℕ)
     → fault_of e ≡ fault_without_offset OutOfMemory → IsCollection object start count
     → IsRefusedAs object place e
@@ -194,7 +194,7 @@ refused_memory object place e start count memory collection =
     MatchFault-at _ _ _ _ _ (ap (λ (f : Fault). f.kind) memory)
     (grows_at-collection _ start count collection)
 
--- and of a text or data that is cached
+-- `OutOfMemory` is possible for a string or data that is cached
 pub refused_cached : (object : Object) (place : ℕ) (e : Error) (scalar : Option trees.Scalar)
     → fault_of e ≡ fault_without_offset OutOfMemory → scalar_in object ≡ scalar → IsTextOrData scalar
     → IsRefusedAs object place e

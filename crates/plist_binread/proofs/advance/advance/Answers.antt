@@ -19,7 +19,7 @@ taken g c =
     known_child_taken _ _ c.args.walk.now c.next_child.new.self (Child _ _) c.requires.known
     c.in-Child.ensures.remaining
 
--- the place of the collection
+-- the offset of the collection
 place : (g : _) (c : After-read_child g)
     → c.index-at.result.now ≡ get_or c.next_child.new.self.contents.items c.in-Child.object 0
 place g c =
@@ -27,14 +27,14 @@ place g c =
     (arith, c.in-Child.ensures.within.0) in
     get_or_read_under _ _ _ _ 0 c.index-at.ensures h refl
 
--- something is left to do before it
+-- some steps remain before this one
 some : (g : _) (c : In-Child g) → 0 < weight_in c.args.walk.now
 some g c =
     let n = length c.args.walk.now.tags.items in
     let e = c.in-Child.ensures.weight n in
     omega (arith, e, steps_positive (n - length (reverse c.next_child.new.self.frames)))
 
--- ---- a child that isn't found
+-- ---- a child whose reference can't be read
 
 pub returns-in-Err-clause-falls : goal.returns-in-Err-clause-falls
 returns-in-Err-clause-falls g c =

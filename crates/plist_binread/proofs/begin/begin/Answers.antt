@@ -48,11 +48,11 @@ returns-in_err-none-clause-objects g c =
     (known_hidden (g.S.Source.known c.args.source.now) c.keep_error-2.new.self.fault
     (length c.args.walk.now.tags.items) memory)
 
--- none of the objects has a tag
+-- all tags are 0
 none : (g : _) (c : In_ok-none g) → c.in_ok-none.none.items ≡ replicate c.len.result 0
 none g c = rw (← c.in_ok-none.ensures.answer) at c.no_tags.ensures.tags
 
--- there are as many tags as places
+-- there are as many tags as offsets
 count : (g : _) (c : In_ok-none g)
     → length c.in_ok-none.none.items ≡ length c.in_ok-head.head.places.items
 count g c =
@@ -91,7 +91,7 @@ enter-requires-clause-counted g c = λ counts.
     ∙ cached_count-empty c.args.walk.now.tags.items c.requires.empty.0
     ∙ sym (cached_count-none c.len.result c.in_ok-none.none.items (none g there))
 
--- how the objects are read
+-- the bounds of the file
 abbrev bounds : (g : _) (c : In_ok-none g) → Bounds
 bounds g c = record {
   trailer = c.in_ok-head.head.trailer;

@@ -65,7 +65,7 @@ pub cache_or_open-requires-clause-fits : goal.cache_or_open-requires-clause-fits
 cache_or_open-requires-clause-fits g c =
     fits_walk c.args.decoder.now.bounds c.in-At.place _ (c.decode-decoded.ensures.fits (search rules))
 
--- the object is what was decoded
+-- the object of the reference was decoded
 there : (g : _) (c : After-cache_or_open g)
     → IfSome (g.S.Source.known c.args.source.now) (λ bytes. IsDecodedAt bytes c.args.decoder.now.bounds
     c.args.reference.number c.in-At.place c.decode-decoded.result)

@@ -4,7 +4,7 @@ use Rattle.std.proofs.lemmas.Bool.{cases_lt}
 use Rattle.std.proofs.lemmas.List.{get_or_past}
 use Rattle.plist_binread.proofs.utf8.are_ascii.Goals as goal
 
--- one more byte
+-- one more byte is tested
 ascii_more : (bytes : List ℕ) (i : ℕ) (before byte : Bool)
     → (before ≡ true → (k : ℕ) → k < i → get_or bytes k 0 < 128)
     → (byte ≡ true → get_or bytes i 0 < 128) → (before && byte) ≡ true
@@ -14,7 +14,7 @@ ascii_more bytes i true true so_far is both =
 ascii_more bytes i true false so_far is both = absurd (cc)
 ascii_more bytes i false byte so_far is both = absurd (cc)
 
--- past the last there is a zero
+-- each byte is ASCII, and so is the 0 after the last one
 ascii_all : (bytes : List ℕ) → ((k : ℕ) → k < length bytes → get_or bytes k 0 < 128)
     → IsAscii bytes
 ascii_all bytes each = λ i. elim (cases_lt i (length bytes)) [

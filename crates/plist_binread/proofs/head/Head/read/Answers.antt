@@ -40,7 +40,7 @@ returns-then-size-lt-TRAILER_SIZE-clause-refused g c =
     c.with_byte_offset-then-size-lt-TRAILER_SIZE.ensures.fault c.if-not-branch.false
     c.if-size-lt-TRAILER_SIZE.true
 
--- what is said of the head before its trailer is said of the head
+-- what is true of the head that the trailer determines is true of the file's head
 said : (g : _) (c : After-read_before g) (P : Result Head Fault → Type 0)
     → IfSome (g.S.Source.known c.has_magic.new.source) (HeadSaid P (c.in_ok-size.size - 32))
     → IfSome (g.S.Source.known c.args.source.now) (λ bytes. P (head_of bytes))

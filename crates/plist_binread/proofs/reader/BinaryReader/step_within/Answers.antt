@@ -12,7 +12,7 @@ use Rattle.plist_binread.proofs.VisitorLimits.{Reached, reached_limit, refuses_a
 use Rattle.plist_binread.proofs.reader.BinaryReader.step_within.Goals as goal
 use Rattle.plist_binread.proofs.reader.BinaryReader.step_within.Goals.{After-refuse}
 
--- the event that reaches a limit
+-- the visitor received an event that exceeds a limit
 limit : (g : _) (c : After-refuse g) → Reached c.new-within.result c.step-item.new.visitor
     (λ item event. Walks g.R.Source.known g.R.Source.failures
     g.C.DecodeCounter.counts g.C.DecodeCounter.count c.args.self.now
