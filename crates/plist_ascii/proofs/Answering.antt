@@ -1,4 +1,4 @@
--- How the results of the parts of a token make the result of the whole.
+-- How the outcomes of a token's parts determine the outcome of the token.
 use Rattle.std.proofs.Common.{◌≡◌, ℕ, ◌+◌, ◌≤◌, None, Some, sym, ap, ◌∙◌, suc, List, [], ◌∷◌, length, drop, Option, Result, Ok, Err, refl, arith}
 use Rattle.std.specs.Prelude.{IfSome}
 use Rattle.std.specs.Option.{option_map}
@@ -10,12 +10,12 @@ use Rattle.plist_ascii.specs.Unread.{IfKnown, FirstIsTaken, TakesFront, GivesFro
 use Rattle.plist_ascii.specs.Taken.{Taken, taken, past_one, past_outcome, followed, front, front_gives, needs}
 use Rattle.plist_ascii.specs.inner.TokenFaults.{kind_in_bytes, said}
 
--- where a call succeeded, more is so
+-- a fact for `Ok` implies what follows from it
 pub ok_by : {X E : Type 0} (r : Result X E) (P Q : Type 0) → OnOk r P → (P → Q) → OnOk r Q
 ok_by (Ok x) P Q p h = h p
 ok_by (Err f) P Q p h = tt
 
--- a fact of what is said, from another one
+-- a fact about an optional value implies what follows about its image
 pub some_by : {A B : Type 0} (o : Option A) (P : A → Type 0) (f : A → B) (Q : B → Type 0)
     → ((a : A) → P a → Q (f a)) → IfSome o P → IfSome (option_map f o) Q
 some_by None P f Q h p = tt
@@ -26,7 +26,7 @@ pub some_same : {A : Type 0} (o : Option A) (P Q : A → Type 0) → ((a : A) �
 some_same None P Q h p = tt
 some_same (Some a) P Q h p = h a p
 
--- several bytes that are required
+-- ---- several bytes that are required
 
 front_past : {A : Type 0} (n left c : ℕ) (o : Option (List ℕ))
     (meaning : List ℕ → Result A FaultKind)
@@ -39,7 +39,7 @@ needs_past : {A : Type 0} (n c : ℕ) (ys : List ℕ) (meaning : List ℕ → Re
     → needs (suc n) (c ∷ ys) meaning ≡ past_one (needs n ys (λ ds. meaning (c ∷ ds)))
 needs_past n c ys meaning = front_past n (length ys) c (front n ys) meaning
 
--- a fault outside the bytes says nothing of them
+-- a failed read or allocation says nothing about the bytes
 pub outside_says : {A : Type 0} (f : TokenFault) (P : Result A FaultKind → Type 0)
     → kind_in_bytes f ≡ None → IfSome (option_map (λ kind. Err kind) (kind_in_bytes f)) P
 outside_says f P e = rw e tt
@@ -48,14 +48,14 @@ pub outside_fails : (f : TokenFault) (P : FaultKind → Type 0) → kind_in_byte
     → IfSome (kind_in_bytes f) P
 outside_fails f P e = rw e tt
 
--- a fault of a part, as one of the whole
+-- a fact about the fault of a part implies what follows about the fault of the whole
 pub some_from : {A : Type 0} (k : Option FaultKind) (P : Result A FaultKind → Type 0)
     (Q : FaultKind → Type 0) → ((kind : FaultKind) → P (Err kind) → Q kind)
     → IfSome (option_map (λ kind. Err kind) k) P → IfSome k Q
 some_from None P Q h p = tt
 some_from (Some kind) P Q h p = h kind p
 
--- a fault is passed on
+-- the fault of a part is passed on as the fault of the whole
 pub gives_passed : {X A : Type 0} (view : X → A) (front : List ℕ → Taken A) (old : Option (List ℕ))
     (p : ℕ) (new : Option (List ℕ)) (q : ℕ) (r : Result X TokenFault) (f : TokenFault)
     → IsErrAnd r (λ e. e ≡ f)
@@ -64,14 +64,14 @@ pub gives_passed : {X A : Type 0} (view : X → A) (front : List ℕ → Taken A
 gives_passed view front old p new q (Ok x) f h a = absurd h
 gives_passed view front old p new q (Err e) f h a = rw h a
 
--- what is so of a fault that is passed on is so of the result
+-- what is true of a fault that is passed on is true of the result
 pub passed_on : {X : Type 0} (P : TokenFault → Type 0) (r : Result X TokenFault) (f : TokenFault)
     → IsErrAnd r (λ e. e ≡ f) → P f → IfErr r P
 passed_on P (Ok x) f h k = tt
 passed_on P (Err e) f h k = rw h k
 
 module _ {A : Type 0} (front : List ℕ → Taken A) where
-  -- the next byte was only looked at
+  -- the next byte was looked at and not taken
   pub gives_looked : (back : List ℕ → Taken A) (old mid : Option (List ℕ)) (p m : ℕ)
       (new : Option (List ℕ)) (q : ℕ) (o : Option (Result A FaultKind))
       → IfKnown old (λ xs. (mid ≡ Some xs) × (front xs ≡ back xs)) → m ≡ p
@@ -108,13 +108,13 @@ module _ {A : Type 0} (front : List ℕ → Taken A) where
       → GivesFront front old p new q (Some outcome)
   gives_here old p new q outcome le h = (le, h)
 
-  -- nothing was taken
+  -- no byte was taken
   pub gives_none : (old : Option (List ℕ)) (p : ℕ) (outcome : Result A FaultKind)
       → ((xs : List ℕ) → front xs ≡ taken 0 outcome) → GivesFront front old p old p (Some outcome)
   gives_none old p outcome h =
       gives_here old p old p outcome (omega arith) (λ xs e. rw (h xs) (refl, e, omega arith))
 
-  -- the input ended where a byte was required
+  -- the input ended where a byte is required
   pub gives_unclosed : (old : Option (List ℕ)) (p : ℕ) (new : Option (List ℕ)) (q : ℕ)
       (f : TokenFault) → IfSome (kind_in_bytes f) (λ kind. (kind ≡ UnclosedString)
       × IfKnown old (λ xs. (new ≡ Some xs) × (xs ≡ [])))
@@ -126,7 +126,7 @@ module _ {A : Type 0} (front : List ℕ → Taken A) where
         let k = b.1 xs e in rw (k.1, h) (ap Err (sym b.0), cc, omega (arith, same))) a,
   )
 
--- of the bytes that are required one was taken, and then what follows it
+-- one of the required bytes was taken, and then what follows it
 pub gives_one : {A : Type 0} (n c : ℕ) (meaning : List ℕ → Result A FaultKind)
     (old mid : Option (List ℕ)) (p m : ℕ) (new : Option (List ℕ)) (q : ℕ)
     (o : Option (Result A FaultKind)) → FirstIsTaken old c mid → m ≡ p + 1

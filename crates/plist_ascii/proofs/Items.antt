@@ -51,7 +51,7 @@ items_cons stops c cs p q e =
     ∙ ap (λ q. item_then (lead_of c) q b.gives
     (items_in stops (length (drop b.bytes cs)) (drop b.bytes cs) q)) (sym e)
 
--- the items from xs and offset p on are those from ys and offset q on
+-- the items of `xs` from offset `p` on are those of `ys` from offset `q` on
 pub record Going (stops : ℕ → Bool) (xs : List ℕ) (p : ℕ) (ys : List ℕ) (q : ℕ) : Type 0 where
   pub rises : p ≤ q
   pub all : placed_items stops xs p ≡ placed_items stops ys q
@@ -95,13 +95,13 @@ module _ {stops : ℕ → Bool} {xs : List ℕ} {p : ℕ} {ys : List ℕ} {m c :
       → placed_items stops xs p ≡ item_then (lead_of c) q token_here.gives (behind q)
   going_all q s = cc (items_cons _ c cs m q s)
 
-  -- if the token is a string, the first item is one
+  -- if the token is a string, the first item is a string
   pub going_text : IsTextToken token_here.gives → BeginsWithText (items_of_ascii stops xs p)
   going_text w =
       let P : List PlacedItem → Type 0 = λ is. BeginsWithText (map (λ i. i.item) is) in
       subst P (sym (going_all _ refl)) (text_first _ _ token_here.gives _ w)
 
-  -- the first byte ends at n, and the token at q
+  -- the first byte of the token ends at offset `n`, and the token at offset `q`
   module _ {n q : ℕ} (t : n ≡ m + 1) (s : q ≡ n + token_here.bytes) where
     going_by : (g : Result (Option PlainEvent) FaultKind) → token_here.gives ≡ g
         → placed_items stops xs p ≡ item_then (lead_of c) q g (behind q)
@@ -131,7 +131,7 @@ module _ {stops : ℕ → Bool} {xs : List ℕ} {p : ℕ} {ys : List ℕ} {m c :
     going_fault i g = begins stops xs p _ _ _ q
         (going_by _ g ∙ ap (λ f. placed (lead_of c) q (Err f) ∷ behind q) (sym i)) going_rest
 
-    -- the first item is a quoted string only if it begins with a quote
+    -- if the first item is a quoted string, the token begins with a quote
     pub going_quoted : {x : PlainEvent} → token_here.gives ≡ Ok (Some x)
         → FirstIsQuoted (placed_items stops xs p) → lead_of c ≡ lead.Quote
     going_quoted g first = subst FirstIsQuoted (going_by _ g) first
@@ -160,7 +160,7 @@ module _ {stops : ℕ → Bool} {xs : List ℕ} {p : ℕ} {ys : List ℕ} {m c :
   going_error n q r same t broken.InvalidUtf16 fault E mid new i g w ends =
       (_, ends ∙ g.1, rw (same, i) (going_fault t g.2 refl g.0))
 
--- blanks give nothing
+-- white space and separators have no items
 pub going_blanks : {stops : ℕ → Bool} {xs : List ℕ} {p : ℕ} {ys : List ℕ} {m : ℕ}
     → Going stops xs p ys m → let n = run (λ c. not (is_blank c)) ys in
     Going stops xs p (drop n ys) (m + n)

@@ -14,8 +14,8 @@ use Rattle.std.specs.Option.{option_map}
 use Rattle.plist_ascii.specs.Comments.{close_at, begins_with, block_comment, block_comment_to}
 use Rattle.plist_ascii.specs.Texts.{Token}
 
--- no byte was given back and no failure counted, and P relates the bytes that were left, those that
--- are, and their offsets
+-- no byte was put back and no failure was counted, and `P` relates the bytes that remained, those
+-- that remain now, and their offsets
 pub record Since {R : Type 0} (known : R → Option (List ℕ)) (failures : R → Option ℕ)
     (old new : Input R) (P : List ℕ → ℕ → List ℕ → ℕ → Type 0) : Type 0 where
   pub rises : old.taken ≤ new.taken
@@ -40,7 +40,7 @@ module _ {R : Type 0} {known : R → Option (List ℕ)} {failures : R → Option
     goes = λ xs e. let i = s.goes xs e in h xs i.0 i.2 i.1;
   }
 
--- k bytes were taken, and the whole is what follows them
+-- `k` bytes were taken, and the outcome of the whole is determined by the bytes after them
 pub record Behind {A : Type 0} (whole : List ℕ → Taken A) (follows : ℕ → List ℕ → Taken A)
     (xs : List ℕ) (p : ℕ) (ys : List ℕ) (q : ℕ) : Type 0 where
   pub k : ℕ
@@ -55,7 +55,7 @@ behind_start e = record { k = 0; place = omega arith; all = e; rest = refl }
 module _ {A : Type 0} {whole : List ℕ → Taken A} {follows : ℕ → List ℕ → Taken A} {xs : List ℕ}
     {p : ℕ} {ys : List ℕ} {q : ℕ} (h : Behind whole follows xs p ys q) (n r : ℕ) (s : r ≡ q + n)
   where
-    -- n more bytes are taken
+    -- `n` more bytes are taken
     pub behind_more : {next : ℕ → List ℕ → Taken A} → follows h.k ys ≡ next (h.k + n) (drop n ys)
         → Behind whole next xs p (drop n ys) r
     behind_more e = record {
@@ -71,14 +71,15 @@ module _ {A : Type 0} {whole : List ℕ → Taken A} {follows : ℕ → List ℕ
     behind_ends e u = rw (h.all, e)
         (refl, u ∙ ap Some (cc (drop-drop n h.k xs)), omega arith)
 
--- the run from xs, text and offset p on continues as from ys, more and q on
+-- the run from `xs` and offset `p` on, with the text `old`, continues from `ys` and offset `q` on,
+-- with the text `more`
 pub record RunsOn (stop : ℕ → Bool) (old more xs : List ℕ) (p : ℕ) (ys : List ℕ) (q : ℕ) : Type 0
   where
     pub text : more ++ take (run stop ys) ys ≡ old ++ take (run stop xs) xs
     pub rest : drop (run stop ys) ys ≡ drop (run stop xs) xs
     pub place : q + run stop ys ≡ p + run stop xs
 
--- the first bytes contain no stop
+-- a run continues after bytes that contain no stop
 run_behind : (stop : ℕ → Bool) (part zs : List ℕ) → run stop part ≡ length part
     → run stop (part ++ zs) ≡ length part + run stop zs
 run_behind stop part zs h =
@@ -86,7 +87,7 @@ run_behind stop part zs h =
 
 module _ {stop : ℕ → Bool} {old more xs : List ℕ} {p : ℕ} {ys : List ℕ} {q : ℕ}
     (on : RunsOn stop old more xs p ys q) where
-  -- a part was taken
+  -- a part of the run was taken
   pub runs_part : {r : ℕ} {all : List ℕ} (part zs : List ℕ) → ys ≡ part ++ zs
       → run stop part ≡ length part → all ≡ more ++ part → r ≡ q + length part
       → RunsOn stop old all xs p zs r
@@ -103,7 +104,7 @@ module _ {stop : ℕ → Bool} {old more xs : List ℕ} {p : ℕ} {ys : List ℕ
         place = omega (arith, n, s, on.place);
       }
 
-  -- a stop is next, or nothing
+  -- the run has ended: a stop is next, or no bytes remain
   pub runs_end : run stop ys ≡ 0 → (more ≡ old ++ take (run stop xs) xs)
       × (ys ≡ drop (run stop xs) xs) × (q ≡ p + run stop xs)
   runs_end none =
@@ -119,7 +120,7 @@ module _ {stop : ℕ → Bool} {old more xs : List ℕ} {p : ℕ} {ys : List ℕ
 pub runs_start : {stop : ℕ → Bool} (old xs : List ℕ) (p : ℕ) → RunsOn stop old old xs p xs p
 runs_start old xs p = record { text = refl; rest = refl; place = refl }
 
--- no bytes precede those that were added
+-- no bytes precede those that were appended
 pub added : (more part : List ℕ) {all : List ℕ} → all ≡ (more ++ []) ++ part → all ≡ more ++ part
 added more part h = h ∙ ap (λ z. z ++ part) (append-nil more)
 
@@ -144,11 +145,11 @@ not_star_past : (c : ℕ) (cs : List ℕ) → (c == 42) ≡ false
     → block_comment (c ∷ cs) ≡ past_one (block_comment cs)
 not_star_past c cs e = rw e (after_star c cs false (close_at cs))
 
--- k bytes of a comment leave it open
+-- the comment isn't closed within its first `k` bytes
 abbrev OpenPast : List ℕ → ℕ → Type 0
 OpenPast xs k = block_comment xs ≡ past k (block_comment (drop k xs))
 
--- up to a star a comment stays open
+-- a comment isn't closed before its first star
 plain_run : (xs : List ℕ) → OpenPast xs (run is_star xs)
 plain_run [] = past_none _
 plain_run (c ∷ cs) = by_star (c == 42) refl (plain_run cs)
@@ -165,7 +166,7 @@ plain_run (c ∷ cs) = by_star (c == 42) refl (plain_run cs)
         subst (OpenPast (c ∷ cs)) (sym more)
         (not_star_past c cs e ∙ ap past_one h ∙ past_more n (block_comment (drop n cs)))
 
--- where a run stops, a stop stands
+-- the byte at which a run ends is a stop
 stop_next : (stop : ℕ → Bool) (xs : List ℕ) (c : ℕ) (zs : List ℕ)
     → drop (run stop xs) xs ≡ c ∷ zs → stop c ≡ true
 stop_next stop [] c zs e = cc
@@ -193,7 +194,7 @@ module _ (xs : List ℕ) {c : ℕ} {zs : List ℕ} (e : drop (run is_star xs) xs
       plain_run xs ∙ ap (λ ys. past (run is_star xs) (block_comment ys)) e
       ∙ ap (past (run is_star xs)) h
 
-  -- a slash after the star closes it
+  -- a slash after the star closes the comment
   pub star_closes : {ws : List ℕ} {new : Option (List ℕ)} → zs ≡ 47 ∷ ws → new ≡ Some ws
       → (block_comment xs ≡ taken (run is_star xs + 2) (Ok None))
       × (new ≡ Some (drop (run is_star xs + 2) xs))
@@ -202,7 +203,7 @@ module _ (xs : List ℕ) {c : ℕ} {zs : List ℕ} (e : drop (run is_star xs) xs
       let rest : drop 2 (drop (run is_star xs) xs) ≡ ws = rw (e, s) refl in
       (at_star closes, u ∙ ap Some (sym rest ∙ drop-drop 2 (run is_star xs) xs))
 
-  -- all else leaves it open
+  -- without a slash after the star, the comment isn't closed
   pub star_opens : {new : Option (List ℕ)} → begins_with 47 zs ≡ false → new ≡ Some zs
       → OpenPast xs (run is_star xs + 1) × (new ≡ Some (drop (run is_star xs + 1) xs))
   star_opens s u =
@@ -217,7 +218,7 @@ module _ (xs : List ℕ) {c : ℕ} {zs : List ℕ} (e : drop (run is_star xs) xs
         u ∙ ap Some rest,
       )
 
--- where no star is left, its end isn't there
+-- if no star is left, the comment isn't complete
 pub star_misses : (xs : List ℕ) → drop (run is_star xs) xs ≡ []
     → block_comment xs ≡ taken (run is_star xs) (Err IncompleteComment)
 star_misses xs e =
@@ -225,7 +226,7 @@ star_misses xs e =
     plain_run xs ∙ ap (λ ys. past (run is_star xs) (block_comment ys)) e
     ∙ ap (λ n. taken n (Err IncompleteComment)) none
 
--- the comment so far
+-- `k` bytes of a comment were taken, and the others follow
 abbrev pub Commenting : List ℕ → ℕ → List ℕ → ℕ → Type 0
 Commenting = Behind block_comment (λ k ys. past k (block_comment ys))
 

@@ -9,7 +9,7 @@ use Rattle.plist_ascii.specs.Quoted.{piece_then, with_front, ends_run, run_end, 
 use Rattle.plist_ascii.specs.Unread.{TakesFront}
 use Rattle.plist_ascii.proofs.Loops.{Behind, behind_start, behind_more, behind_ends}
 
--- after a run
+-- ---- what follows a run
 
 pub end_goes_on : (quote c : ℕ) (xs ys part : List ℕ) → xs ≡ c ∷ ys → (c == quote) ≡ false
     → (escape ys).gives ≡ Ok part → (more : List ℕ → Taken (List ℕ))
@@ -29,7 +29,7 @@ pub drop_past : (now : Option (List ℕ)) (c n : ℕ) (xs ys : List ℕ) → xs 
     → now ≡ Some (drop n ys) → now ≡ Some (drop (suc n) xs)
 drop_past now c n xs ys s h = rw s h
 
--- a run and what is after it
+-- ---- a run and what follows it
 
 pub part_ends : (quote n : ℕ) (xs : List ℕ) (g : Result (List ℕ) FaultKind) → let m =
     run (ends_run quote) xs in
@@ -103,7 +103,7 @@ quoted_opens quote (c ∷ xs) =
     by_same quote (quoted_in _ _) (quoted quote) (c ∷ xs)
     (λ ys h. quoted_fuel quote (length xs) (length ys) ys (omega arith) (omega arith))
 
--- the string so far
+-- `k` bytes of a quoted string were taken, which stand for `text`, and the others follow
 abbrev pub Quoting : (quote : ℕ) (text xs : List ℕ) → ℕ → List ℕ → ℕ → Type 0
 Quoting quote text = Behind (quoted quote) (λ k ys. piece_then k text (quoted quote ys))
 

@@ -43,7 +43,7 @@ pub to_char : (r : Option ℕ) (n : ℕ) → n < 512 → SomeIff r (IsScalar n) 
 to_char None n l h = absurd (h (low_scalar n (omega arith)))
 to_char (Some x) n l h = ap Some h.1
 
--- the only faults are those of a string
+-- a fault is one that a string can have
 abbrev pub InText : {A : Type 0} → Result A FaultKind → Type 0
 InText (Ok a) = ⊤
 InText (Err kind) = IsTextFault kind
@@ -173,7 +173,7 @@ outcome_wants (Err fault) h = h
 pub quoted_wants : (quote : ℕ) (xs : List ℕ) → IsTextToken (quoted_token quote xs).gives
 quoted_wants quote xs = outcome_wants (quoted quote xs).gives (quoted_in_text _ _ xs)
 
--- a bare string begins unless the next byte begins a comment
+-- a slash begins a bare string, unless the next byte is a slash or a star
 pub bare_looked : (stops : ℕ → Bool) (old mid : Option (List ℕ)) (c : ℕ)
     → IfKnown old (λ xs. (mid ≡ Some xs) × (Some c ≡ first xs)) → c ≢ 47 → c ≢ 42
     → IfKnown old (λ xs. (mid ≡ Some xs) × (slash stops xs ≡ bare stops 47 xs))
@@ -185,9 +185,9 @@ pub slash_wants : (stops : ℕ → Bool) (xs : List ℕ) → slash stops xs ≡ 
     → IsTextToken (slash stops xs).gives
 slash_wants stops xs e = rw e (bare_wants _ 47 xs)
 
--- ---- what the parts of a string make of it
+-- ---- how the parts of a string determine its meaning
 
--- a quoted text means what its bytes do
+-- the meaning of a quoted string is that of its bytes
 pub quoted_means : (quote : ℕ) (text : List ℕ) (g : Result (Option PlainEvent) FaultKind)
     (new : Option (List ℕ)) (p q : ℕ) (xs : List ℕ) → quoted_event text ≡ g
     → TakesFront (quoted quote xs) (Ok text) new p q xs
@@ -202,7 +202,7 @@ quoted_stops quote old p new q None a = (a.0, tt)
 quoted_stops quote old p new q (Some kind) a =
     (a.0, λ xs e. let k = a.1 xs e in (ap quoted_outcome k.0, k.1, k.2))
 
--- a bare string becomes an event or a fault
+-- the event or the fault of a bare string
 pub bare_becomes : (stops : ℕ → Bool) (c : ℕ) (old : Option (List ℕ)) (p : ℕ)
     (new : Option (List ℕ)) (q : ℕ) (none text : List ℕ) (r : Result Event TokenFault) → p ≤ q
     → none ≡ [] → IfKnown old (λ xs. (text ≡ (none ++ c ∷ []) ++ take (run stops xs) xs)
@@ -224,7 +224,7 @@ bare_becomes stops c old p new q none text (Err f) le e k m =
           (ap bare_event (sym same) ∙ m.1, h.1, h.2),
     )
 
--- a quoted string becomes an event or a fault
+-- the event or the fault of a quoted string
 pub quoted_becomes : (quote : ℕ) (old : Option (List ℕ)) (p : ℕ) (new : Option (List ℕ)) (q : ℕ)
     (text : List ℕ) (r : Result Event TokenFault) → GivesFront (quoted quote) old p new q (Some
     (Ok text))
@@ -235,20 +235,20 @@ quoted_becomes quote old p new q text (Ok event) h m =
 quoted_becomes quote old p new q text (Err f) h m =
     rw m.0 (h.0, λ xs e. quoted_means quote text _ new p q xs m.1 (h.1 xs e))
 
--- ---- which token a byte begins
+-- ---- the token that a byte begins
 
 pub led_by : (stops : ℕ → Bool) (byte : ℕ) (lead is : Lead) → lead ≡ lead_of byte → lead ≡ is
     → (xs : List ℕ) → token_by stops (lead_of byte) byte xs ≡ token_by stops is byte xs
 led_by stops byte lead is e f xs = ap (λ l. token_by stops l byte xs) (sym e ∙ f)
 
--- if the token is a string, memory may be needed
+-- if the token for this kind of first byte is a string, so is the token that the byte begins
 pub wants_led : (stops : ℕ → Bool) (byte : ℕ) (lead is : Lead) → lead ≡ lead_of byte → lead ≡ is
     → (xs : List ℕ) → IsTextToken (token_by stops is byte xs).gives
     → IsTextToken (token_by stops (lead_of byte) byte xs).gives
 wants_led stops byte lead is e f xs h =
     subst (λ (t : Token). IsTextToken t.gives) (sym (led_by stops byte lead is e f xs)) h
 
--- ---- strings among the events
+-- ---- events of strings
 
 text_is_ascii : (event : PlainEvent) → IsTextEvent event → IsAsciiEvent event
 text_is_ascii (StartArray length) h = absurd h
@@ -276,7 +276,7 @@ texts_no_bracket (Ok (Some e)) behind h = text_no_bracket (event_of e) behind h
 texts_no_bracket (Ok None) behind h = tt
 texts_no_bracket (Err f) behind h = tt
 
--- what a quoted or bare string becomes after it was read
+-- the meaning of a string that was read
 pub ruleset texts = (text_gives, text_fails)
 
 pub ruleset bare_texts = (text_gives, text_fails, number_is_text)

@@ -1,4 +1,4 @@
--- What looking at bytes and taking them changes in the bytes that remain.
+-- How looking at bytes and taking them changes the bytes that remain.
 use Rattle.std.proofs.Common.{◌≡◌, ℕ, zero, suc, ◌+◌, ◌-◌, ◌^◌, ◌<◌, ◌≤◌, ◌≢◌, Bool, true, false, List, [], ◌∷◌, ◌++◌, length, take, drop, Option, None, Some, refl, sym, ap, ◌∙◌, rules, arith}
 use Rattle.std.specs.Prelude.{is_some, MatchOption, IfSome, ◌==◌, slice_index_or, nat_eq}
 use Rattle.std.specs.Option.{option_map}
@@ -58,7 +58,7 @@ nothing_unread : (k : Option (List ℕ)) (p : Option ℕ) (t : ℕ) → unread_o
 unfolding unread_of
 nothing_unread k p t = refl
 
--- the first of two parts, both cut
+-- a front of two lists begins with the front of the first one
 cut_front : (m : ℕ) (xs ys : List ℕ) → (zs : List ℕ) × (take m (xs ++ ys) ≡ take m xs ++ zs)
 cut_front zero xs ys = ([], refl)
 cut_front (suc m) [] ys = (take (suc m) ys, refl)
@@ -87,7 +87,7 @@ looked_hand held false (Some d) t b bytes h q some is =
     let left : 2 ^ 64 - 1 - t ≡ suc (2 ^ 64 - 1 - (t + 1)) = omega (arith, some) in
     rw left (is ∙ ap (λ z. d ∷ z) (sym (take-nil _)))
 
--- the buffered bytes are at hand, as many as may be taken
+-- the bytes at hand are the buffered ones, but no more than may be taken
 pub cut_hand : (held : List ℕ) (e : Bool) (p : Option ℕ) (t : ℕ) (bytes : List ℕ) → e ≡ false
     → p ≡ None → bytes ≡ held → take (2 ^ 64 - 1 - t) bytes ≡ hand_of held e p t
 unfolding hand_of
@@ -98,7 +98,7 @@ pub whole_hand : (held : List ℕ) (e : Bool) (p : Option ℕ) (t : ℕ) (bytes 
 whole_hand held e p t bytes h q is le =
     sym (take_all _ bytes le) ∙ cut_hand held e p t bytes h q is
 
--- the bytes that remain begin with those at hand
+-- the bytes that remain begin with those at hand, if none was looked at
 pub hand_first : (k : Option (List ℕ)) (held : List ℕ) (e : Bool) (p : Option ℕ) (t : ℕ)
     (xs : List ℕ)
     → is_some p ≡ false → StartsWithHeld held k → unread_of k e p t ≡ Some xs
@@ -115,7 +115,7 @@ hand_first (Some a) held false None t xs q h g =
 pub hand_first_none : (hand xs : List ℕ) → [] ≡ hand → (rest : List ℕ) × (xs ≡ hand ++ rest)
 hand_first_none hand xs h = (xs, ap (λ z. z ++ xs) h)
 
--- the bytes that remain begin with the one that was looked at
+-- the bytes that remain begin with those at hand, if one was looked at
 pub hand_first_looked : (k : Option (List ℕ)) (held : List ℕ) (e : Bool) (p : Option ℕ) (t : ℕ)
     (xs : List ℕ) → is_some p ≡ true → unread_of k e p t ≡ Some xs
     → (rest : List ℕ) × (xs ≡ hand_of held e p t ++ rest)
@@ -126,7 +126,7 @@ hand_first_looked None held false (Some b) t xs q g = cc
 hand_first_looked (Some a) held false (Some b) t xs q g =
     let c = cut_front (2 ^ 64 - 1 - t) (b ∷ []) a in (c.0, cc)
 
--- no more than 2^64 - 1 bytes are taken
+-- no more than 2^64 - 1 bytes are taken in total
 pub hand_fits : (held : List ℕ) (e : Bool) (p : Option ℕ) (t n : ℕ) → t < 2 ^ 64
     → n ≤ length (hand_of held e p t) → t + n < 2 ^ 64
 unfolding hand_of
@@ -134,7 +134,7 @@ hand_fits held true p t n l h = omega arith
 hand_fits held false None t n l h = omega (arith, length-take (2 ^ 64 - 1 - t) held)
 hand_fits held false (Some b) t n l h = omega (arith, length-take (2 ^ 64 - 1 - t) (b ∷ []))
 
--- the reader has those bytes at hand that weren't looked at
+-- if no byte was looked at, the bytes at hand are buffered
 pub hand_held : (held : List ℕ) (e : Bool) (p : Option ℕ) (t n : ℕ) → is_some p ≡ false
     → n ≤ length (hand_of held e p t) → n ≤ length held
 unfolding hand_of
@@ -155,7 +155,7 @@ known_behind (Some a) (Some b) t n part xs l room c g =
     let same : readable_with None t a ≡ xs = cc in
     (readable_with None _ b, sym same ∙ e, refl)
 
--- the first n bytes at hand are taken from the reader
+-- the first `n` bytes at hand are taken from the buffered ones
 pub held_taken : (k now : Option (List ℕ)) (held : List ℕ) (e : Bool) (p : Option ℕ) (t n : ℕ)
     (xs : List ℕ) → is_some p ≡ false → t < 2 ^ 64 → n ≤ length (hand_of held e p t)
     → Consumes k now (take n held) → unread_of k e p t ≡ Some xs
@@ -187,7 +187,7 @@ peeked_taken k held false (Some b) t n xs q l h g =
     let split = held_unread k b t xs (omega (arith, most)) g in
     rw (one, split.1) split.2
 
--- with no byte at hand none was looked at, if one more may be taken
+-- if no byte is at hand and one more may be taken, none was looked at
 pub none_peeked : (held : List ℕ) (e : Bool) (p : Option ℕ) (t : ℕ) → e ≡ false → t < 2 ^ 64 - 1
     → hand_of held e p t ≡ [] → p ≡ None
 unfolding hand_of
@@ -231,7 +231,7 @@ module _ (k now : Option (List ℕ)) (e : Bool) (p : Option ℕ) (t : ℕ) (xs :
       let read : unread_of now false (Some c) t ≡ Some xs = one_unread k _ c t xs r known in
       (rw h read, sym (ap first (held_unread now c t xs room read).1))
 
--- the first of the bytes at hand is the first that remains
+-- the first byte at hand is the first of those that remain
 pub hand_looks : (hand bytes rest xs : List ℕ) → bytes ≡ hand → (length bytes == 0) ≡ false
     → xs ≡ hand ++ rest → Some (slice_index_or bytes 0 0) ≡ first xs
 hand_looks hand [] rest xs same some e = cc
@@ -253,7 +253,7 @@ pub all_taken : (hand bytes : List ℕ) (n p q : ℕ) → bytes ≡ hand → q �
 all_taken hand bytes n p q same place all =
     let n-is = eqb-true n (length bytes) all in omega (arith, place, n-is, ap length same)
 
--- what is so of the bytes that remain is so of those that are known to
+-- the bytes that remain are determined, so both lists begin with a stop or are empty
 pub drops_known : (now : Option (List ℕ)) (stop : ℕ → Bool) (zs ys : List ℕ) → now ≡ Some zs
     → now ≡ Some ys → run stop zs ≡ 0 → run stop ys ≡ 0
 drops_known now stop zs ys a b h = let same : zs ≡ ys = cc in rw (sym same) h
@@ -275,7 +275,7 @@ begins_other b c [] n h = cc
 begins_other b c (d ∷ xs) n h =
     let same : c ≡ d = cc in rw (sym same) (ne_eqb c b n)
 
--- a byte that was looked at is taken
+-- the byte that was looked at is taken
 pub takes_looked : (old mid new : Option (List ℕ)) (b : ℕ)
     → IfKnown old (λ xs. (mid ≡ Some xs) × (Some b ≡ first xs))
     → IfKnown mid (λ xs. new ≡ Some (drop 1 xs)) → FirstIsTaken old b new
@@ -287,7 +287,7 @@ takes_looked old mid new b looked taken =
 pub none_stops : (stop : ℕ → Bool) (xs : List ℕ) → None ≡ first xs → run stop xs ≡ 0
 none_stops stop xs h = rw (first_none xs h) refl
 
--- a stop that is at hand ends the run
+-- a stop among the bytes at hand ends the run
 pub hand_stops : (stop : ℕ → Bool) (hand rest : List ℕ) → run stop hand < length hand
     → run stop (drop (run stop hand) (hand ++ rest)) ≡ 0
 hand_stops stop [] rest h = absurd (let none : ⊥ = omega arith in none)
@@ -321,7 +321,7 @@ stop_at_hand stop hand bytes rest xs n same is le e other =
     ne-from : (a b : ℕ) → nat_eq a b ≡ false → a ≢ b
     ne-from a b e = eqb-false a b e
 
--- a run has no stop
+-- the bytes of a run contain no stop
 plain_part : (stop : ℕ → Bool) (xs : List ℕ) → run stop (take (run stop xs) xs) ≡ run stop xs
 plain_part stop [] = refl
 plain_part stop (c ∷ xs) = by_stop (stop c) refl (plain_part stop xs)
@@ -335,7 +335,7 @@ plain_part stop (c ∷ xs) = by_stop (stop c) refl (plain_part stop xs)
     by_stop false e h =
         let one : 1 + n ≡ suc n = omega arith in rw (e, one, e) (ap (λ m. 1 + m) h ∙ one)
 
--- the bytes at hand up to a stop are taken
+-- the bytes at hand before a stop are taken
 pub part_taken : (stop : ℕ → Bool) (hand bytes rest : List ℕ) (n : ℕ) (new : Option (List ℕ))
     (p q : ℕ) (text longer xs : List ℕ) → bytes ≡ hand → n ≡ run stop bytes → n ≤ length bytes
     → xs ≡ hand ++ rest → new ≡ Some (drop n xs) → q ≡ p + n → longer ≡ text ++ take n bytes
@@ -350,14 +350,14 @@ part_taken stop hand bytes rest n new p q text longer xs same is le e taken plac
     let plain : run stop part ≡ length part = rw is (plain_part stop bytes ∙ sym (rw is at len)) in
     (part, drop n xs, whole, plain, grown, taken, place ∙ ap (λ z. p + z) (sym len))
 
--- what is left to a reader before its first byte
+-- the bytes that remain before the first one is taken
 pub new_unread : {R : Type 0} (known : R → Option (List ℕ)) (r inner : R) (e : Bool) (p : Option ℕ)
     (t : ℕ) → r ≡ inner → p ≡ None → t ≡ 0 → e ≡ false
     → unread_of (known r) e p t ≡ option_map (λ xs. take (2 ^ 64 - 1) xs) (known inner)
 unfolding unread_of
 new_unread known r inner e p t i n z g = rw (i, n, z, g) refl
 
--- what is left to a reader that hasn't ended
+-- the bytes that remain if the input hasn't ended
 pub going_unread : (k : Option (List ℕ)) (e : Bool) (p : Option ℕ) (t : ℕ) → (e ≡ true → ⊥)
     → IfSome k (λ xs. unread_of k e p t ≡ Some (readable_with p t xs))
 unfolding unread_of
