@@ -7,7 +7,7 @@ use Rattle.plist_commands.specs.declared.lines.Notation.{Notation}
 use Rattle.plist_commands.specs.declared.lines.Notation.TheVariants as notation
 use Rattle.plist_commands.specs.EscapedLines.{hexadecimal_digit, in_notation, escaped_byte}
 
--- what is printed of two parts is printed of both
+-- the printed forms of two parts are the printed form of both
 pub both_noted : (n : Notation) (left right : List ℕ)
     → in_notation n left ++ in_notation n right ≡ in_notation n (left ++ right)
 both_noted notation.Text left right = sym (flat_map-append escaped_byte left right)
@@ -25,7 +25,7 @@ block_at size (suc count) (suc i) bytes none below =
     ∙ ap (take size) (drop-drop (i * size) size bytes
     ∙ ap (λ n. drop n bytes) {x = size + i * size} {y = suc i * size} (omega arith))
 
--- what is printed of one more block
+-- one more block is printed
 pub block_more : (n : Notation) (size count : ℕ) (bytes old line printed new none : List ℕ)
     (blocks : List (List ℕ)) (i : ℕ) → blocks ≡ first_chunks size count bytes
     → length blocks ≡ count → i < length blocks → line ≡ old ++ in_notation n (take (i * size) bytes)
@@ -41,7 +41,7 @@ block_more n size count bytes old line printed new none blocks i are many below 
     ∙ ap (in_notation n) (sym (take-add (i * size) size bytes)
     ∙ ap (λ k. take k bytes) {x = i * size + size} {y = (i + 1) * size} (omega arith)))
 
--- and of the bytes after all blocks
+-- the bytes after all blocks are printed
 pub blocks_end : (n : Notation) (size count : ℕ) (bytes old line new rest : List ℕ) (i : ℕ)
     → i ≡ count → line ≡ old ++ in_notation n (take (i * size) bytes) → rest ≡ drop (count * size) bytes
     → new ≡ line ++ in_notation n rest → new ≡ old ++ in_notation n bytes

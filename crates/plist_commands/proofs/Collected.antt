@@ -1,4 +1,4 @@
--- What a collector has taken after a visit.
+-- What a collector has buffered after a visit.
 use Rattle.std.proofs.Common.{◌≡◌, ℕ, Bool, true, false, List, Option, None, Some, Result, Ok, Err, ap, inl, inr, refl, sym, ◌∙◌, ◌⊎◌, true≢false}
 use Rattle.std.specs.Prelude.{⊤}
 use Rattle.std.proofs.lemmas.Option.{IfSome_then}
@@ -31,7 +31,7 @@ use Rattle.plist_commands.proofs.PendingBytes.{fault_counts, memory_own, own_cou
 use Rattle.plist_commands.proofs.Runs.{HasHeld, held_faulted, held_more, held_none, held_refused, held_stopped, held_whole}
 use Rattle.plist_commands.proofs.Streaming.{HasTaken, came_next, goes_on, held_at_end, taken_none, tells_next, tells_none, took_event, took_fault, whole_at_end}
 
--- memory may be refused whatever the items are
+-- `OutOfMemory` is possible for any items
 read_without_memory : (items : Option (List Item)) (error : Error)
     → fault_of error ≡ fault_without_offset OutOfMemory → IsReadIfKnown items (Err (fault_of error))
 read_without_memory None error memory = tt
@@ -41,7 +41,7 @@ read_without_memory (Some all) error memory =
 
 module _ {I : Type 0} (gives : I → PlainItem → I → Type 0) (coming : I → Option (List Item))
     (failures : I → ℕ) where
-  -- what is known after a visit
+  -- what is true after a visit
   pub record Concludes (old : I) (answer : Result Bool Error) (new : I × Collector) : Type 0 where
     pub held : FindsTree (coming old) answer (collected new.1)
     pub none : IfOkIs answer false (AreNoTree (coming old))
@@ -54,7 +54,7 @@ module _ {I : Type 0} (gives : I → PlainItem → I → Type 0) (coming : I →
     → ComesIfKnown (coming old) item (coming new)) (failures : I → ℕ) (is_open : I → Type 0)
     (counts : (old : I) (item : PlainItem) (new : I) → is_open old → gives old item new
     → ItemCountsIo item (failures old) (failures new) × is_open new) where
-  -- the events that came so far are held
+  -- the events that were yielded so far are buffered
   pub record Held (first : I) (now : I × Collector) : Type 0 where
     pub ran : HasHeld gives first now.0 (collected now.1)
     pub so_far : HasTaken (coming first) (coming now.0) (collected now.1)
@@ -72,7 +72,7 @@ module _ {I : Type 0} (gives : I → PlainItem → I → Type 0) (coming : I →
     open_still = open_first;
   }
 
-  -- one event more is held
+  -- one more event is buffered
   held_next : (first : I) (now new : I × Collector) (event : PlainEvent) → Held first now
       → gives now.0 (Some (Ok event)) new.0
       → HoldsMore (is_complete new.1) (collected now.1) event (collected new.1) → Held first new
@@ -91,7 +91,7 @@ module _ {I : Type 0} (gives : I → PlainItem → I → Type 0) (coming : I →
         open_still = still;
       }
 
-  -- and so are all that were handed over
+  -- all events that were handed over are buffered
   held_all : (first : I) (old : I × Collector) (visited : Result Visited Error)
       (new : I × Collector) (visit : Visits gives CollectsEvent old visited new) → Held first old
       → Held first visit.left × (visit.left.1.pauses ≡ old.1.pauses)
@@ -103,7 +103,7 @@ module _ {I : Type 0} (gives : I → PlainItem → I → Type 0) (coming : I →
       ))
       old visit.left visit.events (held, refl) visit.handed
 
-  -- the collector may be another one that holds the same
+  -- another collector with the same events can continue
   pub held_same : (first now : I) (old new : Collector) → Held first (now, old)
       → collected new ≡ collected old → is_complete new ≡ is_complete old → Held first (now, new)
   held_same first now old new held events whole = record {
@@ -114,7 +114,7 @@ module _ {I : Type 0} (gives : I → PlainItem → I → Type 0) (coming : I →
     open_still = held.open_still;
   }
 
-  -- the collector paused
+  -- the events so far are buffered if the collector paused
   pub held_paused : (first : I) (old new : I × Collector) (visited : Result Visited Error)
       → Held first old → Visits gives CollectsEvent old visited new → HasPaused true new.1 visited
       → Held first new
@@ -139,7 +139,7 @@ module _ {I : Type 0} (gives : I → PlainItem → I → Type 0) (coming : I →
       by Misplaced event given taken paused = absurd (true≢false paused)
       by (Failed error) event given taken paused = absurd (true≢false paused)
 
-  -- nothing came after them
+  -- the source has ended
   ends_there : (first : I) (left : I × Collector) (new : I) → Held first left
       → gives left.0 None new
       → Concludes gives coming failures first (Ok (is_complete left.1)) (new, left.1)
@@ -159,7 +159,7 @@ module _ {I : Type 0} (gives : I → PlainItem → I → Type 0) (coming : I →
         counted = (counts left.0 None new held.open_still last).0 ∙ held.counted;
       }
 
-  -- an event came that can't be held, or for which memory was refused
+  -- an event was yielded that can't follow the buffered ones, or an allocation for it failed
   stops_there : (first : I) (left new : I × Collector) (event : PlainEvent) (stop : StopReason)
       (answer : Result Bool Error) → Held first left → gives left.0 (Some (Ok event)) new.0
       → (stop ≡ Paused → ⊥)
@@ -196,7 +196,7 @@ module _ {I : Type 0} (gives : I → PlainItem → I → Type 0) (coming : I →
             ((counts left.0 (Some (Ok event)) new.0 held.open_still last).0 ∙ held.counted);
       })
 
-  -- an error came
+  -- the source yielded an error
   fails_there : (first : I) (left new : I × Collector) (error : Error) → Held first left
       → gives left.0 (Some (Err error)) new.0
       → Concludes gives coming failures first (Err error) new
@@ -215,7 +215,7 @@ module _ {I : Type 0} (gives : I → PlainItem → I → Type 0) (coming : I →
         (counts left.0 (Some (Err error)) new.0 held.open_still last).0 (inl (refl, tt));
   }
 
-  -- a collector that doesn't pause, or didn't
+  -- the visit wasn't paused
   pub concludes : (first : I) (old new : I × Collector) (visited : Result Visited Error)
       (answer : Result Bool Error) → Held first old → Visits gives CollectsEvent old visited new
       → (old.1.pauses ≡ false) ⊎ HasPaused false new.1 visited → AnswersVisit visited new.1 answer
@@ -239,7 +239,7 @@ module _ {I : Type 0} (gives : I → PlainItem → I → Type 0) (coming : I →
           ∙ (held_all first old (Ok Stopped) new visit held).1 ∙ none)
       never (inr none) event taken paused = true≢false (sym (rw paused at none))
 
--- an event that is held, after which the collector may pause
+-- the event is buffered, and the collector may pause after it
 pub may_pause : (old mid new : Collector) (event : PlainEvent) (flow : Flow)
     → mid.pauses ≡ old.pauses
     → HoldsMore (is_complete mid) (collected old) event (collected mid) → MayPause mid flow new
@@ -248,14 +248,14 @@ may_pause old mid new event (Continue more) pauses holds same = rw same (pauses,
 may_pause old mid new event (Break stop) pauses holds (may, paused, same) =
     rw (paused, same) (sym pauses ∙ may, holds)
 
--- ---- a binary reader, of which the collector takes one event first
+-- ---- a binary reader, from which the collector takes one event before it pauses
 
 module _ {S : Type 0} {g : Ghosts S} (known : S → Option (List ℕ)) (failed : S → ℕ)
     (old : BinaryReaderOf S g) (before : Collector) (first : Result Visited Error)
     (mid : BinaryReaderOf S g) (taken : Collector)
     (empty : IsEmpty (is_complete before) (collected before))
     (visit : Visits (StepsBinary known failed) CollectsEvent (old, before) first (mid, taken)) where
-  -- what is known of a reader
+  -- what is true after a visit of a binary reader
   abbrev pub BinaryConcludes : Result Bool Error → BinaryReaderOf S g × Collector → Type 0
   BinaryConcludes answer new =
       Concludes (StepsBinary known failed) (items_left known)
@@ -273,7 +273,7 @@ module _ {S : Type 0} {g : Ghosts S} (known : S → Option (List ℕ)) (failed :
       (λ reader. failed (binary_source reader)) (λ _. Unit {0})
       (λ old item new _ step. (step.gives.failures, tt)) (old, before) tt empty
 
-  -- it doesn't pause then
+  -- the collector didn't pause
   pub binary_once : (answer : Result Bool Error) → HasPaused false taken first
       → AnswersVisit first taken answer → BinaryConcludes answer (mid, taken)
   binary_once answer paused is =
@@ -282,7 +282,7 @@ module _ {S : Type 0} {g : Ghosts S} (known : S → Option (List ℕ)) (failed :
       (λ old item new _ step. (step.gives.failures, tt)) old (old, before) (mid, taken) first answer
       begun visit (inr paused) is
 
-  -- it does, and goes on
+  -- the collector paused, and the visit was continued
   pub binary_twice : (expecting : Collector) (others : Result Visited Error)
       (new : BinaryReaderOf S g) (last : Collector) (answer : Result Bool Error)
       → HasPaused true taken first → collected expecting ≡ collected taken

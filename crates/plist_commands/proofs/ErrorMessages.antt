@@ -1,4 +1,4 @@
--- What is said on standard error.
+-- What is written to standard error.
 use Rattle.std.proofs.Common.{◌≡◌, List, [], ◌++◌, ℕ, Option, Result, Ok, Err, OnOk, is_ok, ◌∙◌, ap}
 use Rattle.std.specs.Fmt.{WritesInCalls}
 use Rattle.std.specs.Io.KnownBytes.{Appends}
@@ -8,7 +8,7 @@ use Rattle.plist_base.specs.declared.error.Error.{Error}
 use Rattle.plist_base.specs.Prefixes.{AppendsPrefix}
 use Rattle.plist_commands.specs.Messages.{PlainMessage, TakesMessage, message_text}
 
--- a line that began as no bytes has what was written to it
+-- a line that was empty consists of what was written to it
 pub line_written : (old new : ArrayString) (text : List ℕ) → old.bytes ≡ []
     → WritesInCalls (λ from bytes to. to.bytes ≡ from.bytes ++ bytes) old text new
     → new.bytes ≡ text
@@ -17,7 +17,7 @@ line_written old new text none wrote =
     (λ from bytes to is. is) old text new wrote
     ∙ ap (λ bytes. bytes ++ text) none
 
--- all of the message was sent, or a beginning of it
+-- the whole message or a prefix of it was written
 pub takes_sent : (said : PlainMessage) (answer : Result (Unit {0}) Error)
     (old new : Option (List ℕ)) → OnOk answer (Appends old new (message_text said))
     → AppendsPrefix old new (message_text said) → TakesMessage said (is_ok answer) old new

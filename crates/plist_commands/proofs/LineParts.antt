@@ -1,4 +1,4 @@
--- A line that is put in parts, and its bytes in blocks.
+-- A line whose word, bytes and end are put one after another, and the blocks of its bytes.
 use Rattle.std.proofs.Common.{◌≡◌, ℕ, suc, ◌+◌, ◌*◌, ◌<◌, ◌==◌, true, false, true≢false, List, [], ◌∷◌, ◌++◌, length, get_or, take, drop, Option, Result, Ok, Err, codes, refl, sym, ap, ◌∙◌, subst, append_assoc, arith}
 use Rattle.std.specs.Prelude.{IsErrAnd}
 use Rattle.std.specs.Simd.{first_chunks}
@@ -29,7 +29,7 @@ module _ {W : Type 0} {contents : W → Option (List ℕ)} (n : Notation) (size 
   module _ {a b c : Sink W} (i : ℕ)
       (so_far : PutsBytes contents a (in_notation n (take (i * size) bytes)) (Ok tt) b)
     where
-      -- one more block
+      -- one more block was put
       pub block_put : (blocks : List (List ℕ)) (none : List ℕ) → blocks ≡ first_chunks size count bytes
           → length blocks ≡ count → i < length blocks
           → PutsBytes contents b (in_notation n (get_or blocks i none)) (Ok tt) c
@@ -39,7 +39,7 @@ module _ {W : Type 0} {contents : W → Option (List ℕ)} (n : Notation) (size 
           (block_more n size count bytes [] _ _ _ none blocks i are many below refl refl refl)
           (puts_then so_far now)
 
-      -- a block can't be put
+      -- putting a block failed
       pub block_refused : (blocks : List (List ℕ)) (none : List ℕ) (answer : Result (Unit {0}) Error)
           (error : Error) → blocks ≡ first_chunks size count bytes → length blocks ≡ count
           → i < length blocks → IsErrAnd answer (λ e. e ≡ error)
@@ -54,7 +54,7 @@ module _ {W : Type 0} {contents : W → Option (List ℕ)} (n : Notation) (size 
           ∙ ap (in_notation n) (take-append-drop place bytes))
           (puts_refused (in_notation n (drop place bytes)) answer error is (puts_then so_far now))
 
-      -- the bytes after all blocks
+      -- the bytes after all blocks were put
       pub rest_put : (rest : List ℕ) (answer : Result (Unit {0}) Error) → i ≡ count
           → rest ≡ drop (count * size) bytes → Puts contents b (in_notation n rest) answer c
           → Puts contents a (in_notation n bytes) answer c
@@ -62,7 +62,7 @@ module _ {W : Type 0} {contents : W → Option (List ℕ)} (n : Notation) (size 
           subst (λ l. PutsBytes contents a l (answer_of answer) c)
           (blocks_end n size count bytes [] _ _ rest i at refl is refl) (puts_then so_far now)
 
--- the lines of a text and of data are such
+-- the lines of a string and of data in these parts
 pub text_line : (text bytes : List ℕ) → bytes ≡ text
     → codes "String \"" ++ escaped_text bytes ++ codes "\"\n" ≡ line_of (ScalarEvent (String text))
 text_line text bytes is =

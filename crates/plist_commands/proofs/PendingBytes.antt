@@ -1,4 +1,4 @@
--- What a writer holds after some sends.
+-- What was written and how failures are counted after an error.
 use Rattle.std.proofs.Common.{◌≡◌, ℕ, List, ◌⊎◌, inl, inr, Option, None, Some, IfSome, Result, Ok, Err, OnErr, option_map, ap, subst, sym}
 use Rattle.std.specs.Prelude.{⊤}
 use Rattle.plist_base.specs.declared.error.Error.{Error}
@@ -8,12 +8,12 @@ use Rattle.plist_base.specs.Sources.{CountsIo, Rises}
 use Rattle.plist_base.proofs.Refusals.{MatchFault-all, MatchFault-at, MatchFault-weaker}
 use Rattle.plist_commands.specs.Printing.{CountsReads, IsWriterError, PrintsUntil}
 
--- a fact that holds of an error's call holds where that error is passed on
+-- a fact about an error is true of the result that passes it on
 pub on_err_of : {T E P : Type 0} (answer : Result T E) → P → OnErr answer P
 on_err_of (Ok value) p = tt
 on_err_of (Err error) p = p
 
--- ---- the writer's failure, and lack of memory
+-- ---- a failed write or allocation
 
 pub device_own : (error : Error) → fault_of error ≡ fault_without_offset Io → IsWriterError error
 device_own error is = (
@@ -28,7 +28,7 @@ memory_own error is = (
       (ap (λ (f : Fault). f.kind) is) tt,
 )
 
--- it may come anywhere
+-- a failed write or allocation says nothing about the items
 pub own_ends : (items : Option (List Item)) (error : Error) (old new : Option (List ℕ))
     → IsWriterError error → IfSome items (λ all. PrintsUntil error all old new)
 own_ends None error old new own = tt
@@ -36,7 +36,7 @@ own_ends (Some all) error old new own =
     MatchFault-weaker (kind_of (error_kind_of error)) (λ _. tt) (λ _. tt) (λ none. absurd none)
     own.1
 
--- the source didn't fail then
+-- a failed write or allocation leaves the source's count of failures unchanged
 pub own_counts : (error : Error) (old new : ℕ) → IsWriterError error → new ≡ old
     → CountsReads {A = Unit {0}} (Err error) old new
 own_counts error old new own same =
@@ -47,7 +47,7 @@ one_of Io A h = h
 one_of OutOfMemory A h = h
 one_of kind A h = h
 
--- the source's count after its own fault, or after a device's that came after it
+-- the source's count of failures after its own error, or after a failed write that followed it
 pub fault_counts : {A : Type 0} (error answer : Error) (old before new : ℕ) → before ≡ old
     → CountsIo error before new → ((answer ≡ error) × A) ⊎ (fault_of answer ≡ fault_without_offset Io)
     → CountsReads {A = Unit {0}} (Err answer) old new
@@ -67,7 +67,7 @@ fault_counts error answer old before new is counts (inr own) =
 
 -- ---- a whole file
 
--- what is so of the items to come is so of a file's
+-- what is true of the remaining items of a new reader is true of the items of the file
 pub of_file : (known same : Option (List ℕ)) (coming items : List ℕ → List Item)
     (P : List Item → Type 0) → same ≡ known
     → IfSome known (λ bytes. coming bytes ≡ items bytes)

@@ -1,4 +1,4 @@
--- The table of the bytes of a text that stand for themselves.
+-- The table of the bytes of a string that are printed as they are.
 use Rattle.std.proofs.Common.{◌≡◌, ℕ, zero, suc, ◌-◌, ◌<◌, Bool, true, false, not, ◌&&◌, T, get_or, refl, inl, inr, arith, eq-zero-or-pos}
 use lib.Ieee.Fits.{and_l, and_r}
 use Rattle.plist_commands.specs.EscapedLines.{stands_for_itself}
@@ -36,6 +36,6 @@ below (suc n) byte marked within =
           (omega arith)
     ]
 
--- what the table says of each byte
+-- the entry of the table for each byte
 pub is_marked : (byte : ℕ) → byte < 256 → get_or PLAIN byte false ≡ stands_for_itself byte
 is_marked byte within = below 256 byte tt within

@@ -1,4 +1,4 @@
--- What becomes of the events that a printer takes.
+-- What is written of the events that a printer takes.
 use Rattle.std.proofs.Common.{◌≡◌, inl, inr, ℕ, List, [], Option, None, Some, Result, Ok, Err, refl, sym, ◌∙◌, append-nil}
 use Rattle.std.specs.Io.KnownBytes.{Appends}
 use Rattle.std.specs.Prelude.{IfErr, OnOk}
@@ -19,7 +19,7 @@ use Rattle.plist_commands.specs.ReaderRuns.{PrintsRun}
 use Rattle.plist_commands.proofs.Runs.{HasRun, run_more, run_none, run_stopped}
 
 module _ {W : Type 0} (contents : W → Option (List ℕ)) where
-  -- what was pending is written
+  -- the pending bytes are written, or a prefix of them if a write fails
   pub record Empties (old : Sink W) (answer : Result (Unit {0}) Error) (new : Sink W) : Type 0 where
     pub sent : OnOk answer (Appends (written contents old) (written contents new) (pending old))
     pub fault : IfErr answer (λ error. fault_of error ≡ fault_without_offset Io)
@@ -41,7 +41,7 @@ module _ {W : Type 0} (contents : W → Option (List ℕ)) where
     prefix = rw (append-nil (pending old)) at put.follows.1;
   }
 
-  -- an error after the lines before it
+  -- the pending lines were written before an error, which is the result
   pub fails_after : (old new : Sink W) (answer : Result (Unit {0}) Error) (error : Error)
       → Puts contents old [] answer new → OnOk answer (pending new ≡ []) → answer ≡ Ok tt
       → FailsAfterLines contents old error error new
@@ -57,7 +57,7 @@ module _ {W : Type 0} (contents : W → Option (List ℕ)) where
       record { same = put.same; lines = inr (rw is at done.fault); prefix = done.prefix }
 
 module _ {I W : Type 0} (yields : I → PlainItem → I → Type 0) (contents : W → Option (List ℕ)) where
-  -- the events that came so far were taken
+  -- the events that were yielded so far were printed
   abbrev Ran : (old now : I × Printer W) → Type 0
   Ran old now =
       HasRun yields old.0 now.0 (printed contents old.1) (printed contents now.1)
@@ -80,7 +80,7 @@ module _ {I W : Type 0} (yields : I → PlainItem → I → Type 0) (contents : 
       )
       handed
 
-  -- then nothing came
+  -- the source ended
   pub visited_ended : (old new : I × Printer W) → pending_lines old.1 ≡ []
       → Visits yields (PrintsLine contents) old (Ok Ended) new
       → (left : I) × yields left None new.0
@@ -95,7 +95,7 @@ module _ {I W : Type 0} (yields : I → PlainItem → I → Type 0) (contents : 
         rw visit.ended.1 ran.1,
       )
 
-  -- or an error did
+  -- the source yielded an error
   pub visited_error : (old new : I × Printer W) (error : Error) → pending_lines old.1 ≡ []
       → Visits yields (PrintsLine contents) old (Err error) new
       → (left : I) × yields left (Some (Err error)) new.0
@@ -110,7 +110,7 @@ module _ {I W : Type 0} (yields : I → PlainItem → I → Type 0) (contents : 
         rw visit.ended.1 ran.1,
       )
 
-  -- or the printer stopped
+  -- the printer stopped because a write failed
   pub visited_stopped : (old new : I × Printer W) → pending_lines old.1 ≡ []
       → Visits yields (PrintsLine contents) old (Ok Stopped) new
       → PrintsRun yields old.0 (Err new.1.failure) new.0 (printed contents old.1)

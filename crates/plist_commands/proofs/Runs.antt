@@ -1,4 +1,4 @@
--- What is printed of the events that came so far.
+-- What is written of the events that were yielded so far, or buffered of them.
 use Rattle.std.proofs.Common.{◌≡◌, ◌⊎◌, inl, inr, ℕ, Bool, true, false, true≢false, List, [], ◌∷◌, ◌++◌, Option, None, Some, Result, Ok, Err, IfErr, OnOk, map, refl, sym, ap, ◌∙◌, subst, append_assoc, append-nil}
 use Rattle.std.specs.Io.KnownBytes.{Appends, Keeps}
 use Rattle.std.specs.Prelude.{IsErrAnd}
@@ -28,13 +28,13 @@ lines_more (first ∷ events) event =
     ap (λ l. line_of first ++ l) (lines_more events event)
     ∙ sym (append_assoc (line_of first) (lines_of_events events) (line_of event))
 
--- all that was held back went out
+-- all pending lines were written
 all_sent : (old now after : Option (List ℕ)) (lines held : List ℕ) → WritesBut old now lines held
     → Appends now after held → Appends old after lines
 all_sent old now after lines held (sent, appended, is) more =
     Appends-at old after _ _ (sym is) (Appends-trans old now after sent held appended more)
 
--- a beginning of it did
+-- a prefix of the pending lines was written
 front_sent : (old now after : Option (List ℕ)) (lines held : List ℕ) → WritesBut old now lines held
     → AppendsPrefix now after held → AppendsPrefix old after lines
 front_sent old now after lines held (sent, appended, is) (part, rest, more, split) = (
@@ -44,7 +44,7 @@ front_sent old now after lines held (sent, appended, is) (part, rest, more, spli
   is ∙ ap (λ l. sent ++ l) split ∙ sym (append_assoc sent part rest),
 )
 
--- and the writer was flushed
+-- a flush leaves what was written unchanged
 appends_kept : (old now after : Option (List ℕ)) (bytes : List ℕ) → Appends old now bytes
     → Keeps now after → Appends old after bytes
 appends_kept None now after bytes appended kept = tt
@@ -57,7 +57,7 @@ front_kept : (old now after : Option (List ℕ)) (bytes : List ℕ) → AppendsP
 front_kept old now after bytes (sent, rest, appended, is) kept =
     (sent, rest, appends_kept old now after sent appended kept, is)
 
--- the writer failed, or memory ran out
+-- an error of the writer is `Io` or `OutOfMemory`, without an offset
 own_fault : (fault : Fault) → IsWriterFault fault
     → (fault ≡ fault_without_offset Io) ⊎ (fault ≡ fault_without_offset OutOfMemory)
 own_fault fault (none, own) = by fault.kind fault.offset none own
@@ -69,14 +69,14 @@ own_fault fault (none, own) = by fault.kind fault.offset none own
     by OutOfMemory offset none own = inr (rw none refl)
     by kind offset none own = absurd own
 
--- this many events came, whose lines were sent or are held back
+-- some events were yielded, whose lines were written or are pending
 abbrev pub HasRun : {I : Type 0} (yields : I → PlainItem → I → Type 0) (old now : I)
     → (before after : Option (List ℕ)) → (held : List ℕ) → Type 0
 HasRun yields old now before after held =
     (events : List PlainEvent) × YieldsAll yields old events now
     × WritesBut before after (lines_of_events events) held
 
--- with one line more
+-- one more line is pending
 line_held : (events : List PlainEvent) (event : PlainEvent) (before now : Option (List ℕ))
     (held : List ℕ) → WritesBut before now (lines_of_events events) held
     → WritesBut before now (lines_of_events (events ++ event ∷ [])) (held ++ line_of event)
@@ -101,7 +101,7 @@ module _ {I : Type 0} (yields : I → PlainItem → I → Type 0) where
       → HasRun yields old old before before held
   run_none old before held none = ([], refl, ([], Appends-nil before, sym none))
 
-  -- one event more
+  -- one more event was yielded and printed
   pub run_more : (old now new : I) (event : PlainEvent) (before here after : Option (List ℕ))
       (held kept : List ℕ) → HasRun yields old now before here held
       → yields now (Some (Ok event)) new → WritesBut here after (held ++ line_of event) kept
@@ -112,7 +112,7 @@ module _ {I : Type 0} (yields : I → PlainItem → I → Type 0) where
     passed_further before here after _ _ kept (line_held events event before here held passed) line,
   )
 
-  -- its line didn't go out whole
+  -- a write failed at the line of an event
   pub run_stopped : (old now new : I) (event : PlainEvent) (before here after : Option (List ℕ))
       (held : List ℕ) (error : Error) → HasRun yields old now before here held
       → yields now (Some (Ok event)) new → fault_of error ≡ fault_without_offset Io
@@ -129,7 +129,7 @@ module _ {I : Type 0} (yields : I → PlainItem → I → Type 0) where
         ),
       )
 
-  -- a fault came, which is the answer once what was held back was sent
+  -- the source yielded an error, which is the result unless a write of the pending lines fails
   pub run_faulted : (old now new : I) (before here after : Option (List ℕ)) (held : List ℕ)
       (error answer : Error) → HasRun yields old now before here held
       → yields now (Some (Err error)) new
@@ -156,7 +156,7 @@ module _ {I : Type 0} (yields : I → PlainItem → I → Type 0) where
         ),
       )
 
-  -- nothing came, and what was held back is sent
+  -- the source ended, and the pending lines are written
   pub run_ended : (old now new : I) (before here after : Option (List ℕ)) (held : List ℕ)
       (answer : Result (Unit {0}) Error) → HasRun yields old now before here held
       → yields now None new → OnOk answer (Appends here after held)
@@ -172,7 +172,7 @@ module _ {I : Type 0} (yields : I → PlainItem → I → Type 0) where
         inr (inl (own, inr (None, step)), front_sent before here after _ _ passed front),
       )
 
-  -- no memory for the lines
+  -- the buffer for the lines couldn't be allocated
   pub run_unbegun : (old : I) (before : Option (List ℕ)) (answer : Result (Unit {0}) Error)
       (error : Error) → IsErrAnd answer (λ e. e ≡ error)
       → fault_of error ≡ fault_without_offset OutOfMemory → PrintsRun yields old answer old before before
@@ -180,7 +180,7 @@ module _ {I : Type 0} (yields : I → PlainItem → I → Type 0) where
   run_unbegun old before (Err e) error is none =
       ([], old, refl, inr (inr (rw is none, refl), ([], [], Appends-nil before, refl)))
 
-  -- a flush after what failed
+  -- a flush after an error leaves what was written unchanged
   run_kept : (old new : I) (before now after : Option (List ℕ)) (error : Error)
       → PrintsRun yields old (Err error) new before now → Keeps now after
       → PrintsRun yields old (Err error) new before after
@@ -189,7 +189,7 @@ module _ {I : Type 0} (yields : I → PlainItem → I → Type 0) where
   run_kept old new before now after error (events, left, through, inr (stops, front)) kept =
       (events, left, through, inr (stops, front_kept before now after _ front kept))
 
-  -- what failed before stays the answer
+  -- the result of a flush after an error is that error
   pub run_refused : (old new : I) (before now after : Option (List ℕ)) (error : Error)
       (answer : Result (Unit {0}) Error) → IsErrAnd answer (λ e. e ≡ error)
       → PrintsRun yields old (Err error) new before now → Keeps now after
@@ -199,9 +199,9 @@ module _ {I : Type 0} (yields : I → PlainItem → I → Type 0) where
       run_kept old new before now after other
       (subst (λ e. PrintsRun yields old (Err e) new before now) (sym same) ran) kept
 
--- ---- events that are held
+-- ---- events that are buffered
 
--- this many events came, which are held
+-- some events were yielded, and all of them are buffered
 abbrev pub HasHeld : {I : Type 0} (yields : I → PlainItem → I → Type 0) (old now : I)
     → (held : List PlainEvent) → Type 0
 HasHeld yields old now held =
@@ -212,7 +212,7 @@ module _ {I : Type 0} (yields : I → PlainItem → I → Type 0) where
   pub held_none : (old : I) (held : List PlainEvent) → held ≡ [] → HasHeld yields old old held
   held_none old held none = ([], refl, none)
 
-  -- one event more
+  -- one more event was yielded and buffered
   pub held_more : (old now new : I) (event : PlainEvent) (held longer : List PlainEvent)
       → HasHeld yields old now held → yields now (Some (Ok event)) new
       → longer ≡ held ++ without_length event ∷ [] → HasHeld yields old new longer
@@ -223,21 +223,21 @@ module _ {I : Type 0} (yields : I → PlainItem → I → Type 0) where
         ∙ sym (map-append without_length events (event ∷ [])),
   )
 
-  -- a fault came
+  -- the source yielded an error
   pub held_faulted : (old now new : I) (held final : List PlainEvent) (error : Error)
       → HasHeld yields old now held → yields now (Some (Err error)) new
       → HoldsRun yields old (Err error) new final
   held_faulted old now new held final error (events, through, is) step =
       (events, now, through, inl step)
 
-  -- an event came that can't be held
+  -- an event was yielded that can't follow the buffered ones
   pub held_refused : (old now new : I) (event : PlainEvent) (held final : List PlainEvent)
       → HasHeld yields old now held → yields now (Some (Ok event)) new
       → HoldsRun yields old (Ok false) new final
   held_refused old now new event held final (events, through, is) step =
       (events, now, through, (inr (event, step), λ no. absurd (true≢false (sym no))))
 
-  -- memory was wanted for it
+  -- an allocation failed for an event
   pub held_stopped : (old now new : I) (event : PlainEvent) (held final : List PlainEvent)
       (error : Error) → HasHeld yields old now held → yields now (Some (Ok event)) new
       → fault_of error ≡ fault_without_offset OutOfMemory → HoldsRun yields old (Err error) new final
@@ -248,13 +248,13 @@ module _ {I : Type 0} (yields : I → PlainItem → I → Type 0) where
     inr (memory, refl),
   )
 
-  -- nothing came
+  -- the source ended
   pub held_whole : (old now new : I) (held : List PlainEvent) (whole : Bool)
       → HasHeld yields old now held → yields now None new → HoldsRun yields old (Ok whole) new held
   held_whole old now new held whole (events, through, is) step =
       (events, now, through, (inl step, λ _. (step, is)))
 
--- ---- what comes of them
+-- ---- the result of a conversion
 
 pub io_rises : (error : Error) (old new : ℕ) → IsIo (kind_of (error_kind_of error))
     → CountsIo error old new → Rises old new

@@ -1,4 +1,4 @@
--- The lines of dates, numbers and texts.
+-- The lines of dates, numbers and strings.
 use Rattle.std.proofs.Common.{◌≡◌, ℕ, ℤ, ◌+◌, ◌<◌, Bool, true, ◌&&◌, List, [], ◌∷◌, ◌++◌, length, get_or, take, Some, codes, refl, ◌∙◌, sym, append_assoc}
 use Rattle.std.specs.Fmt.{signed_decimal}
 use Rattle.std.proofs.lemmas.Bool.{and_parts}
@@ -21,12 +21,12 @@ pub fraction_sent : (line with_second with_blank last bytes : List ℕ) (second 
 fraction_sent line with_second with_blank last bytes second is fraction a b c =
     rw (c, b, a, ← date_fractional bytes second is fraction) (simp append_assoc)
 
--- ---- texts whose bytes stand for themselves
+-- ---- strings whose bytes are printed as they are
 
 plain_byte : (byte : ℕ) → stands_for_itself byte ≡ true → escaped_text (byte ∷ []) ≡ byte ∷ []
 plain_byte byte is = rw is refl
 
--- one more byte of a text that is looked through
+-- one more byte of a string that is tested
 pub plain_more : (text : List ℕ) (i : ℕ) (before byte : Bool) → i < length text
     → (before ≡ true → escaped_text (take i text) ≡ take i text)
     → byte ≡ stands_for_itself (get_or text i 0)

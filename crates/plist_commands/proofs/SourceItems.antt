@@ -1,4 +1,4 @@
--- What comes of a source, as items that are taken in turn.
+-- The items of a source, which are yielded one by one.
 use Rattle.std.proofs.Common.{◌≡◌, inl, inr, ℕ, Bool, true, List, [], ◌∷◌, ◌++◌, Option, None, Some, IfErr, IfSome, OnOk, Result, Ok, Err, map, option_map, refl, sym, ap, ◌∙◌, subst, append-nil, append_assoc}
 use Rattle.std.specs.Prelude.{is_some, ⊤}
 use Rattle.std.proofs.lemmas.Option.{IfSome_then}
@@ -71,7 +71,7 @@ pub reader_comes : {S : Type 0} {g : Ghosts S} (known : S → Option (List ℕ))
 reader_comes known failed old item new (given, yields, is) =
     rw is (plain_comes (reader_items known old) (reader_items known new) given yields.items)
 
--- its source is held
+-- the reader has a source
 abbrev pub IsOpen : {S : Type 0} {g : Ghosts S} → Reader S g → Type 0
 IsOpen reader = is_some (reader_source reader) ≡ true
 
@@ -117,7 +117,7 @@ events_error (Some (Ok event)) error old new is h = absurd (cc)
 events_error (Some (Err other)) error old new is h =
     let same : error ≡ other = cc in ap fault_of same ∙ h.0
 
--- each error of a value's events is one of memory
+-- each error of printing a value's events is one of the writer
 pub value_error : (old new : Events) (answer : Result (Unit {0}) Error)
     (before after : Option (List ℕ)) → PrintsRun (YieldsPlain GivesEvent) old answer new before after
     → IfErr answer IsWriterError
@@ -130,7 +130,7 @@ value_error old new (Err error) before after (events, left, through, inr (inl (i
 value_error old new (Err error) before after
     (events, left, through, inr (inr (memory, same), front)) = memory_own error memory
 
--- ---- all that came
+-- ---- all items
 
 lines_front : (events : List PlainEvent) (rest : List Item)
     → lines_of (map Ok events ++ rest) ≡ lines_of_events events ++ lines_of rest
@@ -147,7 +147,7 @@ here : (o p : Option (List Item)) → p ≡ o
 here None p is = tt
 here (Some all) p is = (all, is, refl)
 
--- a beginning of the lines
+-- a prefix of the lines of these events is a prefix of all lines
 front_of : (before after : Option (List ℕ)) (events : List PlainEvent) (all rest : List Item)
     → all ≡ map Ok events ++ rest → AppendsPrefix before after (lines_of_events events)
     → AppendsPrefix before after (lines_of all)
@@ -173,7 +173,7 @@ module _ {I : Type 0} (yields : I → PlainItem → I → Type 0) (coming : I �
       let (left, last, same) = rw to at (all_came next new events others) in
       (left, last, is ∙ ap (λ l. Ok event ∷ l) same))
 
-  -- what came at the end
+  -- the last item that was yielded is the first one after these events
   came_last : (old left new : I) (events : List PlainEvent) (item : PlainItem)
       → YieldsAll yields old events left → yields left item new
       → IfSome (coming old) (λ all. (rest : List Item) × (more : List Item)
@@ -226,7 +226,7 @@ module _ {I : Type 0} (yields : I → PlainItem → I → Type 0) (coming : I �
       IfSome_then (coming old) (all_came old left events through) (λ all (rest, to, is).
       front_of before after events all rest is front)
 
--- ---- what a source keeps
+-- ---- what a source keeps unchanged
 
 module _ {I K : Type 0} (yields : I → PlainItem → I → Type 0) (known : I → K)
     (keeps : (old : I) (item : PlainItem) (new : I) → yields old item new → known new ≡ known old)
@@ -255,7 +255,7 @@ module _ {I K : Type 0} (yields : I → PlainItem → I → Type 0) (known : I �
         (events, left, through, inr (inr (memory, same), front)) =
         ap known same ∙ all_kept old left events through
 
--- ---- how many reads failed
+-- ---- the number of failed reads
 
 module _ {I : Type 0} (yields : I → PlainItem → I → Type 0) (failures : I → ℕ)
     (counts : (old : I) (item : PlainItem) (new : I) → yields old item new

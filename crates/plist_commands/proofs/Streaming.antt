@@ -1,4 +1,4 @@
--- What is held of the items that a reader has given.
+-- What is buffered of the items that a reader has yielded.
 use Rattle.std.specs.Prelude.{⊤}
 use Rattle.std.proofs.Common.{◌≡◌, ◌↔◌, ℕ, Bool, true, false, List, [], ◌∷◌, ◌++◌, Option, Some, None, Ok, Err, IfSome, map, refl, sym, ap, ◌∙◌, append-nil}
 use Rattle.std.specs.Option.{option_map}
@@ -27,13 +27,14 @@ use Rattle.plist_keyed.proofs.WalkValues.{same_of}
 use Rattle.plist_commands.specs.Converting.{HoldsTree, AreNoTree, BytesHaveKeysOnce, SendsRead, items_of_known}
 use Rattle.plist_commands.specs.Items.{ComesIfKnown, GivesNext}
 
--- of the items these events were taken, which are alike to those held, and these items are to come
+-- the items are some events, which are equal to the buffered ones up to lengths, and then those
+-- that remain
 abbrev TookOf : (all coming : List Item) → (held : List PlainEvent) → Type 0
 TookOf all coming held =
     (events : List PlainEvent) × (built : Unfinished) × (all ≡ map Ok events ++ coming)
     × IsNested built × AreAlike (events_so_far built) events × AreAlike events held
 
--- the same, where the items are known
+-- `TookOf` is true of the items if they are known
 abbrev pub HasTaken : (items coming : Option (List Item)) → (held : List PlainEvent) → Type 0
 HasTaken items coming held =
     IfSome items (λ all. (left : List Item) × (coming ≡ Some left) × TookOf all left held)
@@ -44,7 +45,7 @@ taken_none None coming held e h = tt
 taken_none (Some all) coming held e h =
     (all, e, ([], NotBegun, refl, tt, refl, ap (map without_length) (sym h)))
 
--- a call: what was left of all items, what is left now, and what the call gave
+-- an item was yielded: the items that remained before, and those that remain now
 abbrev pub Came : (items now : Option (List Item)) (held : List PlainEvent) (item : PlainItem)
     → Type 0
 Came items now held item = IfSome items (λ all.
@@ -58,7 +59,7 @@ came_next None before now held item taken_before comes = tt
 came_next (Some all) before now held item (left, is, took) comes =
     let (next, to, gives) = rw is at comes in (left, next, took, to, gives)
 
--- ---- whether the events held are a tree's
+-- ---- whether the buffered events are those of a tree
 
 no_tree : (t : Tree) → AreAlike [] (bracketing t) → ⊥
 no_tree (Leaf x) p = cc
@@ -79,10 +80,10 @@ pub tells_next : (b : Bool) (held new : List PlainEvent) (e : PlainEvent)
 tells_next b held new e is =
     tells_alike b (held ++ e ∷ []) new (sym (ap (map without_length) is ∙ alike_last held e))
 
--- ---- of the items that were taken
+-- ---- after the items so far
 
 module _ (all before : List Item) (held : List PlainEvent) (took : TookOf all before held) where
-  -- one more event
+  -- one more event was buffered
   pub took_event : (after : List Item) (e : PlainEvent) (new : List PlainEvent)
       → before ≡ Ok e ∷ after → CanContinue held e → new ≡ held ++ without_length e ∷ []
       → TookOf all after new
@@ -100,7 +101,7 @@ module _ (all before : List Item) (held : List PlainEvent) (took : TookOf all be
             ∙ ap (map without_length) (sym grown),
       )
 
-  -- the reader's fault
+  -- the reader yielded an error
   pub took_fault : (after : List Item) (fault : Fault)
       → MatchFault fault.kind ⊤ ⊤ (before ≡ Err fault ∷ after) → IsValueOf all (Err fault)
   took_fault after fault b =
@@ -112,7 +113,7 @@ module _ (all before : List Item) (held : List PlainEvent) (took : TookOf all be
   first_of e more [] p = absurd (cc p)
   first_of e more (x ∷ es) p = (es, cc p)
 
-  -- an event of a tree can come next
+  -- if the items are those of a tree, the next event can follow the buffered ones
   pub goes_on : (after : List Item) (e : PlainEvent) → before ≡ Ok e ∷ after → (tree : Tree)
       → AreItemsOfTree all tree → CanContinue held e
   goes_on after e b tree (others, same, whole) =
@@ -126,7 +127,7 @@ module _ (all before : List Item) (held : List PlainEvent) (took : TookOf all be
             ∙ ap (map without_length) (ap (λ l. events ++ l) (sym f.1) ∙ sym s.2) ∙ whole,
       )
 
-  -- the items are those of the tree whose events are held at the end
+  -- at the end, the items are those of the tree whose events are buffered
   pub held_at_end : before ≡ [] → AreTreeEvents held
       → (tree : Tree) × AreItemsOfTree all tree × AreAlike held (bracketing tree)
   held_at_end none (tree, whole) =
@@ -140,7 +141,7 @@ module _ (all before : List Item) (held : List PlainEvent) (took : TookOf all be
         whole,
       )
 
-  -- all that a tree's items are is held at the end
+  -- at the end, if the items are those of a tree, so are the buffered events
   pub whole_at_end : before ≡ [] → (tree : Tree) → AreItemsOfTree all tree → AreTreeEvents held
   whole_at_end none tree (others, same, whole) =
       let (events, u, is, ok, alike, like) = took in
@@ -152,7 +153,7 @@ module _ (all before : List Item) (held : List PlainEvent) (took : TookOf all be
 
 -- ---- the format
 
--- a binary file's items are those of the input
+-- the items of a binary file are those of the input
 pub binary_items : (known inner : Option (List ℕ)) (coming : List ℕ → List Item) → inner ≡ known
     → IfSome known (λ bytes. format.Binary ≡ format_of bytes)
     → IfSome known (λ bytes. coming bytes ≡ items_of_file bytes)
@@ -161,7 +162,7 @@ binary_items None inner coming e is h = ap (option_map coming) e
 binary_items (Some bytes) inner coming e is h =
     ap (option_map coming) e ∙ ap Some (h ∙ ap (λ f. items_by f bytes) is)
 
--- ---- what goes out
+-- ---- what is written
 
 pub not_direct : (known : Option (List ℕ)) (held : List PlainEvent)
     → HoldsTree (items_of_known known) held → (repeats : Bool)
@@ -186,7 +187,7 @@ sends_read (Some bytes) held (_, (t, are, alike)) contents answer old new once s
   sends_tree t held alike contents old new answer sent,
 )
 
--- known bytes are no such list
+-- known bytes whose items aren't those of a tree aren't such a property list
 pub not_read : (known : Option (List ℕ)) → AreNoTree (items_of_known known)
     → IfSome known (λ bytes. BytesHaveKeysOnce bytes → ⊥)
 not_read None h = tt

@@ -21,7 +21,7 @@ refused root key objects names uid (error.RecursiveUid n) archive at h =
     (objects, names, uid, archive, at, h)
 refused root key objects names uid error.OutOfMemory archive at h = tt
 
--- the tree isn't printed where there is none
+-- if the archive has no tree under the key, nothing is printed
 pub unprinted : {W : Type 0} (contents : W → Option (List ℕ)) (root : Value) (key : List ℕ)
     (failure : PlainFailure) (writer : W)
     → IsRefusedAt root key failure → IsUnprintedAt contents root key failure writer writer

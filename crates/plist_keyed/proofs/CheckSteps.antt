@@ -1,5 +1,5 @@
--- What remains of the walk that settles Uids, and that its parts fit together, as objects are
--- entered and left and events taken.
+-- The remaining steps of the walk that settles Uids, and the consistency of its state, after each
+-- kind of step.
 use Rattle.std.proofs.Common.{◌≡◌, ℕ, suc, ◌<◌, Bool, true, false, ◌||◌, nat_eq, cond, inl, inr, List, [], ◌∷◌, ◌++◌, length, map, reverse, Option, Some, None, Result, Ok, Err, OnOk, refl, ap, sym, ◌∙◌, append_assoc, append-nil, arith, true≢false, subst, is_some}
 use Rattle.std.specs.Prelude.{slice_get, option_map, ◌⊎◌, if◌then◌else◌}
 use Rattle.std.specs.List.{list_any, IsDistinct}
@@ -39,7 +39,7 @@ or_comm true false = refl
 or_comm false true = refl
 or_comm false false = refl
 
--- the test of the code, over the Uids as they are kept
+-- the code tests the open Uids in the reverse order
 pub any_reversed : (p : ℕ → Bool) (xs : List ℕ) → list_any p (reverse xs) ≡ list_any p xs
 any_reversed p [] = refl
 any_reversed p (x ∷ xs) =
@@ -49,12 +49,12 @@ any_reversed p (x ∷ xs) =
 pub reverse-snoc : {A : Type 0} → (xs : List A) (x : A) → reverse (xs ++ x ∷ []) ≡ x ∷ reverse xs
 reverse-snoc xs x = reverse-append xs (x ∷ [])
 
--- a key that isn't there goes last
+-- a new key is inserted as the last one
 pub added : (keys new : List ℕ) (uid : ℕ) → new ≡ insert_key nat_eq keys uid
     → list_any (nat_eq uid) keys ≡ false → new ≡ keys ++ uid ∷ []
 added keys new uid is absent = is ∙ ap (λ b. if b then keys else keys ++ uid ∷ []) absent
 
--- a map has a key where its keys do
+-- a map has an entry for a key if and only if the key is among its keys
 pub found-key : (entries : List (ℕ × ℕ)) (uid : ℕ)
     → is_some (lookup (nat_eq uid) entries) ≡ list_any (nat_eq uid) (keys_of entries)
 found-key [] uid = refl
@@ -67,7 +67,7 @@ found-key (e ∷ entries) uid = by (nat_eq uid e.0) (found-key entries uid)
     by true h = refl
     by false h = h
 
--- an object as it is seen
+-- the events of an object that was looked up
 pub seen_at : (objects : List Value) (uid : ℕ) (answer found : Option Value)
     → answer ≡ slice_get objects uid → answer ≡ found
     → slice_get (objects_seen objects) uid ≡ option_map (λ v. bracketing (tree_of v)) found
@@ -100,19 +100,19 @@ plain_steps f EndCollection h = refl
 plain_steps f (ScalarEvent x) h =
     ap (λ found. option_map_or f found (Some (Ok (ScalarEvent x)) ∷ [])) h
 
--- the event of a Uid is its own
+-- an event that is a Uid is the event of that Uid
 pub uid_event : (e : PlainEvent) (uid : ℕ) → uid_of_event e ≡ Some uid → e ≡ ScalarEvent (Uid uid)
 uid_event (ScalarEvent (Uid u)) uid h = ap (λ n. ScalarEvent (Uid n)) (same_Some u uid h)
 uid_event (ScalarEvent x) uid h = absurd (cc)
 uid_event e uid h = absurd (cc)
 
--- a Uid that was opened isn't open below
+-- the innermost open Uid isn't open a second time
 off : {count : ℕ} (uid : ℕ) (path : List ℕ) → IsPath count (uid ∷ path) → IsIn uid path → ⊥
 unfolding IsDistinct
 off uid path o member = true≢false (sym member ∙ any_none uid path o.distinct.0)
 
 module _ (objects : List (List PlainEvent)) where
-  -- events that are passed come before those that are left
+  -- an event that was taken and whose Uid is settled precedes the remaining ones
   pub covers-passed : (uids : List ℕ) (levels : List Events) (path : List ℕ) (e : PlainEvent)
       → NameOnly (e ∷ []) uids → Covers objects uids levels path (e ∷ [])
       → Covers objects uids levels path []
@@ -137,7 +137,7 @@ module _ (objects : List (List PlainEvent)) where
     covers-more uids below path (ScalarEvent (Uid uid) ∷ []) u h,
   )
 
-  -- an event is taken of the innermost level
+  -- an event of the innermost object is taken
   pub covers-taken : (uids : List ℕ) (left after : Events) (below : List Events) (path : List ℕ)
       (e : PlainEvent) → remaining_events left ≡ e ∷ remaining_events after
       → Covers objects uids (left ∷ below) path [] → Covers objects uids (after ∷ below) path (e ∷ [])
@@ -147,7 +147,7 @@ module _ (objects : List (List PlainEvent)) where
 
   -- ---- entering an object
 
-  -- the steps of a settled Uid are passed
+  -- the steps of a settled Uid are done
   pub passes-settled : (path uids : List ℕ) (levels : List Events) (find : ℕ → Option ℕ)
       (taken : List PlainEvent) (uid : ℕ) (rest : List Step)
       → IsCheckOf objects path uids levels find taken → IsIn uid uids
@@ -222,9 +222,9 @@ module _ (objects : List (List PlainEvent)) where
     are_ends = o.are_ends;
   }
 
-  -- ---- leaving one
+  -- ---- leaving an object
 
-  -- an object of which nothing is left leads only to settled Uids
+  -- an object without remaining events leads only to settled Uids
   pub left-leads : (path uids : List ℕ) (levels : List Events) (find : ℕ → Option ℕ) (uid : ℕ)
       (level : Events) → remaining_events level ≡ []
       → IsCheckOf objects (uid ∷ path) uids (level ∷ levels) find [] → LeadsOnlyTo objects uid uids
@@ -296,7 +296,7 @@ module _ (objects : List (List PlainEvent)) where
   fault-open path uid rest es at on =
       rw (recursive objects _ path uid es at on) ([], given_by rest, refl)
 
-  -- ---- the beginning
+  -- ---- the first step
 
   pub first-check : (uid : ℕ) (find : ℕ → Option ℕ)
       → IsCheckOf objects [] [] [] find (ScalarEvent (Uid uid) ∷ [])
@@ -311,7 +311,7 @@ module _ (objects : List (List PlainEvent)) where
 
 -- ---- the state of the code
 
--- a Uid is settled where the map has it
+-- a Uid that is a key of the map is settled
 pub member : {S : Type 0} (ends : IndexMap ℕ ℕ S) (uid : ℕ)
     → is_some (get nat_eq ends uid) ≡ true → IsIn uid (settled_in ends)
 member ends uid has =
@@ -323,7 +323,7 @@ no-member ends uid has h =
     true≢false (sym h ∙ any_reversed (nat_eq uid) (keys_of ends.entries)
     ∙ sym (found-key ends.entries uid) ∙ has)
 
--- a Uid is settled last
+-- the Uid that is inserted is the last one settled
 pub settles : {S : Type 0} (ends new : IndexMap ℕ ℕ S) (uid end : ℕ)
     → (IsIn uid (settled_in ends) → ⊥) → new.entries ≡ insert_entry nat_eq ends.entries uid end
     → settled_in new ≡ uid ∷ settled_in ends
@@ -396,7 +396,7 @@ not-in-empty : (uids : List ℕ) (uid : ℕ) → length uids ≡ 0 → IsIn uid 
 not-in-empty [] uid h p = cc
 not-in-empty (x ∷ uids) uid h p = omega (arith, h)
 
--- each Uid that was reached is settled once no level is left
+-- if no object is open, each Uid that was reached is settled
 pub nothing-open : (check : Check) → IsCheck check → length check.levels.items ≡ 0 → (uid : ℕ)
     → IsReached check uid → IsIn uid (settled_uids check)
 nothing-open check o none uid reached =
@@ -407,7 +407,7 @@ nothing-open check o none uid reached =
       | inr p ↦ p
     ]
 
--- the innermost level is taken out
+-- the innermost level is removed
 pub with-left : (check : Check) (below : List Events) (left : Events)
     → check.levels.items ≡ below ++ left ∷ [] → IsCheck check
     → IsCheckOf (objects_checked check) (open_uids check) (settled_uids check)
@@ -446,7 +446,7 @@ module _ (old new : Check) where
 
 -- ---- an event of the innermost object
 
--- it is taken
+-- the event is taken
 pub takes : (objects : List (List PlainEvent)) (left after : Events) (below : List Events)
     (path : List ℕ) (e : PlainEvent)
     → length (left ∷ below) ≡ length path → remaining_events left ≡ e ∷ remaining_events after
@@ -470,7 +470,7 @@ taken-check objects path uids below find left after e is o = record {
   are_ends = o.are_ends;
 }
 
--- an event that is no Uid's is passed
+-- the step of an event that isn't a Uid is done
 pub passes-plain : (f : ℕ → List Step) (e : PlainEvent) (rest : List Step) → uid_of_event e ≡ None
     → PassesEvents (steps_of_event f e ++ rest) rest
 passes-plain f e rest none = rw (plain_steps f e none) (omega arith, (e ∷ [], refl))
@@ -482,14 +482,14 @@ after_events first before events more rest is p =
     is ∙ ap (λ l. map Ok events ++ l) p ∙ sym (append_assoc (map Ok events) (map Ok more) rest)
     ∙ ap (λ l. l ++ rest) (sym (map-append Ok events more))
 
--- some that were passed before go on
+-- more steps are done, which yield events
 pub passes-on : (first before after : List Step) (events : List PlainEvent)
     → given_by first ≡ map Ok events ++ given_by before → PassesEvents before after
     → (all : List PlainEvent) × (given_by first ≡ map Ok all ++ given_by after)
 passes-on first before after events is (shorter, (more, p)) =
     (events ++ more, after_events first before events more (given_by after) is p)
 
--- and the first fault is the first of all
+-- the first fault of the remaining steps is the first fault of all steps
 pub fault-on : (first before : List Step) (events : List PlainEvent) (error : WalkError)
     → given_by first ≡ map Ok events ++ given_by before → IsFirstFaultOf before error
     → IsFirstFaultOf first error

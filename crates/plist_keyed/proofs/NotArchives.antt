@@ -1,4 +1,4 @@
--- Which property lists are no archives.
+-- Which property lists aren't archives.
 use Rattle.std.proofs.Common.{◌≡◌, sym, ap, ◌∙◌, subst, codes, Vec, Global}
 use Rattle.plist.specs.declared.dictionary.Dictionary.{Dictionary}
 use Rattle.plist.specs.declared.value.Value.{Value, Value-F, out-Value, out-roll-Value}
@@ -19,7 +19,7 @@ same_pairs : (left right : Dictionary) → value.Dictionary left ≡ value.Dicti
     → left ≡ right
 same_pairs left right p = same_layer left right (sym (out_of left) ∙ ap out-Value p ∙ out_of right)
 
--- there is no array of objects
+-- a dictionary without an array of objects isn't an archive
 pub no_objects : (root : Value) (d : Dictionary) → root ≡ value.Dictionary d
     → ((array : Vec Value Global) → ¬ (IsArrayAt (codes "$objects") (pairs_of d) array))
     → ¬ (IsArchive root)
@@ -27,7 +27,7 @@ no_objects root d is none (objects, names, (other, array, top, same, found, item
     none array (subst (λ o. IsArrayAt (codes "$objects") (pairs_of o) array)
     (same_pairs other d (sym same ∙ is)) found)
 
--- there is no dictionary of names
+-- a dictionary without a dictionary of names isn't an archive
 pub no_names : (root : Value) (d : Dictionary) → root ≡ value.Dictionary d
     → ((top : Dictionary) → ¬ (IsDictionaryAt (codes "$top") (pairs_of d) top))
     → ¬ (IsArchive root)

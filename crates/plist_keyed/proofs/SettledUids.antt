@@ -1,4 +1,4 @@
--- Settled Uids: their steps are the same whatever is open round them, and give no fault.
+-- Settled Uids: their steps don't depend on the open objects, and yield no fault.
 use Rattle.std.proofs.Common.{◌≡◌, ℕ, zero, suc, ◌-◌, ◌<◌, Bool, true, false, nat_eq, inl, inr, List, [], ◌∷◌, ◌++◌, length, Option, Some, None, Ok, Err, refl, ap, sym, ◌∙◌, append-nil, arith, subst}
 use Rattle.std.specs.Prelude.{slice_get}
 use Rattle.std.specs.List.{list_any}
@@ -50,7 +50,7 @@ module _ (objects : List (List PlainEvent)) where
       let e : length objects - length path ≡ suc fuel = omega (arith, fits) in
       rw e (opened_at fuel path uid es at new)
 
-  -- a step is there, whatever a Uid finds
+  -- following a Uid takes at least one step, whether it has an object or not
   found_some : (found : Option (List PlainEvent)) (is_open : Bool) (uid : ℕ)
       (steps : List PlainEvent → List Step) → 0 < length (steps_found found is_open uid steps)
   found_some None o uid steps = omega arith
@@ -65,7 +65,7 @@ module _ (objects : List (List PlainEvent)) where
 
 -- ---- the Uids among events
 
--- more may be named
+-- the Uids among the events are also among more Uids
 pub more-named : (es : List PlainEvent) (uids : List ℕ) (uid : ℕ) → NameOnly es uids
     → NameOnly es (uid ∷ uids)
 more-named [] uids uid h = tt
@@ -96,7 +96,7 @@ same-event f g (StartDictionary n) uids h same = refl
 same-event f g EndCollection uids h same = refl
 same-event f g (ScalarEvent x) uids h same = same-found f g _ _ uids h same
 
--- following that is the same at each Uid is the same
+-- two functions that agree on the Uids among the events yield the same steps
 pub same-steps : (f g : ℕ → List Step) (es : List PlainEvent) (uids : List ℕ) → NameOnly es uids
     → ((uid : ℕ) → IsIn uid uids → f uid ≡ g uid) → steps_of_events f es ≡ steps_of_events g es
 same-steps f g [] uids h same = refl
@@ -104,7 +104,7 @@ same-steps f g (e ∷ es) uids h same =
     ap (λ l. l ++ steps_of_events f es) (same-event f g e uids h.0 same)
     ∙ ap (λ l. steps_of_event g e ++ l) (same-steps f g es uids h.1 same)
 
--- ---- no fault is given
+-- ---- steps without a fault
 
 pub faultless-append : (a b : List Step) → IsFaultless a → IsFaultless b → IsFaultless (a ++ b)
 faultless-append a b (es, p) (fs, q) =
@@ -138,7 +138,7 @@ module _ (objects : List (List PlainEvent)) where
   abbrev from : ℕ → List Step
   from = steps_from objects
 
-  -- the steps into an object, whatever is open
+  -- the steps of an object, which don't depend on the open ones
   abbrev pub IsUnfolded : (uid : ℕ) → (es : List PlainEvent) → List Step → Type 0
   IsUnfolded uid es steps = steps ≡ None ∷ (steps_of_events from es ++ None ∷ [])
 
@@ -159,7 +159,7 @@ module _ (objects : List (List PlainEvent)) where
         | inr e ↦ apart u (rw e.0 at p) q
       ])))
 
-  -- the steps of a settled Uid are the same, whatever other Uids are open
+  -- the steps of a settled Uid don't depend on the open Uids
   pub settled-same : (uids : List ℕ) → AreSettled objects uids → (uid : ℕ) → IsIn uid uids
       → (path : List ℕ) → IsPath (length objects) path → AreApart path uids
       → follow_in objects path uid ≡ from uid
@@ -178,7 +178,7 @@ module _ (objects : List (List PlainEvent)) where
         | inr e ↦ same uid (rw e.0 at member) path o below
       ]
 
-  -- the object of a settled Uid, and the steps into it
+  -- the object of a settled Uid, and the steps of that object
   pub settled-unfolds : (uids : List ℕ) → AreSettled objects uids → (uid : ℕ) → IsIn uid uids
       → (es : List PlainEvent) × (slice_get objects uid ≡ Some es) × NameOnly es uids
       × IsUnfolded uid es (from uid)
@@ -197,7 +197,7 @@ module _ (objects : List (List PlainEvent)) where
             (es, at, more-named es uids first names, is)
       ]
 
-  -- no fault is given below a settled Uid
+  -- the steps of a settled Uid yield no fault
   pub settled-faultless : (uids : List ℕ) → AreSettled objects uids → (uid : ℕ) → IsIn uid uids
       → IsFaultless (from uid)
   settled-faultless [] s uid member = absurd (cc)
@@ -213,7 +213,7 @@ module _ (objects : List (List PlainEvent)) where
 
   -- ---- ends
 
-  -- the Uid itself is its end
+  -- a Uid whose object isn't a Uid is the end of its own chain
   pub own-end : (uids : List ℕ) (uid : ℕ) → IsIn uid uids → IsNoUid objects uid
       → IsEndOf objects uids uid uid
   own-end uids uid member plain = (member, plain, refl, omega arith)
@@ -223,14 +223,14 @@ module _ (objects : List (List PlainEvent)) where
   more-ends uids uid end other (member, plain, same, fewer) =
       (or_right (nat_eq end other) _ member, plain, same, fewer)
 
-  -- a Uid that is the object of another is among those that it leads to
+  -- if the object of a Uid is another Uid, that one is among those that it leads to
   pub named-member : (uid : ℕ) (uids : List ℕ) (next : ℕ) → LeadsOnlyTo objects uid uids
       → slice_get objects uid ≡ Some (ScalarEvent (Uid next) ∷ []) → IsIn next uids
   named-member uid uids next (es, found, named) at =
       let e : es ≡ ScalarEvent (Uid next) ∷ [] = cc in
       let names = (rw e at named) in names.0 next refl
 
-  -- the end of the Uid that an object is
+  -- if the object of a Uid is another Uid, both chains have the same end
   pub further-end : (uids : List ℕ) (uid next end : ℕ) → AreSettled objects (uid ∷ uids)
       → slice_get objects uid ≡ Some (ScalarEvent (Uid next) ∷ []) → IsEndOf objects uids next end
       → IsEndOf objects (uid ∷ uids) uid end

@@ -1,6 +1,6 @@
--- The items of a walk over an archive are the events of the tree, up to the first fault; and the
--- events before a fault can go on to those of a tree. Where no key stands twice in an object, none
--- does in a tree.
+-- The items of a walk over an archive are the events of the tree, up to the first fault. The events
+-- before a fault can be continued to those of a tree. If no object contains a key twice, neither
+-- does a tree.
 use Rattle.std.proofs.Common.{◌≡◌, ℕ, zero, suc, Bool, true, false, List, [], ◌∷◌, ◌++◌, map, Option, Some, None, Result, Ok, Err, IfOk, nat_eq, refl, sym, ap, ◌∙◌, append_assoc, append-nil}
 use Rattle.std.specs.Prelude.{slice_get, option_map}
 use Rattle.std.specs.List.{list_any}
@@ -22,11 +22,12 @@ given_by-append [] b = refl
 given_by-append (Some i ∷ a) b = ap (λ l. i ∷ l) (given_by-append a b)
 given_by-append (None ∷ a) b = given_by-append a b
 
--- the events can go on to those of something
+-- the events can be continued to those of some whole
 abbrev pub Begins : {W : Type 0} → (events : W → List PlainEvent) → List PlainEvent → Type 0
 Begins {W} events es = (rest : List PlainEvent) × (whole : W) × AreAlike (es ++ rest) (events whole)
 
--- these items are the events, up to lengths, or some that can go on, and then the fault
+-- the items are the events of the whole, up to lengths; or events that can be continued to those of
+-- some whole, and then the fault
 abbrev pub AreItemsOf : {W : Type 0} → (events : W → List PlainEvent) → Result W ArchiveFault
     → List Given → Type 0
 AreItemsOf events (Ok whole) items =
@@ -36,12 +37,12 @@ AreItemsOf events (Err fault) items =
     ++ Err fault ∷ more)
     × Begins events es
 
--- what a tree's items are
+-- the items of a tree
 abbrev pub Gives : Result Tree ArchiveFault → List Given → Type 0
 Gives answer items = AreItemsOf bracketing answer items
 
 module _ {V : Type 0} (inner : V → List PlainEvent) where
-  -- after one event, and after some
+  -- an event precedes the items
   behind-one : (e : PlainEvent) (a : Result V ArchiveFault) (xs : List Given) → AreItemsOf inner a xs
       → AreItemsOf (λ v. e ∷ inner v) a (Ok e ∷ xs)
   behind-one e (Ok v) xs (es, is, alike) =
@@ -49,7 +50,7 @@ module _ {V : Type 0} (inner : V → List PlainEvent) where
   behind-one e (Err f) xs (es, more, is, (rest, v, alike)) =
       (e ∷ es, more, ap (λ l. Ok e ∷ l) is, (rest, v, ap (λ l. without_length e ∷ l) alike))
 
-  -- with an event after
+  -- an event follows the items
   before-one : (e : PlainEvent) (a : Result V ArchiveFault) (xs : List Given) → AreItemsOf inner a xs
       → AreItemsOf (λ v. inner v ++ e ∷ []) a (xs ++ Ok e ∷ [])
   before-one e (Ok v) xs (es, is, alike) =
@@ -66,7 +67,7 @@ module _ {V : Type 0} (inner : V → List PlainEvent) where
     ),
   )
 
-  -- what is made of it
+  -- the items of something that is made of the parts
   made : {W : Type 0} (outer : W → List PlainEvent) (make : V → W)
       → ((v : V) → AreAlike (inner v) (outer (make v)))
       → (a : Result V ArchiveFault) (xs : List Given) → AreItemsOf inner a xs
@@ -75,7 +76,7 @@ module _ {V : Type 0} (inner : V → List PlainEvent) where
   made outer make h (Err f) xs (es, more, is, (rest, v, alike)) =
       (es, more, is, (rest, make v, alike ∙ h v))
 
--- what a collection's items are, between its start and its end
+-- the items of a collection are those of its contents between its start and its end
 bracketed : {V : Type 0} (inner : V → List PlainEvent) (start : PlainEvent) (make : V → Tree)
     → ((v : V) → AreAlike (start ∷ (inner v ++ EndCollection ∷ [])) (bracketing (make v)))
     → (a : Result V ArchiveFault) (xs : List Given) → AreItemsOf inner a xs
@@ -91,7 +92,7 @@ behind : {V : Type 0} (inner : V → List PlainEvent) (es : List PlainEvent)
 behind inner [] a xs h = h
 behind inner (e ∷ es) a xs h = behind-one (λ v. es ++ inner v) e a _ (behind inner es a xs h)
 
--- one answer's items, and then another's
+-- the items of one part, followed by those of another
 both : {V W : Type 0} (first : V → List PlainEvent) (events outer : W → List PlainEvent)
     (make : V → W → W) (none : W) → events none ≡ []
     → ((v : V) (w : W) → outer (make v w) ≡ first v ++ events w)
@@ -150,7 +151,7 @@ module _ (answer : ℕ → Result Tree ArchiveFault) (follow : ℕ → List Step
         NoMembers refl (λ u us. refl) _ _ _ _ (behind-one bracketing key _ _ (tree-gives t))
         (pairs-give ms))
 
--- a fault alone: any tree can come
+-- a fault before any event: each tree could follow
 at-once : (fault : ArchiveFault) → Gives (Err fault) (Err fault ∷ [])
 at-once fault = ([], [], refl, (bracketing (Leaf (trees.Uid 0)), Leaf (trees.Uid 0), refl))
 
@@ -164,7 +165,7 @@ found-gives (Some t) true uid answer steps h = at-once (RecursiveUid uid)
 found-gives (Some t) false uid answer steps h =
     rw (given_by-append (steps (bracketing t)) (None ∷ []), append-nil _) (h t refl)
 
--- the items of a Uid's walk are the events of its tree, or some events and then its fault
+-- the items of a Uid's walk are the events of its tree, or some events and then the first fault
 pub uid-gives : (objects : List Tree) (fuel : ℕ) (path : List ℕ) (uid : ℕ)
     → Gives (resolved objects fuel path uid)
     (given_by (steps_at (map bracketing objects) fuel path uid))
@@ -180,14 +181,14 @@ uid-gives objects (suc fuel) path uid =
 
 -- ---- keys
 
--- a fact of what is made of a tree's parts
+-- a fact about what is made of the parts, if it follows for each part
 then-once : {A B : Type 0} {P : A → Type 0} (Q : B → Type 0) (a : Result A ArchiveFault)
     (f : A → Result B ArchiveFault) → IfOk a P → ((x : A) → P x → IfOk (f x) Q)
     → IfOk (and_then a f) Q
 then-once Q (Ok x) f p g = g x p
 then-once Q (Err e) f p g = tt
 
--- the values have each key once, and the keys are those of these pairs
+-- no value of `new` contains a key twice, and it has no keys but those of `old`
 record KeepsKeys (old new : Members) : Type 0 where
   values : ValuesHaveKeysOnce new
   lacks : (key : List ℕ) → Lacks key old → Lacks key new
@@ -233,7 +234,7 @@ found-once None o uid answer h = tt
 found-once (Some t) true uid answer h = tt
 found-once (Some t) false uid answer h = h t refl refl
 
--- in the tree of a Uid each key stands once
+-- the tree of a Uid contains no key twice
 pub resolved-once : (objects : List Tree)
     → ((uid : ℕ) (t : Tree) → slice_get objects uid ≡ Some t → HasKeysOnce t)
     → (fuel : ℕ) (path : List ℕ) (uid : ℕ) → IfOk (resolved objects fuel path uid) HasKeysOnce

@@ -1,4 +1,4 @@
--- What remains of the walk over settled Uids, as objects are entered and left and events taken.
+-- The remaining steps of the walk over settled Uids, after each kind of step.
 use Rattle.std.proofs.Common.{◌≡◌, ℕ, ◌<◌, List, [], ◌∷◌, ◌++◌, length, map, reverse, Option, Some, None, Ok, Err, refl, ap, sym, ◌∙◌, append_assoc, append-nil, arith, subst}
 use Rattle.std.specs.Prelude.{slice_get}
 use Rattle.std.specs.Option.{unwrap_or}
@@ -21,7 +21,7 @@ use Rattle.plist_keyed.proofs.TreeItems.{given_by-append}
 use Rattle.plist_keyed.proofs.CheckSteps.{reverse-snoc, uid_steps}
 use Rattle.plist_keyed.proofs.SettledUids.{settled-unfolds, some_step}
 
--- as many objects are seen as there are
+-- the list of the objects' events is as long as that of the objects
 pub seen-length : (objects : List Value) (n : ℕ) → n < length (objects_seen objects)
     → n < length objects
 seen-length objects n h =
@@ -31,19 +31,19 @@ module _ (objects : List (List PlainEvent)) where
   abbrev from : ℕ → List Step
   from = steps_from objects
 
-  -- the end that is found
+  -- the end of a settled Uid's chain is found
   pub end-found : (uids : List ℕ) (find : ℕ → Option ℕ) → AreEnds objects uids find → (uid : ℕ)
       → IsIn uid uids → IsEndOf objects uids uid (unwrap_or (find uid) uid)
   end-found uids find ends uid member = let (end, is, of) = ends uid member in rw is of
 
-  -- there is an object at the end
+  -- the end of a settled Uid's chain has an object
   pub end-within : (uids : List ℕ) → AreSettled objects uids → (uid end : ℕ)
       → IsEndOf objects uids uid end → end < length objects
   end-within uids s uid end (member, plain, same, fewer) =
       let (es, at, names, is) = settled-unfolds objects uids s end member in
       slice_get_within objects end es at
 
-  -- it is entered
+  -- the object at the end of a settled Uid's chain is entered
   pub skips-entered : (uids : List ℕ) (s : AreSettled objects uids) (uid end : ℕ)
       → IsEndOf objects uids uid end → (levels : List Events) (level : Events)
       → slice_get objects end ≡ Some (remaining_events level)
@@ -73,7 +73,7 @@ module _ (objects : List (List PlainEvent)) where
       ++ steps_in_levels objects (after ∷ below)
   takes left after below e is = rw is (append_assoc (steps_of_event from e) _ _)
 
-  -- the step of a Uid takes at least one
+  -- following a Uid takes at least one step
   pub shorter : (e : PlainEvent) (uid : ℕ) (rest left : List Step) → uid_of_event e ≡ Some uid
       → left ≡ rest → length left < length (steps_of_event from e ++ rest)
   shorter e uid rest left is same =
@@ -85,7 +85,7 @@ module _ (walk : Walk) (items below : List Events) (left : Events)
   first : walk_levels walk ≡ left ∷ reverse below
   first = ap reverse had ∙ reverse-snoc below left
 
-  -- an event of the innermost level is taken
+  -- an event of the innermost object is taken
   pub taken-steps : (after : Events) (e : PlainEvent) → items ≡ below ++ after ∷ []
       → remaining_events left ≡ e ∷ remaining_events after
       → remaining_steps walk ≡ steps_of_event (steps_from (objects_walked walk)) e
@@ -103,7 +103,7 @@ module _ (walk : Walk) (items below : List Events) (left : Events)
       let (one, more) = (rw is at these) in
       ((one, tt), rw (has, reverse-snoc below after) (more, others))
 
-  -- the innermost level is left, and nothing was left of it
+  -- the innermost object is left, which has no remaining events
   pub left-skips : remaining_events left ≡ []
       → Skips (remaining_steps walk) (steps_in_levels (objects_walked walk) (reverse below))
   left-skips none = rw (first, none) (refl, omega arith)
@@ -112,7 +112,7 @@ module _ (walk : Walk) (items below : List Events) (left : Events)
       → AllNameOnly (reverse below) uids
   left-names uids names = (rw first at names).1
 
--- what is to come of a walk that began with a Uid
+-- the items that remain of a walk that began with a Uid
 pub begun : (start walk : Walk) (objects : List Value) (uid : ℕ) → start.objects.now ≡ objects
     → start.levels.items ≡ [] → Skips (remaining_from start uid) (remaining_steps walk)
     → coming_items walk ≡ items_at objects uid
@@ -122,13 +122,13 @@ begun start walk objects uid seen none (given, fewer) =
     rw (seen, none) (ap given_by (append-nil (steps_from (objects_seen objects) uid))) in
     ap (λ g. map Ok (events_given g)) (sym given ∙ from_start)
 
--- nothing is left before its first Uid
+-- a walk whose Uids are settled is consistent before its first step
 pub first-walk : (start : Walk) (objects : List Value) (ends : _) → start.objects.now ≡ objects
     → start.ends ≡ ends → start.levels.items ≡ [] → IsSettledIn (objects_seen objects) ends
     → IsWalk start
 first-walk start objects ends seen same none h = rw (seen, same, none) (h, tt)
 
--- a value that can't be had for lack of memory may be that of any items
+-- `OutOfMemory` is possible for any items
 pub only-memory : (items : List Item) (fault : Fault) → fault ≡ fault_without_offset OutOfMemory
     → IsValueOf items (Err fault)
 only-memory items fault is = rw is tt

@@ -1,4 +1,4 @@
--- What the steps of a walk that were read to a value say of the tree.
+-- What the value that was read from the steps of a walk says about the tree.
 use Rattle.std.proofs.Common.{◌≡◌, ℕ, List, [], ◌∷◌, ◌++◌, length, map, Option, Some, None, Result, Ok, Err, IfOk, refl, sym, ap, ◌∙◌, append-nil, subst, arith}
 use Rattle.std.specs.Prelude.{◌-◌, slice_get, option_map}
 use Rattle.std.proofs.lemmas.List.{length-map}
@@ -24,9 +24,9 @@ use Rattle.plist_keyed.specs.inner.RemainingSteps.{items_at}
 use Rattle.plist_keyed.specs.inner.Walks.{Given, Step, IsFaultless, IsFirstFaultOf, events_given, given_by, steps_at, steps_from}
 use Rattle.plist_keyed.proofs.TreeItems.{Gives, uid-gives, resolved-once}
 
--- ---- what is given
+-- ---- what the steps yield
 
--- events alone have no fault among them
+-- events alone contain no fault
 no-fault : (es events : List PlainEvent) (fault : ArchiveFault) (more : List Given) {A : Type 0}
     → map Ok es ≡ map Ok events ++ Err fault ∷ more → A
 no-fault [] [] fault more p = absurd (cc)
@@ -34,7 +34,7 @@ no-fault [] (e ∷ events) fault more p = absurd (cc)
 no-fault (x ∷ es) [] fault more p = absurd (cc)
 no-fault (x ∷ es) (y ∷ events) fault more p = no-fault es events fault more (cc)
 
--- the first fault is one
+-- the first fault is the only first one
 same-fault : (es events : List PlainEvent) (fault other : ArchiveFault) (more left : List Given)
     → map Ok es ++ Err fault ∷ more ≡ map Ok events ++ Err other ∷ left → fault ≡ other
 same-fault [] [] fault other more left p = cc
@@ -43,14 +43,14 @@ same-fault (x ∷ es) [] fault other more left p = absurd (cc)
 same-fault (x ∷ es) (y ∷ events) fault other more left p =
     same-fault es events fault other more left (cc)
 
--- the events among what is given are these, where it is nothing else
+-- if all items are events, these are the events among them
 pub events_of : (events : List PlainEvent) → events_given (map Ok events) ≡ events
 events_of [] = refl
 events_of (e ∷ events) = ap (λ l. e ∷ l) (events_of events)
 
--- ---- the answer
+-- ---- the result
 
--- the first fault that is given is the tree's
+-- the first fault that the steps yield is that of the tree
 fault-answered : (answer : Result Tree ArchiveFault) (given : List Given) (fault : ArchiveFault)
     → Gives answer given → (events : List PlainEvent) (more : List Given)
     → given ≡ map Ok events ++ Err fault ∷ more → answer ≡ Err fault
@@ -59,14 +59,15 @@ fault-answered (Ok t) given fault (es, is, alike) events more p =
 fault-answered (Err other) given fault (es, left, is, begins) events more p =
     ap Err (same-fault es events other fault left more (sym is ∙ p))
 
--- items are the events of one tree
+-- the items are the events of at most one tree
 pub same_of : (all : List Item) (t u : Tree) → AreItemsOfTree all t → AreItemsOfTree all u → t ≡ u
 same_of all t u (events, same, alike) (others, also, like) =
     let s = all-events events others [] (append-nil (map Ok events) ∙ sym same ∙ also) in
     let e : others ≡ events = s.2 ∙ ap (λ l. events ++ l) (no-events s.0 s.1) ∙ append-nil events in
     one_tree t u (sym alike ∙ ap (map without_length) (sym e) ∙ like)
 
--- a tree that is read is the tree, where no key stands twice in it and no fault is given
+-- a value that was read is the tree, if the steps yield no fault and no key occurs twice in the
+-- tree
 tree-answered : (answer : Result Tree ArchiveFault) (given : List Given) (events : List PlainEvent)
     (tree : Tree) → Gives answer given → given ≡ map Ok events
     → IsValueOf (map Ok (events_given given)) (Ok tree) → IfOk answer HasKeysOnce → answer ≡ Ok tree
@@ -96,7 +97,7 @@ of_value None t itself p = cc
 of_value (Some v) t itself p =
     subst HasKeysOnce (same_Some (tree_of v) t p) ((keys-once (tree_of v)).1 (itself v))
 
--- a tree
+-- the walk yields a tree
 pub tree-read : (objects slice : List Value) (uid : ℕ) (tree : Tree) → slice ≡ objects
     → ((v : Value) → last_wins (tree_of v) ≡ tree_of v)
     → IsFaultless (steps_from (objects_seen slice) uid) → IsValueOf (items_at slice uid) (Ok tree)
@@ -118,7 +119,7 @@ of_walk answer steps (walk.OpenObject uid) g (events, more, p) =
     fault-answered answer (given_by steps) (RecursiveUid uid) g events more p
 of_walk answer steps walk.OutOfMemory g h = tt
 
--- a fault
+-- the walk finds a fault
 pub error-read : (objects slice : List Value) (uid : ℕ) (error : WalkError) (answer : KeyedError)
     → slice ≡ objects → answer ≡ error_of_walk error
     → IsFirstFaultOf (steps_from (objects_seen slice) uid) error
