@@ -18,7 +18,7 @@ asked-by : (was : Bool) {A B : Type 0} → MatchBool was A B → (A → ⊥) →
 asked-by true h never = absurd (never h)
 asked-by false h never = (refl, h)
 
--- `lets` ends with the items, and at a fault
+-- `lets` maps an empty list to an empty one, and ends at a fault
 module _ {A : Type 0} (lets : A → List Item → List Item) (may_reach : Fault → Type 0)
     (ends : (allowance : A) → lets allowance [] ≡ [])
     (stops : (allowance : A) (fault : Fault) (items : List Item)
@@ -26,7 +26,7 @@ module _ {A : Type 0} (lets : A → List Item → List Item) (may_reach : Fault 
   abbrev come : Bool → A → List Item → List Item
   come ended allowance items = cond ended [] (lets allowance items)
 
-  -- ---- what is foreseen
+  -- ---- the items that are foreseen
 
   begins : (was : Bool) (old new : A) (now : Bool) (asked item : Given) (all left : List Item)
       → was ≡ false → BeginsWith all (option_map (item_by event_of) asked) left
@@ -73,7 +73,7 @@ module _ {A : Type 0} (lets : A → List Item → List Item) (may_reach : Fault 
         stays None = tt
         stays (Some all) = (items_allowed lets old all, refl, rw e refl)
 
-    -- however an iterator's items are foreseen, those that are allowed are foreseen
+    -- if the items of the inner iterator are foreseen, so are those that are allowed
     pub allowed-shows : (coming : I → Option (List Item))
         → ForeseesItems event_of inner_gives coming
         → ForeseesItems event_of (GivesAllowed lets may_reach inner_gives)
@@ -106,7 +106,7 @@ module _ {A : Type 0} (lets : A → List Item → List Item) (may_reach : Fault 
   events-pass old new was now (Some (Err error)) x e items w is p =
       cc (ap (item_by _) (sym p.0) ∙ is)
 
-  -- the inner iterator yielded them, too
+  -- the inner iterator yielded the same event
   gave-same : {I : Type 0} (inner_gives : I → Given → I → Type 0) (before after : I) (old new : A)
       (now : Bool) (asked : Given) (x : Result Event Error) (e : PlainEvent)
       → item_by event_of x ≡ Ok e → PassesNext lets may_reach old asked (Some x) new now

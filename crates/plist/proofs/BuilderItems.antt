@@ -1,4 +1,4 @@
--- The items that a builder has taken, and what they are collected to.
+-- The items that a builder has taken, and the value that they are collected to.
 use Rattle.std.proofs.Common.{◌≡◌, inl, inr, false, true≢false, List, [], ◌∷◌, ◌++◌, Option, Some, None, Result, Ok, Err, option_map, map, refl, sym, ap, ◌∙◌, IfOk, IfErr}
 use Rattle.plist_base.specs.declared.error.Error.{Error}
 use Rattle.plist_base.specs.Events.{PlainEvent, Item}
@@ -123,7 +123,7 @@ ended stops ends items built fault faults.WriterFailed q end (events, is, fine, 
     k = absurd (true≢false (cc))
 ended stops ends items built fault kind q end t o k = absurd k
 
--- `finish` returns this
+-- the result of `finish`
 pub finished : (stops ends : Type 0) (items : List Item) (built : Built)
     (result : Result Value Error) → ends → TookAll items built → IfOk result
     (λ value. complete_tree built.unfinished ≡ Some (tree_of value))
@@ -135,7 +135,7 @@ finished stops ends items built (Ok value) end (events, is, fine, (held, nested,
 finished stops ends items built (Err error) end t ok err =
     ended stops ends items built (fault_of error) (fault_of error).kind refl end t err.0 err.1
 
--- one more of the items that are foreseen
+-- one more item was taken
 pub seen-more : {E : Type 0} (see : E → Item) (seen : List E) (item : E) (P : List Item → Type 0)
     → P (map see seen ++ see item ∷ []) → P (map see (seen ++ item ∷ []))
 seen-more see seen item P h = rw (map-append see _ _) h

@@ -62,7 +62,7 @@ dictionary-last ps outer EndCollection =
 dictionary-last ps outer (ScalarEvent (String k)) = refl
 dictionary-last ps outer e = refl
 
--- adding a pair in its place is taking the last values after adding it at the end
+-- inserting pairs one by one has the same result as appending them and then taking the last values
 pub extended-last : (u : Unfinished) (e : PlainEvent)
     → option_map last_wins_so_far (and_event and_pair u e)
     ≡ and_event with_pair (last_wins_so_far u) e

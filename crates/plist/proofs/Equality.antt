@@ -1,4 +1,4 @@
--- Equality of values, of which some are deferred.
+-- Equality of values, if the comparison of some is deferred.
 use Rattle.std.proofs.Common.{◌≡◌, ℕ, zero, suc, ◌≤◌, Some, List, [], ◌∷◌, ap, arith, slice_get, ◌<◌, ◌+◌, Bool, true, false, ◌&&◌, Option, None, ◌++◌, length, drop, get_or, IsSome, ◌↔◌, MatchOption, true≢false, refl, sym, ◌∙◌, subst, add-one, bytes_eq, option_to_list, drop-cons}
 use Rattle.std.specs.Map.{values_of, lookup, keys_of}
 use Rattle.std.proofs.lemmas.Option.{none-some, same_Some, get_or_from_slice_get, slice_get-get_or, slice_get_read, slice_get_within}
@@ -39,7 +39,7 @@ and-moved true b c = refl
 and-moved false true c = refl
 and-moved false false c = refl
 
--- the first of what is left is compared
+-- the first of the items or pairs that are left is compared
 module _ (all here left was : Bool) (bound one rest : ℕ) (before : DeferredPairs) (answer : Bool)
     (after : DeferredPairs) (first : was ≡ here && left) (heavy : ℕ) (parts : heavy ≡ one + rest)
     (so : (was && are_same (waiting before) ≡ all) × (to_compare (waiting before) + heavy ≤ bound))
@@ -48,7 +48,8 @@ module _ (all here left was : Bool) (bound one rest : ℕ) (before : DeferredPai
   decides =
       cc (and-moved here left (are_same (waiting before)))
 
-  -- if it isn't equal, that is the result, and else what is left and what is deferred decide
+  -- if the first ones aren't equal, the result is `false`; otherwise those that are left and the
+  -- deferred pairs decide
   pub next : (answer ≡ false → (false ≡ all) × (to_compare (waiting after) ≤ bound))
       × (answer ≡ true → (left && are_same (waiting after) ≡ all)
       × (to_compare (waiting after) + rest ≤ bound))
@@ -86,7 +87,7 @@ pub left-behind : (ps : List Pair) (p : Pair)
 left-behind [] p = refl
 left-behind (q ∷ ps) p = let e = left-behind ps p in omega arith
 
--- the last pair is taken, or there is none
+-- the pair that was deferred last is taken, or no pair is deferred
 pub taken : (was l m : List Pair) (o : Option Pair) (n : ℕ) → was ≡ l → n ≡ length l
     → (IsSome o ↔ (0 < n)) → l ≡ m ++ option_to_list o
     → MatchOption o (was ≡ []) (λ p. was ≡ m ++ p ∷ [])
@@ -113,7 +114,7 @@ weight-some value =
 
 -- ---- arrays
 
--- what is left of a list begins with the item at its index
+-- the items that are left begin with the one at the index
 left-from : {X : Type 0} (xs : List X) (i : ℕ) (x : X) → slice_get xs i ≡ Some x
     → drop i xs ≡ x ∷ drop (i + 1) xs
 left-from xs i x e =
@@ -207,7 +208,7 @@ module _ (ps qs : Rows) (d : IsDistinct bytes_eq (keys_of ps))
         → ComparesPairs ps qs start answer after
     answers answer after h = (h.0 ∙ ap (λ s. s && are_same (waiting start)) covered-is-same, h.1)
 
-    -- the others lack a key of the first
+    -- the second dictionary lacks a key of the first
     pub pairs-lack : None ≡ lookup (bytes_eq k) qs → ComparesPairs ps qs start false before
     pairs-lack none =
         answers false before (
@@ -215,7 +216,7 @@ module _ (ps qs : Rows) (d : IsDistinct bytes_eq (keys_of ps))
           omega (arith, so.1),
         )
 
-    -- a key of both, whose values are compared
+    -- both dictionaries have the key, and its values are compared
     pub pairs-next : (w : Value) (answer : Bool) (after : DeferredPairs) → Some w ≡ lookup (bytes_eq k) qs
         → ComparesValues v w before answer after
         → (answer ≡ false → ComparesPairs ps qs start false after)

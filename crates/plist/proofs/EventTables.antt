@@ -14,12 +14,12 @@ use Rattle.plist.specs.declared.stream.events.Events.{Events}
 use Rattle.plist.specs.Events.{GivesEvent, remaining_events}
 use Rattle.plist.specs.SendingValues.{StopsSending, SendsTree}
 
--- what was collected, followed by what remains, both without lengths
+-- the events that were collected and those that remain, all without lengths
 abbrev pub GatheredSoFar : List PlainEvent → (held : List PlainEvent) → (left : Events) → Type 0
 GatheredSoFar all held left = held ++ map without_length (remaining_events left)
     ≡ map without_length all
 
--- one more event
+-- one more event was collected
 pub gathered_more : (all held new : List PlainEvent) (before after : Events)
     (item : Result Event Error) (event : Event) → GatheredSoFar all held before
     → GivesEvent before (Some item) after → item ≡ Ok event

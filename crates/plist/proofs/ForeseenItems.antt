@@ -1,4 +1,4 @@
--- What the items that are foreseen are collected to.
+-- The value to which items that are foreseen are collected.
 use Rattle.std.proofs.Common.{◌≡◌, List, [], ◌∷◌, ◌++◌, Option, Some, None, Result, Ok, Err, inl, inr, map, option_map, refl, sym, ap, ◌∙◌, subst, append_assoc, append-nil}
 use Rattle.std.specs.Prelude.{⊤}
 use Rattle.std.specs.Iterator.{Yields}
@@ -38,7 +38,7 @@ pub no-events : (es : List PlainEvent) → ◌≡◌ {A = List Item} [] (map Ok 
 no-events [] p = refl
 no-events (x ∷ es) p = cc p
 
--- with an error among the items, or a rejected event, they are no tree's
+-- items with an error among them aren't those of a tree
 no-tree-error : (all : List Item) (events : List PlainEvent) (error : Fault) (more : List Item)
     → all ≡ map Ok events ++ Err error ∷ more → (tree : Tree) → AreItemsOfTree all tree → ⊥
 no-tree-error all events error more is tree (others, same, alike) =

@@ -123,7 +123,7 @@ module _ (w : PlainEvent → ℕ) (arrays : (k l : Option ℕ) → w (StartArray
         let one = append-weighs (bracketing tree) (bracketing_of_pairs members) in
         member _ _ _ _ _ _ first rest one
 
--- ---- counted and in bytes
+-- ---- the number of events, and the bytes of strings and data
 
 counted : (es : List PlainEvent) → length es ≡ weight_of (λ _. 1) es
 counted [] = refl

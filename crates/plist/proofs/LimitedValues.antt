@@ -24,7 +24,7 @@ use Rattle.plist.proofs.Allowances.{Given, allowed-shows, run-inside, run-passes
 use Rattle.plist.proofs.KeysOnce.{last-nests}
 use Rattle.plist.proofs.LastWinsSizes.{fewer-bytes, fewer-events}
 
--- what `LimitedItems` makes of a run, for limits and for a budget
+-- if the items of the inner iterator are foreseen, so are those that the limits or the budget allow
 pub limited-shows : {I : Type 0} (inner_gives : I → Given → I → Type 0)
     (coming : I → Option (List Item)) → ForeseesItems event_of inner_gives coming
     → ForeseesItems event_of (GivesLimited inner_gives)
@@ -202,8 +202,8 @@ alike-light left right most alike h =
 
 -- ---- the value
 
--- events that the limits admit are those of a tree that nests within them, and are no more,
--- whatever keys are repeated
+-- if the limits admit the events of a tree, the tree has no more events than they allow, and its
+-- last-value form nests within the depth
 tree-within : (limits : Limits) (events : List PlainEvent) (whole : Tree)
     → limited_items limits (map Ok events) ≡ map Ok events → AreAlike events (bracketing whole)
     → NestsWithin (last_wins whole) limits.depth × AreWithin limits (bracketing whole)

@@ -53,7 +53,7 @@ same_dictionaries ps qs d e =
     (rw (← first-at k ps d, ← first-at k qs e)
     ((dictionaries_alike (pair_trees ps) (pair_trees qs)).0 h k))))
 
--- arrays are compared index by index
+-- equal arrays have the same length
 pub same-lengths : (vs ws : List Value) → same_items (item_trees vs) (item_trees ws) ≡ true
     → length vs ≡ length ws
 same-lengths [] [] h = refl

@@ -65,7 +65,7 @@ rows-itself rows s =
     ap last_values (values-inserts last_wins [] rows ∙ ap last_values s)
     ∙ last-values-once (last_values rows) (once-last rows)
 
--- a layer, given this for the values and the dictionaries in it
+-- a layer whose values and dictionaries are their own last-value forms
 layer-of : {V D : Type 0} (y : Value-F V D) (value : V → Value) (pairs : D → dictionary.Dictionary)
     → ((v : V) → IsItself (value v)) → ((d : D) → HasItself (pairs d))
     → Layer (map-Value V D Value dictionary.Dictionary value pairs y)

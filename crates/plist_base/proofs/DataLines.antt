@@ -1,4 +1,4 @@
--- Lines of base64: one after the other, and read back.
+-- Lines of base64, and how they are read back.
 use Rattle.std.proofs.Common.{◌≡◌, ℕ, zero, suc, ◌+◌, ◌-◌, ◌*◌, ◌%◌, ◌<◌, ◌≤◌, Bool, true, ◌↔◌, not, cond, List, [], ◌∷◌, ◌++◌, length, map, min, take, drop, replicate, slice_index, Some, refl, subst, sym, ap, ◌∙◌, append_assoc, rules, arith}
 use Rattle.std.proofs.lemmas.List.{append-nil, length-take-le, length-drop, take_all, take_min}
 use Rattle.std.proofs.lemmas.List.Elements.{filter-append}
@@ -27,7 +27,7 @@ use Rattle.plist_base.specs.DataText.{bytes_of_line, first_lines, line_count, da
 abbrev pub is_dark : ℕ → Bool
 is_dark byte = not (is_ascii_whitespace byte)
 
--- nothing is dropped of the text
+-- the text has no white space
 abbrev pub IsDark : List ℕ → Type 0
 IsDark text = without_white text ≡ text
 
@@ -64,7 +64,7 @@ dark-base64 bytes =
 abbrev pub written : List ℕ → ℕ → List ℕ
 written bytes line = encode_of standard (bytes_of_line bytes line)
 
--- without LF between them, the lines follow one another
+-- if white space is removed, the lines follow one another
 dark-lines : (bytes lines : List ℕ)
     → without_white (join_with_byte 10 (map (written bytes) lines))
     ≡ concat (map (written bytes) lines)
@@ -91,7 +91,7 @@ concat-lines bytes (suc count) fits =
     ∙ rw (append-nil, split, concat-lines bytes count (omega (arith, fits)))
     (sym (encode_of-append standard front _ whole))
 
--- ---- a further line
+-- ---- one more line
 
 join-next : (first : List ℕ) (lines : List (List ℕ)) (line : List ℕ)
     → join_with_byte 10 (first ∷ (lines ++ line ∷ [])) ≡ join_with_byte 10 (first ∷ lines) ++ 10
@@ -101,7 +101,7 @@ join-next first (next ∷ lines) line =
     rw (join-next next lines line)
     (sym (append_assoc first (10 ∷ join_with_byte 10 (next ∷ lines)) (10 ∷ line)))
 
--- the bytes of a line, if any are left
+-- the bytes of the line that begins at `start`
 pub line-slice : (bytes : List ℕ) (start end : ℕ) → end ≡ min (length bytes) (start + 51)
     → start ≤ length bytes → take (end - start) (drop start bytes) ≡ take 51 (drop start bytes)
 line-slice bytes start end is fits =
@@ -116,7 +116,7 @@ pub lines-first : (bytes : List ℕ) (line : ℕ) {old mid new : List ℕ}
     → new ≡ join_with_byte 10 (first_lines (line + 1) bytes)
 lines-first bytes line grows same lines none = rw (grows, same, lines, none) refl
 
--- a further line
+-- one more line after the first
 pub lines-next : (bytes : List ℕ) (line : ℕ) {old mid end new : List ℕ}
     → new ≡ mid ++ written bytes line → mid ≡ old ++ end → end ≡ 10 ∷ []
     → old ≡ join_with_byte 10 (first_lines line bytes) → 0 < line
@@ -176,7 +176,7 @@ unfolding data_of_text
 data_decoded text dark bytes is decoded =
     decoded_of-ok _ _ _ (rw is at decoded)
 
--- all lines together are the text
+-- the lines together are the text
 pub text_of_lines : (bytes : List ℕ) (count : ℕ) (text : List ℕ)
     → text ≡ join_with_byte 10 (first_lines count bytes) → count ≡ line_count bytes
     → text ≡ data_text bytes

@@ -1,4 +1,4 @@
--- The bits of a whole second stand for it.
+-- The bits of a whole second encode that second.
 use Rattle.std.proofs.Common.{◌≡◌, ℕ, zero, suc, ◌+◌, ◌-◌, ◌*◌, ◌/◌, ◌%◌, ◌^◌, ◌<◌, ◌≤◌, Bool, true, false, cond, eqb, ℤ, pos, negsuc, neg_ℤ, add-one, Option, None, Some, List, refl, ap, sym, ◌∙◌, arith, pow-add, inl, inr}
 use Rattle.std.proofs.Math.Nat.{mod-eq_of_lt, pow-le-pow_right, one-le-pow, mul-div_cancel, mul-mod_left, mul-le-mul_right}
 use Rattle.std.proofs.lemmas.Nat.{leading_top, from_be_bytes-to_be_bytes_8}
@@ -133,7 +133,8 @@ sum_is n z k e =
 whole_small : (n : ℕ) → Encoded n → whole_bits n < 2 ^ 63
 whole_small n k = omega arith
 
--- the law: these bits are those of the second, decode to it, and are exactly at it
+-- the bits are those of the second, their second is this one without a fraction, and their value is
+-- exactly the second
 pub record AreWritten (second : ℤ) (bits : ℕ) : Type 0 where
   pub is : AreBitsAt second bits
   pub back : IsWholeAt second bits
@@ -186,7 +187,7 @@ tested : (b : Bool) (z y : ℤ) → ◌≡◌ {A = Option ℤ} (Some y) (cond b 
 tested true z y e = refl
 tested false z y e = absurd (cc)
 
--- the law for a negative second, and for any other
+-- the bits of a negative second, and of any other second
 pub below_zero : (z x y : ℤ) (b n : ℕ) → x ≡ z → Some y ≡ if_second_of_date x
     → lt_z x (pos 0) ≡ true → n ≡ unsigned_abs x → b ≡ whole_bits n → AreWritten z (2 ^ 63 + b)
 below_zero z (pos n) y b m same h lt is e = absurd (grind (arith, ints))
@@ -222,7 +223,7 @@ plain_bits (negsuc n) h =
 pub bytes_are : (bs : List ℕ) (b : ℕ) → bs ≡ to_be_bytes w64 b → b < 2 ^ 64 → real_bits bs ≡ b
 bytes_are bs b e h = cc (from_be_bytes-to_be_bytes_8 b h)
 
--- bytes of a second, but not of the negative zero, are a date's
+-- eight bytes that have a second, and aren't the negative zero, are those of a date
 pub date_of_second : (second : Option ℤ) (bs : List ℕ) → is_none second ≡ false
     → eqb (real_bits bs) (2 ^ 63) ≡ false → date_if second bs ≡ Some bs
 date_of_second None bs some plain = absurd (cc)

@@ -209,7 +209,7 @@ printed date year second is small in_day =
       utc = ap (λ t. slice_index t 19) shown;
     }
 
--- the second of a text is made of its parts
+-- the second of a text, given its parts
 pub spelled : (text : List ℕ) (day zone : ℤ) (time : ℕ) → has_separators text ≡ true
     → day_in text ≡ Some day → time_in text ≡ Some time → zone_in text ≡ Some zone
     → unix_second_of_text text ≡ Some ((day *ℤ pos 86400 +ℤ pos time) -ℤ zone)

@@ -11,7 +11,7 @@ use Rattle.plist_base.specs.Date.{IsSecondOf, real_parts, parts_in_second, parts
 use Rattle.plist_base.specs.DateTexts.{HasTextYear, IsDateText, IsInUtc}
 use Rattle.plist_base.specs.UnixSeconds.{HasFourDigitYear, IsTextOfSecond, unix_second_of_text}
 
--- d parts make a second
+-- if `d` parts make a second, this second isn't above the value, and the next one is
 abbrev Bounds : ℤ → ℤ → ℕ → Type 0
 Bounds second value d = ((second *ℤ pos d) ≤ℤ value) × (value <ℤ ((second +ℤ pos 1) *ℤ pos d))
 
@@ -237,12 +237,12 @@ printed date text is = by_second _ refl
       within = (second_facts (real_bits date) second some).1;
     }
 
--- a text that spells no second is no date's
+-- a text that spells no second is the text of no date
 pub not_printed : (date text : List ℕ) → None ≡ unix_second_of_text text → IsDateText date text → ⊥
 not_printed date text none text_of =
     let p = printed date text text_of in let spells = p.spells in cc
 
--- a text whose second is out of range is no date's
+-- a text whose second is out of range is the text of no date
 pub not_ranged : (date text : List ℕ) (second : ℤ) → Some second ≡ unix_second_of_text text
     → (IsSecondOfDate (second -ℤ plist_epoch) → ⊥) → IsDateText date text → ⊥
 not_ranged date text second is out text_of =

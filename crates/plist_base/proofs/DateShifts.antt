@@ -43,7 +43,7 @@ zero_scaled (suc a) c h =
     ≡ false = grind (arith, nat_tests) in let r : eqb (suc a) 0
     ≡ false = grind (arith, nat_tests) in cc
 
--- whether parts are left doesn't depend on the scale
+-- parts are left if and only if the mantissa has bits below the whole seconds
 pub left_shifted : (m e : ℕ) → e < 1075 → eqb (parts_left m e) 0 ≡ eqb (m % 2 ^ (1075 - e)) 0
 left_shifted m e h = rw (left_scaled m e h) (zero_scaled _ _ (power_pos e))
 
@@ -52,7 +52,7 @@ multiple m c d power h is =
     let e : m * (c * d) ≡ m * c * d + 0 = grind arith in
     rw is (ap (λ k. k % d) e ∙ mod-mul-add _ d 0 h)
 
--- a value of 2 ^ 52 seconds or more is a whole number of them
+-- with a scale of 1075 or more, no parts are left
 left_far : (m e : ℕ) → 1075 ≤ e → parts_left m e ≡ 0
 unfolding parts_left parts_of parts_in_second
 left_far m e h =
@@ -63,7 +63,7 @@ left_far m e h =
 above : (m k : ℕ) → m < 2 ^ 53 → 53 ≤ k → m < 2 ^ k
 above m k h big = let p = pow-le-pow_right {n = 2} (omega arith) big in omega arith
 
--- shifting out all bits
+-- if all bits are shifted out, there are no whole seconds
 pub whole_none : (m e : ℕ) → m < 2 ^ 53 → e < 1075 → 64 ≤ 1075 - e → whole_seconds m e ≡ 0
 whole_none m e h lt far = whole_shifted m e lt ∙ div-eq_of_lt (above m _ h (omega arith))
 
@@ -88,7 +88,7 @@ far_second true w left h = far_up _ w h
     far_up true w h = far_neg w h
     far_up false w h = far_neg (w + 1) (omega arith)
 
--- a value of 2 ^ 52 seconds or more
+-- with a scale of 1075 or more, there are 2 ^ 52 or more whole seconds
 whole_far : (m e : ℕ) → 2 ^ 52 ≤ m → 1075 ≤ e → 2 ^ 52 ≤ whole_seconds m e
 unfolding whole_seconds parts_of parts_in_second
 whole_far m e h big =

@@ -39,7 +39,7 @@ can_continue held e t p =
     (run_back (held ++ e ∷ []) g.0 (OneValue ∷ []) t p g.1) in
     (g.0, f.0, simp append_assoc at f.1)
 
--- the events are those of a tree exactly where nothing more is expected after them
+-- if nothing more is expected after the events, they are those of a tree
 pub bracketed : (held : List PlainEvent) → expected_after held ≡ Some [] → AreTreeEvents held
 bracketed held p =
     rw append-nil at (filled (held ++ []) (run_back held [] (OneValue ∷ []) [] p refl))

@@ -11,7 +11,7 @@ use Rattle.jiff_core.proofs.SignedLemmas.{signed_arith}
 use Rattle.plist_base.specs.UnixSeconds.{day_number, has_separators, second_of_parts, of_both, of_three, second_of_day, two_digits_at, two_digits, unix_second_of_text, zone_in, HasFourDigitYear, IsTextOfSecond}
 use Rattle.plist_base.proofs.DatePrinting.{second_in_years, two_text, text_from}
 
--- ---- what a result was made of
+-- ---- the parts of a result
 
 abbrev IsSome : {A : Type 0} → Option A → A → Type 0
 IsSome {A} option value = ◌≡◌ {A = Option A} option (Some value)
@@ -115,7 +115,7 @@ front_after_marker zero from x text = refl
 front_after_marker (suc count) from x text =
     ap (λ rest. slice_index text from ∷ rest) (front_after_marker count (suc _) x text)
 
--- a text is its elements
+-- a text consists of its elements
 elements : (count : ℕ) (text : List ℕ) → length text ≡ count → text ≡ front count 0 text
 elements zero [] is = refl
 elements (suc count) (x ∷ text) is =

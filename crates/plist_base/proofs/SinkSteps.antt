@@ -13,7 +13,7 @@ use Rattle.plist_base.specs.Sinks.{IsSameSink, PutsBytes, PutsNothing, pending, 
 
 -- ---- lists
 
--- what is written of two parts, and what is left of both
+-- two parts are written one after the other, and the rest of both remains
 joined : (all xs ys one middle two rest : List ℕ) → all ++ xs ≡ one ++ middle
     → middle ++ ys ≡ two ++ rest → all ++ (xs ++ ys) ≡ (one ++ two) ++ rest
 joined all xs ys one middle two rest e f =
@@ -140,7 +140,7 @@ module _ {W : Type 0} {contents : W → Option (List ℕ)} where
     follows = (io, rw none front);
   }
 
-  -- and when what was pending was written before
+  -- bytes are written after the pending ones were
   pub puts_emptied : {a b c : Sink W} {xs : List ℕ} (answer : Result (Unit {0}) Error)
       → PutsBytes contents a [] (Ok tt) b → pending b ≡ [] → IsSameSink b c → pending c ≡ []
       → OnOk answer (Appends (written contents b) (written contents c) xs) → OnlyDevice answer

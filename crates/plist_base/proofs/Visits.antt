@@ -6,7 +6,7 @@ use Rattle.plist_base.specs.Visits.{Flow, YieldsAll, HandsOver, HandsOverAll, Pl
 
 module _ {I V : Type 0} (yields : I → PlainItem → I → Type 0)
     (step : V → PlainEvent → Flow → V → Type 0) where
-  -- one event more
+  -- one more event is handed over
   pub hands_more : (old now new : I × V) (events : List PlainEvent) (event : PlainEvent)
       → HandsOverAll yields step old events now → HandsOver yields step now event (Continue tt) new
       → HandsOverAll yields step old (events ++ event ∷ []) new
@@ -15,14 +15,14 @@ module _ {I V : Type 0} (yields : I → PlainItem → I → Type 0)
   hands_more old now new (first ∷ events) event (next, one, others) more =
       (next, one, hands_more next now new events event others more)
 
-  -- what is handed over is given
+  -- the source yields the events that are handed over
   pub given_all : (old new : I × V) (events : List PlainEvent) → HandsOverAll yields step old events new
       → YieldsAll yields old.0 events new.0
   given_all old new [] is = ap (λ p. p.0) is
   given_all old new (event ∷ events) (next, one, others) =
       (next.0, one.given, given_all next new events others)
 
-  -- what each event keeps is kept
+  -- a fact that each event preserves is preserved by all events
   pub kept_all : (P : I × V → Type 0) → ((now new : I × V) (event : PlainEvent) → P now
       → HandsOver yields step now event (Continue tt) new → P new)
       → (old new : I × V) (events : List PlainEvent) → P old
@@ -31,7 +31,7 @@ module _ {I V : Type 0} (yields : I → PlainItem → I → Type 0)
   kept_all P keeps old new (event ∷ events) here (next, one, others) =
       kept_all P keeps next new events (keeps old next event here one) others
 
--- one event more is given
+-- one more event is yielded
 pub given_more : {I : Type 0} (yields : I → PlainItem → I → Type 0) (old now new : I)
     (events : List PlainEvent) (event : PlainEvent) → YieldsAll yields old events now
     → yields now (Some (Ok event)) new → YieldsAll yields old (events ++ event ∷ []) new

@@ -183,7 +183,7 @@ module _ (s : EventBuffer) (e : PlainEvent) (still : is_whole s ≡ false) where
     goes_on = subst (λ o. IfSome o GoesOn)
         (ap (λ c. changed c top rest) (sym changes) ∙ sym after ∙ is_new) (goes top rest e kinds inside)
 
-    -- these events are buffered, and this was computed for them
+    -- the event was buffered, and what is expected after it was computed
     module _ {events : List PlainEvent} {c : Change} {next : Option Expect} (m : events ≡ more)
         (is : c ≡ change_on s.expects e)
         (found : next ≡ next_expected c s.expects (innermost (expected_inside events))) where

@@ -21,14 +21,14 @@ still : (b : Bool) (x y : Type 0) → b ≡ false → y → MatchBool b x y
 still true x y e h = cc
 still false x y e h = h
 
--- the buffered events and one more are those of the tree, up to a length
+-- the buffered events and one more are those of the tree, apart from a length
 last_alike : (held events : List PlainEvent) (event : PlainEvent)
     → events ≡ held ++ without_length event ∷ [] → AreAlike events (held ++ event ∷ [])
 last_alike held events event is = cc (alike_last held event)
 
 module _ {W : Type 0} (IsFile : Tree → List ℕ → Type 0) (size : Tree → ℕ)
     (contents : W → Option (List ℕ)) where
-  -- an error of writing the file is one by which the writer fails
+  -- after an error of writing the file, the writer has failed
   failing : (kind : FaultKind) (events : List PlainEvent) (old new : W) (refused lost : Type 0)
       → lost → FailsAs IsFile size contents kind events old new → MatchKind kind refused lost ⊥
   failing Io events old new refused lost f h = f
@@ -48,7 +48,7 @@ module _ {W : Type 0} (IsFile : Tree → List ℕ → Type 0) (size : Tree → �
 
     module _ (events : List PlainEvent) (can : CanContinue (open_events before) event)
         (are : events ≡ open_events before ++ without_length event ∷ []) where
-      -- what writing the events does depends on them only up to lengths
+      -- writing a file doesn't depend on the lengths of starts
       sent : (answer : Answer)
           → SendsAs IsFile size contents events answer (sink_of before) (sink_of after)
           → SendsAs IsFile size contents (open_events before ++ event ∷ []) answer (sink_of before)

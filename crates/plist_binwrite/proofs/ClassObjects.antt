@@ -88,7 +88,7 @@ module _ {es : List PlainEvent} {class : ℕ → ℕ} (c : AreClasses es class) 
   pub sound : (t u : Tree) (p q : ℕ) → OccursAt es t p → OccursAt es u q → class p ≡ class q → t ≡ u
   sound t u p q s r e = (one_object _ (λ t u p q s r e. e) t u p q s r e).0
 
--- what a plan says of the numbers: their objects, and the sizes of their trees
+-- the objects of the numbers, and the sizes of their trees
 pub record Numbered (es : List PlainEvent) (number : ℕ → ℕ) : Type 0 where
   pub rank : ℕ → ℕ
   pub ranked : (t : Tree) (p : ℕ) → OccursAt es t p → rank (number p) ≡ event_count t

@@ -43,7 +43,7 @@ entries_at (k ∷ kinds) (n ∷ numbers) zero same = refl
 entries_at (k ∷ kinds) (n ∷ numbers) (suc p) same =
     entries_at kinds _ p (omega arith)
 
--- what is read of an entry
+-- the kind and the number of an entry are read from the lists
 module _ (kinds : List EntryKind) (numbers : List ℕ) (same : length kinds ≡ length numbers)
     (slice : List EntryKind) (lent : slice ≡ kinds) (p : ℕ) (d : EntryKind)
     (lt : p < length kinds) where

@@ -274,7 +274,7 @@ module _ {scalars : List PlainEvent} {es : List EventEntry} {unclosed : List ℕ
 
 -- ---- the calls
 
--- an entry was appended, or none if an allocation failed
+-- an entry was appended, or none was because an allocation failed
 pub either_few : {T E : Type 0} (r : Result T E) (es now : List EventEntry)
     → OnOk r (length now < 2 ^ 63) → OnErr r (now ≡ es) → length es < 2 ^ 63 → length now < 2 ^ 63
 either_few (Ok x) es now small same few = small

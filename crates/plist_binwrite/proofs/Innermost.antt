@@ -99,7 +99,7 @@ module _ (table : EventTable) {unclosed : List ℕ} (same : unclosed ≡ table.u
     pub last_within : q < length events
     last_within = below is_start events q refl starts_here
 
-    -- kinds other than those of starts don't occur
+    -- the kind of the innermost open start determines what is expected
     pub last_expects : (k : EntryKind) → k ≡ entry_kind_of (event_at events q)
         → expect_of_kind k ≡ innermost (expected_inside events)
     last_expects k k_is =

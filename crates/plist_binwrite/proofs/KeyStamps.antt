@@ -100,7 +100,7 @@ keys_leaves NoMembers q s = tt
 keys_leaves (MemberAnd k t ms) q s =
     (ap is_leaf (stands_single (occurs_key s)), keys_leaves ms _ (occurs_next_pair s))
 
--- the keys of a dictionary differ where their events do
+-- two keys are equal if their events are
 same_key : (k l : List ℕ) → ScalarEvent (String k) ≡ ScalarEvent (String l) → k ≡ l
 same_key k l p = cc
 

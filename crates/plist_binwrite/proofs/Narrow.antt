@@ -1,15 +1,15 @@
--- Numbers of four bytes, followed by those of eight, as one list.
+-- The numbers in four bytes each and those in eight, as one list.
 use Rattle.std.proofs.Common.{◌≡◌, ℕ, zero, suc, ◌-◌, ◌^◌, ◌<◌, List, [], ◌∷◌, ◌++◌, length, map, replicate, set, refl, ap, arith}
 use Rattle.std.proofs.lemmas.List.{map-set, set-append_left, length-map}
 use Rattle.plist_binwrite.specs.inner.Narrow.{wide_of}
 
--- this many marks of four bytes stand for as many of eight
+-- a list of marks in four bytes represents a list of as many marks in eight bytes
 pub marks_wide : (count : ℕ)
     → map wide_of (replicate count (2 ^ 32 - 1)) ++ [] ≡ replicate count (2 ^ 64 - 1)
 marks_wide zero = refl
 marks_wide (suc count) = ap (λ xs. (2 ^ 64 - 1) ∷ xs) (marks_wide count)
 
--- a number of four bytes is set among all of them
+-- setting a number of four bytes sets the number that it represents
 pub set_narrow : (narrow wide : List ℕ) (i stored : ℕ) → i < length narrow
     → map wide_of (set narrow i stored) ++ wide
     ≡ set (map wide_of narrow ++ wide) i (wide_of stored)

@@ -77,7 +77,7 @@ mutual
       ∙ open_pairs ms (p + 1 + event_count t) (unclosed_from (lengthless t) (p + 1) unclosed)
       ∙ open_tree t (p + 1) unclosed
 
--- a tree's end is that of its start
+-- a tree ends after the end that belongs to its start
 skip_end : (body : List PlainEvent) (q given : ℕ) (unclosed : List ℕ)
     → unclosed_from body (q + 1) (q ∷ unclosed) ≡ q ∷ unclosed
     → skip_from (body ++ EndCollection ∷ []) (q + 1) (q ∷ unclosed) q given

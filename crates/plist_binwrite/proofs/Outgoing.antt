@@ -8,14 +8,14 @@ use Rattle.plist_base.specs.Sinks.{PutsBytes}
 use Rattle.plist_base.specs.Writing.{Answer}
 use Rattle.plist_binwrite.specs.Forms.{table_form}
 
--- all is put once the numbers at these indices are
+-- once the numbers at these indices are put, all bytes are put
 abbrev pub PutsRest : {W : Type 0} (contents : W → Option (List ℕ)) (number : ℕ → ℕ) (width : ℕ)
     (a : Sink W) (all : List ℕ) (b : Sink W) (indices : List ℕ) → Type 0
 PutsRest {W} contents number width a all b indices = (answer : Answer) (c : Sink W)
     → PutsBytes contents b (table_form width (map number indices)) answer c
     → PutsBytes contents a all answer c
 
--- ---- bytes of each of some numbers
+-- ---- the bytes of several numbers
 
 module _ (f : ℕ → List ℕ) (xs : List ℕ) (i : ℕ) (lt : i < length xs) where
   pub one_part : flat_map f (take i xs) ++ f (get_or xs i 0) ≡ flat_map f (take (i + 1) xs)

@@ -227,7 +227,7 @@ not_before xs i d h =
 
 -- ---- one more offset
 
--- what is known of the offset so far
+-- the offset so far, and the objects before it
 pub record Along (w : ℕ) (objects : ℕ → Object) (order places : List ℕ) (i : ℕ)
     (at : Option ℕ) : Type 0 where
   pub given : IsSizeOrNone at (8 + length (object_table w objects (take i order)))

@@ -235,7 +235,8 @@ module _ {es : List PlainEvent} {class : ℕ → ℕ} {by_class firsts order mar
         subst (λ k. size_with k objects < 2 ^ 64) (count_told t e)
         (fits objects (rw known at (table_told t e)))
 
-    -- its order has its objects, and its offset table lies at its offset
+    -- each number in the order is that of an object, and the offset table lies directly after the
+    -- objects
     pub ordered : AllBelow (length firsts) order
     ordered i h = o.below (get_or order i 0) (any_at order i h)
 
@@ -260,7 +261,7 @@ pub file_is : (objects : ℕ → Object) (order places : List ℕ) (table width 
     ≡ with_table_and_trailer (laid_out width objects order) places
 file_is objects order places table width e = cc
 
--- what is pending is written at the end
+-- the pending bytes are written at the end
 pub sends_end : {W : Type 0} (contents : W → Option (List ℕ)) (given : Classed) (plan : FilePlan)
     (old middle new : Sink W) → pending old ≡ [] → (answer : Result (Unit {0}) Error)
     → OnOk answer (Appends (written contents middle) (written contents new) (pending middle))

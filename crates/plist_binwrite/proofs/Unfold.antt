@@ -99,7 +99,7 @@ module _ (table : List TableEntry) (es : List PlainEvent) (num rank : ℕ → �
       rw (ne_eqb i x (λ e. let k = ap rank e in omega (arith, a.0)))
       (not_on_path m i path h a.1)
 
-  -- it is entered, and its view is that of its contents
+  -- the object of a tree is entered, and its view is that of its contents
   entered : (t : Tree) (p at : ℕ) {m : ℕ} {path : List ℕ} → OccursAt es t p → event_count t < m
       → Path m path
       → ((place : ℕ) → Path (event_count t) (num p ∷ path) → Shows num

@@ -38,7 +38,7 @@ module _ {A : Type 0} (P : A → Type 0) where
   all_kept true x xs p a = a
   all_kept false x xs p a = (p, a)
 
-  -- what is kept is in the list
+  -- what is true of all items is true of those that are kept
   pub all_unique : (eq : A → A → Bool) (xs : List A) → AllByRecursion P xs
       → AllByRecursion P (unique_keys eq xs)
   all_unique eq [] a = tt
@@ -71,7 +71,7 @@ module _ {A : Type 0} (f : A → ℕ) where
   self_later n ns (x ∷ xs) a =
       (or_right _ _ a.0, self_later n ns xs a.1)
 
-  -- each number of a list is in it
+  -- the image of each item is among the images
   pub members_self : (xs : List A) → AllByRecursion (λ a. is_member eqb (map f xs) (f a) ≡ true) xs
   members_self [] = tt
   members_self (x ∷ xs) = (

@@ -58,7 +58,7 @@ SendsBytes bytes old new =
     (tree : Tree) × IsValueOf (items_of_input bytes) (Ok tree)
     × ((file : List ℕ) × IsFileOf tree file × (new ≡ old ++ file))
 
--- this is true if the call returned `Ok` with this value
+-- if the call returned `Ok` with this value, this is true
 abbrev pub IfOkIs : {A E : Type 0} → Result A E → A → Type 0 → Type 0
 IfOkIs answer wanted P = IfOk answer (λ found. found ≡ wanted → P)
 

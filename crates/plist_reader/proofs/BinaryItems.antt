@@ -49,7 +49,7 @@ binary-goes None l f g new item e h = tt
 binary-goes (Some bytes) l f g new item e h =
     (g _, ap (option_map g) e, binary-item _ _ _ _ h)
 
--- the errors that end it
+-- after an error the reader has ended
 over-ends : (E : Type 0) (item : Given) → MatchOption item E (λ answer. OnErr answer E)
     → EndsAfter item E
 over-ends E None h = h

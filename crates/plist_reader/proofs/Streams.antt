@@ -59,7 +59,7 @@ read_none (Some xs) now p n count part e none room z within g =
     ended (inl h) = absurd (let no : ⊥ = omega (arith, h, room) in no)
     ended (inr h) = nothing_after (p + n) xs (omega (arith, h))
 
--- if nothing more can be read, only buffered bytes remain
+-- if nothing more can be read and no byte is buffered, no bytes remain
 pub full_none : (k : Option (List ℕ)) (p : ℕ) (hand : List ℕ) → 2 ^ 64 - 1 ≤ p → hand ≡ []
     → IsAtEnd (option_map (λ bytes. hand ++ from_place p bytes) k)
 full_none None p hand h e = tt

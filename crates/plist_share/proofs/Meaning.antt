@@ -19,7 +19,7 @@ module _ (table : List TableEntry) where
     pub found : slice_get table number ≡ Some entry
     pub is : entry.object ≡ object
 
-  -- the number stands for the tree
+  -- the object of this number represents the tree
   abbrev mutual
     pub Means : Tree → ℕ → Type 0
     Means (Leaf x) i = Stands i (obj.Scalar x)
@@ -46,7 +46,7 @@ module _ (table : List TableEntry) where
       cc
 
   mutual
-    -- no number stands for two trees
+    -- no number represents two trees
     pub one_tree : (t u : Tree) (i : ℕ) → Means t i → Means u i → t ≡ u
     one_tree (Leaf x) (Leaf y) i m n = ap Leaf (the_scalar x y (one_object m n))
     one_tree (Leaf x) (Array us) i m n = let p = one_object m n.1 in cc

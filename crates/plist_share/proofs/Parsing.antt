@@ -36,7 +36,7 @@ not_fault (Array ts) zs f xs p = cc
 not_fault (Dictionary ms) zs f xs p = cc
 
 module _ (table : List TableEntry) where
-  -- if these items begin with a tree's events, the number stands for the tree, and the rest
+  -- if these items begin with a tree's events, the number represents the tree, and the rest
   -- follows; and they don't begin with an end
   abbrev pub IsTree : ℕ → List Item → Type 0
   IsTree i items = ((t : Tree) (es : List PlainEvent) (xs : List Item)
@@ -105,7 +105,7 @@ module _ (table : List TableEntry) (child : ℕ → List Item)
   object_begins place (obj.Faulty kind) xs ys p = cc
 
 module _ (table : List TableEntry) where
-  -- the items of what a reference refers to are parsed
+  -- the items of the object of a reference are parsed
   found_parses : (i at : ℕ) (found : Option TableEntry) (is_open : Bool) (items : TableEntry
       → List Item)
       → slice_get table i ≡ found → ((entry : TableEntry) → slice_get table i ≡ Some entry
@@ -117,7 +117,7 @@ module _ (table : List TableEntry) where
       ((λ t es xs p. absurd (not_fault t es _ xs p)), λ xs ys p. cc)
   found_parses i at (Some entry) false items f good = good entry f refl
 
-  -- if an object's items are a tree's events, its number stands for the tree
+  -- if an object's items begin with a tree's events, its number represents the tree
   pub unfolding_parses : (fuel : ℕ) (path : List ℕ) (at : ℕ) → IsPath (length table) path
       → fuel + length path ≡ length table
       → (c : ℕ) → IsTree table c (unfolding_of table fuel path at c)

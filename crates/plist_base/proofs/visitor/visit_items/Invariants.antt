@@ -4,7 +4,7 @@ use Rattle.plist_base.specs.Events.{PlainEvent}
 use Rattle.plist_base.specs.Visits.{YieldsPlain, HandsOverAll}
 use Rattle.plist_base.proofs.visitor.visit_items.Given as goal
 
--- the iterator may be asked on, and these events were handed over
+-- `next` of the iterator can be called, and these events were handed over
 abbrev pub invariant-loop-item : goal.invariant-loop-item
 invariant-loop-item g l = record {
   callable : g.I.Iterator.can_next l.items;

@@ -11,7 +11,7 @@ use Rattle.plist_binwrite.proofs.numbering.Numbering.number_one.Goals.{In_ok-set
 pub returns-then-get-number-clause-keeps : goal.returns-then-get-number-clause-keeps
 returns-then-get-number-clause-keeps c = keeps_self
 
--- it gets the next one
+-- the class gets the next number
 
 small : (c : Anew) → length c.args.self.now.firsts + 1 < 2 ^ 64
 small c =
