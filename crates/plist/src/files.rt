@@ -181,7 +181,7 @@ impl Value {
     }
 
     /// Writes the value as a binary property list to the file of this name, and has the system
-    /// store it. If the file exists, it is truncated first.
+    /// store it. If the file exists, it is truncated before the first byte is written.
     ///
     /// # Errors
     ///

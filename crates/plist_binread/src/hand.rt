@@ -201,7 +201,8 @@ fn hand_far<S: Source, V: EventVisitor>(
 
 // Hands over the string or data of the object at this offset.
 //
-// It is borrowed from the source if all of it is buffered, and is otherwise read into new memory.
+// Its bytes are borrowed from the source if all of them are buffered, and are otherwise read into
+// new memory.
 #[inline(always)]
 fn hand_content<S: Source, V: EventVisitor>(
     source: &mut S,

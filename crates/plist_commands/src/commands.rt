@@ -56,8 +56,9 @@ pub trait Commands {
     ///
     /// # Errors
     ///
-    /// An error is returned if a file can't be opened, read or written, or if it doesn't contain a
-    /// property list, or for `keyed` an archive with a tree under the key.
+    /// An error is returned if a file can't be opened, read or written, if it doesn't contain a
+    /// property list, or for `keyed` an archive with a tree under the key, or if an allocation
+    /// fails.
     fn perform<O: Write>(
         &self,
         alloc: Global,

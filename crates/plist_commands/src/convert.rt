@@ -178,8 +178,8 @@ fn convert_value<R: Files>(rt: &R, alloc: Global, from: &str, to: &str) -> Resul
 ///
 /// # Errors
 ///
-/// An error is returned if a file can't be opened, read or written, or if the first one doesn't
-/// contain a property list.
+/// An error is returned if a file can't be opened, read or written, if the first one doesn't
+/// contain a property list, or if an allocation fails.
 pub fn convert_file<R: Files>(rt: &R, alloc: Global, from: &str, to: &str) -> Result<(), Error> {
     let source = open_source(rt, alloc, from)?;
     match stream_to(rt, alloc, source, to)? {

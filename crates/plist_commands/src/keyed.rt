@@ -63,7 +63,7 @@ pub fn print_at<O: Write>(
 /// # Errors
 ///
 /// An error is returned if the file can't be read as a property list, if that isn't an archive or
-/// has no such key or no such tree, or if the tree can't be printed.
+/// has no such key or no such tree, if the tree can't be printed, or if an allocation fails.
 pub fn keyed_file<R: Files, O: Write>(
     rt: &R,
     alloc: Global,

@@ -432,8 +432,9 @@ pub fn print_events<S: Source, W: Write>(
 ///
 /// # Errors
 ///
-/// `Io` if a write fails, and `OutOfMemory`, both without an offset. A prefix of the lines is
-/// written then. A failed flush is an error only if nothing failed before it.
+/// `Io` if a write fails, and `OutOfMemory` if an allocation fails, both without an offset. A
+/// prefix of the lines is written then. A failed flush is an error only if nothing failed before
+/// it.
 pub fn print_value<W: Write>(alloc: Global, value: &Value, writer: &mut W) -> Result<(), Error>
     ensures printed { OnOk result (PrintsValue W.contents value.now writer.old writer.new) }
     ensures fault { IfErr result IsWriterError }
