@@ -100,7 +100,7 @@ impl<'a> DeferredPairs<'a> {
         done
     }
 
-    // Returns whether two values are equal if all pairs that it defers are.
+    // Returns whether two values are equal, apart from the pairs that it defers.
     #[cycle(same)]
     fn compare(&mut self, value: &'a Value, other: &'a Value, levels: u32) -> bool
         ensures { ComparesValues value.now other.now self.old result self.new }
@@ -114,8 +114,8 @@ impl<'a> DeferredPairs<'a> {
         self.compare_content(value, other, 0)
     }
 
-    // Returns whether two values are equal if all pairs that it defers are. Unlike `compare`, it
-    // never defers the two values themselves.
+    // Returns whether two values are equal, apart from the pairs that it defers. Unlike `compare`,
+    // it never defers the two values themselves.
     #[cycle(same)]
     fn compare_content(&mut self, value: &'a Value, other: &'a Value, levels: u32) -> bool
         ensures { ComparesContent value.now other.now self.old result self.new }
@@ -178,7 +178,7 @@ impl<'a> DeferredPairs<'a> {
         }
     }
 
-    // Returns whether two arrays are equal if all pairs that it defers are.
+    // Returns whether two arrays are equal, apart from the pairs that it defers.
     #[cycle(same)]
     fn compare_items(&mut self, items: &'a Vec<Value>, others: &'a Vec<Value>, levels: u32) -> bool
         ensures { ComparesItems items.now.items others.now.items self.old result self.new }
@@ -194,7 +194,7 @@ impl<'a> DeferredPairs<'a> {
         true
     }
 
-    // Returns whether two dictionaries are equal if all pairs that it defers are.
+    // Returns whether two dictionaries are equal, apart from the pairs that it defers.
     #[cycle(same)]
     fn compare_pairs(&mut self, pairs: &'a Dictionary, others: &'a Dictionary, levels: u32) -> bool
         ensures { ComparesPairs (pairs_of pairs.now)

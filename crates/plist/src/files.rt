@@ -31,7 +31,7 @@ pub struct LazyFile<'a, R: Files> {
 }
 
 impl<'a, R: Files> Write for LazyFile<'a, R> {
-    // the bytes of the file, if it is open and they are known
+    // The bytes of the file, if it is open and they are known.
     ghost contents = { λ output. contents_of R.File.contents output.file };
 
     fn write(&mut self, buf: &[u8]) -> io::Result<usize>

@@ -1,4 +1,5 @@
--- The stack of expectations accepts exactly the events that can be continued to those of a tree.
+-- The stack of expectations accepts an event exactly if the events of some tree begin with the
+-- events so far and this one.
 use Rattle.std.proofs.Common.{◌≡◌, List, [], ◌∷◌, ◌++◌, Option, Some, None, map, refl, sym, ap, ◌∙◌, append_assoc, append-nil, option_and_then, rules}
 use Rattle.std.proofs.lemmas.List.{map-append}
 use Rattle.std.proofs.lemmas.Option.{option_and_then_some}
@@ -25,7 +26,7 @@ pub wanted_alike : (left right : List PlainEvent) → AreAlike left right
 wanted_alike left right p =
     rw (← steps_without_length left, p) (steps_without_length right (OneValue ∷ []))
 
--- ---- if the stack accepts an event, the events can be continued to those of a tree
+-- ---- if the stack accepts an event, it can come next
 
 -- what fills the expectation of a value is a tree's events
 filled : (es : List PlainEvent) → Fills (OneValue ∷ []) (map without_length es) → AreTreeEvents es
@@ -63,7 +64,7 @@ steps_append [] more s = refl
 steps_append (e ∷ es) more s =
     (λ i. option_and_then (λ t. steps_append es more t i) (step s e)) ∙ in_turn _ _ (step s e)
 
--- if the events can be continued to those of a tree, the stack accepts the next one
+-- if an event can come next, the stack accepts it
 pub continues : (held : List PlainEvent) (e : PlainEvent) → CanContinue held e → (t : Stack)
     × (expected_after (held ++ e ∷ []) ≡ Some t)
 continues held e (more, tree, p) =

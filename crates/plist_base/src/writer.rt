@@ -11,8 +11,8 @@ pub trait Sealed {}
 
 /// A writer takes the events of a property list, one by one.
 ///
-/// An event can come next if the events that the writer keeps (`held`) and this one can be
-/// continued to those of a property list. Until the writer fails, it returns `UnexpectedEventType`
+/// An event can come next if the events of some property list begin with those that the writer
+/// keeps (`held`), followed by this one. Until the writer fails, it returns `UnexpectedEventType`
 /// or `ExpectedEndOfEventStream` for any other event, and is unchanged. It returns `OutOfMemory`,
 /// `Io` and `PlistTooLarge` only for an event that can come next. It has failed then: each later
 /// call returns `WriterFailed` and changes nothing. No error of a writer has an offset. The length

@@ -13,7 +13,7 @@ use std::alloc::Global;
 ///
 /// # Errors
 ///
-/// `InvalidDateString`, without an offset, if the text spells no date; otherwise those of
+/// `InvalidDateString`, without an offset, if the text spells no date; otherwise the errors of
 /// [`Date::to_xml_format`].
 pub fn text_again(alloc: Global, text: &str) -> Result<String, Error>
     ensures same { IfOk result (λ again. IsInUtc text.now → string_bytes again ≡ text.now) }

@@ -14,7 +14,7 @@ struct Tally {
     raised: u64,
 }
 
-// Borrowed by a reader, so that it can be looked at afterwards.
+// A reader borrows the tally, so that it can be looked at afterwards.
 impl<'a> DecodeCounter for &'a mut Tally {
     ghost counts = { ⊥ };
 

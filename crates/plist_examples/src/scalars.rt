@@ -150,7 +150,7 @@ fn words_found(alloc: Global, check: &str, text: &str) -> Result<String, Wrong> 
     Ok(found?)
 }
 
-// Checks that this is found.
+// Checks that the row's check finds `wanted` in a text.
 fn run_check(alloc: Global, row: Row<'_>, text: &str, wanted: &str) -> Result<(), Wrong> {
     let found = words_found(alloc, row.check, text)?;
     expect_same(alloc, found.as_str(), wanted)

@@ -209,8 +209,9 @@ fn expect_sent<S: Sharing>(
     Ok(())
 }
 
-// Returns whether this call is made to fail. For a large file these are that of the last byte, and
-// those before and after the byte at which pending bytes are written.
+// Returns whether the test makes this call fail. For a large file it does so only for the call that
+// writes the last byte, and for the calls that write the bytes before and after the one at which
+// pending bytes are written.
 fn is_tried(call: u64, size: usize) -> bool {
     size < 200 || call.saturating_add(1) == size as u64 || call == 65_535 || call == 65_537
 }

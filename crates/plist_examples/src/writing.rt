@@ -160,7 +160,7 @@ fn expect_faulty<S: Sharing>(
     expect_sent::<S>(alloc, words, bytes, fault, ways)
 }
 
-// Returns what precedes, is in and follows the first parentheses.
+// Returns the text before, inside and after the first parentheses, or `None` if there are none.
 fn parts_of(field: &str) -> Option<(&str, &str, &str)> {
     let (before, rest) = field.split_once('(')?;
     let (within, behind) = rest.split_once(')')?;

@@ -1,6 +1,6 @@
 -- The items of a walk over an archive are the events of the tree, up to the first fault. The events
--- before a fault can be continued to those of a tree. If no object contains a key twice, neither
--- does a tree.
+-- before a fault are the first events of some tree. If no object contains a key twice, neither does
+-- a tree.
 use Rattle.std.proofs.Common.{◌≡◌, ℕ, zero, suc, Bool, true, false, List, [], ◌∷◌, ◌++◌, map, Option, Some, None, Result, Ok, Err, IfOk, nat_eq, refl, sym, ap, ◌∙◌, append_assoc, append-nil}
 use Rattle.std.specs.Prelude.{slice_get, option_map}
 use Rattle.std.specs.List.{list_any}
@@ -22,12 +22,12 @@ given_by-append [] b = refl
 given_by-append (Some i ∷ a) b = ap (λ l. i ∷ l) (given_by-append a b)
 given_by-append (None ∷ a) b = given_by-append a b
 
--- the events can be continued to those of some whole
+-- the events of some whole begin with these
 abbrev pub Begins : {W : Type 0} → (events : W → List PlainEvent) → List PlainEvent → Type 0
 Begins {W} events es = (rest : List PlainEvent) × (whole : W) × AreAlike (es ++ rest) (events whole)
 
--- the items are the events of the whole, up to lengths; or events that can be continued to those of
--- some whole, and then the fault
+-- the items are the events of the whole, up to lengths; or the first events of some whole, then the
+-- fault, and then any items
 abbrev pub AreItemsOf : {W : Type 0} → (events : W → List PlainEvent) → Result W ArchiveFault
     → List Given → Type 0
 AreItemsOf events (Ok whole) items =

@@ -125,7 +125,7 @@ fn an_integer_is_no_key(rt: HostRuntime) {
     remove(&rt, "of_integer_key");
     expect_fault(&rt, "convert @integer_key @of_integer_key", said);
     expect_missing(&rt, "of_integer_key");
-    // an older file is unchanged
+    // An older file is unchanged.
     put(&rt, "of_integer_key", &[b'x'; 2048]);
     expect_fault(&rt, "convert @integer_key @of_integer_key", said);
     expect_holds(&rt, "of_integer_key", &[b'x'; 2048]);
@@ -177,7 +177,7 @@ fn files_that_cannot_be_opened(rt: HostRuntime) {
     let said = b"Error: Io\n";
     expect_fault(&rt, "convert @no_folder/in @of_none", said);
     expect_missing(&rt, "of_none");
-    // a folder can be opened, but not read
+    // A folder can be opened, but not read.
     expect_fault(&rt, "convert . @of_none", b"Error: Io (offset 0)\n");
     expect_missing(&rt, "of_none");
     put(&rt, "whole", SETTINGS);

@@ -120,12 +120,12 @@ fn expect_hashes<T: Hash + Eq>(rt: &impl Abort, value: &T, same: &T, other: &T) 
 fn hashes_of_integers(rt: HostRuntime) {
     let (seven, again) = (Integer::from(7u8), Integer::from(7i64));
     expect_hashes(&rt, &seven, &again, &Integer::from(-7i64));
-    // the 64 bits are those of -1
+    // All 64 bits are set, as in -1.
     let greatest = Integer::from(u64::MAX);
     expect_hashes(&rt, &greatest, &greatest, &Integer::from(-1i64));
 }
 
-// The hash is that of the only field in the Rust crate.
+// In the Rust crate, the hash of a Uid is that of its only field.
 #[test]
 fn hashes_of_uids(rt: HostRuntime) {
     expect_hashes(&rt, &Uid::new(5), &Uid::new(5), &Uid::new(6));
