@@ -31,7 +31,7 @@ gathered_more all held new before after item event so gives is grown =
     (remaining_events after))
     ∙ ap (λ l. held ++ map without_length l) (sym given) ∙ so
 
--- no events remain
+-- if no events remain, all of them were collected
 pub gathered_all : (tree : Tree) (held left : List PlainEvent)
     → held ++ map without_length left ≡ map without_length (bracketing tree) → left ≡ []
     → held ≡ lengthless tree

@@ -194,7 +194,7 @@ back-ok tree t all is (whole, (events, same, alike), last) =
     ∙ append-nil (bracketing tree) in
     last ∙ ap last_wins (one_tree whole tree (sym alike ∙ ap (map without_length) e))
 
--- the value of a value's events
+-- the value that is built from a value's events is that value
 pub back : (tree : Tree) (all : List Item) (answer : Result Tree Fault) → last_wins tree ≡ tree
     → all ≡ map Ok (bracketing tree) → IsValueOf all answer → IsReadBack tree answer
 back tree all (Ok t) twice is h = back-ok tree t all is h ∙ twice

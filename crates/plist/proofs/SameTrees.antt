@@ -22,7 +22,7 @@ first-lookup : (k : List ℕ) (ps : List (List ℕ × Tree))
 first-lookup k [] = refl
 first-lookup k (p ∷ ps) = ap (cond (bytes_eq k p.0) (Some p.1)) (first-lookup k ps)
 
--- the value of a key in a dictionary
+-- the tree at a key is that of the key's value
 pub first-at : (k : List ℕ) (ps : List (List ℕ × Value)) → IsDistinct bytes_eq (keys_of ps)
     → first_value k (pair_trees ps) ≡ option_map tree_of (lookup (bytes_eq k) ps)
 first-at k ps d =

@@ -16,7 +16,7 @@ use Rattle.plist.specs.inner.BuilderSteps.{and_tree}
 use Rattle.plist.specs.ValueTrees.{tree_of, tree_pairs}
 use Rattle.plist_pairs.proofs.DistinctKeys.{EachOnce, last-values-once, once-earlier, values-insert}
 
--- the innermost collection is first
+-- in reverse order, the innermost collection is the first
 pub innermost : (outer : List UnclosedCollection) (inner : UnclosedCollection)
     → reverse (outer ++ inner ∷ []) ≡ inner ∷ reverse outer
 innermost outer inner = reverse-append outer _

@@ -109,14 +109,14 @@ line-slice bytes start end is fits =
     (arith, is, fits, length-drop start bytes) in
     ap (λ n. take n (drop start bytes)) short ∙ take_min 51 _
 
--- the first line
+-- the first line is written
 pub lines-first : (bytes : List ℕ) (line : ℕ) {old mid new : List ℕ}
     → new ≡ mid ++ written bytes line → mid ≡ old
     → old ≡ join_with_byte 10 (first_lines line bytes) → line ≡ 0
     → new ≡ join_with_byte 10 (first_lines (line + 1) bytes)
 lines-first bytes line grows same lines none = rw (grows, same, lines, none) refl
 
--- one more line after the first
+-- one more line is written after the first
 pub lines-next : (bytes : List ℕ) (line : ℕ) {old mid end new : List ℕ}
     → new ≡ mid ++ written bytes line → mid ≡ old ++ end → end ≡ 10 ∷ []
     → old ≡ join_with_byte 10 (first_lines line bytes) → 0 < line

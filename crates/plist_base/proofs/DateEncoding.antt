@@ -58,7 +58,7 @@ encoded n h big =
       is = rw (none, a, b) refl;
     }
 
--- the parts of a whole second
+-- n whole seconds have n times the parts of one second
 whole_parts : (n j : ℕ) → j ≤ 52 → parts_of (n * 2 ^ (52 - j)) (1023 + j) ≡ n * parts_in_second
 unfolding parts_of parts_in_second
 whole_parts n j near =

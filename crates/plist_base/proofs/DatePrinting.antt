@@ -58,7 +58,7 @@ in_years second date is later =
     let parts = int_div_euclid-parts second 86400 (omega arith) in
     (omega (arith, signed_arith, is), omega (arith, signed_arith, is, days_from_civil-max))
 
--- a second of a day of these years
+-- a second is in these years if its day is
 pub second_in_years : (second : ℤ) (date : Date) (time : ℕ)
     → (epoch_day date *ℤ pos 86400 +ℤ pos time) ≡ second → time < 86400 → pos 0 ≤ℤ date.year
     → HasFourDigitYear second
@@ -209,7 +209,7 @@ printed date year second is small in_day =
       utc = ap (λ t. slice_index t 19) shown;
     }
 
--- the second of a text, given its parts
+-- a text spells the second of its day, time and zone
 pub spelled : (text : List ℕ) (day zone : ℤ) (time : ℕ) → has_separators text ≡ true
     → day_in text ≡ Some day → time_in text ≡ Some time → zone_in text ≡ Some zone
     → unix_second_of_text text ≡ Some ((day *ℤ pos 86400 +ℤ pos time) -ℤ zone)

@@ -37,7 +37,7 @@ neg_times (suc w) d = refl
 bounds_pos : (w l d v : ℕ) → d * w + l ≡ v → l < d → Bounds (pos w) (pos v) d
 bounds_pos w l d v e h = (le_pos _ v (omega arith), lt_pos v _ (omega arith))
 
--- a negative value with parts left over
+-- the bounds of a negative value with parts left over
 bounds_up : (w l d v : ℕ) → d * w + l ≡ v → 0 < l → l < d
     → Bounds (neg_ℤ (pos (suc w))) (neg_ℤ (pos v)) d
 bounds_up w l d v e some h = (
@@ -45,7 +45,7 @@ bounds_up w l d v e some h = (
   rw (neg_next w, neg_times w d) (lt_neg v _ (omega arith)),
 )
 
--- a negative value without parts left over
+-- the bounds of a negative value without parts left over
 bounds_even : (w d : ℕ) → 0 < d → Bounds (neg_ℤ (pos w)) (neg_ℤ (pos (w * d))) d
 bounds_even zero d h =
     let z : 0 * d ≡ 0 = omega arith in rw z (le_pos 0 0 (omega arith), lt_zero d h)

@@ -11,7 +11,7 @@ unfolding parts_in_second
 split e h = let s : 1075 ≡ (1075 - e) + e =
     omega arith in ap (λ k. 2 ^ k) s ∙ pow-add 2 _ e
 
--- a quotient and its remainder, if both numbers have a common factor
+-- a common factor of both numbers doesn't change the quotient, and multiplies the remainder
 factored : (m q c : ℕ) → 0 < q → 0 < c → (m * c / (q * c) ≡ m / q) × (m * c % (q * c) ≡ m % q * c)
 factored m q c hq hc =
     let d = div-add-mod m q in
@@ -164,7 +164,7 @@ pub second_is : (bits m e w : ℕ) → m ≡ real_mantissa bits → e ≡ real_s
     → if_second_of_date (rounded_down (is_negative bits) w (parts_left m e)) ≡ second_of_bits bits
 second_is bits m e w is_m is_e is_w lt = rw (is_w, is_m, is_e) (second_near _ lt)
 
--- the whole seconds, the parts that are left, and whether there are any
+-- rules for the whole seconds, for the parts that are left, and for whether there are any
 pub ruleset whole_parts = (whole_none, whole_shifted, whole_small)
 
 pub ruleset left_parts = (left_all, left_shifted, left_masked)

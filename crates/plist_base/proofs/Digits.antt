@@ -27,7 +27,7 @@ digits n fits = steps 19 n fits
 pub at_most_twenty : (n : ℕ) → n < 2 ^ 64 → length (decimal n) ≤ 20
 at_most_twenty n fits = length-decimal-le 20 n (omega arith) (omega arith) fits
 
--- digits that are written after the first bytes of a list
+-- digits that are written after the first bytes of a list are appended to them
 pub written_after : (old new digits rest : List ℕ) (start used end : ℕ)
     → start + length digits ≡ end → end ≡ used + length digits → take start new ≡ take start old
     → drop start new ≡ digits ++ rest → take end new ≡ take used old ++ digits

@@ -75,7 +75,7 @@ pub signed_back : (x z : ℤ) (text : List ℕ) → x ≡ to_z w64 (of_z w64 z)
     → FitsSigned w64 (signed_digits_value 10 text) → z ≡ signed_digits_value 10 text → x ≡ z
 signed_back x z text e f h = let g : FitsSigned w64 z = rw h f in e ∙ to_z-of_z _ z g
 
--- prefixes
+-- texts that begin with `0x`, and texts that don't
 
 pub integer_prefixed : (text rest : List ℕ) (n : ℕ) → text ≡ 48 ∷ 120 ∷ drop n text
     → rest ≡ drop n text → integer_of_text text ≡ unsigned_of_text 16 (without_prefixes rest)

@@ -13,12 +13,12 @@ MatchFault-all Io a b c = a
 MatchFault-all OutOfMemory a b c = b
 MatchFault-all kind a b c = c
 
--- the fact for a known kind
+-- a fact about a known kind is one about any kind that is equal to it
 pub MatchFault-at : (kind known : FaultKind) (A B C : Type 0) → kind ≡ known
     → MatchFault known A B C → MatchFault kind A B C
 MatchFault-at kind known A B C is h = subst (λ k. MatchFault k A B C) (sym is) h
 
--- an I/O error needs only the fact for I/O errors
+-- for an I/O error, the fact for I/O errors is enough
 pub MatchFault-from_io : (kind : FaultKind) (A B C : Type 0) → IsIo kind → A → MatchFault kind A B C
 MatchFault-from_io kind A B C h a =
     MatchFault-weaker kind (λ _. a) (λ none. absurd none) (λ none. absurd none) h

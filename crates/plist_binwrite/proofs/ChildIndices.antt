@@ -1,4 +1,4 @@
--- The children of a collection: walks along them, and those of a tree.
+-- The children of a collection: how a walk finds them, and which they are in a tree.
 use Rattle.std.proofs.Common.{◌≡◌, inl, inr, ℕ, zero, suc, ◌+◌, ◌<◌, ◌≤◌, Bool, true, false, if◌then◌else◌, List, [], ◌∷◌, length, drop, refl, ap, sym, ◌∙◌, arith}
 use Rattle.std.specs.List.{AllByRecursion}
 use Rattle.std.proofs.lemmas.Bool.Decides.{leb_tells}
@@ -18,7 +18,7 @@ use Rattle.plist_binwrite.proofs.Occurring.{occurs_items, occurs_pairs, occurs_i
 use Rattle.plist_binwrite.proofs.Opened.{skip_ends, skip_forward}
 use Rattle.plist_binwrite.proofs.Skipping.{begins, first_event, stands_single, starts_array, starts_dictionary}
 
--- an index past all events is that of no item
+-- an index past all events counts as that of an end
 past_end : (es : List PlainEvent) (q : ℕ) → length es ≤ q → is_end (event_at es q) ≡ true
 past_end es q h = ap is_end (get_or_past es q EndCollection h)
 
@@ -33,7 +33,7 @@ last_after Item q = omega arith
 last_after Key q = omega arith
 last_after Value q = omega arith
 
--- two lists that begin alike, or are both empty
+-- the two lists are equal if both are empty, or if what follows their first item is equal
 unless : (b c : Bool) (x : ℕ) (u v : List ℕ) → (b ≡ false → c ≡ false → u ≡ v)
     → (if b then [] else (if c then [] else x ∷ u)) ≡ (if b then [] else (if c then [] else x ∷ v))
 unless true c x u v h = refl
@@ -49,7 +49,7 @@ module _ (child : Child) (es : List PlainEvent) where
   none_past : (most q : ℕ) → length es ≤ q → children_within (suc most) child es q ≡ []
   none_past most q h = rw (past_end es q h) refl
 
-  -- a greater bound changes nothing
+  -- every bound that is large enough yields the same children
   enough : (m n q : ℕ) → length es ≤ m + q → length es ≤ n + q
       → children_within m child es q ≡ children_within n child es q
   enough zero zero q a b = refl
@@ -59,7 +59,7 @@ module _ (child : Child) (es : List PlainEvent) where
       unless _ _ _ _ _ (λ e f. enough m n (skip_after es (last_at child q))
       (omega (arith, a, onward q f)) (omega (arith, b, onward q f)))
 
-  -- no child is left
+  -- at an end, no child is left
   pub none_left : (q : ℕ) → is_end (event_at es q) ≡ true → children_from child es q ≡ []
   none_left q h =
       enough (length es) (suc (length es)) q (omega arith) (omega arith) ∙ rw h refl
@@ -74,7 +74,7 @@ module _ (child : Child) (es : List PlainEvent) where
       by true c l h = refl
       by false c l h = rw h refl
 
-  -- a child, and those after it
+  -- otherwise the next child precedes those that are left after it
   pub one_left : (q : ℕ) → is_end (event_at es q) ≡ false
       → is_end (event_at es (last_at child q)) ≡ false
       → children_from child es q
@@ -82,7 +82,7 @@ module _ (child : Child) (es : List PlainEvent) where
   one_left q e f =
       enough (length es) (suc (length es)) q (omega arith) (omega arith) ∙ rw (e, f) refl
 
--- the children are items
+-- a child isn't an end
 child_is : (child : Child) (es : List PlainEvent) (q : ℕ) → is_end (event_at es q) ≡ false
     → is_end (event_at es (last_at child q)) ≡ false
     → is_end (event_at es (child_at child q)) ≡ false

@@ -65,7 +65,7 @@ number_read kinds numbers p same =
     ap (λ k. entry_of k (get_or numbers p 0))
     (ap kind_in there ∙ same_kind (get_or kinds p kind.End) (get_or numbers p 0)) ∙ sym there
 
--- reading an entry whose kind is known, and one whose number is read
+-- an entry is equal to the one that is made of the kind and the number that were read
 pub of_kind : {A : Type 0} (f : EventEntry → A) (e : EventEntry) {k read : EntryKind} → read ≡ k
     → read ≡ kind_in e
     → f (entry_of k (number_in e)) ≡ f e
@@ -86,7 +86,7 @@ pub unnamed : (scalars : List PlainEvent) (e : EventEntry) → scalar_named e �
 unnamed scalars (entry.Scalar index) is = cc
 unnamed scalars e is = refl
 
--- one more entry
+-- appending a kind and a number appends an entry
 pub entries_more : (kinds : List EntryKind) (numbers : List ℕ) (e : EventEntry)
     → length kinds ≡ length numbers
     → entries_from (kinds ++ kind_in e ∷ []) (numbers ++ number_in e ∷ [])
@@ -97,7 +97,7 @@ entries_more (k ∷ kinds) [] e same = absurd (omega arith)
 entries_more (k ∷ kinds) (n ∷ numbers) e same =
     ap (λ l. entry_of k n ∷ l) (entries_more kinds _ e (omega (arith, same)))
 
--- another entry at an index
+-- setting a kind and a number sets an entry
 pub entries_set : (kinds : List EntryKind) (numbers : List ℕ) (p : ℕ) (e : EventEntry)
     → entries_from (set kinds p (kind_in e)) (set numbers p (number_in e))
     ≡ set (entries_from kinds numbers) p e
@@ -109,7 +109,7 @@ entries_set (k ∷ kinds) (n ∷ numbers) zero e =
 entries_set (k ∷ kinds) (n ∷ numbers) (suc p) e =
     ap (λ l. entry_of k n ∷ l) (entries_set kinds numbers p e)
 
--- the first entries
+-- the first kinds and numbers are those of the first entries
 pub entries_first : (count : ℕ) (kinds : List EntryKind) (numbers : List ℕ)
     → entries_from (take count kinds) (take count numbers) ≡ take count (entries_from kinds numbers)
 entries_first zero kinds numbers = refl

@@ -40,7 +40,7 @@ entry_before es e p lt = get_or-append es _ _ p lt
 entry_last : (es : List EventEntry) (e : EventEntry) → entry_at (es ++ e ∷ []) (length es) ≡ e
 entry_last es e = get_or-append_seam es e [] _
 
--- a scalar that an entry refers to stays referred to
+-- if an entry refers to a scalar, one still does after another entry is appended
 named_more : (i : ℕ) (es : List EventEntry) (e : EventEntry) → list_any (names i) es ≡ true
     → list_any (names i) (es ++ e ∷ []) ≡ true
 named_more i es e h =
@@ -114,7 +114,7 @@ module _ {scalars : List PlainEvent} {es : List EventEntry} {unclosed : List ℕ
   shown_at : (p : ℕ) → p < length es → event_at events p ≡ event_of_entry scalars (entry_at es p)
   shown_at p lt = get_or-map _ es p _ _ lt
 
-  -- entries with one more event
+  -- entries that meet these conditions represent the events and one more
   entries_by : (now : List EventEntry) (after : List ℕ) (e : PlainEvent)
       → events_of_entries scalars now ≡ events ++ e ∷ []
       → ((p : ℕ) → p < length now → is_sound scalars (entry_at now p) ≡ true)
@@ -148,7 +148,7 @@ module _ {scalars : List PlainEvent} {es : List EventEntry} {unclosed : List ℕ
         ];
       }
 
-  -- an entry that closes no other
+  -- an entry is appended that closes no start
   entries_more : (e : EventEntry) (after : List ℕ) → is_sound scalars e ≡ true
       → index_after_entry (length es) e ≡ length es + 1
       → reverse after ≡ unclosed_after_event (event_of_entry scalars e) (length es) (unclosed_after events)
@@ -180,14 +180,14 @@ module _ {scalars : List PlainEvent} {es : List EventEntry} {unclosed : List ℕ
       by (entry.Dictionary k) s b = entries_more (entry.Dictionary k) _ refl b opens (λ p k. refl)
       by e s b = cc
 
-  -- an end while nothing is open
+  -- an end is appended while nothing is open
   entries_stray : unclosed ≡ [] → AreEntriesOf scalars (es ++ entry.End ∷ []) []
   entries_stray none =
       let nothing : unclosed_after events ≡ [] = sym t.starts ∙ ap reverse none in
       entries_more entry.End [] refl refl (sym (ap without_innermost nothing))
       (λ p k. ap (λ b. skip_after_event EndCollection (length es) b p k) nothing)
 
-  -- an end, which closes the innermost start
+  -- an end is appended, which closes the innermost start
   module _ (start : ℕ) (outer : List ℕ) (is : unclosed ≡ outer ++ start ∷ []) where
     innermost : unclosed_after events ≡ start ∷ reverse outer
     innermost = cc (reverse-append outer (start ∷ []))

@@ -28,7 +28,8 @@ module _ {es keys : List PlainEvent} {class : ℕ → ℕ} {top index : ℕ}
     other : is_leaf (event_at es p) ≡ false
     late : (length keys ≤ class p) × (class p < top)
 
-  -- an event is a scalar or not
+  -- an event either is a scalar, and then its class is that of the scalar, or has a class of its
+  -- own
   known : (e : PlainEvent) (p : ℕ) → p < length es → event_at es p ≡ e → IsShared p ⊎ IsAlone p
   known (ScalarEvent x) p l is =
       let key = have.scalars p (omega arith) x is in
@@ -93,7 +94,7 @@ module _ (held : EventTable) where
     key : slice_get scalars (class p) ≡ Some (event_at (plain_events held) p)
     leaf : is_leaf (event_at (plain_events held) p) ≡ true
 
-  -- any other event has one of its own
+  -- any other event has a class of its own
   record IsOther (p : ℕ) : Type 0 where
     own : class p ≡ length scalars + p
     other : is_leaf (event_at (plain_events held) p) ≡ false
@@ -138,7 +139,7 @@ module _ (held : EventTable) where
   pub equal_scalars : AreIdentities (plain_events held) class top
   equal_scalars = owners (omega arith) have held.kept.apart (omega arith)
 
--- classes that are equal have the same property
+-- if these classes have the property, so do classes that are equal to them
 pub identities_as : {es : List PlainEvent} {class other : ℕ → ℕ} {count : ℕ}
     → AreIdentities es class count → ((p : ℕ) → p < length es → other p ≡ class p)
     → AreIdentities es other count

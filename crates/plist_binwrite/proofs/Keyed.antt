@@ -9,7 +9,7 @@ use Rattle.std.proofs.lemmas.Option.{slice_get-map, slice_get-get_or}
 use Rattle.plist_binwrite.specs.inner.Scalars.{AreDistinct}
 
 module _ {T P : Type 0} (same : T → T → Bool) (view : T → P) where
-  -- the key at an index
+  -- if an item at an index is the same as x, the key at that index is that of x
   pub key_at : (cs : List T) (i : ℕ) (x y : T) → (same x y ≡ true → view x ≡ view y)
       → slice_get cs i ≡ Some y → same x y ≡ true → slice_get (map view cs) i ≡ Some
       (view x)
@@ -68,7 +68,7 @@ module _ {T P : Type 0} (same : T → T → Bool) (view : T → P) where
           | inr r ↦ inr r
         ]
 
-  -- the key that a look-up finds
+  -- if a test passes only items with the key p, it finds the index of p
   pub key_found : (test : T → Bool) (p : P) → ((y : T) → test y ≡ true → p ≡ view y) → (cs : List T)
       (i : ℕ) → position test cs ≡ Some i → slice_get (map view cs) i ≡ Some p
   key_found test p same_key [] i h = cc

@@ -131,7 +131,7 @@ module _ (es : List PlainEvent) (q : ℕ) (le : q ≤ length es) where
   before_apart =
       apart (take q es) 0 q (q + 1) [] (λ k lt h. omega (arith, lt, h, length-take-le q es le)) tt
 
-  -- only the events from q on say where the tree ends
+  -- where the tree ends depends only on the events from q on
   from_there : skip_after es q ≡ skip_from (drop q es) q before q (q + 1)
   from_there =
       let z : 0 + length (take q es) ≡ q = omega (arith, length-take-le q es le) in

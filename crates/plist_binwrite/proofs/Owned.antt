@@ -128,7 +128,7 @@ text_member [] p x = refl
 text_member ((q, Leaf y) ∷ ones) p x = ap (λ b. scalar_eq x y || b) (text_member ones p x)
 text_member ((q, t) ∷ ones) p x = text_member ones p x
 
--- a collection has no other position
+-- no position after that of a collection has the same owner
 no_other : (ones : List One) (p : ℕ) → AllByRecursion (λ later. p < later.0) ones
     → list_any (λ one. owner_eq (alone p) (own_tree one.1 one.0)) ones ≡ false
 no_other [] p a = refl

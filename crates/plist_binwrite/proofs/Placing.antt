@@ -31,7 +31,7 @@ use Rattle.plist_binwrite.proofs.Unfold.{length-references, length-pairs}
 pub length-magic : (xs : List ℕ) → length (magic ++ xs) ≡ 8 + length xs
 length-magic xs = length-append magic xs
 
--- object k, among bytes that lie at an offset
+-- object k lies among these bytes, of which the first is at the offset `at`
 pub record Lies (w : ℕ) (objects : ℕ → Object) (places bytes : List ℕ) (at k : ℕ) : Type 0 where
   pub before : List ℕ
   pub after : List ℕ
@@ -116,7 +116,7 @@ module _ (w : ℕ) (objects : ℕ → Object) where
         )
       ]
 
--- a test of any number in a list, or of the one that is appended
+-- a number is in the longer list if it is in the list, or is the one that is appended
 any_snoc : (q : ℕ) (xs : List ℕ) (y : ℕ)
     → list_any (eqb q) (xs ++ y ∷ []) ≡ list_any (eqb q) xs || eqb q y
 any_snoc q xs y = or_push (list_any _) _ refl (λ x l. refl) xs y
@@ -132,7 +132,7 @@ order_none count marks long zeros = record {
   others = λ k any. zeros k;
 }
 
--- one more object
+-- one more object is appended to the order
 module _ {count : ℕ} {order marks : List ℕ} (k : ℕ) (o : IsOrder count order marks) (h : k < count)
     (z : get_or marks k 0 ≡ 0) where
   new : list_any (eqb k) order ≡ false
@@ -183,7 +183,7 @@ in_order k o n = true_from_ne_false _ (λ e. n (o.others k e))
 
 -- ---- the bytes of objects
 
--- the number of bytes of the objects, by number
+-- the bytes of the objects are as many as those of their forms together
 length-bodies : (w : ℕ) (objects : ℕ → Object) (order : List ℕ)
     → length (object_table w objects order) ≡ total (λ k. length (form w (objects k))) order
 length-bodies w objects [] = refl
@@ -227,7 +227,7 @@ not_before xs i d h =
 
 -- ---- one more offset
 
--- the offset so far, and the objects before it
+-- the offset after the first i objects, and where these lie
 pub record Along (w : ℕ) (objects : ℕ → Object) (order places : List ℕ) (i : ℕ)
     (at : Option ℕ) : Type 0 where
   pub given : IsSizeOrNone at (8 + length (object_table w objects (take i order)))

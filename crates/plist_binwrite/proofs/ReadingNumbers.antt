@@ -24,7 +24,7 @@ take_front xs rest n e = rw (← e) (take-append_seam xs _)
 pub drop_front : (xs rest : List ℕ) (n : ℕ) → length xs ≡ n → drop n (xs ++ rest) ≡ rest
 drop_front xs rest n e = rw (← e) (drop-append_seam xs _)
 
--- a function of a front and of the bytes after it
+-- a function of the first n bytes and of those after them, if the first n are `xs`
 parted : {A : Type 0} (f : List ℕ → List ℕ → A) (none : A) (xs rest : List ℕ) (n : ℕ)
     → length xs ≡ n → cond (nat_le n (length (xs ++ rest)))
     (f (take n (xs ++ rest)) (drop n (xs ++ rest))) none ≡ f xs rest

@@ -49,7 +49,7 @@ pub keeps_index : {X : Type 0} (k : List ℕ) (v : X) (ps : List (List ℕ × X)
 keeps_index k v ps i q =
     sym (insert_entry-first _ k v ps i (Found-position _ ps i (sym q)).first)
 
--- the value of the pair at an index
+-- the value of the pair at an index is the value at that index
 pub second_at : {K X : Type 0} (ps : List (K × X)) (i : ℕ) (k : K) (v : X)
     → slice_get ps i ≡ Some (k, v) → Some v ≡ slice_get (values_of ps) i
 second_at ps i k v e = sym (get-map (λ p. p.1) ps i (k, v) e)

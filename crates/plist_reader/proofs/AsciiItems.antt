@@ -126,7 +126,7 @@ ascii-placed place (Some (Err error)) h = placed _ _ h
     placed InvalidUtf16String offset p = some-place offset place p.1
     placed kind offset p = absurd p.0
 
--- a count of failures that exists
+-- if the failures are counted, both counts exist
 counted-failures : (a b : ℕ) (item : Given) → incoming.ItemCountsIoIfCounted item (Some a) (Some b)
     → ItemCountsIo item a b
 counted-failures a b None h = same-count a b h

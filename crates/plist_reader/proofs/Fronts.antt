@@ -13,19 +13,19 @@ use Rattle.plist_binread.specs.FaultOffsets.{HasOffset}
 use Rattle.plist_reader.specs.declared.format.Format.TheVariants.{Binary}
 use Rattle.plist_reader.specs.Formats.{input_front, is_white, byte_order_mark_length, past_white, xml_place, text_format, format_of}
 
--- two facts of known bytes together
+-- two facts that are true of known bytes can be used together
 pub both_known : {A : Type 0} (o : Option A) {P Q R : A → Type 0} → IfSome o P → IfSome o Q
     → ((x : A) → P x → Q x → R x) → IfSome o R
 both_known None p q f = tt
 both_known (Some x) p q f = f x p q
 
--- an offset within bounds exists
+-- an offset that lies within bounds isn't `None`
 pub within-placed : (start end : ℕ) (offset : Option ℕ) → IsOffsetWithin start end offset
     → HasOffset offset
 within-placed start end None h = h
 within-placed start end (Some place) h = tt
 
--- bytes don't begin with anything longer
+-- bytes don't begin with a longer list
 pub short-starts : (bytes needle : List ℕ) → length bytes < length needle
     → starts_with nat_eq bytes needle ≡ false
 short-starts bytes [] h = absurd (omega arith)

@@ -1,4 +1,4 @@
--- What the chosen reader yields: what both formats share, and a source that isn't read.
+-- What the chosen reader yields: what both formats share, and what is yielded if the choice fails.
 use Rattle.std.proofs.Common.{◌≡◌, ℕ, ◌<◌, Bool, List, [], ◌∷◌, length, Option, None, Some, Err, IfSome, refl, ap, sym, ◌∙◌, subst, arith}
 use Rattle.std.specs.Option.{is_some, option_map}
 use Rattle.std.specs.Prelude.{Result, ⊤}
@@ -103,7 +103,7 @@ io-place error io place = placed _ _ io place
     placed kind offset io place = absurd io
 
 module _ {R : Type 0} {g : Ghosts R} (known : R → Option (List ℕ)) (failed : R → ℕ) where
-  -- a state with the same items and source as before the choice continues as that one
+  -- what is yielded in a state with the same items and source is yielded before the choice, too
   pub chosen-gives : (source : R) (limits : Option Limits) (dialect : Dialect) (old new : State R g) (item : Given)
       → state_items known old ≡ option_map (input_within dialect limits) (known source)
       → is_limited_in old ≡ is_some limits
@@ -121,7 +121,7 @@ module _ {R : Type 0} {g : Ghosts R} (known : R → Option (List ℕ)) (failed :
     inside = inside;
   }
 
-  -- another state of the source
+  -- a source with the same bytes and the same count of failures yields the same
   pub other-source : (source other : R) (limits : Option Limits) (dialect : Dialect) (new : State R g) (item : Given)
       → known other ≡ known source → failed other ≡ failed source
       → StateGives known failed (state.Unread other limits dialect) item new
@@ -135,7 +135,7 @@ module _ {R : Type 0} {g : Ghosts R} (known : R → Option (List ℕ)) (failed :
       held None h = h
       held (Some kept) h = subst (λ n. ItemCountsIo item n (failed kept)) f h
 
-  -- the source isn't read
+  -- if the choice fails, its error is yielded
   pub refused-gives : (source other : R) (limits : Option Limits) (dialect : Dialect) (error : Error)
       → IfSome (known source) (λ bytes. GivesItem (input_within dialect limits bytes) (Some (Err error)) [])
       → IsRefusedKind (kind_of (error_kind_of error))

@@ -19,7 +19,7 @@ same_front p n xs h =
     (sym all) ∙ drop-take p _ xs in
     sym (ap (take n) cut ∙ take-take n (2 ^ 64 - 1 - p) _ fits)
 
--- the first n bytes that a read returned, and the bytes after them
+-- the first n bytes of a read, and the bytes after them, are those from the offset on
 read_front : (p n count : ℕ) (xs part : List ℕ) → n ≤ count → p + n ≤ 2 ^ 64 - 1
     → take count part ≡ take count (drop p xs)
     → take n part ++ from_place (p + n) xs ≡ from_place p xs
@@ -67,7 +67,7 @@ full_none (Some xs) p hand h e = ap (λ z. z ++ from_place p xs) e ∙ nothing_p
 
 -- ---- what is buffered
 
--- the first buffered byte
+-- the buffered bytes are the one at `from` and those after it
 pub first_held : (from end : ℕ) (window : List ℕ) → from < end → end ≤ length window
     → drop from (take end window) ≡ get_or window from 0 ∷ drop (from + 1) (take end window)
 first_held from end window l within =
