@@ -202,7 +202,7 @@ quoted_stops quote old p new q None a = (a.0, tt)
 quoted_stops quote old p new q (Some kind) a =
     (a.0, λ xs e. let k = a.1 xs e in (ap quoted_outcome k.0, k.1, k.2))
 
--- the event or the fault of a bare string
+-- the token of a bare string is the event or the fault of its bytes
 pub bare_becomes : (stops : ℕ → Bool) (c : ℕ) (old : Option (List ℕ)) (p : ℕ)
     (new : Option (List ℕ)) (q : ℕ) (none text : List ℕ) (r : Result Event TokenFault) → p ≤ q
     → none ≡ [] → IfKnown old (λ xs. (text ≡ (none ++ c ∷ []) ++ take (run stops xs) xs)
@@ -224,7 +224,7 @@ bare_becomes stops c old p new q none text (Err f) le e k m =
           (ap bare_event (sym same) ∙ m.1, h.1, h.2),
     )
 
--- the event or the fault of a quoted string
+-- the token of a quoted string is the event or the fault of its bytes
 pub quoted_becomes : (quote : ℕ) (old : Option (List ℕ)) (p : ℕ) (new : Option (List ℕ)) (q : ℕ)
     (text : List ℕ) (r : Result Event TokenFault) → GivesFront (quoted quote) old p new q (Some
     (Ok text))
@@ -276,7 +276,7 @@ texts_no_bracket (Ok (Some e)) behind h = text_no_bracket (event_of e) behind h
 texts_no_bracket (Ok None) behind h = tt
 texts_no_bracket (Err f) behind h = tt
 
--- the meaning of a string that was read
+-- rules for the meaning of a string that was read
 pub ruleset texts = (text_gives, text_fails)
 
 pub ruleset bare_texts = (text_gives, text_fails, number_is_text)

@@ -247,7 +247,7 @@ pub some_hand : (hand bytes : List ℕ) → bytes ≡ hand → (length bytes == 
 some_hand hand [] same some = cc
 some_hand hand (c ∷ cs) same some = rw (sym same) (omega arith)
 
--- all bytes at hand were taken
+-- if all bytes at hand were taken, the offset rose by their number
 pub all_taken : (hand bytes : List ℕ) (n p q : ℕ) → bytes ≡ hand → q ≡ p + n
     → nat_eq n (length bytes) ≡ true → q ≡ p + length hand
 all_taken hand bytes n p q same place all =
@@ -350,14 +350,14 @@ part_taken stop hand bytes rest n new p q text longer xs same is le e taken plac
     let plain : run stop part ≡ length part = rw is (plain_part stop bytes ∙ sym (rw is at len)) in
     (part, drop n xs, whole, plain, grown, taken, place ∙ ap (λ z. p + z) (sym len))
 
--- the bytes that remain before the first one is taken
+-- before the first byte is taken, all bytes remain, but no more than 2^64 - 1
 pub new_unread : {R : Type 0} (known : R → Option (List ℕ)) (r inner : R) (e : Bool) (p : Option ℕ)
     (t : ℕ) → r ≡ inner → p ≡ None → t ≡ 0 → e ≡ false
     → unread_of (known r) e p t ≡ option_map (λ xs. take (2 ^ 64 - 1) xs) (known inner)
 unfolding unread_of
 new_unread known r inner e p t i n z g = rw (i, n, z, g) refl
 
--- the bytes that remain if the input hasn't ended
+-- unless the input has ended, the bytes that remain are those that may be read
 pub going_unread : (k : Option (List ℕ)) (e : Bool) (p : Option ℕ) (t : ℕ) → (e ≡ true → ⊥)
     → IfSome k (λ xs. unread_of k e p t ≡ Some (readable_with p t xs))
 unfolding unread_of

@@ -82,7 +82,7 @@ fault_there fault.NotUtf16 kind place e other same is =
 
 -- ---- strings and data
 
--- strings and data of which only the length was read
+-- a string or data of which only the length was read is decoded as such
 pub long_decoded : (kind : ContentKind) (low count first : ℕ) (rest behind more : List ℕ)
     → length_in low (rest ++ more) ≡ Some (count, behind ++ more)
     → count * unit_size kind ≤ length (behind ++ more) → length behind ≤ length rest
@@ -100,7 +100,7 @@ long_decoded kind low count first rest behind more is fits short lies long =
       long,
     )
 
--- data of at most eight bytes
+-- data of at most eight bytes is decoded as a small scalar
 pub small_data : (low count content first : ℕ) (rest behind bytes more : List ℕ)
     → length_in low (rest ++ more) ≡ Some (count, behind ++ more) → count ≤ length behind → count ≤ 8
     → bytes ≡ take count behind → take (length bytes) (content_bytes content) ≡ bytes
@@ -116,7 +116,7 @@ small_data low count content first rest behind bytes more is seen small cut pack
       small,
     )
 
--- strings and data whose content is among the bytes that were read
+-- if the content is among the bytes that were read, the object means what the content means
 pub few_bytes : (kind : ContentKind) (low count size first : ℕ) (rest behind bytes more : List ℕ)
     (answer : Decoded)
     → length_in low (rest ++ more) ≡ Some (count, behind ++ more) → size ≡ count * unit_size kind
@@ -161,7 +161,7 @@ seen_answers known bounds place seen answer buffered is means = IfSome_then know
     subst (λ all. IsDecodedAs all (object_in bounds.reference_width all) answer) (sym cut.1)
     (means cut.0 to_trailer))
 
--- a decoded object is one that was decoded or couldn't be read
+-- a result that was decoded from the bytes is one of a decoded or unread object
 read_as : (all : List ℕ) (object : Object) (place : ℕ) (d : Decoded) (slot : FaultSlot)
     → IsDecodedAs all object d → IsDecodedOrUnread all object place d slot
 read_as all object place (decoded.Small kind content) slot is = is
@@ -214,7 +214,7 @@ seen_fits bounds place seen answer h means =
     let a = seen_as bounds place seen answer h means in
     decoded_fits bounds.trailer place a.0 _ answer a.1 a.2
 
--- an object that was decoded isn't unread
+-- a result that was decoded from bytes isn't that of an unread object
 read_all : (all : List ℕ) (object : Object) (d : Decoded) → IsDecodedAs all object d
     → is_unread d ≡ false
 read_all all object (decoded.Small kind content) is = refl
@@ -314,7 +314,7 @@ collection-named (Dictionary pairs) start count h = ap Some (sym h.0)
 collection-named (Scalar scalar) start count h = absurd h
 collection-named (Faulty kind) start count h = absurd h
 
--- the event of a small scalar that is unpacked
+-- the event of a small scalar that is unpacked is the event of its object
 pub small-named : (all : List ℕ) (object : Object) (kind : PackedKind) (content : ℕ)
     (current : PlainEvent) → scalar_event (unpacked kind content) ≡ Some current
     → IsDecodedAs all object (decoded.Small kind content) → event_of_object object ≡ Some current
@@ -343,7 +343,7 @@ long_bytes content_kind.Data count bytes is h = omega (arith, is, h)
 long_bytes content_kind.Text count bytes is h = omega (arith, is, h)
 long_bytes content_kind.WideText count bytes is h = tt
 
--- the event of a content that is borrowed
+-- the event of a content that is borrowed is that of the content in the file
 pub lent_sets : {A : Type 0} (known : Option (List ℕ)) (kind : ContentKind) (start size place : ℕ)
     (buffered : List ℕ) (answer : Result A Error) (current : PlainEvent)
     → IfSome known (λ bytes. LiesAt bytes start buffered) → size ≤ length buffered
@@ -356,7 +356,7 @@ lent_sets known kind start size place buffered answer current is h sets =
     ap (take size) is ∙ take-take size (length buffered) (drop start bytes) h in
     subst (λ xs. SetsEvent (content_means kind xs) place answer current) e sets)
 
--- the event of a content that is read
+-- so is the event of a content that was read
 pub read_sets : (known : Option (List ℕ)) (kind : ContentKind) (start size : ℕ)
     (event current : PlainEvent) → current ≡ event
     → IfSome known (λ bytes. start + size ≤ length bytes

@@ -9,7 +9,7 @@ use Rattle.plist_binread.proofs.Extents.{leb_short, length_beyond}
 
 -- ---- the length
 
--- all bytes from an offset on
+-- so many bytes from an offset on are all bytes from there
 pub tail_whole : (w : ℕ) (xs : List ℕ) → take (length xs - w) (drop w xs) ≡ drop w xs
 tail_whole w xs = take_all (length xs - w) (drop w xs) (omega (arith, length-drop w xs))
 
@@ -61,7 +61,7 @@ module _ (m size left count : ℕ) (rest behind more : List ℕ)
       let short : length (behind ++ more) < count * size = omega arith in
       rw (is, leb_short (count * size) (length (behind ++ more)) short) refl
 
--- the number of bytes between the length and the trailer
+-- so many bytes are left between the length and the trailer
 pub length_left : (to_trailer : ℕ) (rest behind more : List ℕ) → length (rest ++ more) ≡ to_trailer
     → length behind ≤ length rest
     → length (behind ++ more) ≡ to_trailer - (length rest - length behind)

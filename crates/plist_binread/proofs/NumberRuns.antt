@@ -43,7 +43,7 @@ numbers_of-reads xs p w n pos fits =
     ∙ ap (λ c. map (λ i. number_at (take (n * w) (drop p xs)) (i * w) w) (range_with_len 0 c))
     (sym count)
 
--- one more number
+-- one more number was read
 pub numbers_more : (known : Option (List ℕ)) (numbers now : List ℕ) (p w x : ℕ)
     → now ≡ numbers ++ x ∷ []
     → IfSome known (λ bytes. x ≡ number_at bytes (p + length numbers * w) w)
@@ -58,14 +58,14 @@ numbers_more known numbers now p w x is next so_far =
     ∙ sym (map-range_with_len_more f 0 j j (zero-add j))
     ∙ ap (λ k. map f (range_with_len 0 k)) (sym n))
 
--- a number that is buffered
+-- the number that was decoded from the buffered bytes is the one at the offset
 pub known_at_hand : (known : Option (List ℕ)) (outcome : List ℕ) (place w n : ℕ) → w ≤ length outcome
     → n ≡ number_of (take w outcome) → IfSome known (λ bytes. LiesAt bytes place outcome)
     → IfSome known (λ bytes. n ≡ number_at bytes place w)
 known_at_hand known outcome place w n enough number is = IfSome_then _ is (λ bytes is.
     number ∙ ap number_of (ap (take w) is ∙ take-take w _ (drop place bytes) enough))
 
--- all numbers
+-- once all numbers are read, they are those that the bytes encode
 pub numbers_whole : (known : Option (List ℕ)) (xs : List ℕ) (p w i n : ℕ) → 0 < w → i ≡ n
     → IfSome known (λ bytes. xs ≡ map (λ k. number_at bytes (p + k * w) w) (range_with_len 0 i))
     → IfSome known (λ bytes. p + n * w ≤ length bytes

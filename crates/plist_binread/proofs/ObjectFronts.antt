@@ -10,7 +10,7 @@ use Rattle.plist_format.specs.Object.{Object, layout_of, length_in, object_after
 use Rattle.plist_binread.proofs.NumberRuns.{take-drop-take}
 use Rattle.std.proofs.lemmas.Option.{IfSome_then}
 
--- the object with a marker and the bytes after it
+-- an object means what its marker and the bytes after that mean
 pub object_front : (w m : ℕ) (xs ys : List ℕ) → xs ≡ m ∷ ys
     → object_in w xs ≡ object_after_marker m (layout_of w m) ys
 unfolding object_in
@@ -74,7 +74,7 @@ known_suffix known p k n place found above is within short lies = IfSome_then kn
     ∙ ap (λ m. drop k (take m (drop p bytes))) whole ∙ drop-take k (n - k) (drop p bytes)
     ∙ ap (take (n - k)) (drop-drop k p bytes)))
 
--- where the references of a collection begin, if its length was read
+-- if the length of a collection was read, its references begin after the length
 pub front_slots : (w m low : ℕ) (k : CountedKind) (count pairs start : ℕ)
     (seen rest behind more : List ℕ) → HasPairs k count pairs → 0 < w
     → object_with w m (rest ++ more) ≡ object_counted w k low (rest ++ more)

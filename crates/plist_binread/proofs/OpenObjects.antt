@@ -16,7 +16,7 @@ pub length-path_of : (fs : List Frame) → length (path_of fs) ≡ length fs
 length-path_of [] = refl
 length-path_of (f ∷ fs) = ap suc (length-path_of fs)
 
--- the marks after one more object was opened
+-- after one more object was opened, the marks are those of the longer path
 marks_push : (i q : ℕ) (tags new xs : List ℕ) → MarkChanged i true tags new
     → is_marked (get_or tags q 0) ≡ list_any (nat_eq q) xs
     → is_marked (get_or new q 0) ≡ list_any (nat_eq q) (i ∷ xs)
@@ -26,7 +26,7 @@ marks_push i q tags new xs m was =
       | inr e ↦ cc (m.others q e.0)
     ]
 
--- the marks after the innermost object was closed
+-- after the innermost object was closed, the marks are those of the shorter path
 marks_pop : (i q : ℕ) (tags new xs : List ℕ) → MarkChanged i false tags new
     → list_any (nat_eq i) xs ≡ false → is_marked (get_or tags q 0) ≡ list_any (nat_eq q) (i ∷ xs)
     → is_marked (get_or new q 0) ≡ list_any (nat_eq q) xs

@@ -42,7 +42,7 @@ held_as true scalar content entry b h = absurd (cc)
 held_as false None content entry b h = absurd h
 held_as false (Some s) content entry b h = (h, λ wanted. wanted)
 
--- the scalar of an event that is one
+-- the scalar of an event, if the event is a scalar
 abbrev unsingle : Option PlainEvent → Option Scalar
 unsingle (Some (ScalarEvent scalar)) = Some scalar
 unsingle event = None
@@ -63,7 +63,7 @@ module _ (bytes : List ℕ) (bounds : Bounds) where
   abbrev table : List TableEntry
   table = entries_of bytes bounds
 
-  -- the object of a number below the count
+  -- the entry of a number: the object's offset, and the object there
   abbrev pub entry_of : ℕ → TableEntry
   entry_of number =
       record {

@@ -78,14 +78,14 @@ grows_at-collection object start count h = absurd h
 -- ---- the object of a reference
 
 module _ (table : List TableEntry) where
-  -- the items if no object has the number
+  -- a number that no object has yields one item, which is the fault
   pub items_beyond : (fuel : ℕ) (path : List ℕ) (at i : ℕ) → slice_get table i ≡ None
       → unfolding_of table fuel path at i ≡ Err (fault_at ObjectReferenceTooLarge at) ∷ []
   unfolding unfolding_of
   items_beyond zero path at i none = rw none refl
   items_beyond (suc fuel) path at i none = rw none refl
 
-  -- the items if the object is open
+  -- an object that is open yields one item, which is the fault
   pub items_open : (fuel : ℕ) (path : List ℕ) (at i : ℕ) (entry : TableEntry)
       → slice_get table i ≡ Some entry → list_any (nat_eq i) path ≡ true
       → unfolding_of table fuel path at i ≡ Err (fault_at RecursiveObject entry.place) ∷ []

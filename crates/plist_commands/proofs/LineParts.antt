@@ -62,7 +62,7 @@ module _ {W : Type 0} {contents : W → Option (List ℕ)} (n : Notation) (size 
           subst (λ l. PutsBytes contents a l (answer_of answer) c)
           (blocks_end n size count bytes [] _ _ rest i at refl is refl) (puts_then so_far now)
 
--- the lines of a string and of data in these parts
+-- the parts together are the line of a string, or that of data
 pub text_line : (text bytes : List ℕ) → bytes ≡ text
     → codes "String \"" ++ escaped_text bytes ++ codes "\"\n" ≡ line_of (ScalarEvent (String text))
 text_line text bytes is =

@@ -36,6 +36,6 @@ below (suc n) byte marked within =
           (omega arith)
     ]
 
--- the entry of the table for each byte
+-- the entry for a byte says whether the byte is printed as it is
 pub is_marked : (byte : ℕ) → byte < 256 → get_or PLAIN byte false ≡ stands_for_itself byte
 is_marked byte within = below 256 byte tt within

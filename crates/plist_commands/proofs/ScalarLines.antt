@@ -26,7 +26,7 @@ fraction_sent line with_second with_blank last bytes second is fraction a b c =
 plain_byte : (byte : ℕ) → stands_for_itself byte ≡ true → escaped_text (byte ∷ []) ≡ byte ∷ []
 plain_byte byte is = rw is refl
 
--- one more byte of a string that is tested
+-- if the next byte is printed as it is, so are the bytes up to it
 pub plain_more : (text : List ℕ) (i : ℕ) (before byte : Bool) → i < length text
     → (before ≡ true → escaped_text (take i text) ≡ take i text)
     → byte ≡ stands_for_itself (get_or text i 0)

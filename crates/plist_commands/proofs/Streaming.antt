@@ -45,7 +45,7 @@ taken_none None coming held e h = tt
 taken_none (Some all) coming held e h =
     (all, e, ([], NotBegun, refl, tt, refl, ap (map without_length) (sym h)))
 
--- an item was yielded: the items that remained before, and those that remain now
+-- an item was yielded: it is the first of the items that remained, and the others remain now
 abbrev pub Came : (items now : Option (List Item)) (held : List PlainEvent) (item : PlainItem)
     → Type 0
 Came items now held item = IfSome items (λ all.

@@ -67,7 +67,7 @@ found-key (e ∷ entries) uid = by (nat_eq uid e.0) (found-key entries uid)
     by true h = refl
     by false h = h
 
--- the events of an object that was looked up
+-- the events of an object that was looked up are those of the object at the index
 pub seen_at : (objects : List Value) (uid : ℕ) (answer found : Option Value)
     → answer ≡ slice_get objects uid → answer ≡ found
     → slice_get (objects_seen objects) uid ≡ option_map (λ v. bracketing (tree_of v)) found

@@ -138,7 +138,7 @@ module _ (objects : List (List PlainEvent)) where
   abbrev from : ℕ → List Step
   from = steps_from objects
 
-  -- the steps of an object, which don't depend on the open ones
+  -- the steps are those of the object itself, and don't depend on the open ones
   abbrev pub IsUnfolded : (uid : ℕ) → (es : List PlainEvent) → List Step → Type 0
   IsUnfolded uid es steps = steps ≡ None ∷ (steps_of_events from es ++ None ∷ [])
 
@@ -178,7 +178,7 @@ module _ (objects : List (List PlainEvent)) where
         | inr e ↦ same uid (rw e.0 at member) path o below
       ]
 
-  -- the object of a settled Uid, and the steps of that object
+  -- a settled Uid has an object, and its steps are those of that object
   pub settled-unfolds : (uids : List ℕ) → AreSettled objects uids → (uid : ℕ) → IsIn uid uids
       → (es : List PlainEvent) × (slice_get objects uid ≡ Some es) × NameOnly es uids
       × IsUnfolded uid es (from uid)

@@ -67,7 +67,7 @@ module _ {V : Type 0} (inner : V → List PlainEvent) where
     ),
   )
 
-  -- the items of something that is made of the parts
+  -- if two lists of events are alike, the items of the one are those of the other
   made : {W : Type 0} (outer : W → List PlainEvent) (make : V → W)
       → ((v : V) → AreAlike (inner v) (outer (make v)))
       → (a : Result V ArchiveFault) (xs : List Given) → AreItemsOf inner a xs
@@ -92,7 +92,8 @@ behind : {V : Type 0} (inner : V → List PlainEvent) (es : List PlainEvent)
 behind inner [] a xs h = h
 behind inner (e ∷ es) a xs h = behind-one (λ v. es ++ inner v) e a _ (behind inner es a xs h)
 
--- the items of one part, followed by those of another
+-- if a whole has the events of two parts, it has the items of the first part and then those of the
+-- second
 both : {V W : Type 0} (first : V → List PlainEvent) (events outer : W → List PlainEvent)
     (make : V → W → W) (none : W) → events none ≡ []
     → ((v : V) (w : W) → outer (make v w) ≡ first v ++ events w)
@@ -111,7 +112,7 @@ both first events outer make none nothing is (Err f) b xs ys (es, more, p, (rest
 
 module _ (answer : ℕ → Result Tree ArchiveFault) (follow : ℕ → List Step)
     (h : (uid : ℕ) → Gives (answer uid) (given_by (follow uid))) where
-  -- the items of some events
+  -- the items that these events yield
   abbrev run : List PlainEvent → List Given
   run es = given_by (steps_of_events follow es)
 
@@ -151,7 +152,7 @@ module _ (answer : ℕ → Result Tree ArchiveFault) (follow : ℕ → List Step
         NoMembers refl (λ u us. refl) _ _ _ _ (behind-one bracketing key _ _ (tree-gives t))
         (pairs-give ms))
 
--- a fault before any event: each tree could follow
+-- if the first item is a fault, no event precedes it, so any tree will do
 at-once : (fault : ArchiveFault) → Gives (Err fault) (Err fault ∷ [])
 at-once fault = ([], [], refl, (bracketing (Leaf (trees.Uid 0)), Leaf (trees.Uid 0), refl))
 
@@ -181,7 +182,7 @@ uid-gives objects (suc fuel) path uid =
 
 -- ---- keys
 
--- a fact about what is made of the parts, if it follows for each part
+-- a fact is true of the result if it follows from what is true of the part
 then-once : {A B : Type 0} {P : A → Type 0} (Q : B → Type 0) (a : Result A ArchiveFault)
     (f : A → Result B ArchiveFault) → IfOk a P → ((x : A) → P x → IfOk (f x) Q)
     → IfOk (and_then a f) Q

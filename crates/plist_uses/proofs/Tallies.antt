@@ -18,7 +18,7 @@ stopped-more : (n old new : ℕ) → old ≡ min n (2 ^ 64 - 1) → new ≡ min 
     → new ≡ min (n + 1) (2 ^ 64 - 1)
 stopped-more n old new is more = omega arith
 
--- a count after one more event
+-- a count is right after one more event
 number-more : (passes : PlainEvent → Bool) (taken : List PlainEvent) (event : PlainEvent)
     (old new : ℕ) → old ≡ count_passing passes taken → new ≡ one_more (passes event) old
     → new ≡ count_passing passes (taken ++ event ∷ [])
@@ -88,7 +88,7 @@ all-counted (Some bytes) all before after counts from so_far gives =
       tell,
     )
 
--- the first fault of the items ended it, or one from outside
+-- the error is the first fault of the items, or doesn't come from the bytes
 pub stopped : (known : Option (List ℕ)) (all before after : Option (List Item))
     (item : Result Event Error) (error : Error) (counts : Counts)
     → all ≡ option_map items_of_input known → CountedSoFar all before counts

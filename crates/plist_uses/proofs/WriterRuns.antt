@@ -8,7 +8,7 @@ use Rattle.plist.specs.WrittenEvents.{TakesAll}
 use Rattle.plist_uses.specs.declared.generated.Reading.{Reading}
 use Rattle.plist_uses.specs.Generated.{reading_tree}
 
--- the default where an index has no reading
+-- what a look-up returns at an index that has no reading
 abbrev pub none : Reading
 none = record { second = 0; level = 0 }
 
