@@ -126,7 +126,7 @@ ascii-placed place (Some (Err error)) h = placed _ _ h
     placed InvalidUtf16String offset p = some-place offset place p.1
     placed kind offset p = absurd p.0
 
--- if the failures are counted, both counts exist
+-- if both counts exist, a fact about optional counts is one about them
 counted-failures : (a b : ℕ) (item : Given) → incoming.ItemCountsIoIfCounted item (Some a) (Some b)
     → ItemCountsIo item a b
 counted-failures a b None h = same-count a b h
