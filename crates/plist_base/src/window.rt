@@ -1,8 +1,8 @@
 //! Windows of a file, stored in two slices: one has a header for each window, the other the bytes
 //! of all windows.
 
-ghost use Rattle.std.specs.Prelude.{◌≡◌, ◌+◌, ◌*◌, ◌<◌, ◌≤◌, length, IfSome, OnErr};
-ghost use Rattle.plist_base.specs.inner.Windows.{IsLentBy, LendsFrom};
+ghost use Rattle.std.specs.Prelude.{◌≡◌, ◌+◌, ◌*◌, ◌<◌, ◌≤◌, length, drop, take, IfSome, OnErr};
+ghost use Rattle.plist_base.specs.inner.Windows.{IsWindowOf, LendsFrom};
 
 use std::io;
 use std::io::{Read, Seek, SeekFrom};
@@ -47,7 +47,8 @@ fn first_window(count: usize, number: u64) -> usize
 #[inline(always)]
 pub(crate) fn window_at(headers: &[Header], size: usize, place: u64) -> Option<usize>
     requires { 0 < size }
-    ensures { IfSome result (λ i. (i < 8192) × (i < length headers.now)) }
+    ensures within { IfSome result (λ i. (i < 8192) × (i < length headers.now)) }
+    ensures start { IfSome result (λ i. IsWindowOf size headers.now i place) }
 {
     let start = place - place % size as u64;
     let i = first_window(headers.len(), place / size as u64);
@@ -62,18 +63,13 @@ pub(crate) fn window_at(headers: &[Header], size: usize, place: u64) -> Option<u
     }
 }
 
-// Returns the bytes of a window from this offset on, or `None` if the window doesn't contain the
-// offset. The bytes of the window begin at index `first`.
+// Returns `size` bytes from this index on, or fewer if the slice ends earlier.
 #[inline(always)]
-fn bytes_in<'a>(header: &Header, bytes: &'a [u8], first: usize, place: u64) -> Option<&'a [u8]>
-    ensures { IfSome result (λ lent. IsLentBy header.now bytes.now first place lent.now) }
+fn part(bytes: &[u8], first: usize, size: usize) -> &[u8]
+    ensures { result.now ≡ take size (drop first bytes.now) }
 {
-    let from = place.checked_sub(header.start)?;
-    if from >= header.filled as u64 {
-        return None;
-    }
-    let end = first.checked_add(header.filled)?;
-    bytes.get(first + from as usize..end)
+    let rest = &bytes[first.min(bytes.len())..];
+    &rest[..size.min(rest.len())]
 }
 
 /// Returns the buffered bytes from this offset on. The slice is empty if none are buffered.
@@ -85,20 +81,17 @@ pub(crate) fn buffered_in<'a>(
     place: u64,
 ) -> &'a [u8]
     requires { (0 < size) × (size ≤ 8192) }
-    ensures { LendsFrom size headers.now bytes.now place result.now }
+    ensures bytes { LendsFrom size headers.now bytes.now place result.now }
 {
-    let i = first_window(headers.len(), place / size as u64);
-    if i + 1 >= headers.len() {
+    let Some(i) = window_at(headers, size, place) else {
+        return &[];
+    };
+    let from = (place % size as u64) as usize;
+    let filled = headers[i].filled;
+    if from >= filled {
         return &[];
     }
-    let first = i * (size + OVERLAP);
-    if let Some(lent) = bytes_in(&headers[i], bytes, first, place) {
-        return lent;
-    }
-    match bytes_in(&headers[i + 1], bytes, first + size + OVERLAP, place) {
-        Some(lent) => lent,
-        None => &[],
-    }
+    part(bytes, i * (size + OVERLAP) + from, filled - from)
 }
 
 // Returns the index of the window to fill for this offset: the window to which the offset already

@@ -162,13 +162,12 @@ impl Windows {
     pub(crate) fn buffered(&self, place: u64) -> &[u8]
         ensures bytes { Lends self.now place result.now }
     {
-        if let Some(long) = &self.long {
-            let lent = buffered_in(&long.headers, &long.bytes, LONG_WINDOW, place);
-            if !lent.is_empty() {
-                return lent;
+        match &self.long {
+            Some(long) if !long.headers.is_empty() => {
+                buffered_in(&long.headers, &long.bytes, LONG_WINDOW, place)
             }
+            _ => buffered_in(&self.short.headers, &self.short.bytes, SHORT_WINDOW, place),
         }
-        buffered_in(&self.short.headers, &self.short.bytes, SHORT_WINDOW, place)
     }
 
     /// Fills the window that contains this offset.

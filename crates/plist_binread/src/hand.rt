@@ -207,7 +207,7 @@ fn hand_far<S: Source, V: EventVisitor>(
 // Hands over the string or data of the object at this offset.
 //
 // It is borrowed from the source if all of it is buffered, and is otherwise read into new memory.
-#[inline(never)]
+#[inline(always)]
 fn hand_content<S: Source, V: EventVisitor>(
     source: &mut S,
     place: u64,

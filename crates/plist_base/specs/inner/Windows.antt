@@ -1,21 +1,24 @@
 -- The bytes that the windows of a file contain.
-use Rattle.std.specs.Prelude.{◌≡◌, ℕ, ◌+◌, ◌*◌, ◌-◌, ◌≤◌, ◌⊎◌, List, [], ◌++◌, take, drop, Some, slice_get}
+use Rattle.std.specs.Prelude.{◌≡◌, ℕ, ◌+◌, ◌*◌, ◌-◌, ◌%◌, ◌⊎◌, List, [], ◌++◌, take, drop, Some, slice_get}
 use Rattle.plist_base.specs.declared.window.Header.{Header}
 use Rattle.plist_base.specs.declared.windows.LongWindows.{LongWindows}
 use Rattle.plist_base.specs.declared.windows.Windows.{Windows}
 
--- the window contains this offset, and `lent` are its bytes from there on; those that its last read
--- returned begin at index `first`
-abbrev pub IsLentBy : Header → (bytes : List ℕ) → (first place : ℕ) → (lent : List ℕ) → Type 0
-IsLentBy header bytes first place lent =
-    (header.start ≤ place)
-    × (lent ≡ drop (place - header.start) (take header.filled (drop first bytes)))
+-- this window is the one to which the offset belongs
+abbrev pub IsWindowOf : (size : ℕ) → List Header → (window place : ℕ) → Type 0
+IsWindowOf size headers i place =
+    (header : Header) × (slice_get headers i ≡ Some header) × (header.start ≡ place - place % size)
 
--- `lent` is empty, or lent by a window; each has 64 bytes beyond its size
+-- the bytes that the last read of a window returned; a window may have 64 bytes beyond its size
+abbrev pub bytes_of_window : (size : ℕ) → Header → List ℕ → (window : ℕ) → List ℕ
+bytes_of_window size header bytes i = take header.filled (drop (i * (size + 64)) bytes)
+
+-- `lent` is empty, or the bytes from this offset on of the window to which it belongs
 abbrev pub LendsFrom : (size : ℕ) → List Header → (bytes : List ℕ) → (place : ℕ) → (lent : List ℕ) → Type 0
 LendsFrom size headers bytes place lent =
     (lent ≡ []) ⊎ ((i : ℕ) × (header : Header) × (slice_get headers i ≡ Some header)
-    × IsLentBy header bytes (i * (size + 64)) place lent)
+    × (header.start ≡ place - place % size)
+    × (lent ≡ drop (place % size) (bytes_of_window size header bytes i)))
 
 -- `lent` are bytes from this offset on, of a long window or of a short one
 abbrev pub Lends : Windows → (place : ℕ) → (lent : List ℕ) → Type 0
