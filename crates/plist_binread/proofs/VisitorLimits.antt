@@ -1,5 +1,5 @@
--- Which events a visitor within limits takes.
-use Rattle.std.proofs.Common.{◌≡◌, inl, inr, Option, None, Some, Result, Ok, Err, subst, sym}
+-- Which events a visitor takes within limits, or from a visitor that passes them on.
+use Rattle.std.proofs.Common.{◌≡◌, inl, inr, Option, None, Some, Result, Ok, Err, ap, subst, sym, ◌∙◌}
 use Rattle.plist_base.specs.declared.error.Error.{Error}
 use Rattle.plist_base.specs.Events.{PlainEvent}
 use Rattle.plist_base.specs.Faults.{Fault, fault_of}
@@ -7,8 +7,9 @@ use Rattle.plist_base.specs.Limits.{Refuses, RefusesAny}
 use Rattle.plist_base.specs.declared.limits.LimitCounter.{LimitCounter}
 use Rattle.plist_base.specs.Visits.{Flow}
 use Rattle.plist_binread.specs.Advancing.{TakesWithin}
-use Rattle.plist_binread.specs.Handing.{HandsItem}
+use Rattle.plist_binread.specs.Handing.{HandsItem, PassesOn, Takes}
 use Rattle.plist_binread.specs.declared.fault_slot.StepError.{StepError}
+use Rattle.plist_binread.specs.declared.relay.Relay.{Relay}
 use Rattle.plist_binread.specs.declared.within.Within.{Within}
 
 -- the walk yielded an event that exceeds a limit, with this error
@@ -49,3 +50,13 @@ pub refuses_any : (limiter : Option LimitCounter) (limits now : LimitCounter) (e
 refuses_any limiter limits now event fault given is at same refused =
     subst (λ l. RefusesAny l event fault) (sym is) (subst (λ l. Refuses l event fault) at
     (subst (λ f. Refuses now event f) same refused))
+
+-- what a visitor passes on is taken by the visitor in it
+pub passed_on : {V : Type 0} (step : V → PlainEvent → Flow → V → Type 0) (old new : Relay V)
+    (before after : V) (answer : Result Flow StepError) (event : PlainEvent)
+    → old.visitor.now ≡ before → after ≡ new.visitor.now
+    → Takes (PassesOn step) old new answer event → Takes step before after answer event
+passed_on step old new before after (Ok flow) event first last taken =
+    rw (sym first, last) taken.taken
+passed_on step old new before after (Err refused) event first last same =
+    last ∙ ap (λ relay. relay.visitor.now) same ∙ first

@@ -7,12 +7,19 @@ use Rattle.plist_base.specs.Trees as trees
 use Rattle.plist_base.specs.Visits.{Flow}
 use Rattle.plist_binread.specs.Packed.{MayAllocate, scalar_event}
 use Rattle.plist_binread.specs.declared.fault_slot.StepError.{StepError}
+use Rattle.plist_binread.specs.declared.relay.Relay.{Relay}
 
 -- the event is the one that was read, or the result is the error of the read
 abbrev pub HandsRead : {A : Type 0} → Result Event Error → (answer : Result A Error) → PlainEvent
     → Type 0
 HandsRead (Ok read) answer event = MatchResult answer (λ _. event ≡ event_of read) (λ _. ⊥)
 HandsRead (Err error) answer event = answer ≡ Err error
+
+-- a visitor passes an event on to the visitor in it
+pub record PassesOn {V : Type 0} (step : V → PlainEvent → Flow → V → Type 0) (old : Relay V)
+    (event : PlainEvent) (flow : Flow) (new : Relay V) : Type 0 where
+  pub same : new.visitor.ghost_name ≡ old.visitor.ghost_name
+  pub taken : step old.visitor.now event flow new.visitor.now
 
 module _ {V : Type 0} (step : V → PlainEvent → Flow → V → Type 0) (old new : V) where
   -- the visitor took this event, or is unchanged after an error

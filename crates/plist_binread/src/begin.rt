@@ -15,6 +15,7 @@ use crate::enter::enter;
 use crate::fault_slot::StepError;
 use crate::head::{Bounds, Head};
 use crate::references::Reference;
+use crate::relay::Relay;
 use crate::walk::Walk;
 use plist_base::{Error, EventVisitor, Source};
 use std::alloc::Global;
@@ -76,5 +77,6 @@ pub fn begin<S: Source, C: DecodeCounter, V: EventVisitor>(
         at: trailer,
         number: root,
     };
-    enter(source, decoder, walk, reference, visitor)
+    let mut relay = Relay::new(visitor);
+    enter(source, decoder, walk, reference, &mut relay)
 }

@@ -17,7 +17,7 @@ ghost use Rattle.plist_binread.specs.declared.decoded.Decoded.TheVariants.{Long 
 use crate::decoded::{ContentKind, Decoded, ObjectFault};
 use crate::numbers::{number_from, write_units};
 use crate::packed::{PackedKind, content_from};
-use crate::utf8::text_in;
+use crate::utf8::short_text_in;
 use plist_format::LowHalf;
 use std::alloc::Global;
 
@@ -122,8 +122,9 @@ fn short_text(bytes: &[u8]) -> Decoded
     requires { length bytes.now ≤ 8 }
     ensures { (all : List ℕ) → IsDecodedAs all (text bytes.now) result }
 {
-    match text_in(bytes) {
-        Some(text) => small_text(text),
+    let content = content_from(bytes);
+    match short_text_in(&content.to_be_bytes(), bytes.len()) {
+        Some(_) => Decoded::Small(PackedKind::Text(bytes.len() as u8), content),
         None => Decoded::Faulty(ObjectFault::NotUtf8),
     }
 }

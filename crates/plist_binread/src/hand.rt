@@ -1,6 +1,6 @@
 //! Hands decoded objects to a visitor.
 
-ghost use Rattle.std.specs.Prelude.{◌≡◌, ℕ, false, OnOk};
+ghost use Rattle.std.specs.Prelude.{◌≡◌, ◌≤◌, ℕ, false, take, OnOk};
 ghost use Rattle.plist_base.specs.Sources.{AnswersIo};
 ghost use Rattle.plist_format.specs.Object.{date, text, wide_text};
 ghost use Rattle.plist_binread.specs.CountedContent.{AreUnits, content_means, unit_size};
@@ -17,17 +17,22 @@ use crate::decoder::Decoder;
 use crate::fault_slot::{FaultSlot, StepError};
 use crate::long_content::{read_long, wide_text_event};
 use crate::packed::PackedKind;
-use crate::utf8::text_in;
+use crate::utf8::{short_text_in, text_in};
 use plist_base::{Date, Error, EventVisitor, Integer, OwnedEvent, RealBits, Source, Uid};
 use std::borrow::{CowSlice, CowStr};
 use std::ops::ControlFlow;
 
-// Hands over a string of at most eight bytes. Returns `None` if the bytes aren't UTF-8.
+// Hands over the string in the first `size` of eight bytes. Returns `None` if they aren't UTF-8.
 #[inline(always)]
-fn hand_short_text<V: EventVisitor>(bytes: &[u8], visitor: &mut V) -> Option<ControlFlow<()>>
-    ensures { HandsSmall V.step visitor.old visitor.new (text_if_any bytes.now) result }
+fn hand_short_text<V: EventVisitor>(
+    bytes: &[u8; 8],
+    size: usize,
+    visitor: &mut V,
+) -> Option<ControlFlow<()>>
+    requires { size ≤ 8 }
+    ensures { HandsSmall V.step visitor.old visitor.new (text_if_any (take size bytes.now)) result }
 {
-    match text_in(bytes) {
+    match short_text_in(bytes, size) {
         Some(text) => Some(visitor.string(CowStr::Borrowed(text))),
         None => None,
     }
@@ -64,7 +69,7 @@ pub fn hand_small<V: EventVisitor>(
             if size > 8 {
                 return None;
             }
-            hand_short_text(&bytes[..usize::from(size)], visitor)
+            hand_short_text(&bytes, usize::from(size), visitor)
         }
     }
 }

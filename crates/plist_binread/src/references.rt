@@ -274,29 +274,32 @@ impl ReferenceReader {
     // Locates the references of the collection at an offset, unless they are known from the last
     // call.
     #[inline(always)]
-    fn turn_to<S: Source>(
+    fn turn_to<S: Source, C: DecodeCounter>(
         &mut self,
         source: &mut S,
-        bounds: &Bounds,
+        decoder: &mut Decoder<C>,
         place: u64,
-        slot: &mut FaultSlot,
     ) -> Result<(), StepError>
-        requires known { KnowsReferences (S.known source.old) bounds.now self.old }
+        requires known { KnowsReferences (S.known source.old) decoder.old.bounds self.old }
         // Result.
         ensures place { OnOk result (self.new.site.place ≡ place) }
         // Errors.
-        ensures refused { IfErr result (RefusesEach (S.known source.old) bounds.now place
-            slot.new) }
-        ensures fault { ErrWithin place bounds.now.trailer (answer_in result slot.new) }
+        ensures refused { IfErr result (RefusesEach (S.known source.old) decoder.old.bounds place
+            decoder.new.slot) }
+        ensures fault { ErrWithin place decoder.old.bounds.trailer
+            (answer_in result decoder.new.slot) }
         // State afterwards.
-        ensures known { KnowsReferences (S.known source.old) bounds.now self.new }
+        ensures known { KnowsReferences (S.known source.old) decoder.old.bounds self.new }
+        ensures bounds { decoder.new.bounds ≡ decoder.old.bounds }
+        ensures counter { decoder.new.counter ≡ decoder.old.counter }
         ensures unchanged { S.known source.new ≡ S.known source.old }
-        ensures failures { AnswersInSlot S.failures result slot.new source.old source.new }
+        ensures failures { AnswersInSlot S.failures result decoder.new.slot source.old source.new }
     {
         if self.site.place == place {
             return Ok(());
         }
-        self.locate(source, bounds, place, slot)
+        let bounds = decoder.bounds;
+        self.locate(source, &bounds, place, &mut decoder.slot)
     }
 
     // Returns the reference to a child at offset `at`, or `None` if it isn't buffered.
@@ -345,11 +348,11 @@ impl ReferenceReader {
         ensures unchanged { S.known source.new ≡ S.known source.old }
         ensures failures { AnswersInSlot S.failures result decoder.new.slot source.old source.new }
     {
-        let bounds = decoder.bounds;
-        self.turn_to(source, &bounds, place, &mut decoder.slot)?;
-        let width = bounds.reference_width;
+        self.turn_to(source, decoder, place)?;
+        let trailer = decoder.bounds.trailer;
+        let width = decoder.bounds.reference_width;
         match reference_place(&self.site, index, width) {
-            Some(at) if at < bounds.trailer && width as u64 <= bounds.trailer - at => {
+            Some(at) if at < trailer && width as u64 <= trailer - at => {
                 match self.buffered_reference(source, index, at, width) {
                     Some(number) => Ok(number),
                     None => match read_reference(source, at, width, &mut decoder.slot) {

@@ -1,27 +1,35 @@
 //! Tests whether bytes are UTF-8.
 
-ghost use Rattle.std.specs.Prelude.{◌≡◌, ◌<◌, true, IsAscii, IsUtf8, MatchOption};
+ghost use Rattle.std.specs.Prelude.{◌≡◌, ◌≤◌, take, IsUtf8, MatchOption};
 
-fn is_ascii(byte: u8) -> bool
-    ensures { result ≡ true → byte < 128 }
-{
-    byte < 128
-}
+use plist_base::{ByteTest, all_pass};
+use std::simd::prelude::*;
 
-// Returns whether all bytes are ASCII. The loop doesn't stop early, so that the compiler can test
-// many bytes at once.
-#[inline(always)]
-fn are_ascii(bytes: &[u8]) -> bool
-    ensures { result ≡ true → IsAscii bytes.now }
-{
-    let mut ascii = true;
-    for &byte in bytes {
-        ascii &= is_ascii(byte);
+// Tests whether bytes are ASCII.
+struct Ascii;
+
+impl ByteTest for Ascii {
+    ghost use Rattle.std.specs.Prelude.{◌<◌};
+
+    ghost passes = { λ byte. byte < 128 };
+
+    #[inline(always)]
+    fn sixteen(bytes: u8x16) -> bool {
+        bytes.simd_ge(u8x16::splat(128)).to_bitmask() == 0
     }
-    ascii
+
+    #[inline(always)]
+    fn eight(bytes: u8x8) -> bool {
+        bytes.simd_ge(u8x8::splat(128)).to_bitmask() == 0
+    }
+
+    #[inline(always)]
+    fn one(byte: u8) -> bool {
+        byte < 128
+    }
 }
 
-// Returns the string in these bytes, which aren't all ASCII, or `None` if they aren't UTF-8.
+// Returns the string in these bytes, which may not be ASCII, or `None` if they aren't UTF-8.
 #[inline(never)]
 fn wide_text_in(bytes: &[u8]) -> Option<&str>
     ensures { MatchOption result (IsUtf8 bytes.now → ⊥)
@@ -33,16 +41,30 @@ fn wide_text_in(bytes: &[u8]) -> Option<&str>
     }
 }
 
+/// Returns the string in the first `size` of eight bytes, or `None` if they aren't UTF-8.
+#[inline(always)]
+pub fn short_text_in(bytes: &[u8; 8], size: usize) -> Option<&str>
+    requires { size ≤ 8 }
+    ensures { MatchOption result (IsUtf8 (take size bytes.now) → ⊥)
+        (λ text. (text.now ≡ take size bytes.now) × IsUtf8 (take size bytes.now)) }
+{
+    let text = &bytes[..size];
+    if Ascii::eight(u8x8::from_array(*bytes)) {
+        return Some(unsafe { str::from_utf8_unchecked(text) });
+    }
+    wide_text_in(text)
+}
+
 /// Returns the string in these bytes, or `None` if they aren't UTF-8.
 ///
-/// ASCII is tested first because most strings are ASCII, and this test takes a fifth of the time of
-/// the test for UTF-8.
+/// ASCII is tested first because most strings are ASCII, and this test takes a fraction of the time
+/// of the test for UTF-8.
 #[inline(always)]
 pub fn text_in(bytes: &[u8]) -> Option<&str>
     ensures { MatchOption result (IsUtf8 bytes.now → ⊥)
         (λ text. (text.now ≡ bytes.now) × IsUtf8 bytes.now) }
 {
-    if are_ascii(bytes) {
+    if all_pass::<Ascii>(bytes) {
         return Some(unsafe { str::from_utf8_unchecked(bytes) });
     }
     wide_text_in(bytes)

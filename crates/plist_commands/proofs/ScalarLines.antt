@@ -1,9 +1,11 @@
--- The lines of dates, numbers and strings.
-use Rattle.std.proofs.Common.{◌≡◌, ℕ, ℤ, ◌+◌, ◌<◌, Bool, true, ◌&&◌, List, [], ◌∷◌, ◌++◌, length, get_or, take, Some, codes, refl, ◌∙◌, sym, append_assoc}
+-- The lines of dates, numbers and texts.
+use Rattle.std.proofs.Common.{◌≡◌, ℕ, ℤ, ◌+◌, ◌<◌, ◌≤◌, zero, suc, true, false, List, [], ◌∷◌, ◌++◌, length, Some, codes, refl, ap, append_assoc, arith, bit_or, eqb, leb, ltb, eqb-true, eq-eqb, leb-false, ltb-false}
 use Rattle.std.specs.Fmt.{signed_decimal}
-use Rattle.std.proofs.lemmas.Bool.{and_parts}
-use Rattle.std.proofs.lemmas.Grind.{flat_map-append}
-use Rattle.std.proofs.lemmas.List.{take_more}
+use Rattle.std.proofs.lemmas.Bool.{le-leb}
+use Rattle.std.proofs.lemmas.Nat.{and_le_l, and_le_r}
+use lib.Bits.{or_add_and}
+use Rattle.plist_base.specs.ByteTests.{EachByte}
+use Rattle.plist_base.proofs.ByteBlocks.{mask_left, mask_right, none_left, none_right}
 use Rattle.plist_base.specs.Date.{real_bits, second_of_bytes, has_fraction}
 use Rattle.plist_commands.specs.EscapedLines.{hexadecimal, stands_for_itself, escaped_byte, escaped_text, text_of_date}
 
@@ -23,16 +25,39 @@ fraction_sent line with_second with_blank last bytes second is fraction a b c =
 
 -- ---- strings whose bytes are printed as they are
 
-plain_byte : (byte : ℕ) → stands_for_itself byte ≡ true → escaped_text (byte ∷ []) ≡ byte ∷ []
-plain_byte byte is = rw is refl
+-- a byte that passes each of the four comparisons
+pub plain_byte : (byte : ℕ) → ltb byte 0x20 ≡ false → leb 0x7f byte ≡ false
+    → eqb byte 0x5c ≡ false → eqb byte 0x22 ≡ false → stands_for_itself byte ≡ true
+plain_byte byte low high backslash quote =
+    let least = ltb-false _ _ low in
+    let most = leb-false _ _ high in
+    rw (le-leb 0x20 byte (omega arith), le-leb byte 0x7e (omega arith), backslash, quote) refl
 
--- if the next byte is printed as it is, so are the bytes up to it
-pub plain_more : (text : List ℕ) (i : ℕ) (before byte : Bool) → i < length text
-    → (before ≡ true → escaped_text (take i text) ≡ take i text)
-    → byte ≡ stands_for_itself (get_or text i 0)
-    → (before && byte) ≡ true → escaped_text (take (i + 1) text) ≡ take (i + 1) text
-plain_more text i before byte within so_far is both =
-    let (front, plain) = and_parts before byte both in
-    rw (take_more text i 0 within)
-    (flat_map-append escaped_byte (take i text) (get_or text i 0 ∷ [])
-    ∙ (λ k. so_far front k ++ plain_byte (get_or text i 0) (sym is ∙ plain) k))
+-- two masks are zero if their bits together are
+none_of_two : (a b : ℕ) → bit_or a b ≡ 0 → (a ≡ 0) × (b ≡ 0)
+none_of_two a b none = (
+  omega (arith, or_add_and a b, and_le_l a b, and_le_r a b),
+  omega (arith, or_add_and a b, and_le_l a b, and_le_r a b),
+)
+
+-- each byte of a block passes if the four masks of those that don't are zero together
+pub plain_block : (n : ℕ) (bytes : List ℕ) → n ≤ 64 → length bytes ≡ n
+    → eqb (bit_or (bit_or (bit_or (mask_left ltb bytes 0x20 n) (mask_right leb bytes 0x7f n))
+    (mask_left eqb bytes 0x5c n)) (mask_left eqb bytes 0x22 n)) 0 ≡ true
+    → EachByte (λ byte. stands_for_itself byte ≡ true) bytes
+plain_block n bytes few long none i within =
+    let (three, quote) = none_of_two _ _ (eqb-true _ _ none) in
+    let (two, backslash) = none_of_two _ _ three in
+    let (low, high) = none_of_two _ _ two in
+    plain_byte _ (none_left ltb n 0x20 bytes few long (eq-eqb _ _ low) i within)
+    (none_right leb n 0x7f bytes few long (eq-eqb _ _ high) i within)
+    (none_left eqb n 0x5c bytes few long (eq-eqb _ _ backslash) i within)
+    (none_left eqb n 0x22 bytes few long (eq-eqb _ _ quote) i within)
+
+-- a text whose bytes each stand for themselves
+pub plain_text : (text : List ℕ) → EachByte (λ byte. stands_for_itself byte ≡ true) text
+    → escaped_text text ≡ text
+plain_text [] each = refl
+plain_text (byte ∷ text) each =
+    rw (each zero (omega arith))
+    (ap (λ rest. byte ∷ rest) (plain_text text (λ i within. each (suc i) (omega arith))))

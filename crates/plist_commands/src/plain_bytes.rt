@@ -5,14 +5,8 @@ ghost use Rattle.plist_base.specs.Sinks.{buffered, room};
 ghost use Rattle.plist_commands.specs.EscapedLines.{escaped_byte, escaped_text, stands_for_itself};
 
 use crate::hexadecimal::digit_of;
-use plist_base::FixedBuffer;
-
-// Returns whether a byte of a string is printed as it is.
-fn is_plain(byte: u8) -> bool
-    ensures { result ≡ stands_for_itself byte }
-{
-    byte >= 0x20 && byte <= 0x7e && byte != b'\\' && byte != b'"'
-}
+use plist_base::{ByteTest, FixedBuffer, all_pass};
+use std::simd::prelude::*;
 
 // `PLAIN[byte]` is whether a byte of a string is printed as it is.
 const PLAIN: [bool; 256] = [
@@ -38,7 +32,7 @@ const PLAIN: [bool; 256] = [
 ];
 
 // Returns whether a byte of a string is printed as it is. For a single byte, a look-up in the table
-// is faster than `is_plain`.
+// is faster than the comparisons.
 #[tactic(auto, using(crate::proofs::PlainBytes::is_marked))]
 fn is_marked_plain(byte: u8) -> bool
     ensures { result ≡ stands_for_itself byte }
@@ -46,39 +40,37 @@ fn is_marked_plain(byte: u8) -> bool
     PLAIN[byte as usize]
 }
 
-// Returns whether all bytes are printed as they are. The loop has no early exit, so that the
-// compiler can test many bytes at once.
-#[inline(always)]
-fn are_many_plain(bytes: &[u8]) -> bool
-    ensures { result ≡ true → escaped_text bytes.now ≡ bytes.now }
-{
-    let mut plain = true;
-    for &byte in bytes {
-        plain &= is_plain(byte);
-    }
-    plain
-}
+// Tests whether bytes of a string are printed as they are.
+struct Plain;
 
-// Returns whether all bytes are printed as they are. It returns at the first one that isn't.
-#[inline(always)]
-fn are_few_plain(bytes: &[u8]) -> bool
-    ensures { result ≡ true → escaped_text bytes.now ≡ bytes.now }
-{
-    for &byte in bytes {
-        if !is_marked_plain(byte) {
-            return false;
-        }
-    }
-    true
-}
+impl ByteTest for Plain {
+    ghost use Rattle.std.specs.Prelude.{◌≡◌, true};
+    ghost use Rattle.plist_commands.specs.EscapedLines.{stands_for_itself};
 
-// Returns whether all bytes of a string are printed as they are. Chunks of eight bytes are tested
-// together, and the remainder byte by byte.
-fn are_plain(text: &[u8]) -> bool
-    ensures { result ≡ true → escaped_text text.now ≡ text.now }
-{
-    let (front, rest) = text.split_at(text.len() - text.len() % 8);
-    are_many_plain(front) && are_few_plain(rest)
+    ghost passes = { λ byte. stands_for_itself byte ≡ true };
+
+    #[inline(always)]
+    fn sixteen(bytes: u8x16) -> bool {
+        let control = bytes.simd_lt(u8x16::splat(0x20)).to_bitmask();
+        let high = bytes.simd_ge(u8x16::splat(0x7f)).to_bitmask();
+        let backslash = bytes.simd_eq(u8x16::splat(b'\\')).to_bitmask();
+        let quote = bytes.simd_eq(u8x16::splat(b'"')).to_bitmask();
+        control | high | backslash | quote == 0
+    }
+
+    #[inline(always)]
+    fn eight(bytes: u8x8) -> bool {
+        let control = bytes.simd_lt(u8x8::splat(0x20)).to_bitmask();
+        let high = bytes.simd_ge(u8x8::splat(0x7f)).to_bitmask();
+        let backslash = bytes.simd_eq(u8x8::splat(b'\\')).to_bitmask();
+        let quote = bytes.simd_eq(u8x8::splat(b'"')).to_bitmask();
+        control | high | backslash | quote == 0
+    }
+
+    #[inline(always)]
+    fn one(byte: u8) -> bool {
+        is_marked_plain(byte)
+    }
 }
 
 // Pushes a byte of a string, or its escape.
@@ -116,7 +108,7 @@ pub fn push_text(line: &mut FixedBuffer, text: &[u8])
     ensures pushed { buffered line.new ≡ buffered line.old ++ escaped_text text.now }
     ensures room { room line.old ≤ room line.new + 4 * length text.now }
 {
-    if are_plain(text) {
+    if all_pass::<Plain>(text) {
         line.push(text);
         return;
     }

@@ -1,4 +1,4 @@
-use Rattle.std.proofs.Common.{◌≡◌, arith, ◌∙◌, sym, ap, refl, length, replicate}
+use Rattle.std.proofs.Common.{◌≡◌, arith, ◌∙◌, sym, ap, refl, rules, length, replicate}
 use Rattle.std.proofs.Math.ListN.{length-replicate}
 use Rattle.plist_binread.proofs.FaultOffsets.{passed}
 use Rattle.plist_binread.specs.declared.head.Bounds.{Bounds}
@@ -7,6 +7,7 @@ use Rattle.plist_binread.specs.Slot.{answer_in}
 use Rattle.plist_binread.proofs.UnknownBytes.{IfSome-all}
 use Rattle.plist_binread.proofs.OpenObjects.{IsOpen-none, cached_count-none, cached_count-empty}
 use Rattle.plist_binread.proofs.FirstItem.{known_unread, known_wanted, known_opens, known_begun, known_cached, known_counted, known_hidden, known_uncounted}
+use Rattle.plist_binread.proofs.VisitorLimits.{passed_on}
 use Rattle.plist_binread.proofs.begin.begin.Goals as goal
 use Rattle.plist_binread.proofs.begin.begin.Goals.{In_ok-none}
 
@@ -118,5 +119,6 @@ returns-clause-handed g c =
             c.enter.new.walk c.read.ensures.unchanged refl
             (rw (← c.in_ok-head.ensures.answer) at c.read.ensures.value) h.is.1,
       );
-      taken = h.taken;
+      taken = passed_on g.V.EventVisitor.step c.new-relay.result c.enter.new.visitor _ _
+          c.enter.result h.event (search rules) (search rules) h.taken;
     }

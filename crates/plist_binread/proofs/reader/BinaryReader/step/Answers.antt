@@ -49,7 +49,7 @@ returns-in-Walking-clause-walks g c =
       is = item_walks _ _ _ _ c.args.self.now _ c.advance-item.ensures.unchanged
           c.advance-item.ensures.counted refl c.advance-item.result h.event c.in-Walking.is
           c.advance-item.ensures.bounds
-          c.state_after-self-in-Walking.ensures h.is.0 c.advance-item.ensures.fault
+          c.end_after.ensures h.is.0 c.advance-item.ensures.fault
           c.advance-item.ensures.size c.args.self.now.bounded c.advance-item.ensures.known h.is.1
           c.advance-item.ensures.falls c.advance-item.ensures.failures;
       taken = h.taken;
@@ -71,7 +71,7 @@ invariant_of-self g c = record {
 
 pub invariant_of-self-in-Walking : goal.invariant_of-self-in-Walking
 invariant_of-self-in-Walking g c = record {
-  fresh = λ fresh. absurd (not_fresh c.advance-item.result _ c.state_after-self-in-Walking.ensures
+  fresh = λ fresh. absurd (not_fresh c.advance-item.result _ c.end_after.ensures
       fresh);
   counted = c.advance-item.ensures.counted;
   bounded = rw (c.advance-item.ensures.unchanged, c.advance-item.ensures.size)

@@ -1,0 +1,96 @@
+-- Bytes that are tested in blocks.
+use Rattle.std.proofs.Common.{◌≡◌, ℕ, ◌+◌, ◌-◌, ◌%◌, ◌^◌, ◌<◌, ◌≤◌, inl, inr, zero, suc, Bool, true, false, cond, eqb, List, [], ◌∷◌, map, length, get_or, take, drop, replicate, refl, sym, ap, subst, ◌∙◌, arith, eqb-true, w8}
+use Rattle.std.specs.Str.{IsAscii}
+use Rattle.std.proofs.lemmas.Bool.{cases_lt}
+use Rattle.std.proofs.lemmas.List.{get_or-take, get_or-drop, get_or_past, length-take, length-take-le, length-drop}
+use Rattle.std.proofs.lemmas.Simd.{bitmask_splat}
+use lib.Lanes.{zip2, mask_l, top}
+use Rattle.plist_base.specs.ByteTests.{EachByte}
+
+none_marked : (p : ℕ → Bool) (bytes : List ℕ) → mask_l (map p bytes) ≡ 0
+    → (i : ℕ) → i < length bytes → p (get_or bytes i 0) ≡ false
+none_marked p [] e i within = absurd (omega arith)
+none_marked p (byte ∷ bytes) e zero within = go (p byte) refl (omega arith)
+  where
+    go : (t : Bool) → p byte ≡ t → ◌≡◌ {A = ℕ} (cond t 1 0) 0 → p byte ≡ false
+    go true is q = absurd (omega arith)
+    go false is q = is
+none_marked p (byte ∷ bytes) e (suc i) within = none_marked p bytes (omega arith) i (omega arith)
+
+-- the mask of a comparison with one number: the bytes are its left sides
+abbrev pub mask_left : (ℕ → ℕ → Bool) → List ℕ → (number : ℕ) → (n : ℕ) → ℕ
+mask_left t bytes number n =
+    mask_l (map (top 7) (zip2 (λ a b. cond (t a b) 255 0) bytes (replicate n number))) % 2 ^ 64
+
+-- no byte compares to the number if the mask of those that do is zero
+pub none_left : (t : ℕ → ℕ → Bool) (n number : ℕ) (bytes : List ℕ) → n ≤ 64 → length bytes ≡ n
+    → eqb (mask_left t bytes number n) 0 ≡ true
+    → (i : ℕ) → i < length bytes → t (get_or bytes i 0) number ≡ false
+none_left t n number bytes few long e =
+    none_marked (λ byte. t byte number) bytes
+    (sym (bitmask_splat w8 t bytes n number long few) ∙ eqb-true _ _ e)
+
+turned : (f : ℕ → ℕ → ℕ) (n number : ℕ) (bytes : List ℕ) → length bytes ≡ n
+    → zip2 f (replicate n number) bytes ≡ zip2 (λ a b. f b a) bytes (replicate n number)
+turned f zero number [] long = refl
+turned f zero number (byte ∷ bytes) long = absurd (omega arith)
+turned f (suc n) number [] long = absurd (omega arith)
+turned f (suc n) number (byte ∷ bytes) long =
+    ap (λ rest. f number byte ∷ rest) (turned f n number bytes (omega arith))
+
+-- like `mask_left`, with the bytes as the right sides
+abbrev pub mask_right : (ℕ → ℕ → Bool) → List ℕ → (number : ℕ) → (n : ℕ) → ℕ
+mask_right t bytes number n =
+    mask_l (map (top 7) (zip2 (λ a b. cond (t a b) 255 0) (replicate n number) bytes)) % 2 ^ 64
+
+-- no byte compares to the number if the mask of those that do is zero
+pub none_right : (t : ℕ → ℕ → Bool) (n number : ℕ) (bytes : List ℕ) → n ≤ 64 → length bytes ≡ n
+    → eqb (mask_right t bytes number n) 0 ≡ true
+    → (i : ℕ) → i < length bytes → t number (get_or bytes i 0) ≡ false
+none_right t n number bytes few long e =
+    none_left (λ a b. t b a) n number bytes few long
+    (ap (λ lanes. eqb (mask_l (map (top 7) lanes) % 2 ^ 64) 0)
+    (sym (turned (λ a b. cond (t a b) 255 0) n number bytes long)) ∙ e)
+
+-- the bytes up to one index, and the last block, which begins at that index or before
+pub each_covered : (P : ℕ → Type 0) (bytes : List ℕ) (first size n : ℕ) → first ≤ n
+    → length bytes ≡ first + size → EachByte P (take n bytes)
+    → EachByte P (take size (drop first bytes)) → EachByte P bytes
+each_covered P bytes first size n le long front back i within = elim (cases_lt i n) [
+  | inl below ↦ subst P (get_or-take n bytes i 0 below) (front i (shorter below))
+  | inr past ↦
+      subst P (get_or-take size (drop first bytes) (i - first) 0 (omega arith)
+      ∙ get_or-drop first bytes (i - first) 0 ∙ ap (λ k. get_or bytes k 0) (omega arith))
+      (back (i - first) (omega (
+        arith,
+        length-take size (drop first bytes),
+        length-drop first bytes,
+      )))
+]
+  where
+    shorter : i < n → i < length (take n bytes)
+    shorter below = omega (arith, length-take n bytes)
+
+-- one more block
+pub each_more : (P : ℕ → Type 0) (bytes : List ℕ) (at size : ℕ) → at + size ≤ length bytes
+    → EachByte P (take at bytes) → EachByte P (take size (drop at bytes))
+    → EachByte P (take (at + size) bytes)
+each_more P bytes at size le before next i within =
+    let long = length-take-le (at + size) bytes le in
+    elim (cases_lt i at) [
+      | inl below ↦
+          subst P (get_or-take at bytes i 0 below ∙ sym (get_or-take (at + size) bytes i 0 (omega arith)))
+          (before i (omega (arith, length-take-le at bytes (omega arith))))
+      | inr past ↦
+          subst P (get_or-take size (drop at bytes) (i - at) 0 (omega arith)
+          ∙ get_or-drop at bytes (i - at) 0 ∙ ap (λ k. get_or bytes k 0) (omega arith)
+          ∙ sym (get_or-take (at + size) bytes i 0 (omega arith)))
+          (next (i - at) (omega (arith, length-take-le size (drop at bytes) (omega (arith, length-drop at bytes)))))
+    ]
+
+-- bytes that are each ASCII are ASCII together
+pub ascii_from_each : (bytes : List ℕ) → EachByte (λ byte. byte < 128) bytes → IsAscii bytes
+ascii_from_each bytes each i = elim (cases_lt i (length bytes)) [
+  | inl within ↦ each i within
+  | inr past ↦ let e = get_or_past bytes i 0 past in omega arith
+]

@@ -1,0 +1,36 @@
+//! Defines a visitor that passes all events on.
+
+ghost use Rattle.std.specs.Prelude.{◌≡◌};
+
+use plist_base::{Event, EventVisitor};
+use std::ops::ControlFlow;
+
+/// Passes all events on to another visitor.
+///
+/// The code that enters an object is compiled once for each type of visitor. The first event of a
+/// file is passed on by this visitor, so that the code for all other events has only one caller and
+/// becomes part of the loop over the events. This saves a tenth of the time.
+#[derive(Drop)]
+pub struct Relay<'v, V> {
+    visitor: &'v mut V,
+}
+
+impl<'v, V: EventVisitor> Relay<'v, V> {
+    /// Creates a visitor that passes events on to `visitor`.
+    pub fn new(visitor: &'v mut V) -> Relay<'v, V>
+        ensures visitor { result.visitor.ghost_name ≡ visitor.entry.ghost_name }
+        ensures unvisited { result.visitor.now ≡ visitor.old }
+    {
+        Relay { visitor }
+    }
+}
+
+impl<'v, V: EventVisitor> EventVisitor for Relay<'v, V> {
+    ghost use Rattle.plist_binread.specs.Handing.{PassesOn};
+
+    ghost step = { PassesOn V.step };
+
+    fn event(&mut self, event: Event<'_>) -> ControlFlow<()> {
+        self.visitor.event(event)
+    }
+}
