@@ -26,6 +26,7 @@ use Rattle.plist_binwrite.specs.Sizes.{total, IsSizeOrNone, object_size}
 use Rattle.plist_binwrite.proofs.TreeObjects.{occurs_at}
 use Rattle.plist_binwrite.proofs.Reading.{length-keys_of, length-values_of}
 use Rattle.plist_binwrite.proofs.ReadingNumbers.{length-table}
+use Rattle.plist_binwrite.proofs.PlannedBy.{known_number}
 use Rattle.plist_binwrite.proofs.Totals.{total_below, total_all}
 use Rattle.plist_binwrite.proofs.Unfold.{length-references, length-pairs}
 
@@ -295,5 +296,6 @@ module _ {es : List PlainEvent} {class : ℕ → ℕ} {by_class firsts : List �
       let s = subst (OccursAt es u.0) (sym e) u.1 in (
         u.0,
         s,
-        ap objects (sym (ap (number_by class by_class) e ∙ f.1)) ∙ describes u.0 _ s,
+        ap objects (sym (ap (number_by class by_class) e ∙ known_number planned.numbered k h))
+            ∙ describes u.0 _ s,
       )

@@ -1,5 +1,6 @@
 use Rattle.std.proofs.Common.{◌≢◌, subst, get_or, arith, below_more}
 use Rattle.plist_binwrite.proofs.Placing.{in_order}
+use Rattle.plist_binwrite.proofs.PlannedBy.{known_number}
 use Rattle.plist_binwrite.proofs.layout.lay_out.Goals as goal
 
 pub loop-index-init : goal.loop-index-init
@@ -16,6 +17,7 @@ pub returns-clause-all : goal.returns-clause-all
 returns-clause-all c = λ k h.
     let known = c.requires.numbered.planned.numbered.known k h in
     in_order k c.loop-index.invariant.0.order (subst
-    (λ n. get_or c.loop-index.layout.places n 0 ≢ 0) known.1
+    (λ n. get_or c.loop-index.layout.places n 0 ≢ 0)
+    (known_number c.requires.numbered.planned.numbered k h)
     (c.loop-index.invariant.1 _ (omega (arith, known.0, c.loop-index-test.false))
     (known.0, known.2)))

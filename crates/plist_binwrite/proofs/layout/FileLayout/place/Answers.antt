@@ -4,6 +4,7 @@ use Rattle.plist_binwrite.specs.inner.Planning.{count_of, object_number}
 use Rattle.plist_binwrite.proofs.ClassObjects.{numbered}
 use Rattle.plist_binwrite.proofs.HeldEntries.{long_shown}
 use Rattle.plist_binwrite.proofs.Placing.{end_positive, keeps_more, laid_next, marked_more, not_in_order, order_more, sized}
+use Rattle.plist_binwrite.proofs.PlannedBy.{numbers_below}
 use Rattle.plist_binwrite.proofs.TreeObjects.{object_fits}
 use Rattle.plist_binwrite.proofs.layout.FileLayout.place.Goals as goal
 use Rattle.plist_binwrite.proofs.layout.FileLayout.place.Goals.{In_ok-set as Placed}
@@ -13,7 +14,7 @@ abbrev number : Placed → ℕ
 number c = object_number c.args.given.now c.args.numbering.now c.args.index
 
 below : (c : Placed) → number c < count_of c.args.numbering.now
-below c = let item = c.requires.item in c.requires.numbered.planned.all _ item.0 item.1
+below c = let item = c.requires.item in numbers_below c.requires.numbered.planned _ item.0 item.1
 
 none : (c : Placed) → get_or c.args.self.now.places (number c) 0 ≡ 0
 none c =
@@ -53,7 +54,7 @@ returns-clause-layout c =
       laid = λ objects d.
           let fit = sized planned.whole objects d c.args.index c.requires.item _ _
           c.size_of_object-size.ensures.size
-          (λ t. object_fits _ _ _ _ planned.all old.fits
+          (λ t. object_fits _ _ _ _ (numbers_below planned) old.fits
           (omega (arith, long_shown (scalars_of held) held.entries, held.few)) _
           c.size_of_object-size.ensures.writable t) in
           rw (c.in_ok-set.ensures.set, c.in_ok-push.ensures.pushed, c.number-number.ensures)
