@@ -1,5 +1,5 @@
 -- A plan by classes is a numbering: each number has one object.
-use Rattle.std.proofs.Common.{◌≡◌, ◌⊎◌, inl, inr, ℕ, ◌+◌, ◌<◌, ◌≤◌, List, [], ◌∷◌, length, get_or, refl, ap, sym, ◌∙◌, arith}
+use Rattle.std.proofs.Common.{◌≡◌, ◌⊎◌, inl, inr, ℕ, ◌+◌, ◌-◌, ◌<◌, ◌≤◌, List, [], ◌∷◌, length, get_or, refl, ap, sym, ◌∙◌, arith}
 use Rattle.std.proofs.lemmas.Bool.{cases_lt}
 use Rattle.plist_base.specs.Events.{PlainEvent}
 use Rattle.plist_base.specs.Trees as trees
@@ -14,6 +14,7 @@ use Rattle.plist_binwrite.specs.inner.PlansBy.{number_by}
 use Rattle.plist_binwrite.proofs.TreeObjects.{occurs_at}
 use Rattle.plist_binwrite.specs.Occurrences.{event_count, OccursAt, ItemsOccurAt, PairsOccurAt}
 use Rattle.plist_binwrite.proofs.Occurring.{occurs_items, occurs_pairs, occurs_item, occurs_next, occurs_key, occurs_value, occurs_next_pair}
+use Rattle.plist_binwrite.proofs.PlannedBy.{numbers_below}
 use Rattle.plist_binwrite.proofs.Skipping.{begins, occurs_in}
 
 pub the_scalar : (x y : Scalar) → obj.Scalar x ≡ obj.Scalar y → x ≡ y
@@ -104,11 +105,12 @@ module _ {es : List PlainEvent} {class : ℕ → ℕ} {by_class firsts : List �
   first k = get_or firsts k 0
 
   pub number_below : (t : Tree) (p : ℕ) → OccursAt es t p → num p < length firsts
-  number_below t p s = planned.all p (occurs_in s) (begins t p s)
+  number_below t p s = numbers_below planned p (occurs_in s) (begins t p s)
 
   first_class : (t : Tree) (p : ℕ) → OccursAt es t p → class (first (num p)) ≡ class p
   first_class t p s =
-      planned.numbered.same (class p) (planned.numbered.below p (occurs_in s)) (number_below t p s)
+      planned.numbered.same (class p) (planned.numbered.below p (occurs_in s))
+      (planned.all p (occurs_in s) (begins t p s))
 
   -- indices of one number have one class, and indices of one class have one number
   pub number_apart : (t u : Tree) (p q : ℕ) → OccursAt es t p → OccursAt es u q → num p ≡ num q
@@ -118,7 +120,7 @@ module _ {es : List PlainEvent} {class : ℕ → ℕ} {by_class firsts : List �
 
   pub number_same : (t u : Tree) (p q : ℕ) → OccursAt es t p → OccursAt es u q → class p ≡ class q
       → num p ≡ num q
-  number_same t u p q s r e = ap (λ c. get_or by_class c 0) e
+  number_same t u p q s r e = ap (λ c. get_or by_class c 0 - 1) e
 
   tree_of : (k : ℕ) → k < length firsts → (u : Tree) × OccursAt es u (first k)
   tree_of k h = let n = planned.numbered.known k h in occurs_at es planned.whole _ n.0 n.2

@@ -23,6 +23,7 @@ use Rattle.plist_binwrite.proofs.Inside.{Stands, positions_stand, positions_all}
 use Rattle.plist_binwrite.proofs.SameScalars.{tells_both}
 use Rattle.plist_binwrite.proofs.Occurring.{occurs_whole}
 use Rattle.plist_binwrite.proofs.Placing.{form_size, total_bodies}
+use Rattle.plist_binwrite.proofs.PlannedBy.{known_number}
 use Rattle.plist_binwrite.proofs.Totals.{total_below, count_below, total_all, unique_member, unique_distinct, total-map, total_equal, total_one}
 use Rattle.plist_binwrite.proofs.Uniques.{all_from, all_unique, members_self, member_has, unique_seen}
 
@@ -53,7 +54,7 @@ module _ {es : List PlainEvent} {class : ℕ → ℕ} {by_class firsts : List �
       ≡ true) whole e
       (members_self number (positions whole 0))
       (get_or firsts q 0) f.0 f.2 in
-      unique_member eqb eqb_tells given q ∙ ap (λ k. is_member eqb given k) (sym f.1) ∙ m)
+      unique_member eqb eqb_tells given q ∙ ap (λ k. is_member eqb given k) (sym (known_number planned.numbered q h)) ∙ m)
 
   -- there is one number for each class of a position
   kept_numbers : map number (representatives class whole)

@@ -1,12 +1,13 @@
 -- Objects that lie back to back: their order, their offsets and their sizes.
-use Rattle.std.proofs.Common.{◌≡◌, ◌≢◌, ◌⊎◌, inl, inr, ℕ, ◌+◌, ◌<◌, ◌≤◌, true, false, ◌||◌, eqb, List, [], ◌∷◌, ◌++◌, length, get_or, set, refl, ap, sym, ◌∙◌, arith, append_assoc, length-append, take, Option, Some, None, IfSome, subst}
+use Rattle.std.proofs.Common.{◌≡◌, ◌≢◌, ◌⊎◌, inl, inr, ℕ, ◌+◌, ◌<◌, ◌≤◌, true, false, ◌||◌, eqb, List, [], ◌∷◌, ◌++◌, length, get_or, set, refl, ap, sym, ◌∙◌, arith, append_assoc, length-append, Option, Some, None, IfSome, subst}
 use Rattle.std.specs.List.{list_any, IsDistinct}
-use Rattle.std.proofs.lemmas.Bool.{eqb-true, eqb-false, or_cases, or_parts, false_from_ne_true, true_from_ne_false, eq-eqb, ne_eqb}
+use Rattle.std.proofs.lemmas.Bool.{eqb-true, eqb-false, or_cases, or_parts, false_from_ne_true, true_from_ne_false, eq-eqb}
 use Rattle.std.proofs.lemmas.Cmp.{nat_eq_equiv}
-use Rattle.std.proofs.lemmas.List.Recursion.{or_push, or_from_places}
-use Rattle.std.proofs.lemmas.Map.Keys.{IsDistinct-push, apart_from_distinct}
+use Rattle.std.proofs.lemmas.Grind.{flat_map-append}
+use Rattle.std.proofs.lemmas.List.Recursion.{or_push}
+use Rattle.std.proofs.lemmas.Map.Keys.{IsDistinct-push}
 use Rattle.std.proofs.lemmas.Bool.Decides.{eqb_tells}
-use Rattle.std.proofs.lemmas.List.{get_or-set_same, get_or-set_other, length-set, take_more, get_or-take, length-take}
+use Rattle.std.proofs.lemmas.List.{get_or-set_same, get_or-set_other, length-set}
 use Rattle.plist_format.specs.Container.{magic}
 use Rattle.plist_format.specs.Object.{Object}
 use Rattle.plist_binwrite.specs.Forms.{form, IsWritable}
@@ -15,16 +16,17 @@ use Rattle.plist_binwrite.specs.inner.Laying.{IsOrder, KeepsMarks, laid_out, All
 use Rattle.std.proofs.lemmas.List.Folds.{list_any_at}
 use Rattle.plist_base.specs.Events.{PlainEvent}
 use Rattle.plist_base.specs.Trees.{Tree, Leaf, Array, Dictionary}
-use Rattle.plist_binwrite.specs.EventTable.{Describes}
+use Rattle.plist_binwrite.specs.EventTable.{Describes, HasItem, IsBracketed}
 use Rattle.plist_binwrite.specs.inner.Planning.{IsPlanned}
 use Rattle.plist_binwrite.specs.inner.PlansBy.{number_by}
+use Rattle.plist_binwrite.specs.inner.Sizing.{AreLaidOut}
 use Rattle.plist_binwrite.specs.Occurrences.{OccursAt}
 use Rattle.plist_binwrite.specs.Numberings.{object_of}
 use Rattle.plist_binwrite.specs.Sizes.{total, IsSizeOrNone, object_size}
-use Rattle.plist_binwrite.proofs.Outgoing.{one_part}
 use Rattle.plist_binwrite.proofs.TreeObjects.{occurs_at}
 use Rattle.plist_binwrite.proofs.Reading.{length-keys_of, length-values_of}
 use Rattle.plist_binwrite.proofs.ReadingNumbers.{length-table}
+use Rattle.plist_binwrite.proofs.PlannedBy.{known_number}
 use Rattle.plist_binwrite.proofs.Totals.{total_below, total_all}
 use Rattle.plist_binwrite.proofs.Unfold.{length-references, length-pairs}
 
@@ -132,14 +134,14 @@ order_none count marks long zeros = record {
   others = λ k any. zeros k;
 }
 
--- one more object is appended to the order
-module _ {count : ℕ} {order marks : List ℕ} (k : ℕ) (o : IsOrder count order marks) (h : k < count)
-    (z : get_or marks k 0 ≡ 0) where
-  new : list_any (eqb k) order ≡ false
-  new = false_from_ne_true _ (λ e. o.marked k e z)
+-- one more object, whose mark is v
+module _ {count : ℕ} {order marks : List ℕ} (k v : ℕ) (o : IsOrder count order marks) (h : k < count)
+    (z : get_or marks k 0 ≡ 0) (positive : 0 < v) where
+  pub not_in_order : list_any (eqb k) order ≡ false
+  not_in_order = false_from_ne_true _ (λ e. o.marked k e z)
 
-  here : get_or (set marks k 1) k 0 ≡ 1
-  here = get_or-set_same _ k 1 0 (omega arith)
+  here : get_or (set marks k v) k 0 ≡ v
+  here = get_or-set_same _ k v 0 (omega (arith, o.long, h))
 
   split : (q : ℕ) → list_any (eqb q) (order ++ k ∷ []) ≡ true
       → (list_any (eqb q) order ≡ true) ⊎ (q ≡ k)
@@ -148,32 +150,34 @@ module _ {count : ℕ} {order marks : List ℕ} (k : ℕ) (o : IsOrder count ord
     | inr s ↦ inr (eqb-true q k s)
   ]
 
-  pub keeps_more : KeepsMarks marks (set marks k 1)
+  pub keeps_more : KeepsMarks marks (set marks k v)
   keeps_more q n = elim (eqb_tells q k) [
     | inl s ↦ λ zero. absurd (omega (
       arith,
       here,
-      ap (λ j. get_or (set marks k 1) j 0)
+      positive,
+      zero,
+      ap (λ j. get_or (set marks k v) j 0)
           (sym s.1),
     ))
-    | inr d ↦ λ zero. n (cc (get_or-set_other marks k q 1 0 d.1))
+    | inr d ↦ λ zero. n (cc (get_or-set_other marks k q v 0 d.1))
   ]
 
-  pub marked_more : get_or (set marks k 1) k 0 ≢ 0
-  marked_more zero = absurd (omega (arith, here))
+  pub marked_more : get_or (set marks k v) k 0 ≢ 0
+  marked_more zero = absurd (omega (arith, here, positive, zero))
 
-  pub order_more : IsOrder count (order ++ k ∷ []) (set marks k 1)
+  pub order_more : IsOrder count (order ++ k ∷ []) (set marks k v)
   order_more = record {
-    long = length-set marks k 1 ∙ o.long;
-    distinct = IsDistinct-push nat_eq_equiv order k o.distinct new;
+    long = length-set marks k v ∙ o.long;
+    distinct = IsDistinct-push nat_eq_equiv order k o.distinct not_in_order;
     below = λ q any. elim (split q any) [ inl t ↦ o.below q t | inr s ↦ omega (arith, s, h) ];
     marked = λ q any. elim (split q any) [
       | inl t ↦ keeps_more q (o.marked q t)
-      | inr s ↦ λ zero. marked_more (ap (λ j. get_or (set marks k 1) j 0) (sym s) ∙ zero)
+      | inr s ↦ λ zero. marked_more (ap (λ j. get_or (set marks k v) j 0) (sym s) ∙ zero)
     ];
     others = λ q any.
         let n = or_parts _ _ (sym (any_snoc q order k) ∙ any) in
-        get_or-set_other marks k q 1 0 (eqb-false q k n.1) ∙ o.others q n.0;
+        get_or-set_other marks k q v 0 (eqb-false q k n.1) ∙ o.others q n.0;
   }
 
 -- an object with a mark is in the order
@@ -216,55 +220,68 @@ form_size w num (Dictionary ms) p =
 pub any_at : (xs : List ℕ) (i : ℕ) → i < length xs → list_any (eqb (get_or xs i 0)) xs ≡ true
 any_at xs i h = list_any_at _ xs i 0 h (eq-eqb _ _ refl)
 
-not_before : (xs : List ℕ) (i : ℕ) → IsDistinct eqb xs → i < length xs
-    → list_any (eqb (get_or xs i 0)) (take i xs) ≡ false
-not_before xs i d h =
-    or_from_places (list_any (eqb (get_or xs i 0))) (eqb (get_or xs i 0)) refl (λ x l. refl)
-    _ 0 (λ k lt.
-    let before : k < i = omega (arith, lt, length-take i xs) in
-    ne_eqb _ _ (λ e. eqb-false _ _ (apart_from_distinct eqb xs k i 0 d before h)
-    (sym (get_or-take i xs k 0 before) ∙ sym e)))
-
 -- ---- one more offset
 
--- the offset after the first i objects, and where these lie
-pub record Along (w : ℕ) (objects : ℕ → Object) (order places : List ℕ) (i : ℕ)
-    (at : Option ℕ) : Type 0 where
-  pub given : IsSizeOrNone at (8 + length (object_table w objects (take i order)))
-  pub laid : IfSome at (λ n. Laid w objects places (take i order) 8)
+-- the next offset is positive
+pub end_positive : (w : ℕ) (objects : ℕ → Object) (order : List ℕ) (end : Option ℕ)
+    → IsSizeOrNone end (length (laid_out w objects order)) → IfSome end (λ n. 0 < n)
+end_positive w objects order None is = tt
+end_positive w objects order (Some n) is =
+    omega (arith, is, length-magic (object_table w objects order))
 
-pub along_next : (w : ℕ) (objects : ℕ → Object) (order places : List ℕ) (i v : ℕ)
-    (at next : Option ℕ) → i < length order → IsDistinct eqb order
-    → get_or order i 0 < length places → IsWritable w (objects (get_or order i 0))
-    → IfSome at (λ n. v ≡ n)
-    → ((a : ℕ) → IsSizeOrNone at a → IsSizeOrNone next (a + length (form w (objects
-    (get_or order i 0)))))
-    → (at ≡ None → next ≡ None) → Along w objects order places i at → Along w objects order
-    (set places (get_or order i 0) v) (i + 1) next
-along_next w objects order places i v at next lt distinct below good is sum none along = record {
-  given = subst (IsSizeOrNone next) more (sum _ along.given);
-  laid = by at next is none along.given along.laid;
+pub laid_next : (w : ℕ) (objects : ℕ → Object) (order places : List ℕ) (k v : ℕ)
+    (end size next : Option ℕ) → k < length places → list_any (eqb k) order ≡ false
+    → IsSizeOrNone size (length (form w (objects k))) × IsWritable w (objects k)
+    → IfSome end (λ n. v ≡ n)
+    → ((a b : ℕ) → IsSizeOrNone end a → IsSizeOrNone size b → IsSizeOrNone next (a + b))
+    → (end ≡ None → next ≡ None) → AreLaidOut w objects order places end
+    → AreLaidOut w objects (order ++ k ∷ []) (set places k v) next
+laid_next w objects order places k v end size next below new good is sum none laid = record {
+  end = subst (IsSizeOrNone next) more (sum _ _ laid.end good.0);
+  laid = by end next is none laid.end laid.laid;
 }
   where
-    more : 8 + length (object_table w objects (take i order)) + length
-        (form w (objects (get_or order i 0)))
-        ≡ 8 + length (object_table w objects (take (i + 1) order))
+    f : ℕ → List ℕ
+    f j = form w (objects j)
+
+    more : length (laid_out w objects order) + length (f k)
+        ≡ length (laid_out w objects (order ++ k ∷ []))
     more =
         omega (
           arith,
-          ap length (one_part (λ k. form w (objects k)) order i lt),
-          length-append (object_table w objects (take i order)) (form w (objects (get_or order i 0))),
+          length-magic (object_table w objects order),
+          length-magic (object_table w objects (order ++ k ∷ [])),
+          ap length (flat_map-append f order (k ∷ [])),
+          length-append (object_table w objects order) (f k ++ []),
+          length-append (f k) [],
         )
 
-    by : (at next : Option ℕ) → IfSome at (λ n. v ≡ n) → (at ≡ None → next ≡ None)
-        → IsSizeOrNone at (8 + length (object_table w objects (take i order)))
-        → IfSome at (λ n. Laid w objects places (take i order) 8)
-        → IfSome next (λ n. Laid w objects (set places (get_or order i 0) v) (take (i + 1) order) 8)
+    by : (end next : Option ℕ) → IfSome end (λ n. v ≡ n) → (end ≡ None → next ≡ None)
+        → IsSizeOrNone end (length (laid_out w objects order))
+        → IfSome end (λ _. Laid w objects places order 8)
+        → IfSome next (λ _. Laid w objects (set places k v) (order ++ k ∷ []) 8)
     by None (Some m) is none given laid = let e : Some m ≡ None = none refl in cc
     by (Some n) (Some m) is none given laid =
-        rw (take_more order i 0 lt) (laid_snoc w objects places (take i order) 8 (get_or order i 0)
-        v below (not_before order i distinct lt) good (is ∙ given) laid)
-    by at next is none given laid = tt
+        laid_snoc w objects places order 8 k v below new good.1
+        (is ∙ given ∙ length-magic (object_table w objects order)) laid
+    by end None is none given laid = tt
+
+-- the object of the event at an index is that of the tree which begins there
+module _ {es : List PlainEvent} {number : ℕ → ℕ} (whole : IsBracketed es) (objects : ℕ → Object)
+    (describes : Describes es number objects) (p : ℕ) (item : HasItem es p) where
+  pub described_at : (u : Tree) × OccursAt es u p × (objects (number p) ≡ object_of number u p)
+  described_at = let u = occurs_at es whole p item.0 item.1 in (u.0, u.1, describes u.0 p u.1)
+
+  pub sized : (w : ℕ) (given : Option ℕ)
+      → ((t : Tree) → OccursAt es t p → IsSizeOrNone given (object_size w t))
+      → ((t : Tree) → OccursAt es t p → IsWritable w (object_of number t p))
+      → IsSizeOrNone given (length (form w (objects (number p))))
+      × IsWritable w (objects (number p))
+  sized w given size good =
+      let d = described_at in (
+        rw (ap (λ v. length (form w v)) d.2 ∙ form_size w number d.0 p) (size d.0 d.1),
+        rw d.2 (good d.0 d.1),
+      )
 
 -- the object of a number is that of the tree which begins at its first event
 module _ {es : List PlainEvent} {class : ℕ → ℕ} {by_class firsts : List ℕ}
@@ -279,23 +296,6 @@ module _ {es : List PlainEvent} {class : ℕ → ℕ} {by_class firsts : List �
       let s = subst (OccursAt es u.0) (sym e) u.1 in (
         u.0,
         s,
-        ap objects (sym (ap (number_by class by_class) e ∙ f.1)) ∙ describes u.0 _ s,
+        ap objects (sym (ap (number_by class by_class) e ∙ known_number planned.numbered k h))
+            ∙ describes u.0 _ s,
       )
-
-  pub sized : (w : ℕ) (given : Option ℕ)
-      → ((t : Tree) → OccursAt es t first → IsSizeOrNone given (object_size w t))
-      → ((t : Tree) → OccursAt es t first
-      → IsWritable w (object_of (number_by class by_class) t first))
-      → IsSizeOrNone given (length (form w (objects k))) × IsWritable w (objects k)
-  sized w given size good =
-      let d = described in (
-        rw (ap (λ v. length (form w v)) d.2
-            ∙ form_size w (number_by class by_class) d.0 first) (size d.0 d.1),
-        rw d.2 (good d.0 d.1),
-      )
-
-pub if_some_all : (o : Option ℕ) (P Q : (ℕ → Object) → Type 0)
-    → ((objects : ℕ → Object) → P objects → IfSome o (λ n. Q objects))
-    → IfSome o (λ n. (objects : ℕ → Object) → P objects → Q objects)
-if_some_all None P Q h = tt
-if_some_all (Some n) P Q h = λ objects p. h _ p

@@ -16,15 +16,17 @@ use Rattle.plist_format.proofs.Tables.{length-table_of}
 use Rattle.plist_binwrite.specs.Classes.{IsFileBy, count_by, objects_by, size_by, IsOversized, Fits, SendsBy}
 use Rattle.plist_binwrite.specs.ObjectCounts.{collections_in}
 use Rattle.plist_binwrite.specs.Forms.{form, table_form, AllFit}
-use Rattle.plist_binwrite.specs.EventTable.{AllBelow, Describes}
+use Rattle.plist_binwrite.specs.EventTable.{Describes}
 use Rattle.plist_binwrite.specs.EventClasses.{class_in, events_in}
-use Rattle.plist_binwrite.specs.inner.Laying.{AllOnce, laid_out, with_table_and_trailer, IsOrder, HasAll}
-use Rattle.plist_binwrite.specs.inner.Planning.{IsPlanned, object_number}
+use Rattle.plist_binwrite.specs.inner.Laying.{AllOnce, laid_out, with_table_and_trailer, HasAll}
+use Rattle.plist_binwrite.specs.inner.Planning.{IsNumberingOfEvents, IsPlanned, count_of, object_number}
 use Rattle.plist_binwrite.specs.inner.PlansBy.{number_by}
 use Rattle.plist_binwrite.specs.Occurrences.{positions}
 use Rattle.plist_binwrite.specs.Widths.{reference_width, offset_width}
 use Rattle.plist_binwrite.specs.Written.{Laid, object_table, table_and_trailer}
 use Rattle.plist_binwrite.specs.declared.classes.Classed.{Classed}
+use Rattle.plist_binwrite.specs.declared.layout.FileLayout.{FileLayout}
+use Rattle.plist_binwrite.specs.declared.numbering.Numbering.{Numbering}
 use Rattle.plist_binwrite.specs.declared.plan.FilePlan.{FilePlan}
 use Rattle.plist_binwrite.proofs.ClassObjects.{Numbered, numbered, number_apart, number_below}
 use Rattle.plist_binwrite.proofs.Kept.{planned_count, planned_size}
@@ -44,7 +46,7 @@ use Rattle.plist_base.specs.declared.sink.Sink.{Sink}
 use Rattle.plist_base.specs.Prefixes.{AppendsPrefix}
 use Rattle.plist_base.specs.Sinks.{PutsBytes, pending, written}
 use Rattle.plist_base.proofs.SinkSteps.{sent_part, sent_whole}
-use Rattle.plist_binwrite.specs.inner.Sizing.{ExceedsWith, FitsWith}
+use Rattle.plist_binwrite.specs.inner.Sizing.{ExceedsWith, FitsWith, IsLayout}
 use Rattle.plist_binwrite.specs.Sizes.{IsSizeOrNone, size_with}
 use Rattle.plist_binwrite.specs.SendingAs.{IsFileAs}
 use Rattle.plist_binwrite.proofs.Lengthless.{plain_lengthless}
@@ -183,76 +185,76 @@ module _ {es : List PlainEvent} {class : ℕ → ℕ} {by_class firsts : List �
       fits = fits;
     }
 
-module _ {es : List PlainEvent} {class : ℕ → ℕ} {by_class firsts order marks : List ℕ}
-    (given : Option ℕ) {width count : ℕ} (wide : width ≡ reference_width count)
-    (many : count ≡ length marks) (p : IsPlanned es class by_class firsts)
-    (o : IsOrder (length firsts) order marks) (all : HasAll (length firsts) order)
-    (size : (objects : ℕ → Object) → Describes es (number_by class by_class) objects
-    → IsSizeOrNone given (length (laid_out width objects order))) where
-  n : count ≡ length firsts
-  n = cc
+module _ {given : Classed} {numbering : Numbering} {layout : FileLayout}
+    (p : IsNumberingOfEvents given numbering) (l : IsLayout given numbering layout)
+    (all : HasAll (count_of numbering) layout.order) where
+  once : AllOnce (count_of numbering) layout.order
+  once = record { distinct = l.order.distinct; numbered = λ k. (l.order.below k, all k) }
 
-  once : AllOnce (length firsts) order
-  once = record { distinct = o.distinct; numbered = λ k. (o.below k, all k) }
-
-  module _ (t : Tree) (e : es ≡ lengthless t) where
+  module _ (t : Tree) (e : events_in given ≡ lengthless t) where
     abbrev size_of_all : ℕ
-    size_of_all = objects_by class (reference_width (count_by class t)) t
+    size_of_all = objects_by (class_in given) (reference_width (count_by (class_in given) t)) t
 
     -- the offset of the offset table
-    table_told : IsSizeOrNone given (8 + size_of_all)
+    table_told : IsSizeOrNone layout.end (8 + size_of_all)
     table_told =
-        let of = numbered p in
-        subst (IsSizeOrNone given)
-        (ap (λ v. length (laid_out v of.objects order)) (wide ∙ ap reference_width n)
-        ∙ laid_length p t e of.objects of.describes order once)
-        (size of.objects of.describes)
+        let of = numbered p.planned in
+        subst (IsSizeOrNone layout.end)
+        (ap (λ v. length (laid_out v of.objects layout.order)) l.width
+        ∙ laid_length p.planned t e of.objects of.describes layout.order once)
+        (l.laid of.objects of.describes).end
 
     -- the number of objects
-    count_told : count ≡ count_by class t
-    count_told = n ∙ planned_count p t e
+    count_told : length layout.places ≡ count_by (class_in given) t
+    count_told = l.order.long ∙ planned_count p.planned t e
 
-    too_large : (given : Option ℕ) → IfSome given (λ table. ExceedsWith table count)
-        → IsSizeOrNone given (8 + size_of_all) → 2 ^ 64 ≤ size_by class t
+    too_large : (end : Option ℕ)
+        → IfSome end (λ table. ExceedsWith table (length layout.places))
+        → IsSizeOrNone end (8 + size_of_all) → 2 ^ 64 ≤ size_by (class_in given) t
     too_large None exceeds large = omega (arith, large)
     too_large (Some table) exceeds is =
         subst (λ k. 2 ^ 64 ≤ size_with k size_of_all) count_told (exceeds size_of_all is)
 
   -- the file has 2^64 bytes or more
-  pub oversized : IfSome given (λ table. ExceedsWith table count) → IsOversized class es
-  oversized exceeds t e = too_large t e given exceeds (table_told t e)
+  pub oversized : IfSome layout.end (λ table. ExceedsWith table (length layout.places))
+      → IsOversized (class_in given) (events_in given)
+  oversized exceeds t e = too_large t e layout.end exceeds (table_told t e)
 
-  module _ (places : List ℕ) {table : ℕ} (known : given ≡ Some table) (fits : FitsWith table count)
-      (long : length places ≡ length firsts)
-      (laid : IfSome given (λ _. (objects : ℕ → Object)
-      → Describes es (number_by class by_class) objects → Laid width objects places order 8)) where
-    pub widths : width ≡ reference_width (length places)
-    widths = wide ∙ ap reference_width (n ∙ sym long)
+  module _ {table : ℕ} (known : layout.end ≡ Some table)
+      (fits : FitsWith table (length layout.places)) where
+    widths : layout.width ≡ reference_width (length layout.places)
+    widths = l.width ∙ ap reference_width (sym l.order.long)
 
-    all_fit : Fits class es
+    all_fit : Fits (class_in given) (events_in given)
     all_fit t e =
-        let objects = objects_by class (reference_width (count_by class t)) t in
+        let objects = objects_by (class_in given) (reference_width (count_by (class_in given) t)) t
+        in
         subst (λ k. size_with k objects < 2 ^ 64) (count_told t e)
         (fits objects (rw known at (table_told t e)))
 
-    -- each number in the order is that of an object, and the offset table lies directly after the
-    -- objects
-    pub ordered : AllBelow (length firsts) order
-    ordered i h = o.below (get_or order i 0) (any_at order i h)
-
-    pub table_is : (objects : ℕ → Object) → Describes es (number_by class by_class) objects
-        → table ≡ length (laid_out width objects order)
-    table_is objects d = rw known at (size objects d)
-
-    pub file_is_by : (objects : ℕ → Object) → Describes es (number_by class by_class) objects
-        → (t : Tree) → es ≡ lengthless t
-        → IsFileBy class t (with_table_and_trailer (laid_out width objects order) places)
-    file_is_by objects d t e =
-        subst (λ w. IsFileBy class t (with_table_and_trailer (laid_out w objects order) places))
-        (sym widths)
-        (finished p t e objects d order once places
-        (subst (λ w. Laid w objects places order 8) widths ((rw known at laid) objects d))
-        long (all_fit t e))
+    -- what is laid out is the plan of the file
+    pub plan_made : IsFilePlan given (record {
+      numbering = numbering;
+      order = layout.order;
+      places = layout.places;
+      width = layout.width;
+      table = table;
+    })
+    plan_made = record {
+      numbered = p;
+      order = λ i h. l.order.below (get_or layout.order i 0) (any_at layout.order i h);
+      width = widths;
+      narrow = l.narrow;
+      table = λ objects d. rw known at (l.laid objects d).end;
+      file = λ objects d t e.
+          subst
+          (λ w. IsFileBy (class_in given) t
+          (with_table_and_trailer (laid_out w objects layout.order) layout.places))
+          (sym widths)
+          (finished p.planned t e objects d layout.order once layout.places
+          (subst (λ w. Laid w objects layout.places layout.order 8) widths
+          (rw known at (l.laid objects d).laid)) l.order.long (all_fit t e));
+    }
 
 -- the parts are put one after another
 pub file_is : (objects : ℕ → Object) (order places : List ℕ) (table width : ℕ)

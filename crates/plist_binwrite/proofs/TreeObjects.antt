@@ -8,7 +8,7 @@ use Rattle.plist_binwrite.specs.declared.kinds.EntryKind.{EntryKind}
 use Rattle.plist_binwrite.specs.declared.kinds.EntryKind.TheVariants as kind
 use Rattle.plist_binwrite.specs.Occurrences.{event_count, OccursAt, ItemsOccurAt, PairsOccurAt}
 use Rattle.plist_binwrite.specs.Numberings.{references, pairs, object_of}
-use Rattle.plist_binwrite.specs.Forms.{big_endian, length_form, units_of, is_ascii_text, text_form, form, key_numbers, value_numbers, IsWritable, IsWritableScalar, AllFit}
+use Rattle.plist_binwrite.specs.Forms.{big_endian, length_form, units_of, is_ascii_text, text_form, scalar_form, form, key_numbers, value_numbers, IsWritable, IsWritableScalar, AllFit}
 use Rattle.plist_binwrite.specs.EventTable.{is_end, entry_kind_of, event_at, item_indices, key_indices, value_indices, AllNumbered, IsBracketed}
 use Rattle.plist_binwrite.specs.Sizes.{IsSizeOrNone, dictionary_size, marked_size}
 use Rattle.plist_binwrite.specs.Children.{half_of}
@@ -127,6 +127,15 @@ module _ {es : List PlainEvent} {k : EntryKind} {p : ℕ} (at : k ≡ entry_kind
     -- neither a collection nor a scalar is at this index
     pub of_nothing : is_leaf (event_at es p) ≡ false → (t : Tree) → OccursAt es t p → P t
     of_nothing n = neither (λ x single. cc (ap is_leaf single))
+
+-- the object of a scalar has the form of the scalar
+pub scalar_there : {es : List PlainEvent} {p : ℕ} (num : ℕ → ℕ) (w : ℕ) (x : Scalar)
+    → event_at es p ≡ ScalarEvent x → (t : Tree) → OccursAt es t p
+    → scalar_form x ≡ form w (object_of num t p)
+scalar_there num w x is (Leaf y) s =
+    let single = stands_single s in let same : x ≡ y = cc in ap scalar_form same
+scalar_there num w x is (Array ts) s = let start = starts_array s in cc
+scalar_there num w x is (Dictionary ms) s = let start = starts_dictionary s in cc
 
 -- ---- forms and sizes
 

@@ -105,18 +105,6 @@ AllBelow n ps = (i : ℕ) → i < length ps → get_or ps i 0 < n
 abbrev pub nth_number : List ℕ → ℕ → ℕ
 nth_number numbers p = get_or numbers p 0
 
--- the object of the event at an index has a number
-abbrev pub IsNumbered : (number : ℕ → ℕ) (firsts : List ℕ) → (index : ℕ) → Type 0
-IsNumbered number firsts p = number p < length firsts
-
--- each object that has a number still has one, the first object stays the first, and the number of
--- objects doesn't fall
-pub record KeepsNumbering (old : ℕ → ℕ) (old_firsts : List ℕ) (new : ℕ → ℕ)
-    (new_firsts : List ℕ) : Type 0 where
-  pub numbered : (p : ℕ) → IsNumbered old old_firsts p → IsNumbered new new_firsts p
-  pub first : 0 < length old_firsts → get_or new_firsts 0 0 ≡ get_or old_firsts 0 0
-  pub grows : length old_firsts ≤ length new_firsts
-
 -- each event other than an end has a number below the count
 abbrev pub AllNumbered : List PlainEvent → (number : ℕ → ℕ) → (count : ℕ) → Type 0
 AllNumbered es number count = (p : ℕ) → p < length es → is_end (event_at es p) ≡ false

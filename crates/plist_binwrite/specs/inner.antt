@@ -5,7 +5,6 @@ pub mod Entries
 pub mod Expected
 pub mod Laws
 pub mod Laying
-pub mod Narrow
 pub mod Numbering
 pub mod UnclosedStarts
 pub mod Planning

@@ -1,47 +1,30 @@
 //! Lists of numbers. A list stores each number in four bytes until a number doesn't fit.
 
-ghost use Rattle.std.specs.Prelude.{◌≡◌, ◌^◌, ◌<◌, ◌++◌, ◌∷◌, [], length, get_or, map, replicate, set, take, IfSome, IfOk, OnOk, OnErr, ◌-◌};
-ghost use Rattle.plist_binwrite.specs.inner.Narrow.{wide_of};
+ghost use Rattle.std.specs.Prelude.{◌≡◌, ◌^◌, ◌<◌, ◌++◌, ◌∷◌, [], length, get_or, replicate, set, take, IfSome, IfOk, OnOk, OnErr, ◌-◌};
 
 use std::alloc::{AllocError, Global};
 use std::marker::Model;
 
-// Returns the number that a stored `u32` represents. `u32::MAX` represents `usize::MAX`, which
-// marks a number that isn't known yet.
-#[inline(always)]
-fn wide_of(stored: u32) -> usize
-    ensures { result ≡ wide_of stored }
-{
-    if stored == u32::MAX {
-        usize::MAX
-    } else {
-        stored as usize
-    }
-}
-
-// Returns the `u32` that represents a number, or `None` if no `u32` does.
+// Returns a number as a `u32`, or `None` if it doesn't fit.
 #[inline(always)]
 fn narrowed(number: usize) -> Option<u32>
-    ensures { IfSome result (λ stored. wide_of stored ≡ number) }
+    ensures { IfSome result (λ stored. stored ≡ number) }
 {
-    if number < u32::MAX as usize {
-        Some(number as u32)
-    } else if number == usize::MAX {
-        Some(u32::MAX)
-    } else {
-        None
+    if number <= u32::MAX as usize {
+        return Some(number as u32);
     }
+    None
 }
 
 // Returns the numbers of both lists in one list, in eight bytes each.
 #[cold]
 #[inline(never)]
 fn widened(narrow: &Vec<u32>, wide: &Vec<usize>) -> Result<Vec<usize>, AllocError>
-    ensures all { IfOk result (λ r. r.items ≡ map wide_of narrow.now.items ++ wide.now.items) }
+    ensures all { IfOk result (λ r. r.items ≡ narrow.now.items ++ wide.now.items) }
 {
     let mut all: Vec<usize> = narrow
         .iter()
-        .map(|stored| wide_of(*stored))
+        .map(|stored| *stored as usize)
         .collect(*wide.allocator())?;
     all.extend_from_slice(wide.as_slice())?;
     Ok(all)
@@ -55,12 +38,11 @@ pub struct Numbers {
 }
 
 impl Model for Numbers {
-    ghost use Rattle.std.specs.Prelude.{List, ℕ, ◌++◌, map};
-    ghost use Rattle.plist_binwrite.specs.inner.Narrow.{wide_of};
+    ghost use Rattle.std.specs.Prelude.{List, ℕ, ◌++◌};
 
     ghost Value = { List ℕ };
 
-    ghost view = { λ numbers. map wide_of numbers.narrow.items ++ numbers.wide.items };
+    ghost view = { λ numbers. numbers.narrow.items ++ numbers.wide.items };
 }
 
 impl Numbers {
@@ -98,15 +80,14 @@ impl Numbers {
     }
 
     /// Creates a list in which 2^64 - 1 is repeated `count` times, or fails if the allocation
-    /// fails. This value marks a number that isn't known yet.
-    #[tactic(auto, using(crate::proofs::Narrow::marks_wide))]
+    /// fails.
     pub fn marks(alloc: Global, count: usize) -> Result<Numbers, AllocError>
         ensures marks { IfOk result (λ r. r ≡ replicate count (2 ^ 64 - 1)) }
     {
-        let narrow = vec![in alloc; u32::MAX; count]?;
+        let wide = vec![in alloc; usize::MAX; count]?;
         Ok(Numbers {
-            narrow,
-            wide: Vec::new(alloc),
+            narrow: Vec::new(alloc),
+            wide,
         })
     }
 
@@ -125,7 +106,7 @@ impl Numbers {
     {
         let below = self.narrow.len();
         if index < below {
-            return wide_of(self.narrow.as_slice()[index]);
+            return self.narrow.as_slice()[index] as usize;
         }
         self.wide.as_slice()[index - below]
     }

@@ -148,7 +148,9 @@ impl<'e> EventTable<'e> {
         self.entries.scalar(index)
     }
 
-    /// Returns the scalar at this index, or `None` if the event isn't a scalar.
+    /// Returns the scalar at this index, or `None` if the event isn't a scalar. The function is
+    /// inlined, so that no scalar is copied only to be matched on.
+    #[inline(always)]
     pub fn scalar_at(&self, index: usize) -> Option<ScalarRef<'_>>
         requires { index < length (plain_events self.now) }
         ensures some { IfSome result (λ scalar. table_event self.now index

@@ -4,33 +4,22 @@
 //! [`Sink::put`]: `Io`, without an offset, after a prefix of all the bytes that were put was
 //! written.
 
-ghost use Rattle.std.specs.Prelude.{◌≡◌, ◌+◌, ◌∷◌, [], ◌≤◌, ◌<◌, Ok, true, false};
-ghost use Rattle.plist_binwrite.specs.Forms.{big_endian, doublings, unsigned_form, integer_form, uid_form, length_form, boolean_form, data_form, date_form, real_form, table_form, marker_and_number};
-ghost use Rattle.plist_format.specs.Marker.{byte_of, high_half};
-ghost use Rattle.plist_base.specs.Sinks.{Puts, PutsBytes, PutsNothing};
+ghost use Rattle.std.specs.Prelude.{◌≡◌, ◌∷◌, [], ◌≤◌, Ok, OnOk, true, false};
+ghost use Rattle.plist_binwrite.specs.Forms.{big_endian, unsigned_form, integer_form, uid_form, length_form, boolean_form, data_form, date_form, real_form, table_form};
+ghost use Rattle.plist_format.specs.Marker.{high_half};
+ghost use Rattle.plist_base.specs.Sinks.{Puts, PutsBytes, PutsNothing, room};
 ghost use Rattle.plist_binwrite.specs.Written.{table_and_trailer, trailer_of};
 
 use crate::compact_numbers::Numbers;
+use crate::push::{
+    push_boolean, push_date, push_integer, push_length, push_real, push_uid, push_unsigned,
+};
 pub use crate::scalar::put_scalar;
 pub use crate::text::put_text;
-use crate::widths::{least_width, offset_width, reference_width};
+use crate::widths::{offset_width, reference_width};
 use plist_base::{Date, Error, Integer, RealBits, Sink, Uid};
 pub use plist_format::CountedKind;
-use plist_format::{LowHalf, Marker, UidWidth};
 use std::io::Write;
-
-// Returns the marker of a number of this width.
-#[inline(always)]
-fn number_marker(width: usize) -> Marker
-    ensures { byte_of result ≡ 0x10 + doublings width }
-{
-    match width {
-        1 => Marker::Integer1,
-        2 => Marker::Integer2,
-        4 => Marker::Integer4,
-        _ => Marker::Integer8,
-    }
-}
 
 /// Puts a byte.
 pub fn put_byte<W: Write>(sink: &mut Sink<'_, W>, byte: u8) -> Result<(), Error>
@@ -39,11 +28,16 @@ pub fn put_byte<W: Write>(sink: &mut Sink<'_, W>, byte: u8) -> Result<(), Error>
     sink.put(&[byte])
 }
 
-// Puts a marker and the bytes that follow it.
-fn put_marked<W: Write>(sink: &mut Sink<'_, W>, marker: Marker, bytes: &[u8]) -> Result<(), Error>
-    ensures { Puts W.contents sink.old (byte_of marker ∷ bytes.now) result sink.new }
+// Makes room for an object of at most 17 bytes, by writing the pending bytes if there isn't enough.
+#[inline(always)]
+fn make_room<W: Write>(sink: &mut Sink<'_, W>) -> Result<(), Error>
+    ensures put { Puts W.contents sink.old [] result sink.new }
+    ensures room { OnOk result (17 ≤ room sink.new.buffer.now) }
 {
-    sink.put_both(&[marker.encode()], bytes)
+    if sink.room() < 17 {
+        sink.write_pending()?;
+    }
+    Ok(())
 }
 
 /// Puts the lowest `width` bytes of a number in big-endian order. `width` is at most 8.
@@ -56,7 +50,8 @@ pub fn put_number<W: Write>(sink: &mut Sink<'_, W>, width: usize, number: u64) -
 }
 
 /// Puts the lowest `width` bytes of a number in big-endian order, if they fit into the buffer of
-/// the sink, and returns whether they do. `width` is at most 8.
+/// the sink, and returns whether they do. `width` is at most 8. A loop calls this before
+/// [`put_number`], because the bytes mostly fit, and then no large `Result` is zeroed.
 #[inline(always)]
 pub fn try_put_number<W: Write>(sink: &mut Sink<'_, W>, width: usize, number: u64) -> bool
     requires width { width ≤ 8 }
@@ -68,9 +63,8 @@ pub fn try_put_number<W: Write>(sink: &mut Sink<'_, W>, width: usize, number: u6
     sink.try_put(&digits[8 - width..])
 }
 
-/// Puts the lowest `width` bytes of a number in big-endian order. `width` is at most 8. A loop
-/// calls this instead of [`put_number`], because the bytes mostly fit into the buffer, and then no
-/// large `Result` is zeroed.
+/// Puts the lowest `width` bytes of a number in big-endian order. `width` is at most 8. If they fit
+/// into the buffer of the sink, this is faster than [`put_number`].
 #[inline(always)]
 pub fn put_next_number<W: Write>(
     sink: &mut Sink<'_, W>,
@@ -86,29 +80,14 @@ pub fn put_next_number<W: Write>(
     put_number(sink, width, number)
 }
 
-// Puts a marker and the lowest `width` bytes of a number.
-fn put_marked_number<W: Write>(
-    sink: &mut Sink<'_, W>,
-    marker: Marker,
-    width: usize,
-    number: u64,
-) -> Result<(), Error>
-    requires width { width ≤ 8 }
-    ensures { Puts W.contents sink.old (marker_and_number (byte_of marker) width number)
-        result
-        sink.new }
-{
-    let digits = number.to_be_bytes();
-    sink.put_both(&[marker.encode()], &digits[8 - width..])
-}
-
 /// Puts an unsigned integer: a marker, and the number in the smallest of 1, 2, 4 and 8 bytes into
 /// which it fits.
 pub fn put_unsigned<W: Write>(sink: &mut Sink<'_, W>, number: u64) -> Result<(), Error>
     ensures { Puts W.contents sink.old (unsigned_form number) result sink.new }
 {
-    let width = least_width(number);
-    put_marked_number(sink, number_marker(width), width, number)
+    make_room(sink)?;
+    push_unsigned(sink.buffer, number);
+    Ok(())
 }
 
 /// Puts a marker of this kind with a length. A length below 15 is in the low half of the marker,
@@ -120,23 +99,18 @@ pub fn put_length<W: Write>(
 ) -> Result<(), Error>
     ensures { Puts W.contents sink.old (length_form (high_half kind) count) result sink.new }
 {
-    if let Some(low) = LowHalf::of_length(count) {
-        return put_byte(sink, Marker::Counted(kind, low).encode());
-    }
-    let marker = Marker::Counted(kind, LowHalf::follows());
-    let width = least_width(count);
-    let digits = count.to_be_bytes();
-    sink.put_both(
-        &[marker.encode(), number_marker(width).encode()],
-        &digits[8 - width..],
-    )
+    make_room(sink)?;
+    push_length(sink.buffer, kind, count);
+    Ok(())
 }
 
 /// Puts a Boolean.
 pub fn put_boolean<W: Write>(sink: &mut Sink<'_, W>, value: bool) -> Result<(), Error>
     ensures { Puts W.contents sink.old (boolean_form value) result sink.new }
 {
-    put_byte(sink, Marker::Boolean(value).encode())
+    make_room(sink)?;
+    push_boolean(sink.buffer, value);
+    Ok(())
 }
 
 /// Puts data.
@@ -152,33 +126,27 @@ pub fn put_data<W: Write>(sink: &mut Sink<'_, W>, content: &[u8]) -> Result<(), 
 pub fn put_date<W: Write>(sink: &mut Sink<'_, W>, date: Date) -> Result<(), Error>
     ensures { Puts W.contents sink.old (date_form date) result sink.new }
 {
-    put_marked(sink, Marker::Date, &date.to_plist_real())
+    make_room(sink)?;
+    push_date(sink.buffer, date);
+    Ok(())
 }
 
 /// Puts a real: a marker and its four or eight bytes.
 pub fn put_real<W: Write>(sink: &mut Sink<'_, W>, bits: RealBits) -> Result<(), Error>
     ensures { Puts W.contents sink.old (real_form bits) result sink.new }
 {
-    match bits {
-        RealBits::Four(digits) => put_marked(sink, Marker::Real4, &digits),
-        RealBits::Eight(digits) => put_marked(sink, Marker::Real8, &digits),
-    }
+    make_room(sink)?;
+    push_real(sink.buffer, bits);
+    Ok(())
 }
 
 /// Puts a Uid in the smallest of 1, 2, 4 and 8 bytes into which it fits.
 pub fn put_uid<W: Write>(sink: &mut Sink<'_, W>, uid: Uid) -> Result<(), Error>
     ensures { Puts W.contents sink.old (uid_form uid) result sink.new }
 {
-    let width = least_width(uid.get());
-    put_marked_number(sink, Marker::Uid(UidWidth::new(width)), width, uid.get())
-}
-
-// Puts an integer above `i64::MAX`, in sixteen bytes.
-fn put_wide_integer<W: Write>(sink: &mut Sink<'_, W>, number: u64) -> Result<(), Error>
-    ensures { Puts W.contents sink.old (marker_and_number 0x14 16 number) result sink.new }
-{
-    put_marked_number(sink, Marker::Integer16, 8, 0)?;
-    put_number(sink, 8, number)
+    make_room(sink)?;
+    push_uid(sink.buffer, uid);
+    Ok(())
 }
 
 /// Puts an integer. One from 0 to `i64::MAX` has the smallest of 1, 2, 4 and 8 bytes into which it
@@ -186,14 +154,9 @@ fn put_wide_integer<W: Write>(sink: &mut Sink<'_, W>, number: u64) -> Result<(),
 pub fn put_integer<W: Write>(sink: &mut Sink<'_, W>, value: Integer) -> Result<(), Error>
     ensures { Puts W.contents sink.old (integer_form value) result sink.new }
 {
-    match (value.as_unsigned(), value.as_signed()) {
-        (Some(number), Some(_)) => put_unsigned(sink, number),
-        (Some(number), None) => put_wide_integer(sink, number),
-        (None, Some(number)) => {
-            put_marked_number(sink, Marker::Integer8, 8, number.cast_unsigned())
-        }
-        (None, None) => Ok(()),
-    }
+    make_room(sink)?;
+    push_integer(sink.buffer, value);
+    Ok(())
 }
 
 /// Puts each number of a list in `width` bytes, as in an offset table. `width` is at most 8.

@@ -1,36 +1,74 @@
-//! The order of a file's objects.
+//! Lays out a file's objects: their order, and the offset of each.
 
-ghost use Rattle.std.specs.Prelude.{IfOk};
-ghost use Rattle.plist_binwrite.specs.inner.Laying.{IsOrder, HasAll};
+ghost use Rattle.std.specs.Prelude.{◌≡◌, ◌<◌, IfOk, IfSome};
+ghost use Rattle.plist_binwrite.specs.inner.Laying.{HasAll};
 ghost use Rattle.plist_binwrite.specs.inner.Planning.{IsNumberingOfEvents, count_of};
+ghost use Rattle.plist_binwrite.specs.inner.Sizing.{IsLayout};
 
-use crate::children::{Children, Half, begins_collection};
+use crate::children::{Children, Half};
 use crate::classes::Classed;
 use crate::compact_numbers::Numbers;
+use crate::kinds::EntryKind;
+use crate::lengths::add;
 use crate::numbering::Numbering;
+use crate::size::size_of_object;
+use crate::widths::reference_width;
 use std::alloc::{AllocError, Global};
 
-/// The order of a file's objects, and the list into which the offset of each is written.
+/// The objects that have offsets so far.
 #[derive(Drop)]
 pub struct FileLayout {
-    /// The numbers of the objects, in the order of the file.
+    /// The number of bytes in a reference.
+    pub width: usize,
+    /// The numbers of the objects that have offsets, in the order of the file.
     pub order: Numbers,
-    /// The byte offset of each object, indexed by its number. Until the offsets are known, the
-    /// value is 1 for an object that is in `order`, and 0 for any other.
+    /// The byte offset of each object, indexed by its number, or 0 while it has none.
     pub places: Numbers,
+    /// The offset after the last of these objects, or `None` if it is 2^64 or more; the offsets are
+    /// unspecified then.
+    pub end: Option<u64>,
+}
+
+// Returns an offset, or 2^64 - 1 for `None`. That number is never written, because a file with an
+// offset of 2^64 or more is too large.
+fn place_or_greatest(place: Option<u64>) -> usize
+    ensures value { IfSome place (λ number. result ≡ number) }
+    ensures positive { IfSome place (λ number. 0 < number) → 0 < result }
+{
+    place.unwrap_or(u64::MAX) as usize
 }
 
 impl FileLayout {
-    ghost use Rattle.std.specs.Prelude.{OnOk};
+    ghost use Rattle.std.specs.Prelude.{◌<◌, length, OnOk};
     ghost use Rattle.plist_binwrite.specs.EventClasses.{events_in};
     ghost use Rattle.plist_binwrite.specs.EventTable.{HasItem};
-    ghost use Rattle.plist_binwrite.specs.inner.Laying.{IsOrder, KeepsMarks};
-    ghost use Rattle.plist_binwrite.specs.inner.Planning.{IsNumberingOfEvents, count_of};
-    ghost use Rattle.plist_binwrite.specs.inner.Sizing.{MarksItem};
+    ghost use Rattle.plist_binwrite.specs.inner.Laying.{KeepsMarks};
+    ghost use Rattle.plist_binwrite.specs.inner.Planning.{IsNumberingOfEvents};
+    ghost use Rattle.plist_binwrite.specs.inner.Sizing.{IsLayout, MarksItem};
 
-    // Appends the object of the event at an index to the order, unless the order contains it
-    // already. The value in `places` is 0 only for an object that isn't in the order.
-    fn put(
+    // Creates a layout in which no object has an offset. The first one follows the magic, which has
+    // 8 bytes.
+    fn new(
+        alloc: Global,
+        given: &Classed<'_, '_>,
+        numbering: &Numbering,
+    ) -> Result<FileLayout, AllocError>
+        requires numbered { IsNumberingOfEvents given.now numbering.now }
+        ensures { IfOk result (IsLayout given.now numbering.now) }
+    {
+        let count = numbering.firsts.len();
+        let places = Numbers::zeros(alloc, count)?;
+        let order = Numbers::with_capacity(alloc, count)?;
+        Ok(FileLayout {
+            width: reference_width(count as u64),
+            order,
+            places,
+            end: Some(8),
+        })
+    }
+
+    // Places the object of the event at an index after the others, unless it has an offset already.
+    fn place(
         &mut self,
         given: &Classed<'_, '_>,
         numbering: &Numbering,
@@ -38,9 +76,8 @@ impl FileLayout {
     ) -> Result<(), AllocError>
         requires numbered { IsNumberingOfEvents given.now numbering.now }
         requires item { HasItem (events_in given.now) index }
-        requires order { IsOrder (count_of numbering.now) self.old.order self.old.places }
-        ensures order { OnOk result (IsOrder (count_of numbering.now) self.new.order
-            self.new.places) }
+        requires layout { IsLayout given.now numbering.now self.old }
+        ensures layout { OnOk result (IsLayout given.now numbering.now self.new) }
         ensures keeps { OnOk result (KeepsMarks self.old.places self.new.places) }
         ensures marked { OnOk result (MarksItem given.now numbering.now index self.new.places) }
     {
@@ -49,57 +86,55 @@ impl FileLayout {
             return Ok(());
         }
         self.order.push(number)?;
-        self.places.set(number, 1)?;
+        self.places.set(number, place_or_greatest(self.end))?;
+        let size = size_of_object(given.events, self.width, index);
+        self.end = add(self.end, size);
         Ok(())
     }
 
-    // Appends the object of the event at an index, and then those of its keys, to the order. For an
-    // end, or past the last event, nothing is appended.
-    fn put_here(
+    // Places the object of the event at an index, and then those of its keys. An end has no object.
+    fn place_here(
         &mut self,
         given: &Classed<'_, '_>,
         numbering: &Numbering,
         index: usize,
     ) -> Result<(), AllocError>
         requires numbered { IsNumberingOfEvents given.now numbering.now }
-        requires order { IsOrder (count_of numbering.now) self.old.order self.old.places }
-        ensures order { OnOk result (IsOrder (count_of numbering.now) self.new.order
-            self.new.places) }
+        requires index { index < length (events_in given.now) }
+        requires layout { IsLayout given.now numbering.now self.old }
+        ensures layout { OnOk result (IsLayout given.now numbering.now self.new) }
         ensures keeps { OnOk result (KeepsMarks self.old.places self.new.places) }
         ensures marked { OnOk result (HasItem (events_in given.now) index
             → MarksItem given.now numbering.now index self.new.places) }
     {
-        if !given.events.has_item(index) {
-            return Ok(());
+        match given.events.kind_at(index) {
+            EntryKind::End => Ok(()),
+            EntryKind::Scalar | EntryKind::Array => self.place(given, numbering, index),
+            EntryKind::Dictionary => {
+                self.place(given, numbering, index)?;
+                for key in Children::new(given.events, index, Half::Keys) {
+                    self.place(given, numbering, key)?;
+                }
+                Ok(())
+            }
         }
-        self.put(given, numbering, index)?;
-        if !begins_collection(given.events, index) {
-            return Ok(());
-        }
-        for key in Children::new(given.events, index, Half::Keys) {
-            self.put(given, numbering, key)?;
-        }
-        Ok(())
     }
 }
 
-/// Returns the order of the objects, or fails if an allocation fails. The objects are in the order
-/// of their first events, except that the keys of a dictionary precede its values.
-pub fn order_objects(
+/// Lays out all objects, or fails if an allocation fails. The objects are in the order of their
+/// first events, except that the keys of a dictionary precede its values.
+pub fn lay_out(
     alloc: Global,
     given: &Classed<'_, '_>,
     numbering: &Numbering,
 ) -> Result<FileLayout, AllocError>
     requires numbered { IsNumberingOfEvents given.now numbering.now }
-    ensures order { IfOk result (λ r. IsOrder (count_of numbering.now) r.order r.places) }
+    ensures layout { IfOk result (IsLayout given.now numbering.now) }
     ensures all { IfOk result (λ r. HasAll (count_of numbering.now) r.order) }
 {
-    let count = numbering.firsts.len();
-    let places = Numbers::zeros(alloc, count)?;
-    let order = Numbers::with_capacity(alloc, count)?;
-    let mut layout = FileLayout { order, places };
+    let mut layout = FileLayout::new(alloc, given, numbering)?;
     for index in 0..given.events.len() {
-        layout.put_here(given, numbering, index)?;
+        layout.place_here(given, numbering, index)?;
     }
     Ok(layout)
 }

@@ -18,6 +18,7 @@ mod lengths;
 mod numbering;
 mod objects;
 mod plan;
+mod push;
 pub mod repeated_keys;
 mod scalar;
 pub mod send_file;

@@ -13,40 +13,41 @@ use std::alloc::{AllocError, Global};
 /// The number of each class's object, and the first event of each object.
 #[derive(Drop)]
 pub struct Numbering {
-    /// The number of each class's object, indexed by the class, or 2^64 - 1 if the object has no
-    /// number yet.
+    /// One more than the number of each class's object, indexed by the class, or 0 if the object has
+    /// no number yet.
     pub by_class: Numbers,
     /// The index of the first event of each object, in the order of the objects' numbers.
     pub firsts: Numbers,
 }
 
 impl Numbering {
-    ghost use Rattle.std.specs.Prelude.{◌≡◌, ◌<◌, [], length, IfOk, OnOk};
+    ghost use Rattle.std.specs.Prelude.{◌≡◌, ◌<◌, [], length, replicate, IfOk, OnOk};
     ghost use Rattle.plist_binwrite.specs.EventClasses.{IsListed, class_in, events_in};
     ghost use Rattle.plist_binwrite.specs.EventTable.{nth_number, HasItem, IsBracketed};
-    ghost use Rattle.plist_binwrite.specs.inner.Numbering.{AreMarks, BeginsAt, IsNumberedSoFar, KeepsNumbers, NumbersAll, NumbersChildren, NumbersHalf, NumbersItem, RootIsFirst};
+    ghost use Rattle.plist_binwrite.specs.inner.Numbering.{BeginsAt, IsNumberedSoFar, KeepsNumbers, NumbersAll, NumbersChildren, NumbersHalf, NumbersItem, RootIsFirst};
     ghost use Rattle.plist_binwrite.specs.inner.Planning.{object_number};
 
     // Creates a numbering in which no object has a number. The memory of `firsts` is reserved at
     // once, because a list that grows leaves gaps in the heap between lists of their final size.
     fn new(alloc: Global, bound: usize) -> Result<Numbering, AllocError>
-        ensures unknown { IfOk result (λ r. AreMarks bound r.by_class) }
+        ensures unknown { IfOk result (λ r. r.by_class ≡ replicate bound 0) }
         ensures firsts { IfOk result (λ r. r.firsts ≡ []) }
     {
-        let by_class = Numbers::marks(alloc, bound)?;
+        let by_class = Numbers::zeros(alloc, bound)?;
         let firsts = Numbers::with_capacity(alloc, bound)?;
         Ok(Numbering { by_class, firsts })
     }
 
-    /// Returns the number of the object of the event at an index, or 2^64 - 1 if it has none yet.
+    /// Returns the number of the object of the event at an index.
     #[inline(always)]
     pub fn number(&self, given: &Classed<'_, '_>, index: usize) -> usize
         requires index { index < length (events_in given.now) }
         requires listed { IsListed given.now }
         requires class { class_in given.now index < length self.now.by_class }
+        requires numbered { NumbersItem given.now index self.now }
         ensures { result ≡ object_number given.now self.now index }
     {
-        self.by_class.get(given.class_at(index))
+        self.by_class.get(given.class_at(index)) - 1
     }
 
     /// Returns the index of the first event of an object.
@@ -63,18 +64,17 @@ impl Numbering {
         requires item { HasItem (events_in given.now) index }
         // Result.
         ensures numbered { OnOk result (NumbersItem given.now index self.new) }
-        ensures first { OnOk result (BeginsAt index self.old self.new) }
+        ensures first { OnOk result (BeginsAt given.now index self.old self.new) }
         // State afterwards.
         ensures so_far { OnOk result (IsNumberedSoFar given.now self.new) }
         ensures keeps { OnOk result (KeepsNumbers given.now self.old self.new) }
     {
         let class = given.class_at(index);
-        let number = self.firsts.len();
-        if self.by_class.get(class) < number {
+        if self.by_class.get(class) != 0 {
             return Ok(());
         }
         self.firsts.push(index)?;
-        self.by_class.set(class, number)?;
+        self.by_class.set(class, self.firsts.len())?;
         Ok(())
     }
 

@@ -1,15 +1,22 @@
 //! Puts the objects of a planned file.
 
-ghost use Rattle.std.specs.Prelude.{◌<◌, length};
+ghost use Rattle.std.specs.Prelude.{◌≡◌, ◌<◌, Ok, length, true, false};
+ghost use Rattle.plist_base.specs.Events.{ScalarEvent};
+ghost use Rattle.plist_base.specs.Sinks.{PutsBytes, PutsNothing};
+ghost use Rattle.plist_base.specs.Trees.{Scalar};
 ghost use Rattle.plist_binwrite.specs.EventClasses.{events_in};
+ghost use Rattle.plist_binwrite.specs.EventTable.{plain_events, table_event};
+ghost use Rattle.plist_binwrite.specs.Forms.{scalar_form};
 ghost use Rattle.plist_binwrite.specs.inner.PlannedFiles.{IsFilePlan};
 ghost use Rattle.plist_binwrite.specs.inner.Putting.{PutsCollection, PutsHalf, PutsObject, PutsObjects};
 
 use crate::children::{Children, Half};
 use crate::classes::Classed;
-use crate::forms::{CountedKind, put_length, put_next_number, put_scalar};
+use crate::event_table::EventTable;
+use crate::forms::{CountedKind, put_length, put_number, put_scalar, try_put_number};
 use crate::kinds::EntryKind;
 use crate::plan::FilePlan;
+use crate::scalar::push_scalar;
 use crate::size::count_children;
 use plist_base::{Error, Sink};
 use std::io::Write;
@@ -27,7 +34,10 @@ fn put_half<W: Write>(
     ensures { PutsHalf W.contents sink.old given.now plan.now half index result sink.new }
 {
     for child in Children::new(given.events, index, half) {
-        put_next_number(sink, plan.width, plan.numbering.number(given, child) as u64)?;
+        let number = plan.numbering.number(given, child) as u64;
+        if !try_put_number(sink, plan.width, number) {
+            put_number(sink, plan.width, number)?;
+        }
     }
     Ok(())
 }
@@ -51,6 +61,24 @@ fn put_collection<W: Write>(
     )?;
     put_half(sink, given, plan, index, Half::Keys)?;
     put_half(sink, given, plan, index, Half::Values)
+}
+
+// If a scalar is at an index, puts its object, if this is short and the buffer has room for it, and
+// returns whether it did.
+#[inline(always)]
+fn try_put_object<W: Write>(sink: &mut Sink<'_, W>, events: &EventTable<'_>, index: usize) -> bool
+    requires { index < length (plain_events events.now) }
+    ensures put { result ≡ true → (x : Scalar) × (table_event events.now index ≡ ScalarEvent x)
+        × PutsBytes W.contents sink.old (scalar_form x) (Ok tt) sink.new }
+    ensures unchanged { result ≡ false → PutsNothing sink.old sink.new }
+{
+    if sink.room() < 40 {
+        return false;
+    }
+    match events.scalar_at(index) {
+        Some(scalar) => push_scalar(sink.buffer, scalar),
+        None => false,
+    }
 }
 
 // Puts the object of the tree that begins at an index.
@@ -85,7 +113,9 @@ pub fn put_objects<W: Write>(
 {
     for index in 0..plan.order.len() {
         let first = plan.numbering.first(plan.order.get(index));
-        put_object(sink, given, plan, first)?;
+        if !try_put_object(sink, given.events, first) {
+            put_object(sink, given, plan, first)?;
+        }
     }
     Ok(())
 }

@@ -8,10 +8,9 @@ ghost use Rattle.plist_binwrite.specs.inner.PlannedFiles.{IsFilePlan, IsPlanFaul
 
 use crate::classes::Classed;
 use crate::compact_numbers::Numbers;
-use crate::layout::order_objects;
+use crate::layout::{FileLayout, lay_out};
 use crate::numbering::{Numbering, number_objects};
-use crate::size::{check_size, place_objects};
-use crate::widths::reference_width;
+use crate::size::check_size;
 use plist_base::{Error, ErrorKind};
 use std::alloc::Global;
 
@@ -43,13 +42,14 @@ pub fn plan_file(alloc: Global, given: &Classed<'_, '_>) -> Result<FilePlan, Err
     ensures refused { IfFault result (IsPlanFault given.now) }
 {
     let numbering = number_objects(alloc, given)?;
-    let layout = order_objects(alloc, given, &numbering)?;
-    let order = layout.order;
-    let mut places = layout.places;
-    let count = places.len() as u64;
-    let width = reference_width(count);
-    let end = place_objects(given, &numbering, width, &order, &mut places)?;
-    match check_size(end, count) {
+    let layout = lay_out(alloc, given, &numbering)?;
+    let FileLayout {
+        width,
+        order,
+        places,
+        end,
+    } = layout;
+    match check_size(end, places.len() as u64) {
         Some(table) => Ok(FilePlan {
             numbering,
             order,

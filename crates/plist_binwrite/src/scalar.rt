@@ -1,14 +1,71 @@
 //! Puts the object of any scalar.
 
-ghost use Rattle.plist_base.specs.Sinks.{Puts};
-ghost use Rattle.plist_binwrite.specs.Forms.{scalar_form};
+ghost use Rattle.std.specs.Prelude.{◌≡◌, ◌++◌, ◌≤◌, true, false};
+ghost use Rattle.plist_base.specs.Sinks.{Puts, buffered, room};
+ghost use Rattle.plist_binwrite.specs.Forms.{data_form, scalar_form, text_form};
 ghost use Rattle.plist_binwrite.specs.StoredScalars.{scalar_of_ref};
 
 use crate::forms::{put_boolean, put_data, put_date, put_integer, put_real, put_uid};
+use crate::push::{push_boolean, push_date, push_integer, push_length, push_real, push_uid};
+use crate::short::SHORT;
 use crate::stored_scalar::ScalarRef;
-use crate::text::put_text;
-use plist_base::{Error, Sink};
+use crate::text::{is_ascii_text, put_text};
+use plist_base::{Error, FixedBuffer, Sink};
+use plist_format::CountedKind;
 use std::io::Write;
+
+// Pushes a string of at most 30 bytes, if all of them are ASCII, and returns whether it did.
+#[inline(always)]
+fn push_short_text(buffer: &mut FixedBuffer, text: &str) -> bool
+    requires { 40 ≤ room buffer.old }
+    ensures pushed { result ≡ true
+        → buffered buffer.new ≡ buffered buffer.old ++ text_form text.now }
+    ensures unchanged { result ≡ false → buffer.new ≡ buffer.old }
+{
+    if text.len() > SHORT || !is_ascii_text(text) {
+        return false;
+    }
+    push_length(buffer, CountedKind::Text, text.len() as u64);
+    buffer.push(text.as_bytes());
+    true
+}
+
+// Pushes data of at most 30 bytes, and returns whether it did.
+#[inline(always)]
+fn push_short_data(buffer: &mut FixedBuffer, bytes: &[u8]) -> bool
+    requires { 40 ≤ room buffer.old }
+    ensures pushed { result ≡ true
+        → buffered buffer.new ≡ buffered buffer.old ++ data_form bytes.now }
+    ensures unchanged { result ≡ false → buffer.new ≡ buffer.old }
+{
+    if bytes.len() > SHORT {
+        return false;
+    }
+    push_length(buffer, CountedKind::Data, bytes.len() as u64);
+    buffer.push(bytes);
+    true
+}
+
+/// Pushes the object of a scalar, unless it is a string or data that isn't short, and returns whether
+/// it did. A loop calls this before [`put_scalar`], because then no large `Result` is zeroed.
+#[inline(always)]
+pub fn push_scalar(buffer: &mut FixedBuffer, scalar: ScalarRef<'_>) -> bool
+    requires { 40 ≤ room buffer.old }
+    ensures pushed { result ≡ true
+        → buffered buffer.new ≡ buffered buffer.old ++ scalar_form (scalar_of_ref scalar.entry) }
+    ensures unchanged { result ≡ false → buffer.new ≡ buffer.old }
+{
+    match scalar {
+        ScalarRef::String(text) => return push_short_text(buffer, text),
+        ScalarRef::Data(bytes) => return push_short_data(buffer, bytes),
+        ScalarRef::Boolean(value) => push_boolean(buffer, value),
+        ScalarRef::Date(date) => push_date(buffer, date),
+        ScalarRef::Integer(value) => push_integer(buffer, value),
+        ScalarRef::Real(bits) => push_real(buffer, bits),
+        ScalarRef::Uid(uid) => push_uid(buffer, uid),
+    }
+    true
+}
 
 /// Puts the object of a scalar. An error is that of [`Sink::put`].
 pub fn put_scalar<W: Write>(sink: &mut Sink<'_, W>, scalar: ScalarRef<'_>) -> Result<(), Error>

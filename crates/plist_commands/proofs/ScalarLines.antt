@@ -1,4 +1,4 @@
--- The lines of dates, numbers and texts.
+-- The lines of dates, numbers and strings.
 use Rattle.std.proofs.Common.{◌≡◌, ℕ, ℤ, ◌+◌, ◌<◌, ◌≤◌, zero, suc, true, false, List, [], ◌∷◌, ◌++◌, length, Some, codes, refl, ap, append_assoc, arith, bit_or, eqb, leb, ltb, eqb-true, eq-eqb, leb-false, ltb-false}
 use Rattle.std.specs.Fmt.{signed_decimal}
 use Rattle.std.proofs.lemmas.Bool.{le-leb}

@@ -1,4 +1,4 @@
--- The order of a planned file's objects, their offsets, and the size of the file.
+-- The order of a file's objects, their offsets, and the size of the file.
 use Rattle.std.specs.Prelude.{◌≡◌, ◌≢◌, ℕ, ◌+◌, ◌^◌, ◌<◌, ◌≤◌, List, length, get_or, Option, IfSome}
 use Rattle.plist_base.specs.Events.{ScalarEvent}
 use Rattle.plist_base.specs.Trees.{Scalar, Tree}
@@ -8,12 +8,14 @@ use Rattle.plist_binwrite.specs.EventTable.{plain_events, table_event, Describes
 use Rattle.plist_binwrite.specs.EventClasses.{events_in}
 use Rattle.plist_binwrite.specs.Sizes.{IsSizeOrNone, object_size, size_with}
 use Rattle.plist_binwrite.specs.Occurrences.{OccursAt}
+use Rattle.plist_binwrite.specs.Widths.{reference_width}
 use Rattle.plist_binwrite.specs.Written.{Laid}
 use Rattle.plist_binwrite.specs.declared.event_table.EventTable.{EventTable}
+use Rattle.plist_binwrite.specs.declared.layout.FileLayout.{FileLayout}
 use Rattle.plist_binwrite.specs.declared.classes.Classed.{Classed}
 use Rattle.plist_binwrite.specs.declared.numbering.Numbering.{Numbering}
-use Rattle.plist_binwrite.specs.inner.Laying.{laid_out}
-use Rattle.plist_binwrite.specs.inner.Planning.{object_number}
+use Rattle.plist_binwrite.specs.inner.Laying.{IsOrder, laid_out}
+use Rattle.plist_binwrite.specs.inner.Planning.{count_of, object_number}
 
 -- the object of the event at this index has a mark
 abbrev pub MarksItem : Classed → Numbering → (index : ℕ) → (marks : List ℕ) → Type 0
@@ -40,16 +42,19 @@ abbrev pub IsWritableAt : EventTable → (index : ℕ) → Type 0
 IsWritableAt held index =
     (x : Scalar) → table_event held index ≡ ScalarEvent x → IsWritableScalar x
 
-module _ (given : Classed) (numbering : Numbering) (width : ℕ) where
-  -- `found` is the length of the magic and the objects in this order, or `None` only if it is 2^64
-  -- or more
-  abbrev pub IsEndOrNone : (order : List ℕ) → Option ℕ → Type 0
-  IsEndOrNone order found = (objects : ℕ → Object)
-      → Describes (events_in given) (object_number given numbering) objects
-      → IsSizeOrNone found (length (laid_out width objects order))
+-- the objects in this order have these offsets, and `found` is the offset after them, or `None` only
+-- if that is 2^64 or more
+pub record AreLaidOut (width : ℕ) (objects : ℕ → Object) (order places : List ℕ)
+    (found : Option ℕ) : Type 0 where
+  pub end : IsSizeOrNone found (length (laid_out width objects order))
+  pub laid : IfSome found (λ _. Laid width objects places order 8)
 
-  -- the objects lie at these offsets, if their end is known
-  abbrev pub AreLaid : (order places : List ℕ) → (found : Option ℕ) → Type 0
-  AreLaid order places found = IfSome found (λ _. (objects : ℕ → Object)
+-- the objects that have offsets so far lie back to back
+pub record IsLayout (given : Classed) (numbering : Numbering) (layout : FileLayout) : Type 0 where
+  pub width : layout.width ≡ reference_width (count_of numbering)
+  pub narrow : layout.width ≤ 8
+  pub fits : count_of numbering ≤ 256 ^ layout.width
+  pub order : IsOrder (count_of numbering) layout.order layout.places
+  pub laid : (objects : ℕ → Object)
       → Describes (events_in given) (object_number given numbering) objects
-      → Laid width objects places order 8)
+      → AreLaidOut layout.width objects layout.order layout.places layout.end

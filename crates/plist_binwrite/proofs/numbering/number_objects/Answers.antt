@@ -1,3 +1,4 @@
+use Rattle.std.proofs.Common.{arith}
 use Rattle.plist_binwrite.proofs.PlannedBy.{plan_none}
 use Rattle.plist_binwrite.proofs.numbering.number_objects.Goals as goal
 
@@ -19,6 +20,6 @@ returns c =
         classes = c.requires.classed.objects;
         numbered = all.so_far.plan;
         all = all.all;
-        root = all.root;
+        root = omega (arith, all.root);
       };
     }

@@ -1,6 +1,6 @@
 use Rattle.std.proofs.Common.{◌≡◌, ◌∷◌, ℕ, List, map, sym, ap, subst}
 use Rattle.std.specs.List.{AllByRecursion}
-use Rattle.plist_base.proofs.SinkSteps.{puts_as, puts_none, puts_then, puts_refused}
+use Rattle.plist_base.proofs.SinkSteps.{puts_after, puts_as, puts_none, puts_then, puts_refused}
 use Rattle.plist_binwrite.specs.Children.{half_of, indices_left}
 use Rattle.plist_binwrite.specs.EventTable.{HasItem}
 use Rattle.plist_binwrite.specs.Forms.{table_form}
@@ -26,14 +26,14 @@ loop-child-init g c = record {
       (are_items _ c.args.half c.args.index);
 }
 
-pub number-requires-clause-index : goal.number-requires-clause-index
-number-requires-clause-index g c =
-    (items g (goal.at.number-requires-clause-index g c).In-Some).0.0
+pub number-number-requires-clause-index : goal.number-number-requires-clause-index
+number-number-requires-clause-index g c =
+    (items g (goal.at.number-number-requires-clause-index g c).In-Some).0.0
 
-pub number-requires-clause-class : goal.number-requires-clause-class
-number-requires-clause-class g c =
+pub number-number-requires-clause-class : goal.number-number-requires-clause-class
+number-number-requires-clause-class g c =
     c.requires.plan.numbered.planned.numbered.below _
-    (items g (goal.at.number-requires-clause-class g c).In-Some).0.0
+    (items g (goal.at.number-number-requires-clause-class g c).In-Some).0.0
 
 -- the remaining references, with the next one
 abbrev rest : (g : _) (c : Next g) → List ℕ → List ℕ
@@ -46,18 +46,33 @@ loop-child-preserved g c =
     record {
       put = λ answer d p. c.loop-child.invariant.put _ d
           (puts_as (ap (rest g n) (sym c.in-Some.ensures.steps))
-          (puts_then (rw c.number.ensures at c.in_ok-put_next_number.ensures) p));
+          (puts_then (rw c.number-number.ensures
+          at (c.try_put_number.ensures.put c.if-not-try_put_number.false)) p));
       items = (items g n).1;
     }
 
-pub returns-in_err-put_next_number : goal.returns-in_err-put_next_number
-returns-in_err-put_next_number g c =
-    let a = goal.at.returns-in_err-put_next_number g c in
+pub loop-child-preserved-in-Continue-1 : goal.loop-child-preserved-in-Continue-1
+loop-child-preserved-in-Continue-1 g c =
+    let n = (goal.at.loop-child-preserved-in-Continue-1 g c).In-Some in
+    record {
+      put = λ answer d p. c.loop-child.invariant.put _ d
+          (puts_as (ap (rest g n) (sym c.in-Some.ensures.steps))
+          (puts_then (rw c.number-number.ensures
+          at (puts_after (c.try_put_number.ensures.unchanged c.if-not-try_put_number.true)
+          c.in_ok-put_number.ensures)) p));
+      items = (items g n).1;
+    }
+
+pub returns-in_err-put_number : goal.returns-in_err-put_number
+returns-in_err-put_number g c =
+    let a = goal.at.returns-in_err-put_number g c in
     puts_as (ap (rest g a.In-Some) (begun g a.After-into_iter-child-iterator))
     (c.loop-child.invariant.put _ _
     (puts_as (ap (rest g a.In-Some) (sym c.in-Some.ensures.steps))
     (puts_refused _ _ _ c.from_residual.ensures.1
-    (rw c.number.ensures at c.in_err-put_next_number.ensures))))
+    (rw c.number-number.ensures
+    at (puts_after (c.try_put_number.ensures.unchanged c.if-not-try_put_number.true)
+    c.in_err-put_number.ensures)))))
 
 pub returns : goal.returns
 returns g c =

@@ -1,11 +1,12 @@
-use Rattle.std.proofs.Common.{◌<◌, ◌∙◌, length, ap, arith, below_more, subst}
+use Rattle.std.proofs.Common.{◌∙◌, length, ap, arith, below_more, subst}
 use Rattle.std.specs.List.{AllByRecursion}
 use Rattle.plist_binwrite.specs.EventClasses.{events_in}
-use Rattle.plist_binwrite.specs.EventTable.{IsNumbered}
+use Rattle.plist_binwrite.specs.inner.Planning.{stored_number}
+use Rattle.plist_binwrite.specs.inner.PlansBy.{IsNumbered}
 use Rattle.plist_binwrite.proofs.ChildIndices.{keys_are_in, values_are_in}
 use Rattle.plist_binwrite.proofs.Inside.{positions_all, positions_have}
 use Rattle.plist_binwrite.proofs.Occurring.{occurs_whole}
-use Rattle.plist_binwrite.proofs.PlannedBy.{keeps_then}
+use Rattle.plist_binwrite.proofs.PlannedBy.{keeps_then, still_numbered}
 use Rattle.plist_binwrite.proofs.Skipping.{begins, occurs_in}
 use Rattle.plist_binwrite.proofs.Uniques.{all_from}
 use Rattle.plist_binwrite.proofs.numbering.Numbering.number_all.Goals as goal
@@ -20,15 +21,15 @@ loop-index-preserved c =
       one.so_far,
       keeps_then c.loop-index.invariant.1 one.keeps,
       below_more _ _ (λ p lt. let o = c.loop-index.invariant.2 p lt in (
-        all_from _ _ one.keeps.numbered _ o.0,
-        all_from _ _ one.keeps.numbered _ o.1,
+        all_from _ _ (still_numbered one.keeps) _ o.0,
+        all_from _ _ (still_numbered one.keeps) _ o.1,
       )) one.numbered,
     )
 
 pub returns-clause-all : goal.returns-clause-all
 returns-clause-all c =
     let (t, e) = c.requires.whole in
-    let one = IsNumbered _ _ in
+    let one = IsNumbered (stored_number c.args.given.now c.loop-index.self) in
     let es = events_in c.args.given.now in
     positions_all es one t e (positions_have es one
     (λ u r s. let o = c.loop-index.invariant.2 r (omega (arith, occurs_in s)) in (
@@ -36,14 +37,9 @@ returns-clause-all c =
       subst (AllByRecursion one) (values_are_in _ u r s) o.1,
     ))
     t 0 (occurs_whole e)
-    (c.loop-index.invariant.1.numbered 0 c.in_ok-number_one.ensures.numbered))
+    (still_numbered c.loop-index.invariant.1 0 c.in_ok-number_one.ensures.numbered))
 
 pub returns-clause-root : goal.returns-clause-root
 returns-clause-root c =
     let one = c.in_ok-number_one.ensures in
-    let some : 0 < length c.number_one.new.self.firsts = omega (arith, one.numbered) in
-    let first = c.loop-index.invariant.1.first some
-    ∙ one.first (omega (arith, ap length c.requires.none)) in
-    let known = c.loop-index.invariant.0.plan.known 0
-    (omega (arith, some, c.loop-index.invariant.1.grows)) in
-    cc (first, known.1)
+    c.loop-index.invariant.1.kept 0 one.numbered ∙ one.first (ap length c.requires.none)

@@ -1,7 +1,7 @@
 use Rattle.std.proofs.Common.{refl, subst, sym}
 use Rattle.std.specs.List.{AllByRecursion}
 use Rattle.plist_binwrite.specs.declared.children.Half.TheVariants.{Keys, Values}
-use Rattle.plist_binwrite.proofs.PlannedBy.{keeps_self, keeps_then}
+use Rattle.plist_binwrite.proofs.PlannedBy.{keeps_self, keeps_then, still_numbered}
 use Rattle.plist_binwrite.proofs.Uniques.{all_from}
 use Rattle.plist_binwrite.proofs.numbering.Numbering.number_children.Goals as goal
 
@@ -22,4 +22,4 @@ returns-clause-keeps c =
 pub returns-clause-numbered : goal.returns-clause-numbered
 returns-clause-numbered c =
     let values = c.in_ok-number_half-2.ensures in
-    (all_from _ _ values.keeps.numbered _ c.in_ok-number_half.ensures.numbered, values.numbered)
+    (all_from _ _ (still_numbered values.keeps) _ c.in_ok-number_half.ensures.numbered, values.numbered)

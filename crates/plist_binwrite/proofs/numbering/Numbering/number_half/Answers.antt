@@ -2,10 +2,11 @@ use Rattle.std.proofs.Common.{◌≡◌, sym, subst}
 use Rattle.std.specs.List.{AllByRecursion}
 use Rattle.plist_binwrite.specs.Children.{half_of, indices_left}
 use Rattle.plist_binwrite.specs.EventClasses.{events_in}
-use Rattle.plist_binwrite.specs.EventTable.{HasItem, IsNumbered}
-use Rattle.plist_binwrite.specs.inner.Planning.{object_number}
+use Rattle.plist_binwrite.specs.EventTable.{HasItem}
+use Rattle.plist_binwrite.specs.inner.Planning.{stored_number}
+use Rattle.plist_binwrite.specs.inner.PlansBy.{IsNumbered}
 use Rattle.plist_binwrite.proofs.ChildIndices.{are_items}
-use Rattle.plist_binwrite.proofs.PlannedBy.{keeps_self, keeps_then}
+use Rattle.plist_binwrite.proofs.PlannedBy.{keeps_self, keeps_then, still_numbered}
 use Rattle.plist_binwrite.proofs.numbering.Numbering.number_half.Goals as goal
 use Rattle.plist_binwrite.proofs.numbering.Numbering.number_half.Goals.{After-into_iter-child-iterator as Begun}
 
@@ -17,7 +18,7 @@ pub loop-child-init : goal.loop-child-init
 loop-child-init c = record {
   so_far = c.requires.so_far;
   keeps = keeps_self;
-  numbered = λ now more k all. all;
+  numbered = λ now k all. all;
   items = subst (AllByRecursion (HasItem _))
       (sym (begun (goal.at.loop-child-init c).After-into_iter-child-iterator))
       (are_items _ c.args.half c.args.index);
@@ -35,16 +36,16 @@ loop-child-preserved c =
     record {
       so_far = one.so_far;
       keeps = keeps_then i.keeps one.keeps;
-      numbered = λ now more k all. i.numbered now more (keeps_then one.keeps k)
-          (subst (AllByRecursion (IsNumbered now more)) (sym next)
-          (k.numbered _ one.numbered, all));
+      numbered = λ now k all. i.numbered now (keeps_then one.keeps k)
+          (subst (AllByRecursion (IsNumbered now)) (sym next)
+          (still_numbered k _ one.numbered, all));
       items = (subst (AllByRecursion (HasItem _)) next i.items).1;
     }
 
 pub returns-clause-numbered : goal.returns-clause-numbered
 returns-clause-numbered c =
     let found = c.loop-child.self in
-    let Numbers = AllByRecursion (IsNumbered (object_number c.args.given.now found) found.firsts) in
+    let Numbers = AllByRecursion (IsNumbered (stored_number c.args.given.now found)) in
     subst Numbers (begun (goal.at.returns-clause-numbered c).After-into_iter-child-iterator)
-    (c.loop-child.invariant.numbered _ _ keeps_self
+    (c.loop-child.invariant.numbered _ keeps_self
     (subst Numbers (sym c.in-None.ensures.steps.0) tt))

@@ -3,7 +3,7 @@ use Rattle.plist_binwrite.specs.Children.{indices_left}
 use Rattle.plist_binwrite.specs.EventClasses.{events_in}
 use Rattle.plist_binwrite.specs.EventTable.{HasItem}
 use Rattle.plist_binwrite.specs.inner.Numbering.{IsNumberedSoFar, KeepsNumbers}
-use Rattle.plist_binwrite.specs.inner.Planning.{object_number}
+use Rattle.plist_binwrite.specs.inner.Planning.{stored_number}
 use Rattle.plist_binwrite.proofs.PlannedBy.{NumbersRest}
 use Rattle.plist_binwrite.proofs.numbering.Numbering.number_half.Given as goal
 
@@ -11,7 +11,7 @@ abbrev pub invariant-loop-child : goal.invariant-loop-child
 invariant-loop-child l = record {
   so_far : IsNumberedSoFar l.given l.self;
   keeps : KeepsNumbers l.given l.initial.self l.self;
-  numbered : NumbersRest (object_number l.given l.self) l.self.firsts
+  numbered : NumbersRest (stored_number l.given l.self)
       (indices_left l.initial.child-iterator) (indices_left l.child-iterator);
   items : AllByRecursion (HasItem (events_in l.given)) (indices_left l.child-iterator);
 }

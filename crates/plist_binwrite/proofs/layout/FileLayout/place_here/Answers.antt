@@ -5,8 +5,8 @@ use Rattle.plist_binwrite.specs.EventClasses.{events_in}
 use Rattle.plist_binwrite.specs.EventTable.{HasItem}
 use Rattle.plist_binwrite.specs.declared.children.Half.TheVariants.{Keys}
 use Rattle.plist_binwrite.proofs.ChildIndices.{are_items}
-use Rattle.plist_binwrite.proofs.layout.FileLayout.put_here.Goals as goal
-use Rattle.plist_binwrite.proofs.layout.FileLayout.put_here.Goals.{After-into_iter-key-iterator as Begun}
+use Rattle.plist_binwrite.proofs.layout.FileLayout.place_here.Goals as goal
+use Rattle.plist_binwrite.proofs.layout.FileLayout.place_here.Goals.{After-into_iter-key-iterator as Begun}
 
 begun : (c : Begun) → indices_left c.into_iter-key-iterator.result
     ≡ half_of (events_in c.args.given.now) Keys c.args.index
@@ -14,9 +14,9 @@ begun c = cc (c.into_iter-key-iterator.ensures.into_iter_gives, c.new-key-items.
 
 pub loop-key-init : goal.loop-key-init
 loop-key-init c =
-    let one = c.in_ok-put.ensures in
+    let one = c.in_ok-place-in-Dictionary.ensures in
     record {
-      order = one.order;
+      layout = one.layout;
       keeps = λ k n. n;
       marked = one.marked;
       items = subst (AllByRecursion (HasItem _))
@@ -24,21 +24,17 @@ loop-key-init c =
           (are_items _ Keys c.args.index);
     }
 
-pub put-requires-in-loop-key-clause-item : goal.put-requires-in-loop-key-clause-item
-put-requires-in-loop-key-clause-item c =
+pub place-requires-in-loop-key-clause-item : goal.place-requires-in-loop-key-clause-item
+place-requires-in-loop-key-clause-item c =
     (subst (AllByRecursion (HasItem _)) c.in-Some.ensures.steps c.loop-key.invariant.items).0
 
 pub loop-key-preserved : goal.loop-key-preserved
 loop-key-preserved c =
     let i = c.loop-key.invariant in
-    let one = c.in_ok-put-2.ensures in
+    let one = c.in_ok-place-in-Dictionary-2.ensures in
     record {
-      order = one.order;
+      layout = one.layout;
       keeps = λ k n. one.keeps k (i.keeps k n);
       marked = one.keeps _ i.marked;
       items = (subst (AllByRecursion (HasItem _)) c.in-Some.ensures.steps i.items).1;
     }
-
-pub returns-then-not-begins_collection-clause-marked
-    : goal.returns-then-not-begins_collection-clause-marked
-returns-then-not-begins_collection-clause-marked c = λ item. c.in_ok-put.ensures.marked

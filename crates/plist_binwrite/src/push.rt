@@ -1,0 +1,160 @@
+//! Pushes objects of at most 17 bytes, and lengths, into a buffer that has room for them.
+//!
+//! Where room is known nothing can fail, so that no result is passed through the calls.
+
+ghost use Rattle.std.specs.Prelude.{◌≡◌, ◌+◌, ◌++◌, ◌∷◌, [], ◌≤◌, length};
+ghost use Rattle.plist_base.specs.Sinks.{buffered, room};
+ghost use Rattle.plist_binwrite.specs.Forms.{doublings, unsigned_form, integer_form, uid_form, length_form, boolean_form, date_form, real_form, marker_and_number};
+ghost use Rattle.plist_format.specs.Marker.{byte_of, high_half};
+
+use crate::widths::least_width;
+use plist_base::{Date, FixedBuffer, Integer, RealBits, Uid};
+use plist_format::{CountedKind, LowHalf, Marker, UidWidth};
+
+// Returns the marker of a number of this width.
+#[inline(always)]
+fn number_marker(width: usize) -> Marker
+    ensures { byte_of result ≡ 0x10 + doublings width }
+{
+    match width {
+        1 => Marker::Integer1,
+        2 => Marker::Integer2,
+        4 => Marker::Integer4,
+        _ => Marker::Integer8,
+    }
+}
+
+/// Pushes bytes. Copying a few bytes from a local array avoids a call that copies memory.
+#[inline(always)]
+pub fn push_few(buffer: &mut FixedBuffer, bytes: &[u8])
+    requires { length bytes.now ≤ room buffer.old }
+    ensures pushed { buffered buffer.new ≡ buffered buffer.old ++ bytes.now }
+    ensures room { room buffer.new + length bytes.now ≡ room buffer.old }
+{
+    match bytes {
+        [a] => buffer.push(&[*a]),
+        [a, b] => buffer.push(&[*a, *b]),
+        [a, b, c, d] => buffer.push(&[*a, *b, *c, *d]),
+        _ => buffer.push(bytes),
+    }
+}
+
+// Pushes a marker and the bytes that follow it.
+#[inline(always)]
+fn push_marked(buffer: &mut FixedBuffer, marker: Marker, bytes: &[u8])
+    requires { 1 + length bytes.now ≤ room buffer.old }
+    ensures pushed { buffered buffer.new ≡ buffered buffer.old ++ byte_of marker ∷ bytes.now }
+    ensures room { room buffer.new + (1 + length bytes.now) ≡ room buffer.old }
+{
+    buffer.push(&[marker.encode()]);
+    push_few(buffer, bytes);
+}
+
+// Pushes a marker and the lowest `width` bytes of a number.
+#[inline(always)]
+fn push_marked_number(buffer: &mut FixedBuffer, marker: Marker, width: usize, number: u64)
+    requires width { width ≤ 8 }
+    requires room { 9 ≤ room buffer.old }
+    ensures pushed { buffered buffer.new ≡ buffered buffer.old
+        ++ marker_and_number (byte_of marker) width number }
+    ensures room { room buffer.old ≤ room buffer.new + 9 }
+{
+    let digits = number.to_be_bytes();
+    push_marked(buffer, marker, &digits[8 - width..]);
+}
+
+/// Pushes an unsigned integer.
+#[inline(always)]
+pub fn push_unsigned(buffer: &mut FixedBuffer, number: u64)
+    requires { 9 ≤ room buffer.old }
+    ensures pushed { buffered buffer.new ≡ buffered buffer.old ++ unsigned_form number }
+{
+    let width = least_width(number);
+    push_marked_number(buffer, number_marker(width), width, number);
+}
+
+/// Pushes a marker of this kind with a length.
+#[inline(always)]
+pub fn push_length(buffer: &mut FixedBuffer, kind: CountedKind, count: u64)
+    requires { 10 ≤ room buffer.old }
+    ensures pushed { buffered buffer.new ≡ buffered buffer.old
+        ++ length_form (high_half kind) count }
+    ensures room { room buffer.old ≤ room buffer.new + 10 }
+{
+    if let Some(low) = LowHalf::of_length(count) {
+        buffer.push(&[Marker::Counted(kind, low).encode()]);
+        return;
+    }
+    let marker = Marker::Counted(kind, LowHalf::follows());
+    let width = least_width(count);
+    let digits = count.to_be_bytes();
+    buffer.push(&[marker.encode(), number_marker(width).encode()]);
+    push_few(buffer, &digits[8 - width..]);
+}
+
+/// Pushes a Boolean.
+#[inline(always)]
+pub fn push_boolean(buffer: &mut FixedBuffer, value: bool)
+    requires { 1 ≤ room buffer.old }
+    ensures pushed { buffered buffer.new ≡ buffered buffer.old ++ boolean_form value }
+{
+    buffer.push(&[Marker::Boolean(value).encode()]);
+}
+
+/// Pushes a date.
+#[inline(always)]
+pub fn push_date(buffer: &mut FixedBuffer, date: Date)
+    requires { 9 ≤ room buffer.old }
+    ensures pushed { buffered buffer.new ≡ buffered buffer.old ++ date_form date }
+{
+    push_marked(buffer, Marker::Date, &date.to_plist_real());
+}
+
+/// Pushes a real.
+#[inline(always)]
+pub fn push_real(buffer: &mut FixedBuffer, bits: RealBits)
+    requires { 9 ≤ room buffer.old }
+    ensures pushed { buffered buffer.new ≡ buffered buffer.old ++ real_form bits }
+{
+    match bits {
+        RealBits::Four(digits) => push_marked(buffer, Marker::Real4, &digits),
+        RealBits::Eight(digits) => push_marked(buffer, Marker::Real8, &digits),
+    }
+}
+
+/// Pushes a Uid.
+#[inline(always)]
+pub fn push_uid(buffer: &mut FixedBuffer, uid: Uid)
+    requires { 9 ≤ room buffer.old }
+    ensures pushed { buffered buffer.new ≡ buffered buffer.old ++ uid_form uid }
+{
+    let width = least_width(uid.get());
+    let marker = Marker::Uid(UidWidth::new(width));
+    push_marked_number(buffer, marker, width, uid.get());
+}
+
+// Pushes an integer above `i64::MAX`, in sixteen bytes.
+fn push_wide_integer(buffer: &mut FixedBuffer, number: u64)
+    requires { 17 ≤ room buffer.old }
+    ensures pushed { buffered buffer.new ≡ buffered buffer.old
+        ++ marker_and_number 0x14 16 number }
+{
+    push_marked_number(buffer, Marker::Integer16, 8, 0);
+    buffer.push(&number.to_be_bytes());
+}
+
+/// Pushes an integer.
+#[inline(always)]
+pub fn push_integer(buffer: &mut FixedBuffer, value: Integer)
+    requires { 17 ≤ room buffer.old }
+    ensures pushed { buffered buffer.new ≡ buffered buffer.old ++ integer_form value }
+{
+    match (value.as_unsigned(), value.as_signed()) {
+        (Some(number), Some(_)) => push_unsigned(buffer, number),
+        (Some(number), None) => push_wide_integer(buffer, number),
+        (None, Some(number)) => {
+            push_marked_number(buffer, Marker::Integer8, 8, number.cast_unsigned())
+        }
+        (None, None) => {}
+    }
+}
