@@ -1,4 +1,3 @@
-use Rattle.std.proofs.Common.{refl}
 use Rattle.std.specs.Str.{IsUtf8}
 use Rattle.plist_base.specs.Trees.{String}
 use Rattle.plist_binread.proofs.Contents.{text-utf8, text-not_utf8}
