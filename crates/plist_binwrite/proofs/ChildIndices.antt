@@ -3,16 +3,16 @@ use Rattle.std.proofs.Common.{◌≡◌, inl, inr, ℕ, zero, suc, ◌+◌, ◌<
 use Rattle.std.specs.List.{AllByRecursion}
 use Rattle.std.proofs.lemmas.Bool.Decides.{leb_tells}
 use Rattle.std.proofs.lemmas.List.{get_or_past}
-use Rattle.plist_base.specs.Events.{PlainEvent, StartArray, StartDictionary, EndCollection, ScalarEvent}
+use Rattle.plist_base.specs.Events.{PlainEvent, StartArray, StartDictionary, EndCollection, ScalarEvent, shape_of}
 use Rattle.plist_base.specs.Trees.{Tree, Leaf, Array, Dictionary, Trees, NoTrees, TreeAnd, Members, NoMembers, MemberAnd}
 use Rattle.plist_binwrite.specs.Children.{child_at, last_at, children_within, children_from, children_after, half_of}
-use Rattle.plist_binwrite.specs.EventTable.{HasItem, is_end, entry_kind_of, event_at, item_indices, key_indices, value_indices, keys_in, values_in}
+use Rattle.plist_binwrite.specs.EventTable.{HasItem, is_end, event_at, item_indices, key_indices, value_indices, keys_in, values_in}
 use Rattle.plist_binwrite.specs.Occurrences.{event_count, OccursAt, ItemsOccurAt, PairsOccurAt}
 use Rattle.plist_binwrite.specs.declared.children.Child.{Child}
 use Rattle.plist_binwrite.specs.declared.children.Child.TheVariants.{Item, Key, Value}
 use Rattle.plist_binwrite.specs.declared.children.Half.{Half}
 use Rattle.plist_binwrite.specs.declared.children.Half.TheVariants.{Keys, Values}
-use Rattle.plist_binwrite.specs.declared.kinds.EntryKind.TheVariants as kind
+use Rattle.plist_base.specs.declared.event.EventShape.TheVariants as shape
 use Rattle.plist_binwrite.specs.inner.UnclosedStarts.{skip_after}
 use Rattle.plist_binwrite.proofs.Occurring.{occurs_items, occurs_pairs, occurs_item, occurs_next, occurs_key, occurs_value, occurs_next_pair}
 use Rattle.plist_binwrite.proofs.Opened.{skip_ends, skip_forward}
@@ -190,8 +190,8 @@ module _ (es : List PlainEvent) where
       ∙ values_left ms (p + 1) (occurs_pairs s)
 
 -- only collections have children
-pub childless : (e : PlainEvent) → (entry_kind_of e ≡ kind.Array → ⊥)
-    → (entry_kind_of e ≡ kind.Dictionary → ⊥) → (half : Half) (es : List PlainEvent) (q : ℕ)
+pub childless : (e : PlainEvent) → (shape_of e ≡ shape.StartArray → ⊥)
+    → (shape_of e ≡ shape.StartDictionary → ⊥) → (half : Half) (es : List PlainEvent) (q : ℕ)
     → children_after e half es q ≡ []
 childless (StartArray hint) array dictionary half es q = absurd (array refl)
 childless (StartDictionary hint) array dictionary half es q = absurd (dictionary refl)

@@ -3,8 +3,8 @@ use Rattle.std.proofs.Common.{◌≡◌, ℕ, zero, suc, ◌-◌, ◌<◌, List,
 use Rattle.std.proofs.lemmas.List.{get_or_default}
 use Rattle.plist_binwrite.specs.declared.entries.EventEntry.{EventEntry}
 use Rattle.plist_binwrite.specs.declared.entries.EventEntry.TheVariants as entry
-use Rattle.plist_binwrite.specs.declared.kinds.EntryKind.{EntryKind}
-use Rattle.plist_binwrite.specs.declared.kinds.EntryKind.TheVariants as kind
+use Rattle.plist_base.specs.declared.event.EventShape.{EventShape}
+use Rattle.plist_base.specs.declared.event.EventShape.TheVariants as shape
 use Rattle.plist_binwrite.specs.inner.Columns.{kind_in, number_in, scalar_named, entry_of, entries_from, IsEntryNumber}
 use Rattle.plist_binwrite.specs.inner.Entries.{entry_at, is_leaf, event_of_entry}
 use Rattle.plist_base.specs.Events.{PlainEvent}
@@ -14,11 +14,11 @@ pub same_entry : (e : EventEntry) → entry_of (kind_in e) (number_in e) ≡ e
 same_entry entry.End = refl
 same_entry e = refl
 
-pub same_kind : (k : EntryKind) (n : ℕ) → kind_in (entry_of k n) ≡ k
-same_kind kind.End n = refl
+pub same_kind : (k : EventShape) (n : ℕ) → kind_in (entry_of k n) ≡ k
+same_kind shape.EndCollection n = refl
 same_kind k n = refl
 
-pub long_entries : (kinds : List EntryKind) (numbers : List ℕ) → length kinds ≡ length numbers
+pub long_entries : (kinds : List EventShape) (numbers : List ℕ) → length kinds ≡ length numbers
     → length (entries_from kinds numbers) ≡ length kinds
 long_entries [] numbers same = refl
 long_entries (k ∷ kinds) [] same = absurd (omega (arith, same))
@@ -26,7 +26,7 @@ long_entries (k ∷ kinds) (n ∷ numbers) same =
     ap suc (long_entries kinds _ (omega (arith, same)))
 
 -- an index among the entries is one of both lists
-pub within_lists : (kinds : List EntryKind) (numbers : List ℕ) (es : List EventEntry)
+pub within_lists : (kinds : List EventShape) (numbers : List ℕ) (es : List EventEntry)
     → length kinds ≡ length numbers → entries_from kinds numbers ≡ es → (p : ℕ) → p < length es
     → (p < length kinds) × (p < length numbers)
 within_lists kinds numbers es same is p lt =
@@ -34,9 +34,9 @@ within_lists kinds numbers es same is p lt =
     let given = ap length is in
     (omega (arith, long, given), omega (arith, long, given))
 
-pub entries_at : (kinds : List EntryKind) (numbers : List ℕ) (p : ℕ) → length kinds ≡ length numbers
+pub entries_at : (kinds : List EventShape) (numbers : List ℕ) (p : ℕ) → length kinds ≡ length numbers
     → entry_at (entries_from kinds numbers) p
-    ≡ entry_of (get_or kinds p kind.End) (get_or numbers p 0)
+    ≡ entry_of (get_or kinds p shape.EndCollection) (get_or numbers p 0)
 entries_at [] numbers p same = refl
 entries_at (k ∷ kinds) [] p same = absurd (omega arith)
 entries_at (k ∷ kinds) (n ∷ numbers) zero same = refl
@@ -44,34 +44,34 @@ entries_at (k ∷ kinds) (n ∷ numbers) (suc p) same =
     entries_at kinds _ p (omega arith)
 
 -- the kind and the number of an entry are read from the lists
-module _ (kinds : List EntryKind) (numbers : List ℕ) (same : length kinds ≡ length numbers)
-    (slice : List EntryKind) (lent : slice ≡ kinds) (p : ℕ) (d : EntryKind)
+module _ (kinds : List EventShape) (numbers : List ℕ) (same : length kinds ≡ length numbers)
+    (slice : List EventShape) (lent : slice ≡ kinds) (p : ℕ) (d : EventShape)
     (lt : p < length kinds) where
-  kind_there : get_or slice p d ≡ get_or kinds p kind.End
-  kind_there = cc (get_or_default kinds p d kind.End lt)
+  kind_there : get_or slice p d ≡ get_or kinds p shape.EndCollection
+  kind_there = cc (get_or_default kinds p d shape.EndCollection lt)
 
   pub kind_read : get_or slice p d ≡ kind_in (entry_at (entries_from kinds numbers) p)
   kind_read = kind_there ∙ sym (cc (
     entries_at kinds numbers p same,
     same_kind
-        (get_or kinds p kind.End) (get_or numbers p 0),
+        (get_or kinds p shape.EndCollection) (get_or numbers p 0),
   ))
 
-pub number_read : (kinds : List EntryKind) (numbers : List ℕ) (p : ℕ)
+pub number_read : (kinds : List EventShape) (numbers : List ℕ) (p : ℕ)
     → length kinds ≡ length numbers
     → IsEntryNumber (entries_from kinds numbers) p (get_or numbers p 0)
 number_read kinds numbers p same =
     let there = entries_at kinds numbers p same in
     ap (λ k. entry_of k (get_or numbers p 0))
-    (ap kind_in there ∙ same_kind (get_or kinds p kind.End) (get_or numbers p 0)) ∙ sym there
+    (ap kind_in there ∙ same_kind (get_or kinds p shape.EndCollection) (get_or numbers p 0)) ∙ sym there
 
 -- an entry is equal to the one that is made of the kind and the number that were read
-pub of_kind : {A : Type 0} (f : EventEntry → A) (e : EventEntry) {k read : EntryKind} → read ≡ k
+pub of_kind : {A : Type 0} (f : EventEntry → A) (e : EventEntry) {k read : EventShape} → read ≡ k
     → read ≡ kind_in e
     → f (entry_of k (number_in e)) ≡ f e
 of_kind f e is given = rw (sym is ∙ given) (ap f (same_entry e))
 
-pub of_number : {A : Type 0} (f : EventEntry → A) {e : EventEntry} {k read : EntryKind} (n : ℕ)
+pub of_number : {A : Type 0} (f : EventEntry → A) {e : EventEntry} {k read : EventShape} (n : ℕ)
     → read ≡ k
     → read ≡ kind_in e → entry_of (kind_in e) n ≡ e → f (entry_of k n) ≡ f e
 of_number f n is given number = rw (sym is ∙ given) (ap f number)
@@ -87,7 +87,7 @@ unnamed scalars (entry.Scalar index) is = cc
 unnamed scalars e is = refl
 
 -- appending a kind and a number appends an entry
-pub entries_more : (kinds : List EntryKind) (numbers : List ℕ) (e : EventEntry)
+pub entries_more : (kinds : List EventShape) (numbers : List ℕ) (e : EventEntry)
     → length kinds ≡ length numbers
     → entries_from (kinds ++ kind_in e ∷ []) (numbers ++ number_in e ∷ [])
     ≡ entries_from kinds numbers ++ e ∷ []
@@ -98,7 +98,7 @@ entries_more (k ∷ kinds) (n ∷ numbers) e same =
     ap (λ l. entry_of k n ∷ l) (entries_more kinds _ e (omega (arith, same)))
 
 -- setting a kind and a number sets an entry
-pub entries_set : (kinds : List EntryKind) (numbers : List ℕ) (p : ℕ) (e : EventEntry)
+pub entries_set : (kinds : List EventShape) (numbers : List ℕ) (p : ℕ) (e : EventEntry)
     → entries_from (set kinds p (kind_in e)) (set numbers p (number_in e))
     ≡ set (entries_from kinds numbers) p e
 entries_set [] numbers p e = refl
@@ -110,7 +110,7 @@ entries_set (k ∷ kinds) (n ∷ numbers) (suc p) e =
     ap (λ l. entry_of k n ∷ l) (entries_set kinds numbers p e)
 
 -- the first kinds and numbers are those of the first entries
-pub entries_first : (count : ℕ) (kinds : List EntryKind) (numbers : List ℕ)
+pub entries_first : (count : ℕ) (kinds : List EventShape) (numbers : List ℕ)
     → entries_from (take count kinds) (take count numbers) ≡ take count (entries_from kinds numbers)
 entries_first zero kinds numbers = refl
 entries_first (suc count) [] numbers = refl
@@ -118,7 +118,7 @@ entries_first (suc count) (k ∷ kinds) [] = refl
 entries_first (suc count) (k ∷ kinds) (n ∷ numbers) =
     ap (λ l. entry_of k n ∷ l) (entries_first count _ _)
 
-pub popped_entries : (kinds : List EntryKind) (numbers : List ℕ) (count : ℕ) → count ≡ length kinds
+pub popped_entries : (kinds : List EventShape) (numbers : List ℕ) (count : ℕ) → count ≡ length kinds
     → length kinds ≡ length numbers → entries_from (take (count - 1) kinds)
     (take (length numbers - 1) numbers)
     ≡ take (length (entries_from kinds numbers) - 1) (entries_from kinds numbers)

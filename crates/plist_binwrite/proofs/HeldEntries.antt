@@ -10,11 +10,11 @@ use Rattle.std.proofs.lemmas.Option.{get_or_from_slice_get, slice_get-get_or}
 use Rattle.std.specs.List.{list_any}
 use Rattle.std.specs.Prelude.{◌||◌}
 use Rattle.plist_base.specs.Bracketing.{without_length}
-use Rattle.plist_base.specs.Events.{PlainEvent, EndCollection, ScalarEvent}
+use Rattle.plist_base.specs.Events.{PlainEvent, EndCollection, ScalarEvent, shape_of}
 use Rattle.plist_base.specs.Trees.{Scalar}
 use Rattle.plist_binwrite.specs.declared.entries.EventEntry.{EventEntry}
 use Rattle.plist_binwrite.specs.declared.entries.EventEntry.TheVariants as entry
-use Rattle.plist_binwrite.specs.EventTable.{event_at, entry_kind_of}
+use Rattle.plist_binwrite.specs.EventTable.{event_at}
 use Rattle.plist_binwrite.specs.inner.Columns.{kind_in, scalar_named}
 use Rattle.plist_binwrite.specs.inner.Entries.{AreDistinct, is_leaf, entry_at, event_of_entry, events_of_entries, is_sound, is_start, index_after_entry, index_after_at, closed_at, ended_at, names, AreEntriesOf, IsValidTable}
 use Rattle.plist_binwrite.specs.inner.UnclosedStarts.{unclosed_after_event, unclosed_after, skip_after_event, skip_after, without_innermost}
@@ -359,14 +359,14 @@ module _ {scalars : List PlainEvent} {es : List EventEntry} {unclosed : List ℕ
     there = shown_at kept.entries_are _ lt
 
     kind_shown : (e : EventEntry) → is_sound scalars e ≡ true
-        → entry_kind_of (event_of_entry scalars e) ≡ kind_in e
+        → shape_of (event_of_entry scalars e) ≡ kind_in e
     kind_shown (entry.Scalar i) h = let f = leaf_is _ h in rw f.1 refl
     kind_shown e h = refl
 
     pub kind_held : kind_in (entry_at es index)
-        ≡ entry_kind_of (event_at (events_of_entries scalars es) index)
+        ≡ shape_of (event_at (events_of_entries scalars es) index)
     kind_held =
-        sym (ap entry_kind_of there ∙ kind_shown _ (kept.entries_are.sound _ lt))
+        sym (ap shape_of there ∙ kind_shown _ (kept.entries_are.sound _ lt))
 
     pub no_scalar : scalar_named (entry_at es index) ≡ None
         → is_leaf (event_at (events_of_entries scalars es) index) ≡ false

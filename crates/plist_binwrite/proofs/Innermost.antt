@@ -2,13 +2,13 @@
 use Rattle.std.proofs.Common.{◌≡◌, ◌⊎◌, inl, inr, ℕ, ◌-◌, ◌<◌, true, List, [], ◌∷◌, length, get_or, slice_get, reverse, drop, map, Option, None, Some, refl, sym, ap, ◌∙◌, arith}
 use Rattle.std.proofs.lemmas.List.{length-reverse, get_or-reverse}
 use Rattle.std.proofs.lemmas.Option.{slice_get_within, get_or_from_slice_get, slice_get-get_or}
-use Rattle.plist_base.specs.Events.{PlainEvent, StartArray, StartDictionary, EndCollection, ScalarEvent}
+use Rattle.plist_base.specs.Events.{PlainEvent, StartArray, StartDictionary, EndCollection, ScalarEvent, shape_of}
 use Rattle.plist_base.specs.declared.expects.Expect.{Expect}
 use Rattle.plist_base.specs.declared.expects.Expect.TheVariants.{Items, Pairs}
 use Rattle.plist_binwrite.specs.declared.event_table.EventTable.{EventTable}
-use Rattle.plist_binwrite.specs.declared.kinds.EntryKind.{EntryKind}
-use Rattle.plist_binwrite.specs.declared.kinds.EntryKind.TheVariants as kind
-use Rattle.plist_binwrite.specs.EventTable.{event_at, entry_kind_of, plain_events}
+use Rattle.plist_base.specs.declared.event.EventShape.{EventShape}
+use Rattle.plist_base.specs.declared.event.EventShape.TheVariants as shape
+use Rattle.plist_binwrite.specs.EventTable.{event_at, plain_events}
 use Rattle.plist_binwrite.specs.inner.Expected.{OpenKind, open_after_event, open_after, expects_in, expected_inside, innermost}
 use Rattle.plist_binwrite.specs.inner.UnclosedStarts.{unclosed_after_event, unclosed_from, unclosed_after}
 use Rattle.plist_binwrite.proofs.HeldEntries.{below}
@@ -71,13 +71,13 @@ none_last (x ∷ xs) is =
 
 -- ---- what the table returns
 
-abbrev pub expect_of_kind : EntryKind → Option Expect
-expect_of_kind kind.Array = Some Items
-expect_of_kind kind.Dictionary = Some Pairs
+abbrev pub expect_of_kind : EventShape → Option Expect
+expect_of_kind shape.StartArray = Some Items
+expect_of_kind shape.StartDictionary = Some Pairs
 expect_of_kind other = None
 
 start_expects : (e : PlainEvent) → is_start e ≡ true
-    → expect_of_kind (entry_kind_of e) ≡ Some (expect_of e)
+    → expect_of_kind (shape_of e) ≡ Some (expect_of e)
 start_expects (StartArray hint) is = refl
 start_expects (StartDictionary hint) is = refl
 start_expects e is = cc
@@ -100,15 +100,15 @@ module _ (table : EventTable) {unclosed : List ℕ} (same : unclosed ≡ table.u
     last_within = below is_start events q refl starts_here
 
     -- the kind of the innermost open start determines what is expected
-    pub last_expects : (k : EntryKind) → k ≡ entry_kind_of (event_at events q)
+    pub last_expects : (k : EventShape) → k ≡ shape_of (event_at events q)
         → expect_of_kind k ≡ innermost (expected_inside events)
     last_expects k k_is =
         ap expect_of_kind k_is ∙ start_expects _ starts_here
         ∙ ap (λ l. innermost (map (expect_at events) l)) (sym (unclosed_is).1)
         ∙ ap innermost (inside_is events)
 
-    pub last_is_start : (k : EntryKind) → k ≡ entry_kind_of (event_at events q)
-        → (k ≡ kind.Scalar) ⊎ (k ≡ kind.End) → None ≡ innermost (expected_inside events)
+    pub last_is_start : (k : EventShape) → k ≡ shape_of (event_at events q)
+        → (k ≡ shape.Scalar) ⊎ (k ≡ shape.EndCollection) → None ≡ innermost (expected_inside events)
     last_is_start k k_is (inl other) = ap expect_of_kind (sym other) ∙ last_expects k k_is
     last_is_start k k_is (inr other) = ap expect_of_kind (sym other) ∙ last_expects k k_is
 

@@ -7,10 +7,10 @@ use Rattle.std.proofs.lemmas.List.{get_or-set_same, get_or-set_other}
 use Rattle.std.proofs.lemmas.List.Elements.{All-get_or, All-set, All-from_get_or}
 use Rattle.std.proofs.lemmas.Option.{slice_get_within, same_Some}
 use Rattle.plist_base.specs.Bracketing.{lengthless}
-use Rattle.plist_base.specs.Events.{PlainEvent, EndCollection, ScalarEvent}
+use Rattle.plist_base.specs.Events.{PlainEvent, EndCollection, ScalarEvent, shape_of}
 use Rattle.plist_base.specs.Trees.{String, Tree, Leaf, Array, Dictionary, Trees, NoTrees, TreeAnd, Members, NoMembers, MemberAnd}
-use Rattle.plist_binwrite.specs.declared.kinds.EntryKind.TheVariants as kind
-use Rattle.plist_binwrite.specs.EventTable.{AllBelow, event_at, is_end, entry_kind_of, key_indices}
+use Rattle.plist_base.specs.declared.event.EventShape.TheVariants as shape
+use Rattle.plist_binwrite.specs.EventTable.{AllBelow, event_at, is_end, key_indices}
 use Rattle.plist_binwrite.specs.inner.Entries.{AreDistinct, is_leaf}
 use Rattle.plist_binwrite.specs.RepeatedKeys.{Lacks, HasDistinctKeys, HasKeysOnce, ItemsHaveKeysOnce, ValuesHaveKeysOnce}
 use Rattle.plist_binwrite.specs.Occurrences.{event_count, OccursAt, ItemsOccurAt, PairsOccurAt, positions, positions_in_items, positions_in_pairs}
@@ -152,7 +152,7 @@ abbrev IfDictionary : Tree → Type 0
 IfDictionary (Dictionary ms) = HasDistinctKeys ms
 IfDictionary t = Unit {0}
 
-goes_on : (e : PlainEvent) → entry_kind_of e ≡ kind.Dictionary → is_end e ≡ false
+goes_on : (e : PlainEvent) → shape_of e ≡ shape.StartDictionary → is_end e ≡ false
 goes_on EndCollection k = cc
 goes_on e k = refl
 
@@ -216,7 +216,7 @@ module _ (es : List PlainEvent) where
 
   -- in one dictionary some keys are equal
   pub one_repeats : (t : Tree) (p : ℕ) → es ≡ lengthless t → p < length es
-      → entry_kind_of (event_at es p) ≡ kind.Dictionary
+      → shape_of (event_at es p) ≡ shape.StartDictionary
       → ((ms : Members) → OccursAt es (Dictionary ms) p → HasDistinctKeys ms → ⊥)
       → HasKeysOnce t → ⊥
   one_repeats t p is lt begin never once =
@@ -225,6 +225,6 @@ module _ (es : List PlainEvent) where
       by f.0 f.1 f.2
     where
       by : (u : Tree) → OccursAt es u p → IfDictionary u → ⊥
-      by (Leaf x) s o = cc (ap entry_kind_of (stands_single s))
-      by (Array ts) s o = cc (ap entry_kind_of (starts_array s))
+      by (Leaf x) s o = cc (ap shape_of (stands_single s))
+      by (Array ts) s o = cc (ap shape_of (starts_array s))
       by (Dictionary ms) s o = never ms s o

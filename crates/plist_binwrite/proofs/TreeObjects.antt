@@ -2,14 +2,14 @@
 use Rattle.std.proofs.Common.{◌≡◌, ◌⊎◌, inl, inr, ℕ, ◌+◌, ◌*◌, ◌^◌, ◌<◌, ◌≤◌, false, List, ◌∷◌, length, flat_map, map, Option, None, Some, SomeIff, refl, ap, ◌∙◌, subst, arith, length-append}
 use Rattle.std.proofs.lemmas.List.{length-map}
 use Rattle.std.proofs.lemmas.Bool.{cases_lt}
-use Rattle.plist_base.specs.Events.{PlainEvent, ScalarEvent}
+use Rattle.plist_base.specs.Events.{PlainEvent, ScalarEvent, shape_of}
 use Rattle.plist_base.specs.Trees.{number_of_trees, number_of_members, Scalar, Tree, Leaf, Array, Dictionary, Trees, NoTrees, TreeAnd, Members, NoMembers, MemberAnd}
-use Rattle.plist_binwrite.specs.declared.kinds.EntryKind.{EntryKind}
-use Rattle.plist_binwrite.specs.declared.kinds.EntryKind.TheVariants as kind
+use Rattle.plist_base.specs.declared.event.EventShape.{EventShape}
+use Rattle.plist_base.specs.declared.event.EventShape.TheVariants as shape
 use Rattle.plist_binwrite.specs.Occurrences.{event_count, OccursAt, ItemsOccurAt, PairsOccurAt}
 use Rattle.plist_binwrite.specs.Numberings.{references, pairs, object_of}
 use Rattle.plist_binwrite.specs.Forms.{big_endian, length_form, units_of, is_ascii_text, text_form, scalar_form, form, key_numbers, value_numbers, IsWritable, IsWritableScalar, AllFit}
-use Rattle.plist_binwrite.specs.EventTable.{is_end, entry_kind_of, event_at, item_indices, key_indices, value_indices, AllNumbered, IsBracketed}
+use Rattle.plist_binwrite.specs.EventTable.{is_end, event_at, item_indices, key_indices, value_indices, AllNumbered, IsBracketed}
 use Rattle.plist_binwrite.specs.Sizes.{IsSizeOrNone, dictionary_size, marked_size}
 use Rattle.plist_binwrite.specs.Children.{half_of}
 use Rattle.plist_binwrite.specs.declared.children.Half.TheVariants.{Values}
@@ -96,23 +96,23 @@ module _ (es : List PlainEvent) (number : ℕ → ℕ) (count w : ℕ)
 
 -- ---- by the kind of the event at an index
 
-module _ {es : List PlainEvent} {k : EntryKind} {p : ℕ} (at : k ≡ entry_kind_of (event_at es p))
+module _ {es : List PlainEvent} {k : EventShape} {p : ℕ} (at : k ≡ shape_of (event_at es p))
     (P : Tree → Type 0) where
-  pub of_array : k ≡ kind.Array → ((ts : Trees) → OccursAt es (Array ts) p → P (Array ts))
+  pub of_array : k ≡ shape.StartArray → ((ts : Trees) → OccursAt es (Array ts) p → P (Array ts))
       → (t : Tree) → OccursAt es t p → P t
-  of_array is h (Leaf x) s = cc (ap entry_kind_of (stands_single s))
+  of_array is h (Leaf x) s = cc (ap shape_of (stands_single s))
   of_array is h (Array ts) s = h ts s
-  of_array is h (Dictionary ms) s = cc (ap entry_kind_of (starts_dictionary s))
+  of_array is h (Dictionary ms) s = cc (ap shape_of (starts_dictionary s))
 
-  pub of_dictionary : k ≡ kind.Dictionary
+  pub of_dictionary : k ≡ shape.StartDictionary
       → ((ms : Members) → OccursAt es (Dictionary ms) p → P (Dictionary ms)) → (t : Tree)
       → OccursAt es t p → P t
-  of_dictionary is h (Leaf x) s = cc (ap entry_kind_of (stands_single s))
-  of_dictionary is h (Array ts) s = cc (ap entry_kind_of (starts_array s))
+  of_dictionary is h (Leaf x) s = cc (ap shape_of (stands_single s))
+  of_dictionary is h (Array ts) s = cc (ap shape_of (starts_array s))
   of_dictionary is h (Dictionary ms) s = h ms s
 
   -- no collection begins at this index
-  module _ (other : (k ≡ kind.Scalar) ⊎ (k ≡ kind.End)) where
+  module _ (other : (k ≡ shape.Scalar) ⊎ (k ≡ shape.EndCollection)) where
     neither : ((x : Scalar) → event_at es p ≡ ScalarEvent x → P (Leaf x)) → (t : Tree) → OccursAt es t p
         → P t
     neither h (Leaf x) s = h x (stands_single s)

@@ -1,11 +1,9 @@
 -- The events that a writer buffers, and the numbers of their objects.
 use Rattle.std.specs.Prelude.{◌≡◌, ℕ, ◌+◌, ◌<◌, ◌≤◌, Bool, true, false, List, [], ◌∷◌, length, get_or, map, ◌++◌, ◌⊎◌, Some, slice_get}
 use Rattle.plist_base.specs.declared.event.Event.{Event}
-use Rattle.plist_base.specs.Events.{PlainEvent, event_of, StartArray, StartDictionary, EndCollection, ScalarEvent}
+use Rattle.plist_base.specs.Events.{PlainEvent, event_of, EndCollection}
 use Rattle.plist_format.specs.Object.{Object}
 use Rattle.plist_binwrite.specs.declared.event_table.EventTable.{EventTable}
-use Rattle.plist_binwrite.specs.declared.kinds.EntryKind.{EntryKind}
-use Rattle.plist_binwrite.specs.declared.kinds.EntryKind.TheVariants as kind
 use Rattle.plist_base.specs.Trees.{Tree, Leaf, Array, Dictionary, Trees, NoTrees, TreeAnd, Members, NoMembers, MemberAnd}
 use Rattle.plist_base.specs.Bracketing.{without_length, lengthless}
 use Rattle.plist_binwrite.specs.StoredScalars.{event_of_scalar}
@@ -34,13 +32,6 @@ entry_event held entry = event_of_entry (scalars_of held) entry
 abbrev pub is_end : PlainEvent → Bool
 is_end EndCollection = true
 is_end event = false
-
--- the kind of an event
-abbrev pub entry_kind_of : PlainEvent → EntryKind
-entry_kind_of (StartArray hint) = kind.Array
-entry_kind_of (StartDictionary hint) = kind.Dictionary
-entry_kind_of EndCollection = kind.End
-entry_kind_of (ScalarEvent x) = kind.Scalar
 
 -- the event at an index, or an end if there is none
 abbrev pub event_at : List PlainEvent → ℕ → PlainEvent

@@ -6,7 +6,7 @@ ghost use Rattle.plist_binwrite.specs.inner.Columns.{entry_of, kind_in, number_i
 ghost use Rattle.plist_binwrite.specs.inner.Entries.{index_after_at, closed_at, ended_at, entry_at};
 
 use crate::compact_numbers::Numbers;
-use crate::kinds::EntryKind;
+use plist_base::EventShape;
 use std::alloc::{AllocError, Global};
 use std::marker::Model;
 
@@ -25,14 +25,14 @@ pub enum EventEntry {
 }
 
 // Returns the kind of an entry.
-fn kind_in(entry: EventEntry) -> EntryKind
+fn kind_in(entry: EventEntry) -> EventShape
     ensures { result ≡ kind_in entry }
 {
     match entry {
-        EventEntry::Array(_) => EntryKind::Array,
-        EventEntry::Dictionary(_) => EntryKind::Dictionary,
-        EventEntry::Scalar(_) => EntryKind::Scalar,
-        EventEntry::End => EntryKind::End,
+        EventEntry::Array(_) => EventShape::StartArray,
+        EventEntry::Dictionary(_) => EventShape::StartDictionary,
+        EventEntry::Scalar(_) => EventShape::Scalar,
+        EventEntry::End => EventShape::EndCollection,
     }
 }
 
@@ -49,14 +49,14 @@ fn number_in(entry: EventEntry) -> usize
 }
 
 // Returns the entry of this kind with this number, which is ignored for an end.
-fn entry_of(kind: EntryKind, number: usize) -> EventEntry
+fn entry_of(kind: EventShape, number: usize) -> EventEntry
     ensures { result ≡ entry_of kind number }
 {
     match kind {
-        EntryKind::Array => EventEntry::Array(number),
-        EntryKind::Dictionary => EventEntry::Dictionary(number),
-        EntryKind::Scalar => EventEntry::Scalar(number),
-        EntryKind::End => EventEntry::End,
+        EventShape::StartArray => EventEntry::Array(number),
+        EventShape::StartDictionary => EventEntry::Dictionary(number),
+        EventShape::Scalar => EventEntry::Scalar(number),
+        EventShape::EndCollection => EventEntry::End,
     }
 }
 
@@ -75,7 +75,7 @@ fn closed(entry: EventEntry, behind: usize) -> EventEntry
 /// A list of entries, stored as a list of kinds and a list of numbers.
 #[derive(Drop)]
 pub struct Entries {
-    kinds: Vec<EntryKind>,
+    kinds: Vec<EventShape>,
     numbers: Numbers,
 }
 
@@ -110,7 +110,7 @@ impl Entries {
     }
 
     /// Returns the kind of the entry at an index, without reading its number.
-    pub fn kind_at(&self, index: usize) -> EntryKind
+    pub fn kind_at(&self, index: usize) -> EventShape
         requires { index < length self.now }
         ensures { result ≡ kind_in (entry_at self.now index) }
     {
@@ -141,10 +141,10 @@ impl Entries {
         ensures { result ≡ index_after_at self.now index }
     {
         match self.kind_at(index) {
-            EntryKind::Array => self.number_at(index),
-            EntryKind::Dictionary => self.number_at(index),
-            EntryKind::Scalar => index + 1,
-            EntryKind::End => index + 1,
+            EventShape::StartArray => self.number_at(index),
+            EventShape::StartDictionary => self.number_at(index),
+            EventShape::Scalar => index + 1,
+            EventShape::EndCollection => index + 1,
         }
     }
 
@@ -155,10 +155,10 @@ impl Entries {
         ensures { result ≡ scalar_named (entry_at self.now index) }
     {
         match self.kind_at(index) {
-            EntryKind::Array => None,
-            EntryKind::Dictionary => None,
-            EntryKind::Scalar => Some(self.number_at(index)),
-            EntryKind::End => None,
+            EventShape::StartArray => None,
+            EventShape::StartDictionary => None,
+            EventShape::Scalar => Some(self.number_at(index)),
+            EventShape::EndCollection => None,
         }
     }
 

@@ -2,15 +2,14 @@
 
 ghost use Rattle.std.specs.Prelude.{◌≡◌, ◌^◌, ◌<◌, true, length, OnOk, OnErr, ◌-◌};
 ghost use Rattle.std.proofs.Props.{props};
-ghost use Rattle.plist_base.specs.Events.{EndCollection, ScalarEvent};
+ghost use Rattle.plist_base.specs.Events.{EndCollection, ScalarEvent, shape_of};
 ghost use Rattle.plist_base.specs.Outcomes.{OnlyMemory};
 ghost use Rattle.plist_binwrite.specs.inner.Entries.{is_leaf, AreValidEntries};
 
 use crate::entries::{Entries, EventEntry};
-use crate::kinds::EntryKind;
 use crate::stored_scalar::{ScalarRef, StoredScalar};
 use indexmap::IndexSet;
-use plist_base::{Error, Event, Expect};
+use plist_base::{Error, Event, EventShape, Expect};
 use std::alloc::{AllocError, Global};
 use std::borrow::{CowSlice, CowStr};
 
@@ -34,7 +33,7 @@ pub struct EventTable<'e> {
 impl<'e> EventTable<'e> {
     ghost use Rattle.plist_binwrite.specs.StoredScalars.{event_of_scalar, scalar_of_ref};
     ghost use Rattle.std.specs.Prelude.{[], None, Some, false, slice_get, IfSome, ◌+◌};
-    ghost use Rattle.plist_binwrite.specs.EventTable.{plain_event, plain_events, scalars_of, entry_kind_of, event_at, GrowsBy, HasItem, IsScalarAt, LacksItem, table_event, entry_event};
+    ghost use Rattle.plist_binwrite.specs.EventTable.{plain_event, plain_events, scalars_of, event_at, GrowsBy, HasItem, IsScalarAt, LacksItem, table_event, entry_event};
     ghost use Rattle.plist_binwrite.specs.inner.Columns.{scalar_named};
     ghost use Rattle.plist_binwrite.specs.inner.Entries.{entry_at, is_start, IsUnclosed};
     ghost use Rattle.plist_binwrite.specs.inner.Expected.{expected_inside, innermost};
@@ -105,9 +104,9 @@ impl<'e> EventTable<'e> {
     }
 
     /// Returns the kind of the event at an index.
-    pub fn kind_at(&self, index: usize) -> EntryKind
+    pub fn kind_at(&self, index: usize) -> EventShape
         requires { index < length (plain_events self.now) }
-        ensures { result ≡ entry_kind_of (table_event self.now index) }
+        ensures { result ≡ shape_of (table_event self.now index) }
     {
         self.entries.kind_at(index)
     }
@@ -122,8 +121,8 @@ impl<'e> EventTable<'e> {
             return false;
         }
         match self.kind_at(index) {
-            EntryKind::End => false,
-            EntryKind::Array | EntryKind::Dictionary | EntryKind::Scalar => true,
+            EventShape::EndCollection => false,
+            EventShape::StartArray | EventShape::StartDictionary | EventShape::Scalar => true,
         }
     }
 
@@ -168,9 +167,9 @@ impl<'e> EventTable<'e> {
     {
         match self.unclosed.last() {
             Some(start) => match self.kind_at(*start) {
-                EntryKind::Array => Some(Expect::Items),
-                EntryKind::Dictionary => Some(Expect::Pairs),
-                EntryKind::Scalar | EntryKind::End => None,
+                EventShape::StartArray => Some(Expect::Items),
+                EventShape::StartDictionary => Some(Expect::Pairs),
+                EventShape::Scalar | EventShape::EndCollection => None,
             },
             None => None,
         }

@@ -8,11 +8,11 @@ ghost use Rattle.plist_binwrite.specs.inner.Sizing.{IsLayout};
 use crate::children::{Children, Half};
 use crate::classes::Classed;
 use crate::compact_numbers::Numbers;
-use crate::kinds::EntryKind;
 use crate::lengths::add;
 use crate::numbering::Numbering;
 use crate::size::size_of_object;
 use crate::widths::reference_width;
+use plist_base::EventShape;
 use std::alloc::{AllocError, Global};
 
 /// The objects that have offsets so far.
@@ -68,6 +68,7 @@ impl FileLayout {
     }
 
     // Places the object of the event at an index after the others, unless it has an offset already.
+    #[inline(always)]
     fn place(
         &mut self,
         given: &Classed<'_, '_>,
@@ -108,9 +109,9 @@ impl FileLayout {
             → MarksItem given.now numbering.now index self.new.places) }
     {
         match given.events.kind_at(index) {
-            EntryKind::End => Ok(()),
-            EntryKind::Scalar | EntryKind::Array => self.place(given, numbering, index),
-            EntryKind::Dictionary => {
+            EventShape::EndCollection => Ok(()),
+            EventShape::Scalar | EventShape::StartArray => self.place(given, numbering, index),
+            EventShape::StartDictionary => {
                 self.place(given, numbering, index)?;
                 for key in Children::new(given.events, index, Half::Keys) {
                     self.place(given, numbering, key)?;

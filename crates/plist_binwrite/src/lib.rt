@@ -12,7 +12,6 @@ mod entries;
 pub mod event_buffer;
 pub mod event_table;
 pub mod forms;
-pub mod kinds;
 mod layout;
 mod lengths;
 mod numbering;

@@ -59,6 +59,7 @@ impl Numbering {
     }
 
     // Gives the next number to the object of the event at an index, unless it has a number already.
+    #[inline(always)]
     fn number_one(&mut self, given: &Classed<'_, '_>, index: usize) -> Result<(), AllocError>
         requires so_far { IsNumberedSoFar given.now self.old }
         requires item { HasItem (events_in given.now) index }

@@ -14,11 +14,10 @@ use crate::children::{Children, Half};
 use crate::classes::Classed;
 use crate::event_table::EventTable;
 use crate::forms::{CountedKind, put_length, put_number, put_scalar, try_put_number};
-use crate::kinds::EntryKind;
 use crate::plan::FilePlan;
 use crate::scalar::push_scalar;
 use crate::size::count_children;
-use plist_base::{Error, Sink};
+use plist_base::{Error, EventShape, Sink};
 use std::io::Write;
 
 // Puts the references to one half of the children of the collection that begins at an index.
@@ -63,8 +62,8 @@ fn put_collection<W: Write>(
     put_half(sink, given, plan, index, Half::Values)
 }
 
-// If a scalar is at an index, puts its object, if this is short and the buffer has room for it, and
-// returns whether it did.
+// Puts the object of the scalar at an index, if it fits into the buffer and isn't a string beyond
+// ASCII, and returns whether it did. If no scalar is at the index, puts nothing.
 #[inline(always)]
 fn try_put_object<W: Write>(sink: &mut Sink<'_, W>, events: &EventTable<'_>, index: usize) -> bool
     requires { index < length (plain_events events.now) }
@@ -72,7 +71,7 @@ fn try_put_object<W: Write>(sink: &mut Sink<'_, W>, events: &EventTable<'_>, ind
         × PutsBytes W.contents sink.old (scalar_form x) (Ok tt) sink.new }
     ensures unchanged { result ≡ false → PutsNothing sink.old sink.new }
 {
-    if sink.room() < 40 {
+    if sink.room() < 17 {
         return false;
     }
     match events.scalar_at(index) {
@@ -93,9 +92,15 @@ fn put_object<W: Write>(
     ensures { PutsObject W.contents sink.old given.now plan.now index result sink.new }
 {
     match given.events.kind_at(index) {
-        EntryKind::Array => put_collection(sink, given, plan, index, CountedKind::Array),
-        EntryKind::Dictionary => put_collection(sink, given, plan, index, CountedKind::Dictionary),
-        EntryKind::Scalar | EntryKind::End => match given.events.scalar_at(index) {
+        EventShape::StartArray => put_collection(sink, given, plan, index, CountedKind::Array),
+        EventShape::StartDictionary => put_collection(
+            sink,
+            given,
+            plan,
+            index,
+            CountedKind::Dictionary,
+        ),
+        EventShape::Scalar | EventShape::EndCollection => match given.events.scalar_at(index) {
             Some(scalar) => put_scalar(sink, scalar),
             None => Ok(()),
         },

@@ -2,14 +2,14 @@
 
 ghost use Rattle.std.specs.Prelude.{◌≡◌, ◌≢◌, ◌+◌, ◌<◌, true, false, length, get_or, set, IfOk};
 ghost use Rattle.plist_base.specs.Outcomes.{OnlyMemory};
-ghost use Rattle.plist_binwrite.specs.EventTable.{plain_events, scalars_of, AllBelow, entry_kind_of, table_event};
-ghost use Rattle.plist_binwrite.specs.declared.kinds.EntryKind.TheVariants.{Dictionary as KindDictionary};
+ghost use Rattle.plist_base.specs.Events.{shape_of};
+ghost use Rattle.plist_binwrite.specs.EventTable.{plain_events, scalars_of, AllBelow, table_event};
+ghost use Rattle.plist_base.specs.declared.event.EventShape.TheVariants.{StartDictionary as DictionaryShape};
 ghost use Rattle.plist_binwrite.specs.RepeatedKeys.{TestsKeysOnce, TestsRepeats};
 
 use crate::children::{Children, Half};
 use crate::event_table::EventTable;
-use crate::kinds::EntryKind;
-use plist_base::Error;
+use plist_base::{Error, EventShape};
 use std::alloc::Global;
 
 // Sets the stamp of a scalar, and returns whether it had this stamp already.
@@ -33,10 +33,10 @@ fn repeats_at(events: &EventTable<'_>, start: usize, stamps: &mut Vec<usize>) ->
     requires older { AllBelow (start + 1) stamps.old.items }
     ensures long { length stamps.new.items ≡ length (scalars_of events.now) }
     ensures newer { AllBelow (start + 2) stamps.new.items }
-    ensures begins { result ≡ true → entry_kind_of (table_event events.now start) ≡ KindDictionary }
+    ensures begins { result ≡ true → shape_of (table_event events.now start) ≡ DictionaryShape }
     ensures repeats { TestsRepeats events.now start result }
 {
-    let EntryKind::Dictionary = events.kind_at(start) else {
+    let EventShape::StartDictionary = events.kind_at(start) else {
         return false;
     };
     let mark = start + 1;

@@ -7,22 +7,21 @@ ghost use Rattle.plist_binwrite.specs.StoredScalars.{scalar_of_ref};
 
 use crate::forms::{put_boolean, put_data, put_date, put_integer, put_real, put_uid};
 use crate::push::{push_boolean, push_date, push_integer, push_length, push_real, push_uid};
-use crate::short::SHORT;
 use crate::stored_scalar::ScalarRef;
 use crate::text::{is_ascii_text, put_text};
 use plist_base::{Error, FixedBuffer, Sink};
 use plist_format::CountedKind;
 use std::io::Write;
 
-// Pushes a string of at most 30 bytes, if all of them are ASCII, and returns whether it did.
+// Pushes an ASCII string, if the buffer has room for it, and returns whether it did.
 #[inline(always)]
-fn push_short_text(buffer: &mut FixedBuffer, text: &str) -> bool
-    requires { 40 ≤ room buffer.old }
+fn push_text(buffer: &mut FixedBuffer, text: &str) -> bool
+    requires { 17 ≤ room buffer.old }
     ensures pushed { result ≡ true
         → buffered buffer.new ≡ buffered buffer.old ++ text_form text.now }
     ensures unchanged { result ≡ false → buffer.new ≡ buffer.old }
 {
-    if text.len() > SHORT || !is_ascii_text(text) {
+    if text.len() > buffer.room() - 10 || !is_ascii_text(text) {
         return false;
     }
     push_length(buffer, CountedKind::Text, text.len() as u64);
@@ -30,15 +29,15 @@ fn push_short_text(buffer: &mut FixedBuffer, text: &str) -> bool
     true
 }
 
-// Pushes data of at most 30 bytes, and returns whether it did.
+// Pushes data, if the buffer has room for it, and returns whether it did.
 #[inline(always)]
-fn push_short_data(buffer: &mut FixedBuffer, bytes: &[u8]) -> bool
-    requires { 40 ≤ room buffer.old }
+fn push_data(buffer: &mut FixedBuffer, bytes: &[u8]) -> bool
+    requires { 17 ≤ room buffer.old }
     ensures pushed { result ≡ true
         → buffered buffer.new ≡ buffered buffer.old ++ data_form bytes.now }
     ensures unchanged { result ≡ false → buffer.new ≡ buffer.old }
 {
-    if bytes.len() > SHORT {
+    if bytes.len() > buffer.room() - 10 {
         return false;
     }
     push_length(buffer, CountedKind::Data, bytes.len() as u64);
@@ -46,18 +45,19 @@ fn push_short_data(buffer: &mut FixedBuffer, bytes: &[u8]) -> bool
     true
 }
 
-/// Pushes the object of a scalar, unless it is a string or data that isn't short, and returns whether
-/// it did. A loop calls this before [`put_scalar`], because then no large `Result` is zeroed.
+/// Pushes the object of a scalar, unless it is a string or data for which there is no room, or a
+/// string that isn't ASCII, and returns whether it did. There must be room for 17 bytes. A loop
+/// calls this before [`put_scalar`], because then no large `Result` is zeroed.
 #[inline(always)]
 pub fn push_scalar(buffer: &mut FixedBuffer, scalar: ScalarRef<'_>) -> bool
-    requires { 40 ≤ room buffer.old }
+    requires { 17 ≤ room buffer.old }
     ensures pushed { result ≡ true
         → buffered buffer.new ≡ buffered buffer.old ++ scalar_form (scalar_of_ref scalar.entry) }
     ensures unchanged { result ≡ false → buffer.new ≡ buffer.old }
 {
     match scalar {
-        ScalarRef::String(text) => return push_short_text(buffer, text),
-        ScalarRef::Data(bytes) => return push_short_data(buffer, bytes),
+        ScalarRef::String(text) => return push_text(buffer, text),
+        ScalarRef::Data(bytes) => return push_data(buffer, bytes),
         ScalarRef::Boolean(value) => push_boolean(buffer, value),
         ScalarRef::Date(date) => push_date(buffer, date),
         ScalarRef::Integer(value) => push_integer(buffer, value),

@@ -5,9 +5,9 @@ ghost use Rattle.std.specs.Prelude.{◌≡◌, IfSome};
 use std::marker::Model;
 use std::str;
 
-/// The greatest length in bytes of a short string or of short data. With it, a `StoredScalar` has 32
-/// bytes.
-pub const SHORT: usize = 30;
+// The greatest length in bytes of a short string or of short data. With it, a `StoredScalar` has 32
+// bytes.
+const SHORT: usize = 30;
 
 /// A list of at most 30 bytes.
 #[derive(Drop)]

@@ -9,9 +9,9 @@ ghost use Rattle.plist_binwrite.specs.inner.Sizing.{ExceedsWith, FitsWith, IsWri
 
 use crate::children::{Children, Half};
 use crate::event_table::EventTable;
-use crate::kinds::EntryKind;
 use crate::lengths::{add, length_of_collection, length_of_scalar};
 use crate::widths::offset_width;
+use plist_base::EventShape;
 
 /// Returns the number of children in one half of the collection that begins at an index.
 pub fn count_children(events: &EventTable<'_>, index: usize, half: Half) -> usize
@@ -29,15 +29,15 @@ pub fn size_of_object(events: &EventTable<'_>, width: usize, index: usize) -> Op
     ensures writable { IsWritableAt events.now index }
 {
     match events.kind_at(index) {
-        EntryKind::Array => {
+        EventShape::StartArray => {
             let count = count_children(events, index, Half::Values) as u64;
             length_of_collection(count, count, width as u64)
         }
-        EntryKind::Dictionary => {
+        EventShape::StartDictionary => {
             let count = count_children(events, index, Half::Values) as u64;
             length_of_collection(count, 2 * count, width as u64)
         }
-        EntryKind::Scalar | EntryKind::End => match events.scalar_at(index) {
+        EventShape::Scalar | EventShape::EndCollection => match events.scalar_at(index) {
             Some(scalar) => length_of_scalar(scalar),
             None => Some(0),
         },

@@ -25,7 +25,7 @@ use Rattle.plist_commands.specs.declared.collector.StopReason.TheVariants.{Faile
 use Rattle.plist_commands.specs.Holding.{AnswersVisit, HasPaused, HoldsMore, IsEmpty, MatchStop, MayPause, CollectsEvent, collected, is_complete}
 use Rattle.plist_commands.specs.Items.{ComesIfKnown}
 use Rattle.plist_commands.specs.Printing.{CountsReads}
-use Rattle.plist_commands.specs.ReaderRuns.{HoldsRun, StepsBinary}
+use Rattle.plist_commands.specs.ReaderRuns.{BuffersRun, StepsBinary}
 use Rattle.plist_commands.proofs.SourceItems.{binary_comes}
 use Rattle.plist_commands.proofs.PendingBytes.{fault_counts, memory_own, own_counts}
 use Rattle.plist_commands.proofs.Runs.{HasHeld, held_faulted, held_more, held_none, held_refused, held_stopped, held_whole}
@@ -46,7 +46,7 @@ module _ {I : Type 0} (gives : I → PlainItem → I → Type 0) (coming : I →
     pub held : FindsTree (coming old) answer (collected new.1)
     pub none : IfOkIs answer false (AreNoTree (coming old))
     pub refused : IsRefusedFor (coming old) answer
-    pub ran : HoldsRun gives old answer new.0 (collected new.1)
+    pub ran : BuffersRun gives old answer new.0 (collected new.1)
     pub counted : CountsReads answer (failures old) (failures new.0)
 
 module _ {I : Type 0} (gives : I → PlainItem → I → Type 0) (coming : I → Option (List Item))

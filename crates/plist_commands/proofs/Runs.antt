@@ -19,7 +19,7 @@ use Rattle.plist_base.proofs.WriterBytes.{Appends-at}
 use Rattle.plist_base.proofs.Visits.{given_more}
 use Rattle.plist_commands.specs.EscapedLines.{line_of, lines_of_events}
 use Rattle.plist_commands.specs.Printing.{IsWriterFault}
-use Rattle.plist_commands.specs.ReaderRuns.{ComesOfReading, HoldsRun, PrintsRun}
+use Rattle.plist_commands.specs.ReaderRuns.{ComesOfReading, BuffersRun, PrintsRun}
 
 lines_more : (events : List PlainEvent) (event : PlainEvent)
     → lines_of_events (events ++ event ∷ []) ≡ lines_of_events events ++ line_of event
@@ -226,21 +226,21 @@ module _ {I : Type 0} (yields : I → PlainItem → I → Type 0) where
   -- the source yielded an error
   pub held_faulted : (old now new : I) (held final : List PlainEvent) (error : Error)
       → HasHeld yields old now held → yields now (Some (Err error)) new
-      → HoldsRun yields old (Err error) new final
+      → BuffersRun yields old (Err error) new final
   held_faulted old now new held final error (events, through, is) step =
       (events, now, through, inl step)
 
   -- an event was yielded that can't follow the buffered ones
   pub held_refused : (old now new : I) (event : PlainEvent) (held final : List PlainEvent)
       → HasHeld yields old now held → yields now (Some (Ok event)) new
-      → HoldsRun yields old (Ok false) new final
+      → BuffersRun yields old (Ok false) new final
   held_refused old now new event held final (events, through, is) step =
       (events, now, through, (inr (event, step), λ no. absurd (true≢false (sym no))))
 
   -- an allocation failed for an event
   pub held_stopped : (old now new : I) (event : PlainEvent) (held final : List PlainEvent)
       (error : Error) → HasHeld yields old now held → yields now (Some (Ok event)) new
-      → fault_of error ≡ fault_without_offset OutOfMemory → HoldsRun yields old (Err error) new final
+      → fault_of error ≡ fault_without_offset OutOfMemory → BuffersRun yields old (Err error) new final
   held_stopped old now new event held final error (events, through, is) step memory = (
     events ++ event ∷ [],
     new,
@@ -250,7 +250,7 @@ module _ {I : Type 0} (yields : I → PlainItem → I → Type 0) where
 
   -- the source ended
   pub held_whole : (old now new : I) (held : List PlainEvent) (whole : Bool)
-      → HasHeld yields old now held → yields now None new → HoldsRun yields old (Ok whole) new held
+      → HasHeld yields old now held → yields now None new → BuffersRun yields old (Ok whole) new held
   held_whole old now new held whole (events, through, is) step =
       (events, now, through, (inl step, λ _. (step, is)))
 

@@ -46,9 +46,9 @@ module _ {I : Type 0} (gives : I → PlainItem → I → Type 0) where
   -- The source yielded events, and then nothing, or one that isn't buffered. If the result is
   -- `true`, nothing followed them, and they are buffered. Or the source yielded the error that is
   -- returned. Or an allocation failed.
-  abbrev pub HoldsRun : (old : I) → Result Bool Error → (new : I) → (held : List PlainEvent)
+  abbrev pub BuffersRun : (old : I) → Result Bool Error → (new : I) → (held : List PlainEvent)
       → Type 0
-  HoldsRun old answer new held =
+  BuffersRun old answer new held =
       (events : List PlainEvent) × (left : I) × YieldsAll gives old events left × MatchResult answer
       (λ whole. (gives left None new ⊎ ((event : PlainEvent) × gives left (Some (Ok event)) new))
       × (whole ≡ true → gives left None new × (held ≡ map without_length events)))
@@ -91,7 +91,7 @@ HoldsBinary {S} known failed source answer held =
     (reader : BinaryReaderOf S (record { known = known; failures = failed }))
     × (left : BinaryReaderOf S (record { known = known; failures = failed }))
     × (binary_source reader ≡ source) × (is_new reader ≡ true)
-    × HoldsRun (StepsBinary known failed) reader answer left held
+    × BuffersRun (StepsBinary known failed) reader answer left held
     × CountsReadsOf failed reader answer left
 
 -- the events of a new reader of this source, of any format, were buffered
@@ -101,7 +101,7 @@ HoldsOther {S} known failed source answer held =
     (reader : Reader S (record { known = known; failures = failed }))
     × (left : Reader S (record { known = known; failures = failed }))
     × IsNewReader reader source
-    × HoldsRun (StepsReader known failed) reader answer left held
+    × BuffersRun (StepsReader known failed) reader answer left held
     × CountsReads answer (failures_in failed reader) (failures_in failed left)
 
 -- A read failed while the format was determined; or none did, and a reader of the source was used.

@@ -37,7 +37,7 @@ pub enum Streamed {
 // reader then knows the number of objects in the file. There can't be more different scalars than
 // objects.
 #[inline(never)]
-fn hold_binary<S: Source>(
+fn collect_binary<S: Source>(
     alloc: Global,
     source: S,
     collector: &mut Collector,
@@ -64,7 +64,11 @@ fn hold_binary<S: Source>(
 // Buffers the events of a source of any format. It isn't inlined, since moving the reader uses much
 // of the call stack.
 #[inline(never)]
-fn hold_any<S: Source>(alloc: Global, source: S, collector: &mut Collector) -> Result<bool, Error>
+fn collect_other<S: Source>(
+    alloc: Global,
+    source: S,
+    collector: &mut Collector,
+) -> Result<bool, Error>
     requires empty { IsEmpty (is_complete collector.old) (collected collector.old) }
     ensures held { FindsTree (items_of_known (S.known source)) result
         (collected collector.new) }
@@ -80,7 +84,7 @@ fn hold_any<S: Source>(alloc: Global, source: S, collector: &mut Collector) -> R
 
 // Buffers the events of a source, and returns whether they are those of a tree. The source is
 // dropped.
-fn hold_source<S: Source>(
+fn collect_source<S: Source>(
     alloc: Global,
     source: S,
     collector: &mut Collector,
@@ -94,8 +98,8 @@ fn hold_source<S: Source>(
 {
     let mut source = source;
     match format_of(&mut source)? {
-        Format::Binary => hold_binary(alloc, source, collector),
-        Format::Xml(_) | Format::Ascii => hold_any(alloc, source, collector),
+        Format::Binary => collect_binary(alloc, source, collector),
+        Format::Xml(_) | Format::Ascii => collect_other(alloc, source, collector),
     }
 }
 
@@ -144,7 +148,7 @@ pub fn convert_binary<S: Source, W: Write>(
     ensures refused { IsStoppedFor W.contents (S.known source) result writer.old writer.new }
 {
     let mut collector = Collector::new(alloc);
-    if !hold_source(alloc, source, &mut collector)? {
+    if !collect_source(alloc, source, &mut collector)? {
         return Ok(Streamed::NeedsValue);
     }
     send_events(alloc, &collector.pending, writer)

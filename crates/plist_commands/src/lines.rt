@@ -42,7 +42,7 @@ pub enum ShortLine {
 }
 
 /// An upper bound of the length of a line, apart from the printed bytes of a string or data in it.
-pub const MOST_OF_SHORT: usize = 64;
+pub const MAX_FIXED_LINE: usize = 64;
 
 /// Pushes bytes as they are printed: at most four for each byte.
 pub fn push_bytes(line: &mut FixedBuffer, bytes: &[u8], notation: Notation)

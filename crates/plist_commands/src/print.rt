@@ -11,7 +11,7 @@ ghost use Rattle.plist_commands.specs.Printing.{CountsReadsOf, PrintsFileUntil, 
 ghost use Rattle.plist_commands.specs.ReaderRuns.{PrintsReader, PrintsRun, PrintsSource};
 
 use crate::lines::{
-    MOST_OF_SHORT, Notation, ShortLine, push_bytes, push_data, push_short, push_string,
+    MAX_FIXED_LINE, Notation, ShortLine, push_bytes, push_data, push_short, push_string,
 };
 use plist::Value;
 use plist_base::send::flush;
@@ -159,7 +159,7 @@ impl<'p, W: Write> Printer<'p, W> {
     fn print_short(&mut self, line: ShortLine) -> ControlFlow<()>
         ensures { PrintsLine W.contents self.old (event_of_short line) result self.new }
     {
-        match self.make_room(MOST_OF_SHORT) {
+        match self.make_room(MAX_FIXED_LINE) {
             ControlFlow::Continue(()) => {
                 push_short(self.buffer, line);
                 ControlFlow::Continue(())
@@ -199,7 +199,7 @@ impl<'p, W: Write> Printer<'p, W> {
                 end: b"\"\n",
             });
         }
-        match self.make_room(4 * text.len() + MOST_OF_SHORT) {
+        match self.make_room(4 * text.len() + MAX_FIXED_LINE) {
             ControlFlow::Continue(()) => {
                 push_string(self.buffer, text);
                 ControlFlow::Continue(())
@@ -220,7 +220,7 @@ impl<'p, W: Write> Printer<'p, W> {
                 end: b"\n",
             });
         }
-        match self.make_room(2 * bytes.len() + MOST_OF_SHORT) {
+        match self.make_room(2 * bytes.len() + MAX_FIXED_LINE) {
             ControlFlow::Continue(()) => {
                 push_data(self.buffer, bytes);
                 ControlFlow::Continue(())

@@ -5,16 +5,16 @@ use Rattle.std.proofs.lemmas.Bool.Decides.{eqb_tells}
 use Rattle.std.proofs.lemmas.List.{get_or-set_other}
 use Rattle.std.proofs.lemmas.Option.{slice_get_within, same_Some}
 use Rattle.plist_base.specs.Trees.{Scalar, Tree, Leaf, Array, Dictionary, Trees, NoTrees, TreeAnd, Members, NoMembers, MemberAnd}
-use Rattle.plist_base.specs.Events.{PlainEvent}
+use Rattle.plist_base.specs.Events.{PlainEvent, shape_of}
 use Rattle.plist_format.specs.Object as obj
 use Rattle.plist_format.specs.Object.{dictionary}
 use Rattle.plist_binwrite.specs.Classes.{AreClasses}
 use Rattle.plist_binwrite.specs.Forms.{key_numbers, value_numbers}
-use Rattle.plist_binwrite.specs.EventTable.{item_indices, key_indices, value_indices, keys_in, values_in, entry_kind_of, event_at, nth_number}
+use Rattle.plist_binwrite.specs.EventTable.{item_indices, key_indices, value_indices, keys_in, values_in, event_at, nth_number}
 use Rattle.plist_binwrite.specs.Numberings.{pairs, object_of}
 use Rattle.plist_binwrite.specs.Occurrences.{OccursAt}
-use Rattle.plist_binwrite.specs.declared.kinds.EntryKind.{EntryKind}
-use Rattle.plist_binwrite.specs.declared.kinds.EntryKind.TheVariants as kind
+use Rattle.plist_base.specs.declared.event.EventShape.{EventShape}
+use Rattle.plist_base.specs.declared.event.EventShape.TheVariants as shape
 use Rattle.plist_binwrite.specs.inner.Scalars.{AreIdentities, AreDistinct}
 use Rattle.plist_binwrite.proofs.Changes.{at_set}
 use Rattle.plist_binwrite.proofs.ClassObjects.{sound, the_items, the_pairs}
@@ -180,23 +180,23 @@ module _ (class after : ℕ → ℕ) (lo : ℕ) (agree : (q : ℕ) → lo ≤ q 
 module _ (es : List PlainEvent) (scalar class : ℕ → ℕ) (count : ℕ) (keys : List Node) where
   -- if a collection begins at an index, its class is one of a collection
   by_collection : (t : Tree) (p c : ℕ) → OccursAt es t p
-      → entry_kind_of (event_at es p) ≢ kind.Scalar
-      → IsIndexed class count keys (is_dictionary (entry_kind_of (event_at es p))) t p c
+      → shape_of (event_at es p) ≢ shape.Scalar
+      → IsIndexed class count keys (is_dictionary (shape_of (event_at es p))) t p c
       → IsClass class count scalar keys t p c
-  by_collection (Leaf x) p c s k h = absurd (k (ap entry_kind_of (stands_single s)))
+  by_collection (Leaf x) p c s k h = absurd (k (ap shape_of (stands_single s)))
   by_collection (Array ts) p c s k h =
-      subst (λ e. IsIndexed class count keys (is_dictionary (entry_kind_of e)) (Array ts) p c)
+      subst (λ e. IsIndexed class count keys (is_dictionary (shape_of e)) (Array ts) p c)
       (starts_array s) h
   by_collection (Dictionary ms) p c s k h =
-      subst (λ e. IsIndexed class count keys (is_dictionary (entry_kind_of e)) (Dictionary ms) p c)
+      subst (λ e. IsIndexed class count keys (is_dictionary (shape_of e)) (Dictionary ms) p c)
       (starts_dictionary s) h
 
-  by_scalar : (t : Tree) (p c : ℕ) → OccursAt es t p → entry_kind_of (event_at es p) ≢ kind.Array
-      → entry_kind_of (event_at es p) ≢ kind.Dictionary → c ≡ scalar p
+  by_scalar : (t : Tree) (p c : ℕ) → OccursAt es t p → shape_of (event_at es p) ≢ shape.StartArray
+      → shape_of (event_at es p) ≢ shape.StartDictionary → c ≡ scalar p
       → IsClass class count scalar keys t p c
   by_scalar (Leaf x) p c s a d h = h
-  by_scalar (Array ts) p c s a d h = absurd (a (ap entry_kind_of (starts_array s)))
-  by_scalar (Dictionary ms) p c s a d h = absurd (d (ap entry_kind_of (starts_dictionary s)))
+  by_scalar (Array ts) p c s a d h = absurd (a (ap shape_of (starts_array s)))
+  by_scalar (Dictionary ms) p c s a d h = absurd (d (ap shape_of (starts_dictionary s)))
 
 -- after a collection's class is set
 module _ (classes : List ℕ) (p c : ℕ) where
@@ -209,10 +209,10 @@ module _ (classes : List ℕ) (p c : ℕ) where
   pub collection_written : {es : List PlainEvent} {scalar : ℕ → ℕ} {count : ℕ} {keys new : List Node}
       → HaveTreeClasses (nth_number classes) count scalar es keys (p + 1)
       → Extends keys new → p < length classes → c < count + length new
-      → entry_kind_of (event_at es p) ≢ kind.Scalar
+      → shape_of (event_at es p) ≢ shape.Scalar
       → ((t : Tree) → OccursAt es t p
       → IsIndexed (nth_number classes) count new
-      (is_dictionary (entry_kind_of (event_at es p))) t p c)
+      (is_dictionary (shape_of (event_at es p))) t p c)
       → HaveTreeClasses after count scalar es new p
   collection_written {es} {scalar} {count} {keys} {new} old more lt low k this = record {
     behind = λ t q le s. at_set classes p c 0 q (IsClass after count scalar new t q) lt
@@ -237,14 +237,14 @@ module _ (classes : List ℕ) (p c : ℕ) where
           scalar count keys new kept
 
 -- the start of a collection isn't a scalar
-pub no_scalar : {k : EntryKind} → (k ≡ kind.Array) ⊎ (k ≡ kind.Dictionary) → k ≢ kind.Scalar
+pub no_scalar : {k : EventShape} → (k ≡ shape.StartArray) ⊎ (k ≡ shape.StartDictionary) → k ≢ shape.Scalar
 no_scalar (inl is) = λ e. cc
 no_scalar (inr is) = λ e. cc
 
 -- if no collection begins at an index, the class is there already
 pub none_written : {es : List PlainEvent} {scalar class : ℕ → ℕ} {count : ℕ} {keys : List Node}
-    (p : ℕ) → entry_kind_of (event_at es p) ≢ kind.Array
-    → entry_kind_of (event_at es p) ≢ kind.Dictionary
+    (p : ℕ) → shape_of (event_at es p) ≢ shape.StartArray
+    → shape_of (event_at es p) ≢ shape.StartDictionary
     → HaveTreeClasses class count scalar es keys (p + 1)
     → HaveTreeClasses class count scalar es keys p
 none_written {es} {scalar} {class} {count} {keys} p a d old = record {

@@ -1,21 +1,21 @@
 //! Classes of the trees among events: two events have the same class if and only if the same tree
 //! begins at both.
 
-ghost use Rattle.std.specs.Prelude.{◌≡◌, ◌+◌, ◌<◌, length, IfOk, OnOk};
+ghost use Rattle.std.specs.Prelude.{◌≡◌, ◌+◌, ◌<◌, length, IfOk, OnOk, ◌++◌, ◌∷◌, []};
 ghost use Rattle.plist_base.specs.Outcomes.{OnlyMemory};
+ghost use Rattle.plist_base.specs.Events.{shape_of};
 ghost use Rattle.plist_binwrite.specs.Children.{half_of};
 ghost use Rattle.plist_binwrite.specs.Classes.{AreClasses};
-ghost use Rattle.plist_binwrite.specs.EventTable.{plain_events, AllBelow, nth_number, table_event, entry_kind_of};
+ghost use Rattle.plist_binwrite.specs.EventTable.{plain_events, AllBelow, nth_number, table_event};
 ghost use Rattle.plist_binwrite.specs.inner.Scalars.{AreDistinct};
 ghost use Rattle.plist_share.specs.inner.Nodes.{AreEventClasses, SeparatesAll, SeparatesTrees, Extends, nodes_seen, AddsClasses, AreClassesWithin, AreClassesFrom, IsClassAt, IsNodeAt, is_dictionary};
 
 use indexmap::IndexSet;
-use plist_base::{Error, ErrorKind};
+use plist_base::{Error, ErrorKind, EventShape};
 use plist_binwrite::EventTable;
 use plist_binwrite::children::{Children, Half};
 use plist_binwrite::classes::{Classed, Classes};
 use plist_binwrite::compact_numbers::Numbers;
-use plist_binwrite::kinds::{EntryKind, push_index};
 use std::alloc::{AllocError, Global};
 
 /// The class of each event, and an exclusive upper bound of the classes.
@@ -49,6 +49,19 @@ fn index_of(seen: &mut IndexSet<Collection>, collection: Collection) -> Result<u
 {
     let (index, _) = seen.insert_full(collection)?;
     Ok(index)
+}
+
+// Appends an index.
+//
+// # Errors
+//
+// `OutOfMemory`, without an offset, if the allocation fails.
+fn push_index(indices: &mut Vec<usize>, index: usize) -> Result<(), Error>
+    ensures pushed { OnOk result (indices.new.items ≡ indices.old.items ++ index ∷ []) }
+    ensures memory { OnlyMemory result }
+{
+    indices.push(index)?;
+    Ok(())
 }
 
 // Appends the classes of one half of the children of the collection that begins at an index.
@@ -92,42 +105,43 @@ fn classes_within(
 // Returns whether a dictionary begins at an index.
 fn begins_dictionary(events: &EventTable<'_>, index: usize) -> bool
     requires { index < length (plain_events events.now) }
-    ensures { result ≡ is_dictionary (entry_kind_of (table_event events.now index)) }
+    ensures { result ≡ is_dictionary (shape_of (table_event events.now index)) }
 {
     match events.kind_at(index) {
-        EntryKind::Dictionary => true,
-        EntryKind::Array | EntryKind::End | EntryKind::Scalar => false,
+        EventShape::StartDictionary => true,
+        EventShape::StartArray | EventShape::EndCollection | EventShape::Scalar => false,
     }
 }
 
-// Returns the class of the collection that begins at an index. It is at least `base`, which is
+// Returns the class of the collection that begins at an index. It is at least `found.count`, which is
 // above the classes of all scalars.
 fn class_of_collection(
     alloc: Global,
     events: &EventTable<'_>,
-    classes: &Numbers,
-    base: usize,
+    found: &TreeClasses,
     index: usize,
     seen: &mut IndexSet<Collection>,
 ) -> Result<usize, Error>
     requires index { index < length (plain_events events.now) }
-    requires long { length classes.now ≡ length (plain_events events.now) }
+    requires long { length found.now.of ≡ length (plain_events events.now) }
     // Result.
-    ensures class { IfOk result (IsClassAt events.now classes.now base seen.new.keys index) }
-    ensures below { IfOk result (λ class. class < base + length (nodes_seen seen.new.keys)) }
+    ensures class { IfOk result (IsClassAt events.now found.now.of found.now.count seen.new.keys
+        index) }
+    ensures below { IfOk result (λ class. class < found.now.count
+        + length (nodes_seen seen.new.keys)) }
     // Errors.
     ensures memory { OnlyMemory result }
     // State afterwards.
     ensures extends { OnOk result (Extends (nodes_seen seen.old.keys) (nodes_seen seen.new.keys)) }
     ensures apart { OnOk result (AreDistinct (nodes_seen seen.new.keys)) }
 {
-    let children = classes_within(alloc, events, classes, index)?;
+    let children = classes_within(alloc, events, &found.of, index)?;
     let collection = Collection {
         is_dictionary: begins_dictionary(events, index),
         children,
     };
-    let found = index_of(seen, collection)?;
-    let class = base.checked_add(found).ok_or(AllocError)?;
+    let node = index_of(seen, collection)?;
+    let class = found.count.checked_add(node).ok_or(AllocError)?;
     Ok(class)
 }
 
@@ -136,25 +150,26 @@ fn class_of_collection(
 fn give_class(
     alloc: Global,
     events: &EventTable<'_>,
-    base: usize,
     index: usize,
-    classes: &mut Numbers,
+    found: &mut TreeClasses,
     seen: &mut IndexSet<Collection>,
 ) -> Result<(), Error>
     requires index { index < length (plain_events events.now) }
-    requires long { length classes.old ≡ length (plain_events events.now) }
-    requires classes { AreClassesFrom events.now base classes.old seen.old.keys (index + 1) }
+    requires long { length found.old.of ≡ length (plain_events events.now) }
+    requires classes { AreClassesFrom events.now found.old.count found.old.of seen.old.keys
+        (index + 1) }
     requires apart { AreDistinct (nodes_seen seen.old.keys) }
-    ensures classes { OnOk result (AreClassesFrom events.now base classes.new seen.new.keys index) }
-    ensures long { OnOk result (length classes.new ≡ length (plain_events events.now)) }
+    ensures classes { OnOk result (AreClassesFrom events.now found.new.count found.new.of
+        seen.new.keys index) }
+    ensures long { OnOk result (length found.new.of ≡ length (plain_events events.now)) }
     ensures apart { OnOk result (AreDistinct (nodes_seen seen.new.keys)) }
     ensures memory { OnlyMemory result }
 {
     match events.kind_at(index) {
-        EntryKind::Scalar | EntryKind::End => Ok(()),
-        EntryKind::Array | EntryKind::Dictionary => {
-            let class = class_of_collection(alloc, events, classes, base, index, seen)?;
-            classes.set(index, class)?;
+        EventShape::Scalar | EventShape::EndCollection => Ok(()),
+        EventShape::StartArray | EventShape::StartDictionary => {
+            let class = class_of_collection(alloc, events, found, index, seen)?;
+            found.of.set(index, class)?;
             Ok(())
         }
     }
@@ -175,13 +190,12 @@ fn give_classes(
     ensures classes { OnOk result (SeparatesAll events.now found.new) }
     ensures memory { OnlyMemory result }
 {
-    let base = found.count;
     let mut index = found.of.len();
     'back: while index > 0 {
         index -= 1;
-        give_class(alloc, events, base, index, &mut found.of, seen)?;
+        give_class(alloc, events, index, found, seen)?;
     }
-    match base.checked_add(seen.len()) {
+    match found.count.checked_add(seen.len()) {
         Some(count) => {
             found.count = count;
             Ok(())

@@ -3,15 +3,15 @@ use Rattle.std.specs.Prelude.{◌≡◌, ℕ, List, [], ◌∷◌, Option, None,
 use Rattle.plist_binwrite.specs.inner.Entries.{entry_at}
 use Rattle.plist_binwrite.specs.declared.entries.EventEntry.{EventEntry}
 use Rattle.plist_binwrite.specs.declared.entries.EventEntry.TheVariants as entry
-use Rattle.plist_binwrite.specs.declared.kinds.EntryKind.{EntryKind}
-use Rattle.plist_binwrite.specs.declared.kinds.EntryKind.TheVariants as kind
+use Rattle.plist_base.specs.declared.event.EventShape.{EventShape}
+use Rattle.plist_base.specs.declared.event.EventShape.TheVariants as shape
 
 -- the kind of an entry
-abbrev pub kind_in : EventEntry → EntryKind
-kind_in (entry.Array behind) = kind.Array
-kind_in (entry.Dictionary behind) = kind.Dictionary
-kind_in (entry.Scalar index) = kind.Scalar
-kind_in entry.End = kind.End
+abbrev pub kind_in : EventEntry → EventShape
+kind_in (entry.Array behind) = shape.StartArray
+kind_in (entry.Dictionary behind) = shape.StartDictionary
+kind_in (entry.Scalar index) = shape.Scalar
+kind_in entry.End = shape.EndCollection
 
 -- the number of an entry, which is 0 for an end
 abbrev pub number_in : EventEntry → ℕ
@@ -26,11 +26,11 @@ scalar_named (entry.Scalar index) = Some index
 scalar_named other = None
 
 -- the entry of a kind and a number
-abbrev pub entry_of : EntryKind → ℕ → EventEntry
-entry_of kind.Array number = entry.Array number
-entry_of kind.Dictionary number = entry.Dictionary number
-entry_of kind.Scalar number = entry.Scalar number
-entry_of kind.End number = entry.End
+abbrev pub entry_of : EventShape → ℕ → EventEntry
+entry_of shape.StartArray number = entry.Array number
+entry_of shape.StartDictionary number = entry.Dictionary number
+entry_of shape.Scalar number = entry.Scalar number
+entry_of shape.EndCollection number = entry.End
 
 -- the entry at an index has this number, or is an end
 abbrev pub IsEntryNumber : List EventEntry → (index number : ℕ) → Type 0
@@ -38,6 +38,6 @@ IsEntryNumber entries index number =
     entry_of (kind_in (entry_at entries index)) number ≡ entry_at entries index
 
 -- the entries with these kinds and these numbers
-abbrev pub entries_from : List EntryKind → List ℕ → List EventEntry
+abbrev pub entries_from : List EventShape → List ℕ → List EventEntry
 entries_from (k ∷ kinds) (n ∷ numbers) = entry_of k n ∷ entries_from kinds numbers
 entries_from kinds numbers = []

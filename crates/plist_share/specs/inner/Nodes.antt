@@ -1,16 +1,16 @@
 -- Collections, described by the classes of their children.
 use Rattle.std.specs.Prelude.{◌≡◌, ◌↔◌, ℕ, ◌+◌, ◌<◌, ◌≤◌, Bool, true, false, List, ◌++◌, length, map, Some, slice_get}
-use Rattle.plist_base.specs.Events.{PlainEvent}
+use Rattle.plist_base.specs.Events.{PlainEvent, shape_of}
 use Rattle.plist_base.specs.Trees.{Tree, Leaf, Array, Dictionary}
 use Rattle.std.specs.declared.alloc.Global.{Global}
 use Rattle.std.specs.declared.vec.Vec.{Vec}
 use Rattle.plist_binwrite.specs.Children.{half_of}
 use Rattle.plist_binwrite.specs.Classes.{AreClasses}
 use Rattle.plist_binwrite.specs.declared.children.Half.TheVariants.{Keys, Values}
-use Rattle.plist_binwrite.specs.EventTable.{AllBelow, table_event, keys_in, entry_kind_of, nth_number, plain_events, values_in}
+use Rattle.plist_binwrite.specs.EventTable.{AllBelow, table_event, keys_in, nth_number, plain_events, values_in}
 use Rattle.plist_binwrite.specs.declared.event_table.EventTable.{EventTable}
-use Rattle.plist_binwrite.specs.declared.kinds.EntryKind.{EntryKind}
-use Rattle.plist_binwrite.specs.declared.kinds.EntryKind.TheVariants as kind
+use Rattle.plist_base.specs.declared.event.EventShape.{EventShape}
+use Rattle.plist_base.specs.declared.event.EventShape.TheVariants as shape
 use Rattle.plist_binwrite.specs.inner.Scalars.{AreIdentities}
 use Rattle.plist_binwrite.specs.Occurrences.{OccursAt}
 use Rattle.plist_share.specs.declared.classes.Collection.{Collection}
@@ -81,18 +81,18 @@ AreClassesWithin held classes index found =
     ++ map (nth_number classes) (half_of (plain_events held) Values index)
 
 -- is the event the start of a dictionary?
-abbrev pub is_dictionary : EntryKind → Bool
-is_dictionary kind.Array = false
-is_dictionary kind.Dictionary = true
-is_dictionary kind.Scalar = false
-is_dictionary kind.End = false
+abbrev pub is_dictionary : EventShape → Bool
+is_dictionary shape.StartArray = false
+is_dictionary shape.StartDictionary = true
+is_dictionary shape.Scalar = false
+is_dictionary shape.EndCollection = false
 
 -- the class of the collection that begins at an index; the classes of collections start at `base`
 abbrev pub IsClassAt : EventTable → (classes : List ℕ) → (base : ℕ) → (seen : List Collection)
     → (index class : ℕ) → Type 0
 IsClassAt held classes base seen index class = (t : Tree) → OccursAt (plain_events held) t index
     → IsIndexed (nth_number classes) base (nodes_seen seen)
-    (is_dictionary (entry_kind_of (table_event held index)))
+    (is_dictionary (shape_of (table_event held index)))
     t index class
 
 -- each tree from index `from` on has its class, and before it only scalars have theirs

@@ -3,15 +3,15 @@ use Rattle.plist_base.proofs.SinkSteps.{puts_as}
 use Rattle.plist_binwrite.proofs.TreeObjects.{array_is, dictionary_is, of_array, of_dictionary, of_nothing, of_scalar}
 use Rattle.plist_binwrite.proofs.objects.put_object.Goals as goal
 
-pub returns-in-Array : goal.returns-in-Array
-returns-in-Array g c =
-    of_array c.kind_at.ensures _ c.in-Array.is
+pub returns-in-StartArray : goal.returns-in-StartArray
+returns-in-StartArray g c =
+    of_array c.kind_at.ensures _ c.in-StartArray.is
     (λ ts s. puts_as (array_is _ _ s) c.put_collection.ensures)
 
-pub returns-in-Dictionary : goal.returns-in-Dictionary
-returns-in-Dictionary g c =
-    of_dictionary c.kind_at.ensures _ c.in-Dictionary.is
-    (λ ms s. puts_as (dictionary_is _ _ s) c.put_collection-in-Dictionary.ensures)
+pub returns-in-StartDictionary : goal.returns-in-StartDictionary
+returns-in-StartDictionary g c =
+    of_dictionary c.kind_at.ensures _ c.in-StartDictionary.is
+    (λ ms s. puts_as (dictionary_is _ _ s) c.put_collection-in-StartDictionary.ensures)
 
 pub returns-in-Some : goal.returns-in-Some
 returns-in-Some g c =

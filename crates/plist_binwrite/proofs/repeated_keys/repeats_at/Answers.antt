@@ -3,8 +3,9 @@ use Rattle.std.specs.List.{AllByRecursion}
 use Rattle.std.proofs.lemmas.List.{length-set}
 use Rattle.std.proofs.lemmas.Option.{slice_get_within}
 use Rattle.plist_base.specs.Trees.{Dictionary}
+use Rattle.plist_base.specs.Events.{shape_of}
 use Rattle.plist_binwrite.specs.Children.{half_of, indices_left}
-use Rattle.plist_binwrite.specs.EventTable.{plain_events, event_at, scalars_of, entry_kind_of, HasItem}
+use Rattle.plist_binwrite.specs.EventTable.{plain_events, event_at, scalars_of, HasItem}
 use Rattle.plist_binwrite.specs.declared.children.Half.TheVariants.{Keys}
 use Rattle.plist_binwrite.specs.inner.Entries.{is_leaf}
 use Rattle.plist_binwrite.proofs.ChildIndices.{are_items, keys_are_in}
@@ -101,8 +102,8 @@ returns-clause-repeats c = λ ms s.
 
 pub returns-in_default-clause-repeats : goal.returns-in_default-clause-repeats
 returns-in_default-clause-repeats c = λ ms s.
-    absurd (c.in_default.not-Dictionary
-    (c.kind_at.ensures ∙ ap entry_kind_of (starts_dictionary s)))
+    absurd (c.in_default.not-StartDictionary
+    (c.kind_at.ensures ∙ ap shape_of (starts_dictionary s)))
 
 pub returns-in_default-clause-newer : goal.returns-in_default-clause-newer
 returns-in_default-clause-newer c = λ i h. omega (arith, c.requires.older i h)

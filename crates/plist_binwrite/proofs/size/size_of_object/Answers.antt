@@ -1,5 +1,6 @@
 use Rattle.std.proofs.Common.{◌∙◌, ap, arith, refl, subst, sym}
-use Rattle.plist_binwrite.specs.EventTable.{entry_kind_of, plain_events, scalars_of}
+use Rattle.plist_base.specs.Events.{shape_of}
+use Rattle.plist_binwrite.specs.EventTable.{plain_events, scalars_of}
 use Rattle.plist_binwrite.specs.Forms.{IsWritableScalar}
 use Rattle.plist_binwrite.specs.declared.children.Half.TheVariants.{Values}
 use Rattle.plist_binwrite.specs.inner.Entries.{is_leaf}
@@ -13,32 +14,32 @@ overflow_mul-count c =
     let held = c.args.events.now in
     omega (
       arith,
-      c.count_children-count-in-Dictionary.ensures,
+      c.count_children-count-in-StartDictionary.ensures,
       few_children (plain_events held) Values c.args.index,
       long_shown (scalars_of held) held.entries,
       held.few,
     )
 
-pub returns-in-Array-clause-size : goal.returns-in-Array-clause-size
-returns-in-Array-clause-size c =
-    of_array c.kind_at.ensures _ c.in-Array.is
+pub returns-in-StartArray-clause-size : goal.returns-in-StartArray-clause-size
+returns-in-StartArray-clause-size c =
+    of_array c.kind_at.ensures _ c.in-StartArray.is
     (λ ts s. rw (← count_items s, ← c.count_children-count.ensures)
     (c.length_of_collection.ensures.value 0xa))
 
-pub returns-in-Array-clause-writable : goal.returns-in-Array-clause-writable
-returns-in-Array-clause-writable c = λ x is.
-    cc (c.kind_at.ensures, c.in-Array.is, ap entry_kind_of is)
+pub returns-in-StartArray-clause-writable : goal.returns-in-StartArray-clause-writable
+returns-in-StartArray-clause-writable c = λ x is.
+    cc (c.kind_at.ensures, c.in-StartArray.is, ap shape_of is)
 
-pub returns-in-Dictionary-clause-size : goal.returns-in-Dictionary-clause-size
-returns-in-Dictionary-clause-size c =
-    of_dictionary c.kind_at.ensures _ c.in-Dictionary.is
+pub returns-in-StartDictionary-clause-size : goal.returns-in-StartDictionary-clause-size
+returns-in-StartDictionary-clause-size c =
+    of_dictionary c.kind_at.ensures _ c.in-StartDictionary.is
     (λ ms s. dictionary_told _ _ _ _
-    (c.count_children-count-in-Dictionary.ensures ∙ count_pairs s)
-    (c.length_of_collection-in-Dictionary.ensures.value 0xd))
+    (c.count_children-count-in-StartDictionary.ensures ∙ count_pairs s)
+    (c.length_of_collection-in-StartDictionary.ensures.value 0xd))
 
-pub returns-in-Dictionary-clause-writable : goal.returns-in-Dictionary-clause-writable
-returns-in-Dictionary-clause-writable c = λ x is.
-    cc (c.kind_at.ensures, c.in-Dictionary.is, ap entry_kind_of is)
+pub returns-in-StartDictionary-clause-writable : goal.returns-in-StartDictionary-clause-writable
+returns-in-StartDictionary-clause-writable c = λ x is.
+    cc (c.kind_at.ensures, c.in-StartDictionary.is, ap shape_of is)
 
 pub returns-in-Some-clause-size : goal.returns-in-Some-clause-size
 returns-in-Some-clause-size c =

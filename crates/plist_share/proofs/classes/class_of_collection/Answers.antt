@@ -6,11 +6,11 @@ use Rattle.plist_share.proofs.classes.class_of_collection.Goals as goal
 pub returns-clause-class : goal.returns-clause-class
 returns-clause-class c = λ t s.
     let es = plain_events c.args.events.now in
-    let class = nth_number c.args.classes.now in
+    let class = nth_number c.args.found.now.of in
     let is = c.in_ok-children.ensures.classes ∙ (λ i. map class (keys_are_in es t c.args.index s i)
     ++ map class (values_are_in es t c.args.index s i)) in
-    let class : c.in_ok-class.class ≡ c.args.base + c.in_ok-found.found = search rules in (
-      c.in_ok-found.found,
+    let class : c.in_ok-class.class ≡ c.args.found.now.count + c.in_ok-node.node = search rules in (
+      c.in_ok-node.node,
       class,
-      c.in_ok-found.ensures.stored ∙ (λ i. Some (c.begins_dictionary.ensures i, is i)),
+      c.in_ok-node.ensures.stored ∙ (λ i. Some (c.begins_dictionary.ensures i, is i)),
     )

@@ -6,7 +6,7 @@ use Rattle.plist_share.proofs.classes.give_classes.Given as goal
 
 abbrev pub invariant-back : goal.invariant-back
 invariant-back l = record {
-  have : AreClassesFrom l.events l.base l.found.of l.seen.keys l.index;
+  have : AreClassesFrom l.events l.found.count l.found.of l.seen.keys l.index;
   long : length l.found.of ≡ length (plain_events l.events);
   within : l.index ≤ length (plain_events l.events);
   apart : AreDistinct (nodes_seen l.seen.keys);

@@ -14,7 +14,7 @@ begun c = cc (c.into_iter-key-iterator.ensures.into_iter_gives, c.new-key-items.
 
 pub loop-key-init : goal.loop-key-init
 loop-key-init c =
-    let one = c.in_ok-place-in-Dictionary.ensures in
+    let one = c.in_ok-place-in-StartDictionary.ensures in
     record {
       layout = one.layout;
       keeps = λ k n. n;
@@ -31,7 +31,7 @@ place-requires-in-loop-key-clause-item c =
 pub loop-key-preserved : goal.loop-key-preserved
 loop-key-preserved c =
     let i = c.loop-key.invariant in
-    let one = c.in_ok-place-in-Dictionary-2.ensures in
+    let one = c.in_ok-place-in-StartDictionary-2.ensures in
     record {
       layout = one.layout;
       keeps = λ k n. one.keeps k (i.keeps k n);

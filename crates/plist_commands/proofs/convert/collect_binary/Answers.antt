@@ -5,8 +5,8 @@ use Rattle.plist_commands.specs.Holding.{collected}
 use Rattle.plist_commands.specs.ReaderRuns.{StepsBinary}
 use Rattle.plist_commands.proofs.Collected.{Concludes, binary_once, binary_twice}
 use Rattle.plist_commands.proofs.Streaming.{binary_items}
-use Rattle.plist_commands.proofs.convert.hold_binary.Goals as goal
-use Rattle.plist_commands.proofs.convert.hold_binary.Goals.{After-answer, After-answer-2, After-visit-first}
+use Rattle.plist_commands.proofs.convert.collect_binary.Goals as goal
+use Rattle.plist_commands.proofs.convert.collect_binary.Goals.{After-answer, After-answer-2, After-visit-first}
 
 -- the reader's items are those of the input
 same_items : (g : _) (c : After-visit-first g)

@@ -7,8 +7,8 @@ use Rattle.plist_commands.specs.Holding.{collected}
 use Rattle.plist_commands.specs.ReaderRuns.{StepsReader}
 use Rattle.plist_commands.proofs.Collected.{Concludes, concludes, held_first}
 use Rattle.plist_commands.proofs.SourceItems.{IsOpen, reader_comes, reader_counts}
-use Rattle.plist_commands.proofs.convert.hold_any.Goals as goal
-use Rattle.plist_commands.proofs.convert.hold_any.Goals.{After-answer}
+use Rattle.plist_commands.proofs.convert.collect_other.Goals as goal
+use Rattle.plist_commands.proofs.convert.collect_other.Goals.{After-answer}
 
 -- what is true after the visit
 known : (g : _) (c : After-answer g) → Concludes (StepsReader g.S.Source.known g.S.Source.failures)

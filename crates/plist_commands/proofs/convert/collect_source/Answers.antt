@@ -1,13 +1,13 @@
 use Rattle.std.proofs.Common.{inl, inr}
 use Rattle.std.proofs.lemmas.Result.{err_from_is_err_and}
 use Rattle.plist_commands.proofs.Runs.{io_rises}
-use Rattle.plist_commands.proofs.convert.hold_source.Goals as goal
+use Rattle.plist_commands.proofs.convert.collect_source.Goals as goal
 
 pub returns-in-Binary-clause-answers : goal.returns-in-Binary-clause-answers
 returns-in-Binary-clause-answers g c = (
   c.format_of.new.source,
   c.format_of.ensures.unchanged,
-  inr (c.in_ok-format_of.ensures.failures, inl c.hold_binary.ensures.answers),
+  inr (c.in_ok-format_of.ensures.failures, inl c.collect_binary.ensures.answers),
 )
 
 pub returns-in_err-format_of-clause-answers : goal.returns-in_err-format_of-clause-answers
@@ -27,5 +27,5 @@ pub returns-in-Xml-clause-answers : goal.returns-in-Xml-clause-answers
 returns-in-Xml-clause-answers g c = (
   c.format_of.new.source,
   c.format_of.ensures.unchanged,
-  inr (c.in_ok-format_of.ensures.failures, inr c.hold_any.ensures.answers),
+  inr (c.in_ok-format_of.ensures.failures, inr c.collect_other.ensures.answers),
 )
