@@ -6,3 +6,5 @@ pub mod Sameness
 pub mod Weights
 pub mod DeferredPairs
 pub mod SameDictionaries
+pub mod OpenArrays
+pub mod OpenCollections
