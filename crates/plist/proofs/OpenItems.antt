@@ -2,7 +2,8 @@
 use Rattle.std.proofs.Common.{◌≡◌, ℕ, ◌≤◌, List, [], ◌∷◌, ◌++◌, length, refl, arith, length-append}
 use Rattle.std.proofs.lemmas.List.{take-append-le, drop-append-le}
 use Rattle.plist.specs.declared.value.Value.{Value}
-use Rattle.plist.specs.inner.OpenArrays.{AreStarts, items_by_array, with_item}
+use Rattle.plist.specs.OpenArrays.{AreStarts, items_by_array}
+use Rattle.plist.specs.inner.CollectionSteps.{with_item}
 
 -- the starts stay right if there are more items
 pub starts_more : (starts : List ℕ) (n m : ℕ) → AreStarts starts n → n ≤ m → AreStarts starts m

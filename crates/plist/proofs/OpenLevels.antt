@@ -6,7 +6,8 @@ use Rattle.plist.specs.declared.open_collections.Level.TheVariants as level
 use Rattle.plist.specs.declared.open_collections.OpenDictionary.{OpenDictionary}
 use Rattle.plist.specs.declared.open_collections.OpenDictionary.TheVariants as run
 use Rattle.plist.specs.declared.value.Value.{Value}
-use Rattle.plist.specs.inner.OpenCollections.{AddsKey, ChangesInnermost, HaveContents, TakesKey, contents_by_level, expected_in, within}
+use Rattle.plist.specs.OpenCollections.{HaveContents, contents_by_level, within}
+use Rattle.plist.specs.inner.CollectionSteps.{AddsKey, ChangesInnermost, TakesKey, expected_in}
 
 -- if there is a level, there is a collection
 pub some_open : (levels : List Level) (arrays : List (List Value))

@@ -11,7 +11,7 @@ use Rattle.plist.specs.declared.value.Value.{Value}
 use Rattle.plist.specs.Building.{InDictionary}
 use Rattle.plist.specs.Dictionaries.{pairs_of}
 use Rattle.plist.specs.LastWins.{with_pair, last_values}
-use Rattle.plist.specs.inner.OpenCollections.{AddsPair}
+use Rattle.plist.specs.inner.CollectionSteps.{AddsPair}
 use Rattle.plist.specs.ValueTrees.{tree_of, tree_pairs}
 use Rattle.plist_pairs.proofs.DistinctKeys.{EachOnce, last-values-once, once-earlier, values-insert}
 

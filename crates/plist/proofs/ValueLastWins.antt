@@ -12,7 +12,7 @@ use Rattle.plist.specs.Dictionaries.{pairs_of}
 use Rattle.plist.specs.LastWins.{TreePairs, with_pair, last_values, last_wins}
 use Rattle.plist.specs.Building.{Unfinished, IsNested, IsExtendedBy, refusal_at, last_wins_in_rows, last_wins_within, last_wins_so_far, InArray, InDictionary, AfterKey, Within, Complete}
 use Rattle.plist.specs.declared.open_collections.OpenDictionary.TheVariants as run
-use Rattle.plist.specs.inner.OpenCollections.{Contents, Items, Pairs, open_of}
+use Rattle.plist.specs.OpenCollections.{Contents, Items, Pairs, open_of}
 use Rattle.plist.specs.UnfinishedValues.{held_in}
 use Rattle.plist.specs.ValueTrees.{members_step, tree_of, tree_step, tree_pairs}
 use Rattle.plist_pairs.proofs.DistinctKeys.{last-values-once, once-last, values-inserts}

@@ -11,7 +11,7 @@ use Rattle.plist.specs.declared.value.Value.{Value}
 use Rattle.plist.specs.Building.{OpenCollection, Unfinished, NotBegun, Within, Complete, refusal_at}
 use Rattle.plist.specs.LastWins.{with_pair}
 use Rattle.plist.specs.inner.BuilderSteps.{and_tree, and_event}
-use Rattle.plist.specs.inner.OpenCollections.{Contents, open_of, within}
+use Rattle.plist.specs.OpenCollections.{Contents, open_of, within}
 use Rattle.plist.specs.ValueTrees.{tree_of}
 
 -- the complete tree if there is a root, and otherwise that of the open collections, innermost first

@@ -6,5 +6,4 @@ pub mod Sameness
 pub mod Weights
 pub mod DeferredPairs
 pub mod SameDictionaries
-pub mod OpenArrays
-pub mod OpenCollections
+pub mod CollectionSteps

@@ -1,7 +1,7 @@
 //! The items of the arrays that are open while a value is built.
 
 ghost use Rattle.std.specs.Prelude.{◌≡◌, ◌<◌, ◌≤◌, ◌∷◌, [], length, take, drop, IfOk, OnErr, OnOk};
-ghost use Rattle.plist.specs.inner.OpenArrays.{with_item};
+ghost use Rattle.plist.specs.inner.CollectionSteps.{with_item};
 
 use crate::Value;
 use std::alloc::{AllocError, Global};
@@ -25,7 +25,7 @@ impl Model for OpenArrays {
     ghost use Rattle.std.specs.Coded.{coded_list};
     ghost use Rattle.plist.specs.declared.value.Value.{Value as V};
     ghost use Rattle.plist.specs.contracts.value.Value as value;
-    ghost use Rattle.plist.specs.inner.OpenArrays.{AreStarts, items_by_array};
+    ghost use Rattle.plist.specs.OpenArrays.{AreStarts, items_by_array};
 
     ghost Value = { List (List V) };
 

@@ -1,7 +1,8 @@
 //! The collections that are open while a value is built.
 
 ghost use Rattle.std.specs.Prelude.{◌≡◌, ◌<◌, ◌∷◌, [], length, reverse, IfOk, MatchOption, OnErr, OnOk, Some, false, string_bytes, true};
-ghost use Rattle.plist.specs.inner.OpenCollections.{AddsKey, AddsPair, AddsTo, CannotEnd, ChangesInnermost, Closes, EndsInnermost, Items, OpensDictionary, TakesKey, expected_in};
+ghost use Rattle.plist.specs.OpenCollections.{Items};
+ghost use Rattle.plist.specs.inner.CollectionSteps.{AddsKey, AddsPair, AddsTo, CannotEnd, ChangesInnermost, Closes, EndsInnermost, OpensDictionary, TakesKey, expected_in};
 
 use crate::open_arrays::OpenArrays;
 use crate::{Dictionary, Value};
@@ -44,7 +45,7 @@ impl Model for OpenCollections {
     ghost use Rattle.std.specs.Coded.{codes};
     ghost use Rattle.plist.specs.contracts.open_collections.OpenDictionary as dictionary;
     ghost use Rattle.plist.specs.contracts.value.Value as value;
-    ghost use Rattle.plist.specs.inner.OpenCollections.{Contents, HaveContents, contents_by_level};
+    ghost use Rattle.plist.specs.OpenCollections.{Contents, HaveContents, contents_by_level};
 
     ghost Value = { List Contents };
 

@@ -1,5 +1,6 @@
 use Rattle.std.proofs.Common.{◌∙◌, List, ap, length, reverse, subst, sym}
-use Rattle.plist.specs.inner.OpenArrays.{AreStarts, with_item}
+use Rattle.plist.specs.OpenArrays.{AreStarts}
+use Rattle.plist.specs.inner.CollectionSteps.{with_item}
 use Rattle.plist.specs.declared.value.Value.{Value}
 use Rattle.plist.proofs.OpenItems.{item_pushed, starts_pushed}
 use Rattle.plist.proofs.open_arrays.OpenArrays.push.Goals as goal

@@ -1,5 +1,6 @@
 use Rattle.std.proofs.Common.{List, string_bytes, subst, reverse}
-use Rattle.plist.specs.inner.OpenCollections.{Contents, TakesKey, contents_by_level}
+use Rattle.plist.specs.OpenCollections.{Contents, contents_by_level}
+use Rattle.plist.specs.inner.CollectionSteps.{TakesKey}
 use Rattle.plist.proofs.OpenLevels.{key_added, still_open}
 use Rattle.plist.proofs.open_collections.OpenCollections.add_key.Goals as goal
 

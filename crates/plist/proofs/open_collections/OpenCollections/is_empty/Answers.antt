@@ -1,7 +1,7 @@
 use Rattle.std.proofs.Common.{◌<◌, List, arith, length, reverse, subst}
 use Rattle.std.proofs.lemmas.List.{length-reverse}
 use Rattle.std.proofs.lemmas.Bool.Decides.{nat_tests}
-use Rattle.plist.specs.inner.OpenCollections.{Contents}
+use Rattle.plist.specs.OpenCollections.{Contents}
 use Rattle.plist.proofs.OpenLevels.{some_open}
 use Rattle.plist.proofs.open_collections.OpenCollections.is_empty.Goals as goal
 

@@ -1,5 +1,5 @@
 -- The items of nested open arrays, which are stored in one list.
-use Rattle.std.specs.Prelude.{ℕ, ◌≤◌, List, [], ◌∷◌, ◌++◌, take, drop, ⊤}
+use Rattle.std.specs.Prelude.{ℕ, ◌≤◌, List, [], ◌∷◌, take, drop, ⊤}
 use Rattle.plist.specs.declared.value.Value.{Value}
 
 -- the items of each array, innermost first: those from its start to the start of the next one
@@ -12,8 +12,3 @@ items_by_array (start ∷ starts) items =
 abbrev pub AreStarts : (starts : List ℕ) → (most : ℕ) → Type 0
 AreStarts [] most = ⊤
 AreStarts (start ∷ starts) most = (start ≤ most) × AreStarts starts start
-
--- the arrays after an item is appended to the innermost one
-abbrev pub with_item : List (List Value) → Value → List (List Value)
-with_item [] item = []
-with_item (items ∷ arrays) item = (items ++ item ∷ []) ∷ arrays
