@@ -1,6 +1,6 @@
 //! The collections that are open while a value is built.
 
-ghost use Rattle.std.specs.Prelude.{◌≡◌, ◌<◌, ◌∷◌, [], length, reverse, IfOk, MatchOption, OnErr, OnOk, Some, false, string_bytes, true};
+ghost use Rattle.std.specs.Prelude.{◌≡◌, ◌<◌, ◌∷◌, [], length, reverse, IfOk, MatchOption, OnOk, Some, false, string_bytes, true};
 ghost use Rattle.plist.specs.OpenCollections.{Items};
 ghost use Rattle.plist.specs.inner.CollectionSteps.{AddsKey, AddsPair, AddsTo, CannotEnd, ChangesInnermost, Closes, EndsInnermost, OpensDictionary, TakesKey, expected_in};
 

@@ -1,6 +1,6 @@
 //! Finds bare strings that can be lent from the bytes at hand.
 
-ghost use Rattle.std.specs.Prelude.{◌≡◌, ◌<◌, ◌≤◌, length, IfSome};
+ghost use Rattle.std.specs.Prelude.{◌<◌, ◌≤◌, length, IfSome};
 ghost use Rattle.plist_ascii.specs.Unread.{stops};
 ghost use Rattle.plist_ascii.specs.inner.Inputs.{hand};
 ghost use Rattle.plist_ascii.specs.inner.BareFronts.{IsAhead, IsBareFront};
