@@ -17,3 +17,5 @@ pub mod SameTrees
 pub mod EventTables
 pub mod DropWeights
 pub mod Equality
+pub mod OpenLevels
+pub mod OpenItems

@@ -11,9 +11,9 @@ use Rattle.plist.specs.declared.dictionary.Dictionary as dictionary
 use Rattle.plist.specs.Dictionaries.{pairs_of}
 use Rattle.plist.specs.LastWins.{TreePairs, with_pair, last_values, last_wins}
 use Rattle.plist.specs.Building.{Unfinished, IsNested, IsExtendedBy, refusal_at, last_wins_in_rows, last_wins_within, last_wins_so_far, InArray, InDictionary, AfterKey, Within, Complete}
-use Rattle.plist.specs.declared.unfinished.UnclosedCollection.{UnclosedCollection}
-use Rattle.plist.specs.declared.unfinished.UnclosedCollection.TheVariants as run
-use Rattle.plist.specs.UnfinishedValues.{open_of, held_in}
+use Rattle.plist.specs.declared.open_collections.OpenDictionary.TheVariants as run
+use Rattle.plist.specs.OpenCollections.{Contents, Items, Pairs, open_of}
+use Rattle.plist.specs.UnfinishedValues.{held_in}
 use Rattle.plist.specs.ValueTrees.{members_step, tree_of, tree_step, tree_pairs}
 use Rattle.plist_pairs.proofs.DistinctKeys.{last-values-once, once-last, values-inserts}
 use Rattle.plist.specs.inner.BuilderSteps.{and_event}
@@ -103,14 +103,14 @@ pairs-itself ps =
     rows-itself (tree_pairs ps) (fixed (λ p. (p.0, last_wins p.1)) (λ p. (p.0, tree_of p.1))
     (λ p. ap (λ t. (p.0, t)) (itself p.1)) ps)
 
-open-itself : (c : UnclosedCollection) → last_wins_within (open_of c) ≡ open_of c
-open-itself (run.Array items) = ap InArray (fixed last_wins tree_of itself items.items)
-open-itself (run.Dictionary pairs) = ap InDictionary (pairs-itself (pairs_of pairs))
-open-itself (run.AfterKey pairs key) =
+open-itself : (c : Contents) → last_wins_within (open_of c) ≡ open_of c
+open-itself (Items items) = ap InArray (fixed last_wins tree_of itself items)
+open-itself (Pairs (run.Pairs pairs)) = ap InDictionary (pairs-itself (pairs_of pairs))
+open-itself (Pairs (run.AfterKey pairs key)) =
     ap (λ d. AfterKey d (string_bytes key)) (pairs-itself (pairs_of pairs))
 
 -- an unfinished tree is its own last-value form
-pub held-itself : (root : Option Value) (cs : List UnclosedCollection)
+pub held-itself : (root : Option Value) (cs : List Contents)
     → last_wins_so_far (held_in root cs) ≡ held_in root cs
 held-itself (Some v) cs = ap Complete (itself v)
 held-itself None [] = refl
@@ -118,7 +118,7 @@ held-itself None (c ∷ cs) =
     λ i. Within (open-itself c i) (fixed last_wins_within open_of open-itself cs i)
 
 -- an event changes a builder's unfinished tree as it changes that of the plain events
-pub carry : (root : Option Value) (cs : List UnclosedCollection) (e : PlainEvent) (a : Unfinished)
+pub carry : (root : Option Value) (cs : List Contents) (e : PlainEvent) (a : Unfinished)
     → IsNested (held_in root cs) → refusal_at (held_in root cs) e ≡ None
     → and_event with_pair (held_in root cs) e ≡ Some a → IsExtendedBy (held_in root cs) e a
 carry root cs e a ok p q =

@@ -4,6 +4,8 @@ pub mod Dictionaries
 pub mod DictionaryLends
 pub mod Entries
 pub mod Building
+pub mod OpenArrays
+pub mod OpenCollections
 pub mod UnfinishedValues
 pub mod Builder
 pub mod Events

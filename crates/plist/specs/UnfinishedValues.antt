@@ -1,42 +1,31 @@
 -- What contracts see of the run-time state of a builder.
-use Rattle.std.specs.Prelude.{◌≡◌, List, [], ◌∷◌, Option, Some, None, MatchOption, String, map, option_map, reverse, string_bytes}
+use Rattle.std.specs.Prelude.{◌≡◌, List, Option, Some, None, MatchOption, String, map, option_map, string_bytes}
 use Rattle.std.specs.declared.alloc.Global.{Global}
 use Rattle.plist_base.specs.declared.error.ErrorKind.{ErrorKind}
 use Rattle.plist_base.specs.declared.event.Event.{Event}
 use Rattle.plist_base.specs.Events.{PlainEvent, ScalarEvent, event_of}
 use Rattle.plist_base.specs.Faults.{kind_of}
 use Rattle.plist_base.specs.Trees as scalar
-use Rattle.plist.specs.declared.unfinished.UnclosedCollection.{UnclosedCollection}
-use Rattle.plist.specs.declared.unfinished.UnclosedCollection.TheVariants as run
 use Rattle.plist.specs.declared.unfinished.UnfinishedValue.{UnfinishedValue}
 use Rattle.plist.specs.declared.value.Value.{Value}
-use Rattle.plist.specs.Building.{OpenCollection, InArray, InDictionary, AfterKey, Unfinished, NotBegun, Within, Complete, refusal_at}
-use Rattle.plist.specs.Dictionaries.{pairs_of}
-use Rattle.plist.specs.LastWins.{last_values, with_pair}
+use Rattle.plist.specs.Building.{OpenCollection, Unfinished, NotBegun, Within, Complete, refusal_at}
+use Rattle.plist.specs.LastWins.{with_pair}
 use Rattle.plist.specs.inner.BuilderSteps.{and_tree, and_event}
-use Rattle.plist.specs.ValueTrees.{tree_of, tree_pairs}
-
--- an open collection with its trees; a dictionary's keys are distinct, so its last values are its
--- pairs
-abbrev pub open_of : UnclosedCollection → OpenCollection
-open_of (run.Array items) = InArray (map tree_of items.items)
-open_of (run.Dictionary pairs) = InDictionary (last_values (tree_pairs (pairs_of pairs)))
-open_of (run.AfterKey pairs key) =
-    AfterKey (last_values (tree_pairs (pairs_of pairs))) (string_bytes key)
+use Rattle.plist.specs.OpenCollections.{Contents, open_of, within}
+use Rattle.plist.specs.ValueTrees.{tree_of}
 
 -- the complete tree if there is a root, and otherwise that of the open collections, innermost first
-abbrev pub held_in : Option Value → List UnclosedCollection → Unfinished
+abbrev pub held_in : Option Value → List Contents → Unfinished
 held_in (Some root) collections = Complete (tree_of root)
-held_in None [] = NotBegun
-held_in None (inner ∷ outer) = Within (open_of inner) (map open_of outer)
+held_in None collections = within collections
 
 -- the open collections, innermost first
 abbrev pub collections_of : UnfinishedValue → List OpenCollection
-collections_of unfinished = map open_of (reverse unfinished.collections.items)
+collections_of unfinished = map open_of unfinished.collections
 
 -- the unfinished tree
 abbrev pub unfinished_of : UnfinishedValue → Unfinished
-unfinished_of unfinished = held_in unfinished.root (reverse unfinished.collections.items)
+unfinished_of unfinished = held_in unfinished.root unfinished.collections
 
 -- the event is added to the unfinished tree
 abbrev pub AddsEvent : (before : UnfinishedValue) → PlainEvent → (after : UnfinishedValue) → Type 0
@@ -54,9 +43,8 @@ AddsValue before value after =
     unfinished_of after ≡ and_tree with_pair (tree_of value) (collections_of before)
 
 -- a collection is opened inside the open ones
-abbrev pub Opens : (before : UnfinishedValue) → UnclosedCollection → (after : UnfinishedValue) → Type 0
-Opens before collection after =
-    unfinished_of after ≡ Within (open_of collection) (collections_of before)
+abbrev pub Opens : (before : UnfinishedValue) → OpenCollection → (after : UnfinishedValue) → Type 0
+Opens before collection after = unfinished_of after ≡ Within collection (collections_of before)
 
 -- the kind of error for an event that can't come next, or `None` if it can
 abbrev pub IsRefusalOf : UnfinishedValue → Event → Option ErrorKind → Type 0

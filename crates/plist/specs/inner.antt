@@ -6,3 +6,4 @@ pub mod Sameness
 pub mod Weights
 pub mod DeferredPairs
 pub mod SameDictionaries
+pub mod CollectionSteps

@@ -1,44 +1,22 @@
 //! A value that isn't complete yet: the open collections, and finally the root.
 
-ghost use Rattle.std.specs.Prelude.{◌≡◌, None, OnOk, option_map};
+ghost use Rattle.std.specs.Prelude.{◌≡◌, [], None, OnOk, option_map};
 ghost use Rattle.plist_base.specs.Events as events;
 ghost use Rattle.plist_base.specs.Events.{event_of};
 ghost use Rattle.plist_base.specs.Faults.{kind_of};
-ghost use Rattle.plist.specs.Building.{NotBegun, complete_tree, kind_expected, refusal_at, refusal_of};
+ghost use Rattle.plist.specs.Building.{InArray, InDictionary, NotBegun, complete_tree, kind_expected, refusal_at, refusal_of};
 ghost use Rattle.plist.specs.UnfinishedValues.{AddsValue, AddsEvent, RootIsTaken, IsRefusalOf, Opens, TakesText, unfinished_of};
 ghost use Rattle.plist.specs.ValueTrees.{tree_of};
 
-use crate::value::destroy_all;
-use crate::{Dictionary, Value};
+use crate::Value;
+use crate::open_collections::OpenCollections;
 use plist_base::{Change, ErrorKind, Event, EventKind, Expect};
 use std::alloc::{AllocError, Global};
 
-/// A collection that hasn't ended.
-#[derive(Drop)]
-pub(crate) enum UnclosedCollection {
-    /// An array with its items so far.
-    Array(Vec<Value>),
-    /// A dictionary with its pairs so far.
-    Dictionary(Dictionary),
-    /// A dictionary with its pairs so far, and a key whose value is next.
-    AfterKey(Dictionary, String),
-}
-
-impl UnclosedCollection {
-    // Drops the collection without recursion.
-    fn destroy(self) {
-        match self {
-            UnclosedCollection::Array(items) => destroy_all(items),
-            UnclosedCollection::Dictionary(_pairs) => {}
-            UnclosedCollection::AfterKey(_pairs, _key) => {}
-        }
-    }
-}
-
-/// The open collections, innermost last, and the root once it is complete. The values may be deep,
-/// and are dropped without recursion.
+/// The open collections, and the root once it is complete. The values may be deep, and are dropped
+/// without recursion.
 pub(crate) struct UnfinishedValue {
-    collections: Vec<UnclosedCollection>,
+    collections: OpenCollections,
     root: Option<Value>,
 }
 
@@ -81,7 +59,7 @@ impl UnfinishedValue {
         ensures { unfinished_of result ≡ NotBegun }
     {
         UnfinishedValue {
-            collections: Vec::new(alloc),
+            collections: OpenCollections::new(alloc),
             root: None,
         }
     }
@@ -90,9 +68,7 @@ impl UnfinishedValue {
     pub(crate) fn clear(&mut self)
         ensures { unfinished_of self.new ≡ NotBegun }
     {
-        while let Some(collection) = self.collections.pop() {
-            collection.destroy();
-        }
+        self.collections.clear();
         match self.root.take() {
             None => {}
             Some(root) => root.destroy(),
@@ -108,20 +84,26 @@ impl UnfinishedValue {
                 found: EventKind::of_event(event),
             });
         }
-        match self.collections.last() {
-            Some(UnclosedCollection::Array(_)) => refusal_of(Expect::Items, event),
-            Some(UnclosedCollection::Dictionary(_)) => refusal_of(Expect::Pairs, event),
-            Some(UnclosedCollection::AfterKey(..)) | None => refusal_of(Expect::OneValue, event),
+        match self.collections.expect() {
+            Some(expect) => refusal_of(expect, event),
+            None => refusal_of(Expect::OneValue, event),
         }
     }
 
-    // Opens a collection.
-    fn begin(&mut self, collection: UnclosedCollection) -> Result<(), AllocError>
+    // Opens an array.
+    fn begin_array(&mut self) -> Result<(), AllocError>
         requires { self.old.root ≡ None }
-        ensures { OnOk result (Opens self.old collection self.new) }
+        ensures { OnOk result (Opens self.old (InArray []) self.new) }
     {
-        self.collections.push(collection)?;
-        Ok(())
+        self.collections.open_array()
+    }
+
+    // Opens a dictionary.
+    fn begin_dictionary(&mut self, alloc: Global) -> Result<(), AllocError>
+        requires { self.old.root ≡ None }
+        ensures { OnOk result (Opens self.old (InDictionary []) self.new) }
+    {
+        self.collections.open_dictionary(alloc)
     }
 
     // Adds a complete value to the innermost collection, or makes it the root.
@@ -129,45 +111,22 @@ impl UnfinishedValue {
         requires { self.old.root ≡ None }
         ensures { OnOk result (AddsValue self.old value self.new) }
     {
-        match self.collections.pop() {
-            None => self.root = Some(value),
-            Some(UnclosedCollection::Array(mut items)) => match items.push(value) {
-                Ok(()) => self
-                    .collections
-                    .push_reserved(UnclosedCollection::Array(items)),
-                Err(refused) => {
-                    refused.value.destroy();
-                    destroy_all(items);
-                    return Err(AllocError);
-                }
-            },
-            Some(UnclosedCollection::Dictionary(pairs)) => self
-                .collections
-                .push_reserved(UnclosedCollection::Dictionary(pairs)),
-            Some(UnclosedCollection::AfterKey(mut pairs, key)) => {
-                match pairs.set(key, value) {
-                    Ok(()) => {}
-                    Err(_) => return Err(AllocError),
-                }
-                // This is called only for its contract, which says that the keys are distinct.
-                let _ = pairs.pair_count();
-                self.collections
-                    .push_reserved(UnclosedCollection::Dictionary(pairs));
-            }
+        if self.collections.is_empty() {
+            self.root = Some(value);
+            return Ok(());
         }
-        Ok(())
+        self.collections.add(value)
     }
 
     // Ends the innermost collection, and adds it as a complete value.
-    fn end(&mut self) -> Result<(), AllocError>
+    fn end(&mut self, alloc: Global) -> Result<(), AllocError>
         requires order { refusal_at (unfinished_of self.old) events.EndCollection ≡ None }
         requires root { self.old.root ≡ None }
         ensures { OnOk result (AddsEvent self.old events.EndCollection self.new) }
     {
-        match self.collections.pop() {
-            Some(UnclosedCollection::Array(items)) => self.add(Value::Array(items)),
-            Some(UnclosedCollection::Dictionary(pairs)) => self.add(Value::Dictionary(pairs)),
-            Some(UnclosedCollection::AfterKey(..)) | None => Ok(()),
+        match self.collections.close(alloc)? {
+            None => Ok(()),
+            Some(value) => self.add(value),
         }
     }
 
@@ -176,17 +135,12 @@ impl UnfinishedValue {
         requires { self.old.root ≡ None }
         ensures { OnOk result (TakesText self.old text self.new) }
     {
-        match self.collections.pop() {
-            Some(UnclosedCollection::Dictionary(pairs)) => {
-                self.collections
-                    .push_reserved(UnclosedCollection::AfterKey(pairs, text));
+        match self.collections.expect() {
+            Some(Expect::Pairs) => {
+                self.collections.add_key(text);
                 Ok(())
             }
-            Some(other) => {
-                self.collections.push_reserved(other);
-                self.add(Value::String(text))
-            }
-            None => self.add(Value::String(text)),
+            Some(Expect::OneValue | Expect::Items) | None => self.add(Value::String(text)),
         }
     }
 
@@ -198,11 +152,9 @@ impl UnfinishedValue {
         ensures { OnOk result (AddsEvent self.old (event_of event.entry) self.new) }
     {
         match event {
-            Event::StartArray(_) => self.begin(UnclosedCollection::Array(Vec::new(alloc))),
-            Event::StartDictionary(_) => self.begin(UnclosedCollection::Dictionary(Dictionary::new(
-                alloc,
-            ))),
-            Event::EndCollection => self.end(),
+            Event::StartArray(_) => self.begin_array(),
+            Event::StartDictionary(_) => self.begin_dictionary(alloc),
+            Event::EndCollection => self.end(alloc),
             Event::Boolean(value) => self.add(Value::Boolean(value)),
             Event::Data(bytes) => self.add(Value::Data(bytes.into_owned(alloc)?)),
             Event::Date(date) => self.add(Value::Date(date)),

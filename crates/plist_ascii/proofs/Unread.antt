@@ -337,10 +337,10 @@ plain_part stop (c ∷ xs) = by_stop (stop c) refl (plain_part stop xs)
 
 -- the bytes at hand before a stop are taken
 pub part_taken : (stop : ℕ → Bool) (hand bytes rest : List ℕ) (n : ℕ) (new : Option (List ℕ))
-    (p q : ℕ) (text longer xs : List ℕ) → bytes ≡ hand → n ≡ run stop bytes → n ≤ length bytes
-    → xs ≡ hand ++ rest → new ≡ Some (drop n xs) → q ≡ p + n → longer ≡ text ++ take n bytes
-    → TakesPart stop p text new q longer xs
-part_taken stop hand bytes rest n new p q text longer xs same is le e taken place grown =
+    (p q : ℕ) (xs : List ℕ) → bytes ≡ hand → n ≡ run stop bytes → n ≤ length bytes
+    → xs ≡ hand ++ rest → new ≡ Some (drop n xs) → q ≡ p + n
+    → TakesPart stop p new q (take n bytes) xs
+part_taken stop hand bytes rest n new p q xs same is le e taken place =
     let part = take n bytes in
     let len : length part ≡ n = length-take-le n bytes le in
     let all : xs ≡ bytes ++ rest = rw (← same) at e in
@@ -348,7 +348,7 @@ part_taken stop hand bytes rest n new p q text longer xs same is le e taken plac
     let whole : xs ≡ part ++ drop n xs = sym (take-append-drop n xs) ∙ ap
     (λ z. z ++ drop n xs) front in
     let plain : run stop part ≡ length part = rw is (plain_part stop bytes ∙ sym (rw is at len)) in
-    (part, drop n xs, whole, plain, grown, taken, place ∙ ap (λ z. p + z) (sym len))
+    (drop n xs, whole, plain, taken, place ∙ ap (λ z. p + z) (sym len))
 
 -- before the first byte is taken, all bytes remain, but no more than 2^64 - 1
 pub new_unread : {R : Type 0} (known : R → Option (List ℕ)) (r inner : R) (e : Bool) (p : Option ℕ)

@@ -86,10 +86,10 @@ FaultIsAt item place =
     MatchOption item ⊤ (λ answer. MatchResult answer (λ _. ⊤)
     (λ error. IsFaultAt (fault_of error) place))
 
--- if the item is an event and the first of these items is a quoted string, `behind` is true
-abbrev pub IfQuotedItem : List PlacedItem → Option (Result Event Error) → (behind : Type 0) → Type 0
-IfQuotedItem items item behind =
-    MatchOption item ⊤ (λ answer. MatchResult answer (λ _. FirstIsQuoted items → behind) (λ _. ⊤))
+-- if the item is an event and the first of these items is a quoted string, the fact is true
+abbrev pub IfQuotedItem : List PlacedItem → Option (Result Event Error) → (fact : Type 0) → Type 0
+IfQuotedItem items item fact =
+    MatchOption item ⊤ (λ answer. MatchResult answer (λ _. FirstIsQuoted items → fact) (λ _. ⊤))
 
 -- after `Io`, `OutOfMemory` and `None`, the reader has ended
 abbrev pub EndsAfterIoOrMemory : Option (Result Event Error) → Type 0 → Type 0

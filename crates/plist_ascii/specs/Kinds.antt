@@ -38,15 +38,15 @@ IsAsciiItem item =
     MatchOption item ⊤ (λ answer. MatchResult answer (λ event. IsAsciiEvent (event_of event))
     (λ error. IsAsciiFault (kind_of (error_kind_of error))))
 
--- if the event is a start or an end, `behind` is true
-abbrev pub IfBracket : PlainEvent → (behind : Type 0) → Type 0
-IfBracket (StartArray length) behind = behind
-IfBracket (StartDictionary length) behind = behind
-IfBracket EndCollection behind = behind
-IfBracket (ScalarEvent scalar) behind = ⊤
+-- if the event is a start or an end, the fact is true
+abbrev pub IfBracket : PlainEvent → (fact : Type 0) → Type 0
+IfBracket (StartArray length) fact = fact
+IfBracket (StartDictionary length) fact = fact
+IfBracket EndCollection fact = fact
+IfBracket (ScalarEvent scalar) fact = ⊤
 
--- if the item is a start or an end, `behind` is true
-abbrev pub IfBracketItem : Option (Result Event Error) → (behind : Type 0) → Type 0
-IfBracketItem item behind =
+-- if the item is a start or an end, the fact is true
+abbrev pub IfBracketItem : Option (Result Event Error) → (fact : Type 0) → Type 0
+IfBracketItem item fact =
     MatchOption item ⊤ (λ answer. MatchResult answer
-    (λ event. IfBracket (event_of event) behind) (λ _. ⊤))
+    (λ event. IfBracket (event_of event) fact) (λ _. ⊤))

@@ -55,13 +55,12 @@ abbrev pub FirstIsTaken : Option (List ℕ) → ℕ → Option (List ℕ) → Ty
 FirstIsTaken old c new = IfKnown old (λ bytes. (rest : List ℕ) × (bytes ≡ c ∷ rest)
     × (new ≡ Some rest))
 
--- from offset p to offset q some of the first bytes were taken, without a stop among them, and
--- appended to the text
-abbrev pub TakesPart : (stops : ℕ → Bool) → (p : ℕ) → (text : List ℕ) → (new : Option (List ℕ))
-    → (q : ℕ) → (longer : List ℕ) → List ℕ → Type 0
-TakesPart stops p text new q longer bytes =
-    (part : List ℕ) × (rest : List ℕ) × (bytes ≡ part ++ rest) × (run stops part ≡ length part)
-    × (longer ≡ text ++ part) × (new ≡ Some rest) × (q ≡ p + length part)
+-- from offset p to offset q this part of the first bytes was taken, which has no stop
+abbrev pub TakesPart : (stops : ℕ → Bool) → (p : ℕ) → (new : Option (List ℕ)) → (q : ℕ)
+    → (part : List ℕ) → List ℕ → Type 0
+TakesPart stops p new q part bytes =
+    (rest : List ℕ) × (bytes ≡ part ++ rest) × (run stops part ≡ length part) × (new ≡ Some rest)
+    × (q ≡ p + length part)
 
 -- from offset p to offset q these bytes were taken, with this meaning or fault
 abbrev pub TakesFront : {A : Type 0} → Taken A → Result A FaultKind → (new : Option (List ℕ))

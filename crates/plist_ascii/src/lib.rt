@@ -10,6 +10,7 @@ mod comment;
 mod dialect;
 mod fault;
 mod input;
+mod lent;
 mod quoted;
 mod reader;
 mod stop;

@@ -9,8 +9,10 @@ use crate::byte_reader::ByteReader;
 use crate::dialect::Dialect;
 use crate::input::Input;
 use crate::stop::Stop;
-use plist_base::{Error, OwnedEvent};
+use plist_base::{Error, EventVisitor, OwnedEvent};
 use std::alloc::Global;
+use std::borrow::CowStr;
+use std::ops::ControlFlow;
 
 impl<R: ByteReader> Input<R> {
     // Takes tokens up to and including the first that has an item, and returns this item, or `None`
@@ -143,5 +145,51 @@ impl<R: ByteReader + Drop> Iterator for AsciiReader<R> {
 
     fn next(&mut self) -> Option<Result<OwnedEvent, Error>> {
         self.input.item(self.alloc, Stop::Bare(self.dialect))
+    }
+}
+
+impl<R: ByteReader + Drop> AsciiReader<R> {
+    ghost use Rattle.std.specs.Prelude.{◌<◌, IfSome};
+    ghost use Rattle.plist_base.specs.Visits.{TakesTurn, YieldsPlain};
+    ghost use Rattle.plist_ascii.specs.AsciiReader.{GivesAscii, ascii_steps};
+
+    // Hands the next event to a visitor, after it was read by `next`.
+    fn hand_over_read<V: EventVisitor>(
+        &mut self,
+        visitor: &mut V,
+    ) -> Option<Result<ControlFlow<()>, Error>>
+        ensures turn { TakesTurn (YieldsPlain (GivesAscii R.remaining R.failures)) V.step
+            (self.old, visitor.old) result (self.new, visitor.new) }
+        ensures falls { IfSome result (λ _. ascii_steps self.new < ascii_steps self.old) }
+    {
+        match self.next() {
+            None => None,
+            Some(Ok(event)) => Some(Ok(visitor.event(event))),
+            Some(Err(error)) => Some(Err(error)),
+        }
+    }
+
+    /// Hands the next event to a visitor, and returns what the visitor returns, or `None` if no
+    /// event remains. A bare string that lies whole in the buffer of the inner reader is lent to
+    /// the visitor, without being copied.
+    ///
+    /// # Errors
+    ///
+    /// The error that replaces the event. The visitor is unchanged then.
+    pub fn hand_over<V: EventVisitor>(
+        &mut self,
+        visitor: &mut V,
+    ) -> Option<Result<ControlFlow<()>, Error>>
+        ensures turn { TakesTurn (YieldsPlain (GivesAscii R.remaining R.failures)) V.step
+            (self.old, visitor.old) result (self.new, visitor.new) }
+        ensures falls { IfSome result (λ _. ascii_steps self.new < ascii_steps self.old) }
+    {
+        let Some(lent) = self.input.lent_text(Stop::Bare(self.dialect)) else {
+            return self.hand_over_read(visitor);
+        };
+        let flow = visitor.string(CowStr::Borrowed(lent.text));
+        let count = lent.count;
+        self.input.take_first(count);
+        Some(Ok(flow))
     }
 }

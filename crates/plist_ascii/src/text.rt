@@ -64,6 +64,17 @@ fn may_spell_number(bytes: &[u8]) -> bool
     begins_number(bytes[0])
 }
 
+/// Returns `false` only if this string doesn't spell an integer.
+#[inline(always)]
+pub fn may_be_number(text: &str) -> bool
+    ensures { result ≡ false → integer_of_text text.now ≡ None }
+{
+    if !may_spell_number(text.as_bytes()) {
+        return false;
+    }
+    Integer::from_str(text).is_ok()
+}
+
 // Returns the event of the integer that a string spells, or that of the string if it spells none.
 fn number_or_text(text: String) -> OwnedEvent
     ensures { event_of result ≡ ScalarEvent (scalar_of_text (string_bytes text)) }

@@ -34,9 +34,9 @@ pub enum Lead {
     Bare,
 }
 
-// Returns what this byte begins.
+/// Returns what this byte begins.
 #[inline(always)]
-fn lead_of(byte: u8) -> Lead
+pub fn lead_of(byte: u8) -> Lead
     ensures { result ≡ lead_of byte }
 {
     match byte {

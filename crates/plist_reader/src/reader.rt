@@ -11,11 +11,11 @@ use crate::format::{Format, format_of};
 use plist_ascii::{AsciiReader, Dialect};
 use plist_base::{
     Error, ErrorKind, EventSource, EventVisitor, LimitedItems, Limits, OwnedEvent, Source, Visited,
-    visit_items,
 };
 use plist_binread::BinaryReader;
 use std::alloc::Global;
 use std::mem;
+use std::ops::ControlFlow;
 
 // The state of a reader.
 #[derive(Drop)]
@@ -219,6 +219,50 @@ impl<R: Source> Iterator for Reader<R> {
     }
 }
 
+impl<R: Source> Reader<R> {
+    ghost use Rattle.plist_base.specs.Visits.{TakesTurn, YieldsPlain};
+    ghost use Rattle.plist_reader.specs.Reader.{Gives, steps_in_state};
+
+    // Hands the next event to a visitor, after it was read by `next`.
+    fn hand_over_read<V: EventVisitor>(
+        &mut self,
+        visitor: &mut V,
+    ) -> Option<Result<ControlFlow<()>, Error>>
+        ensures turn { TakesTurn (YieldsPlain (Gives R.known R.failures)) V.step
+            (self.old, visitor.old) result (self.new, visitor.new) }
+        ensures falls { IfSome result (λ _. steps_in_state self.new.state
+            < steps_in_state self.old.state) }
+    {
+        match self.next() {
+            None => None,
+            Some(Ok(event)) => Some(Ok(visitor.event(event))),
+            Some(Err(error)) => Some(Err(error)),
+        }
+    }
+
+    // Hands the next event to a visitor, and returns what the visitor returns, or `None` if no
+    // event remains. A reader of ASCII lends strings to the visitor, if it can.
+    #[inline(always)]
+    fn hand_over<V: EventVisitor>(
+        &mut self,
+        visitor: &mut V,
+    ) -> Option<Result<ControlFlow<()>, Error>>
+        ensures turn { TakesTurn (YieldsPlain (Gives R.known R.failures)) V.step
+            (self.old, visitor.old) result (self.new, visitor.new) }
+        ensures falls { IfSome result (λ _. steps_in_state self.new.state
+            < steps_in_state self.old.state) }
+    {
+        match &mut self.state {
+            State::Ascii(reader) => reader.hand_over(visitor),
+            State::Unread(_, _, _)
+            | State::Binary(_)
+            | State::Limited(_)
+            | State::Refused(_)
+            | State::Moved => self.hand_over_read(visitor),
+        }
+    }
+}
+
 impl<R: Source> EventSource for Reader<R> {
     ghost use Rattle.plist_base.specs.Visits.{YieldsPlain};
     ghost use Rattle.plist_reader.specs.Reader.{Gives};
@@ -226,6 +270,13 @@ impl<R: Source> EventSource for Reader<R> {
     ghost yields = { YieldsPlain (Gives R.known R.failures) };
 
     fn visit<V: EventVisitor>(&mut self, visitor: &mut V) -> Result<Visited, Error> {
-        visit_items(self, visitor)
+        while let Some(turn) = self.hand_over(visitor) {
+            match turn {
+                Ok(ControlFlow::Continue(())) => {}
+                Ok(ControlFlow::Break(())) => return Ok(Visited::Stopped),
+                Err(error) => return Err(error),
+            }
+        }
+        Ok(Visited::Ended)
     }
 }

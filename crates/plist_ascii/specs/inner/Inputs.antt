@@ -166,13 +166,14 @@ module _ {R : Type 0} (known : R → Option (List ℕ)) where
 
   -- a part of the run was taken, and follows the bytes `front` in the text
   abbrev pub AddsPart : Stop → Input R → (front : List ℕ) → Input R → (text : Vec ℕ Global) → Type 0
-  AddsPart stop old front new text = IfKnown (unread known old)
-      (TakesPart (stops stop) old.taken front (unread known new) new.taken text.items)
+  AddsPart stop old front new text = IfKnown (unread known old) (λ xs. (part : List ℕ)
+      × (text.items ≡ front ++ part)
+      × TakesPart (stops stop) old.taken (unread known new) new.taken part xs)
 
   -- a part of the run was taken
   abbrev pub SkipsPart : Stop → Input R → Input R → Type 0
   SkipsPart stop old new = IfKnown (unread known old) (λ xs. (part : List ℕ)
-      × TakesPart (stops stop) old.taken [] (unread known new) new.taken part xs)
+      × TakesPart (stops stop) old.taken (unread known new) new.taken part xs)
 
   -- the whole run was taken
   abbrev pub SkipsRun : Stop → Input R → Input R → Type 0

@@ -1,4 +1,4 @@
-use Rattle.std.proofs.Common.{refl, take, []}
+use Rattle.std.proofs.Common.{take}
 use Rattle.plist_ascii.proofs.Unread.{part_taken, stop_at_hand, all_taken, drops_known}
 use Rattle.plist_ascii.proofs.input.Input.skip_part.Goals as goal
 
@@ -6,10 +6,10 @@ pub returns-clause-bytes : goal.returns-clause-bytes
 returns-clause-bytes g c = λ xs e.
     let h = c.at_hand-bytes.ensures.next xs e in (
       take c.run_length-count.result c.at_hand-bytes.result.now,
-      part_taken _ _ _ h.0 _ _ _ _ [] _ xs c.at_hand-bytes.ensures.hand
+      part_taken _ _ _ h.0 _ _ _ _ xs c.at_hand-bytes.ensures.hand
           c.run_length-count.ensures.run
           c.run_length-count.ensures.within h.1 (c.take_first.ensures.bytes xs e)
-          c.take_first.ensures.place refl,
+          c.take_first.ensures.place,
     )
 
 pub returns-clause-end : goal.returns-clause-end

@@ -8,10 +8,13 @@ returns-clause-bytes g c = λ xs e.
     let grown = c.in_ok-extend_from_slice-2.ensures.items
     ∙ ap (λ z. z ++ take c.run_length-count.result c.at_hand-bytes.result.now)
     (c.in_ok-extend_from_slice.ensures.items ∙ ap (λ z. z ++ c.args.front.now)
-    c.in_ok-reserve.ensures.items) in
-    part_taken _ _ _ h.0 _ _ _ _ _ _ xs c.at_hand-bytes.ensures.hand c.run_length-count.ensures.run
-    c.run_length-count.ensures.within h.1 (c.take_first.ensures.bytes xs e)
-    c.take_first.ensures.place grown
+    c.in_ok-reserve.ensures.items) in (
+      take c.run_length-count.result c.at_hand-bytes.result.now,
+      grown,
+      part_taken _ _ _ h.0 _ _ _ _ xs c.at_hand-bytes.ensures.hand c.run_length-count.ensures.run
+          c.run_length-count.ensures.within h.1 (c.take_first.ensures.bytes xs e)
+          c.take_first.ensures.place,
+    )
 
 pub returns-clause-end : goal.returns-clause-end
 returns-clause-end g c = λ other xs e ys f.

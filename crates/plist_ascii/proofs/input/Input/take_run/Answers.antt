@@ -16,10 +16,10 @@ run-preserved g c =
     (omega (arith, c.in_ok-_byte.ensures.place, took.place)) (λ xs ys on u.
     let looked = c.in_ok-_byte.ensures.next ys u in
     let k = took.bytes ys looked.0 in (
-      k.1,
-      k.5,
-      runs_part on k.0 k.1 k.2 k.3 (added c.run.text.items k.0 k.4)
-          (omega (arith, k.6, c.in_ok-_byte.ensures.place)),
+      k.2.0,
+      k.2.3,
+      runs_part on k.0 k.2.0 k.2.1 k.2.2 (added c.run.text.items k.0 k.1)
+          (omega (arith, k.2.4, c.in_ok-_byte.ensures.place)),
     ))
 
 pub returns-then-not-branch-clause-value : goal.returns-then-not-branch-clause-value
@@ -28,11 +28,11 @@ returns-then-not-branch-clause-value g c = λ xs e.
     let i = c.run.invariant.goes xs e in
     let looked = c.in_ok-_byte.ensures.next i.0 i.1 in
     let k = took.bytes i.0 looked.0 in
-    let stop = took.end c.if-not-branch.true i.0 looked.0 k.1 k.5 in
-    let on = runs_part i.2 k.0 k.1 k.2 k.3 (added c.run.text.items k.0 k.4)
-    (omega (arith, k.6, c.in_ok-_byte.ensures.place)) in
+    let stop = took.end c.if-not-branch.true i.0 looked.0 k.2.0 k.2.3 in
+    let on = runs_part i.2 k.0 k.2.0 k.2.1 k.2.2 (added c.run.text.items k.0 k.1)
+    (omega (arith, k.2.4, c.in_ok-_byte.ensures.place)) in
     let end = runs_end on stop in
-    (end.0, k.5 ∙ ap Some end.1, end.2)
+    (end.0, k.2.3 ∙ ap Some end.1, end.2)
 
 pub returns-in-None-clause-value : goal.returns-in-None-clause-value
 returns-in-None-clause-value g c = λ xs e.

@@ -1,4 +1,4 @@
-use Rattle.std.proofs.Common.{sym, reverse}
+use Rattle.std.proofs.Common.{sym}
 use Rattle.plist_base.specs.Events.{event_of}
 use Rattle.plist.proofs.ValueLastWins.{carry}
 use Rattle.plist.proofs.stream.builder.Builder.take.Goals as goal
@@ -13,7 +13,7 @@ returns-in-Ok-clause-step c =
         taken,
         c.if-self.false,
         carry held.unfinished.root
-            (reverse held.unfinished.collections.items) (event_of c.args.event) _ held.nested taken
+            held.unfinished.collections (event_of c.args.event) _ held.nested taken
             c.in-Ok.ensures,
       ),
     )

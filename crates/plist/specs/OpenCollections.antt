@@ -1,0 +1,52 @@
+-- The open collections of a value that is being built, with the values that they contain so far.
+use Rattle.std.specs.Prelude.{List, [], ◌∷◌, map, string_bytes, ⊤}
+use Rattle.plist.specs.declared.open_collections.Level.{Level}
+use Rattle.plist.specs.declared.open_collections.Level.TheVariants as level
+use Rattle.plist.specs.declared.open_collections.OpenDictionary.{OpenDictionary}
+use Rattle.plist.specs.declared.open_collections.OpenDictionary.TheVariants as run
+use Rattle.plist.specs.declared.value.Value.{Value}
+use Rattle.plist.specs.Building.{OpenCollection, InArray, InDictionary, AfterKey, Unfinished, NotBegun, Within}
+use Rattle.plist.specs.Dictionaries.{pairs_of}
+use Rattle.plist.specs.LastWins.{last_values}
+use Rattle.plist.specs.ValueTrees.{tree_of, tree_pairs}
+
+-- an open array with its items so far, or an open dictionary
+pub data Contents : Type 0 where
+  Items : (items : List Value) → Contents
+  Pairs : OpenDictionary → Contents
+
+-- a dictionary with its trees; its keys are distinct, so its last values are its pairs
+abbrev pub open_dictionary : OpenDictionary → OpenCollection
+open_dictionary (run.Pairs pairs) = InDictionary (last_values (tree_pairs (pairs_of pairs)))
+open_dictionary (run.AfterKey pairs key) =
+    AfterKey (last_values (tree_pairs (pairs_of pairs))) (string_bytes key)
+
+-- an open collection with its trees
+abbrev pub open_of : Contents → OpenCollection
+open_of (Items items) = InArray (map tree_of items)
+open_of (Pairs dictionary) = open_dictionary dictionary
+
+-- the contents of each level, innermost first, given the open arrays and dictionaries
+abbrev pub contents_by_level : List Level → List (List Value) → List OpenDictionary → List Contents
+contents_by_level [] arrays dictionaries = []
+contents_by_level (level.Array ∷ levels) [] dictionaries = []
+contents_by_level (level.Array ∷ levels) (items ∷ arrays) dictionaries =
+    Items items ∷ contents_by_level levels arrays dictionaries
+contents_by_level (level.Dictionary ∷ levels) arrays [] = []
+contents_by_level (level.Dictionary ∷ levels) arrays (dictionary ∷ dictionaries) =
+    Pairs dictionary ∷ contents_by_level levels arrays dictionaries
+
+-- each level has its open array or dictionary
+abbrev pub HaveContents : List Level → List (List Value) → List OpenDictionary → Type 0
+HaveContents [] arrays dictionaries = ⊤
+HaveContents (level.Array ∷ levels) [] dictionaries = ⊥
+HaveContents (level.Array ∷ levels) (items ∷ arrays) dictionaries =
+    HaveContents levels arrays dictionaries
+HaveContents (level.Dictionary ∷ levels) arrays [] = ⊥
+HaveContents (level.Dictionary ∷ levels) arrays (dictionary ∷ dictionaries) =
+    HaveContents levels arrays dictionaries
+
+-- the unfinished tree within these collections, innermost first
+abbrev pub within : List Contents → Unfinished
+within [] = NotBegun
+within (contents ∷ outer) = Within (open_of contents) (map open_of outer)

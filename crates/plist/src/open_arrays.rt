@@ -1,0 +1,113 @@
+//! The items of the arrays that are open while a value is built.
+
+ghost use Rattle.std.specs.Prelude.{◌≡◌, ◌<◌, ◌≤◌, ◌∷◌, [], length, take, drop, IfOk, OnErr, OnOk};
+ghost use Rattle.plist.specs.inner.CollectionSteps.{with_item};
+
+use crate::Value;
+use std::alloc::{AllocError, Global};
+use std::marker::Model;
+use std::mem;
+
+/// The items of arrays that are open, each in the one before it.
+///
+/// One list contains the items of all arrays, so an array that has no item yet takes no memory but
+/// that of its start. Contracts see the list of the items of each array, innermost first.
+#[derive(Drop)]
+pub(crate) struct OpenArrays {
+    // The items of all arrays, outermost first.
+    items: Vec<Value>,
+    // The index of the first item of each array, outermost first.
+    starts: Vec<usize>,
+}
+
+impl Model for OpenArrays {
+    ghost use Rattle.std.specs.Prelude.{List, length, reverse};
+    ghost use Rattle.std.specs.Coded.{coded_list};
+    ghost use Rattle.plist.specs.declared.value.Value.{Value as V};
+    ghost use Rattle.plist.specs.contracts.value.Value as value;
+    ghost use Rattle.plist.specs.OpenArrays.{AreStarts, items_by_array};
+
+    ghost Value = { List (List V) };
+
+    ghost coded = { coded_list (coded_list value.the_row.coded) };
+
+    ghost view = { λ arrays. items_by_array (reverse arrays.starts.items) arrays.items.items };
+
+    ghost invariant = { λ arrays. AreStarts (reverse arrays.starts.items)
+        (length arrays.items.items) };
+}
+
+// Removes and returns the items from an index on. If these are all items, their memory moves, too,
+// so that they aren't copied.
+fn split_off(alloc: Global, items: &mut Vec<Value>, start: usize) -> Result<Vec<Value>, AllocError>
+    requires { start ≤ length items.old.items }
+    ensures split { IfOk result (λ last. last.items ≡ drop start items.old.items) }
+    ensures kept { OnOk result (items.new.items ≡ take start items.old.items) }
+    ensures unchanged { OnErr result (items.new.items ≡ items.old.items) }
+{
+    if start == 0 {
+        return Ok(mem::replace(items, Vec::new(alloc)));
+    }
+    items.split_off(start)
+}
+
+impl OpenArrays {
+    /// Creates a list of no arrays. It allocates no memory.
+    pub(crate) fn new(alloc: Global) -> OpenArrays
+        ensures { result ≡ [] }
+    {
+        OpenArrays {
+            items: Vec::new(alloc),
+            starts: Vec::new(alloc),
+        }
+    }
+
+    /// Opens an array.
+    pub(crate) fn open(&mut self) -> Result<(), AllocError>
+        ensures opened { OnOk result (self.new ≡ [] ∷ self.old) }
+        ensures unchanged { OnErr result (self.new ≡ self.old) }
+    {
+        self.starts.push(self.items.len())?;
+        Ok(())
+    }
+
+    /// Appends an item to the innermost array. If memory runs out, the item is dropped without
+    /// recursion.
+    pub(crate) fn push(&mut self, item: Value) -> Result<(), AllocError>
+        ensures pushed { OnOk result (self.new ≡ with_item self.old item) }
+        ensures unchanged { OnErr result (self.new ≡ self.old) }
+    {
+        match self.items.push(item) {
+            Ok(()) => Ok(()),
+            Err(refused) => {
+                refused.value.destroy();
+                Err(AllocError)
+            }
+        }
+    }
+
+    /// Closes the innermost array, and returns its items.
+    pub(crate) fn close(&mut self, alloc: Global) -> Result<Vec<Value>, AllocError>
+        requires { 0 < length self.old }
+        ensures closed { IfOk result (λ items. self.old ≡ items.items ∷ self.new) }
+        ensures unchanged { OnErr result (self.new ≡ self.old) }
+    {
+        let start = match self.starts.last() {
+            Some(start) => *start,
+            None => 0,
+        };
+        let items = split_off(alloc, &mut self.items, start)?;
+        let _ = self.starts.pop();
+        Ok(items)
+    }
+
+    /// Closes all arrays, and drops their items without recursion.
+    pub(crate) fn clear(&mut self)
+        ensures { self.new ≡ [] }
+    {
+        while let Some(item) = self.items.pop() {
+            item.destroy();
+        }
+        self.starts.clear();
+    }
+}

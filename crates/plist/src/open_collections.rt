@@ -1,0 +1,230 @@
+//! The collections that are open while a value is built.
+
+ghost use Rattle.std.specs.Prelude.{◌≡◌, ◌<◌, ◌∷◌, [], length, reverse, IfOk, MatchOption, OnOk, Some, false, string_bytes, true};
+ghost use Rattle.plist.specs.OpenCollections.{Items};
+ghost use Rattle.plist.specs.inner.CollectionSteps.{AddsKey, AddsPair, AddsTo, CannotEnd, ChangesInnermost, Closes, EndsInnermost, OpensDictionary, TakesKey, expected_in};
+
+use crate::open_arrays::OpenArrays;
+use crate::{Dictionary, Value};
+use plist_base::Expect;
+use std::alloc::{AllocError, Global};
+use std::marker::Model;
+
+/// What an open collection is.
+#[derive(Clone, Copy)]
+enum Level {
+    Array,
+    Dictionary,
+}
+
+/// A dictionary that hasn't ended, with its pairs so far.
+#[derive(Drop)]
+enum OpenDictionary {
+    /// A key or the end is next.
+    Pairs(Dictionary),
+    /// The value of this key is next.
+    AfterKey(Dictionary, String),
+}
+
+/// Open collections that are nested in one another, with their contents so far.
+///
+/// An array that has no items yet takes nine bytes. Contracts see the contents of each collection,
+/// innermost first.
+#[derive(Drop)]
+pub(crate) struct OpenCollections {
+    // What each collection is, outermost first.
+    levels: Vec<Level>,
+    // The collections that are arrays.
+    arrays: OpenArrays,
+    // The collections that are dictionaries, outermost first.
+    dictionaries: Vec<OpenDictionary>,
+}
+
+impl Model for OpenCollections {
+    ghost use Rattle.std.specs.Prelude.{List, reverse};
+    ghost use Rattle.std.specs.Coded.{codes};
+    ghost use Rattle.plist.specs.contracts.open_collections.OpenDictionary as dictionary;
+    ghost use Rattle.plist.specs.contracts.value.Value as value;
+    ghost use Rattle.plist.specs.OpenCollections.{Contents, HaveContents, contents_by_level};
+
+    ghost Value = { List Contents };
+
+    ghost coded = { Prim.hlevel (codes, value.the_row.coded, dictionary.the_row.coded) };
+
+    ghost view = { λ held. contents_by_level (reverse held.levels.items) held.arrays
+        (reverse held.dictionaries.items) };
+
+    ghost invariant = { λ held. HaveContents (reverse held.levels.items) held.arrays
+        (reverse held.dictionaries.items) };
+}
+
+// Adds a value to the innermost dictionary, in a pair with the last key. If memory runs out, the
+// value is dropped.
+fn add_pair(dictionaries: &mut Vec<OpenDictionary>, value: Value) -> Result<(), AllocError>
+    ensures added { OnOk result (AddsPair (reverse dictionaries.old.items) value
+        (reverse dictionaries.new.items)) }
+    ensures outer { ChangesInnermost (reverse dictionaries.old.items)
+        (reverse dictionaries.new.items) }
+{
+    match dictionaries.pop() {
+        None => Ok(()),
+        Some(OpenDictionary::Pairs(pairs)) => {
+            dictionaries.push_reserved(OpenDictionary::Pairs(pairs));
+            value.destroy();
+            Ok(())
+        }
+        Some(OpenDictionary::AfterKey(mut pairs, key)) => {
+            let set = pairs.set(key, value);
+            // This is called only for its contract, which says that the keys are distinct.
+            let _ = pairs.pair_count();
+            dictionaries.push_reserved(OpenDictionary::Pairs(pairs));
+            match set {
+                Ok(()) => Ok(()),
+                Err(_) => Err(AllocError),
+            }
+        }
+    }
+}
+
+// Adds a key to the innermost dictionary, unless another key has no value yet.
+fn add_key(dictionaries: &mut Vec<OpenDictionary>, key: String)
+    ensures added { AddsKey (reverse dictionaries.old.items) key
+        (reverse dictionaries.new.items) }
+    ensures outer { ChangesInnermost (reverse dictionaries.old.items)
+        (reverse dictionaries.new.items) }
+{
+    match dictionaries.pop() {
+        None => {}
+        Some(OpenDictionary::Pairs(pairs)) => {
+            dictionaries.push_reserved(OpenDictionary::AfterKey(pairs, key));
+        }
+        Some(OpenDictionary::AfterKey(pairs, other)) => {
+            dictionaries.push_reserved(OpenDictionary::AfterKey(pairs, other));
+        }
+    }
+}
+
+// Removes the innermost dictionary and returns its pairs, unless a key has no value yet.
+fn end_dictionary(dictionaries: &mut Vec<OpenDictionary>) -> Option<Dictionary>
+    ensures { EndsInnermost (reverse dictionaries.old.items) result
+        (reverse dictionaries.new.items) }
+{
+    match dictionaries.pop()? {
+        OpenDictionary::Pairs(pairs) => Some(pairs),
+        OpenDictionary::AfterKey(pairs, key) => {
+            dictionaries.push_reserved(OpenDictionary::AfterKey(pairs, key));
+            None
+        }
+    }
+}
+
+impl OpenCollections {
+    /// Creates a list of no collections. It allocates no memory.
+    pub(crate) fn new(alloc: Global) -> OpenCollections
+        ensures { result ≡ [] }
+    {
+        OpenCollections {
+            levels: Vec::new(alloc),
+            arrays: OpenArrays::new(alloc),
+            dictionaries: Vec::new(alloc),
+        }
+    }
+
+    /// Returns whether no collection is open.
+    pub(crate) fn is_empty(&self) -> bool
+        ensures yes { result ≡ true → self.now ≡ [] }
+        ensures no { result ≡ false → 0 < length self.now }
+    {
+        self.levels.is_empty()
+    }
+
+    /// Returns what is expected in the innermost collection, or `None` if none is open.
+    pub(crate) fn expect(&self) -> Option<Expect>
+        ensures { result ≡ expected_in self.now }
+    {
+        match self.levels.last() {
+            None => None,
+            Some(Level::Array) => Some(Expect::Items),
+            Some(Level::Dictionary) => match self.dictionaries.last() {
+                None => None,
+                Some(OpenDictionary::Pairs(_)) => Some(Expect::Pairs),
+                Some(OpenDictionary::AfterKey(..)) => Some(Expect::OneValue),
+            },
+        }
+    }
+
+    /// Opens an array in the innermost collection.
+    pub(crate) fn open_array(&mut self) -> Result<(), AllocError>
+        ensures { OnOk result (self.new ≡ Items [] ∷ self.old) }
+    {
+        self.levels.reserve(1)?;
+        self.arrays.open()?;
+        self.levels.push_reserved(Level::Array);
+        Ok(())
+    }
+
+    /// Opens a dictionary in the innermost collection.
+    pub(crate) fn open_dictionary(&mut self, alloc: Global) -> Result<(), AllocError>
+        ensures { OnOk result (OpensDictionary self.old self.new) }
+    {
+        self.levels.reserve(1)?;
+        self.dictionaries
+            .push(OpenDictionary::Pairs(Dictionary::new(alloc)))?;
+        self.levels.push_reserved(Level::Dictionary);
+        Ok(())
+    }
+
+    /// Adds a key to the innermost collection, which is a dictionary in which a key may be next.
+    pub(crate) fn add_key(&mut self, key: String)
+        requires { expected_in self.old ≡ Some Expect.Pairs }
+        ensures { TakesKey self.old (string_bytes key) self.new }
+    {
+        add_key(&mut self.dictionaries, key);
+    }
+
+    /// Adds a value to the innermost collection. If memory runs out, the value is dropped.
+    pub(crate) fn add(&mut self, value: Value) -> Result<(), AllocError>
+        requires { 0 < length self.old }
+        ensures { OnOk result (AddsTo self.old value self.new) }
+    {
+        match self.levels.last() {
+            None => Ok(()),
+            Some(Level::Array) => self.arrays.push(value),
+            Some(Level::Dictionary) => add_pair(&mut self.dictionaries, value),
+        }
+    }
+
+    /// Closes the innermost collection and returns it as a value. If no collection is open, or a
+    /// key has no value yet, it returns `None`.
+    pub(crate) fn close(&mut self, alloc: Global) -> Result<Option<Value>, AllocError>
+        ensures { IfOk result (λ found. MatchOption found (CannotEnd self.old)
+            (λ value. Closes self.old value self.new)) }
+    {
+        match self.levels.pop() {
+            None => Ok(None),
+            Some(Level::Array) => match self.arrays.close(alloc) {
+                Ok(items) => Ok(Some(Value::Array(items))),
+                Err(error) => {
+                    self.levels.push_reserved(Level::Array);
+                    Err(error)
+                }
+            },
+            Some(Level::Dictionary) => match end_dictionary(&mut self.dictionaries) {
+                Some(pairs) => Ok(Some(Value::Dictionary(pairs))),
+                None => {
+                    self.levels.push_reserved(Level::Dictionary);
+                    Ok(None)
+                }
+            },
+        }
+    }
+
+    /// Closes all collections, and drops their contents without recursion.
+    pub(crate) fn clear(&mut self)
+        ensures { self.new ≡ [] }
+    {
+        self.levels.clear();
+        self.arrays.clear();
+        self.dictionaries.clear();
+    }
+}

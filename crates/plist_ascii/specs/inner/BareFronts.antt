@@ -1,0 +1,32 @@
+-- Bare strings that end among the bytes at hand.
+use Rattle.std.specs.Prelude.{◌≡◌, ℕ, ◌+◌, ◌<◌, Bool, not, List, [], ◌∷◌, length, drop, Option, Some, Ok}
+use Rattle.plist_base.specs.Events.{ScalarEvent}
+use Rattle.plist_base.specs.Trees.{String}
+use Rattle.plist_ascii.specs.declared.input.Input.{Input}
+use Rattle.plist_ascii.specs.declared.stop.Stop.{Stop}
+use Rattle.plist_ascii.specs.declared.token.Lead.TheVariants as lead
+use Rattle.plist_ascii.specs.Ascii.{is_blank, lead_of, token_by}
+use Rattle.plist_ascii.specs.Taken.{run}
+use Rattle.plist_ascii.specs.Unread.{IfKnown, stops, unread}
+
+-- the first n bytes are a bare string, and more bytes follow
+abbrev pub IsBareFront : (stops : ℕ → Bool) → List ℕ → ℕ → Type 0
+IsBareFront stops [] n = ⊥
+IsBareFront stops (c ∷ bytes) n =
+    (lead_of c ≡ lead.Bare) × (n ≡ 1 + run stops bytes)
+    × (run stops bytes < length bytes)
+
+-- the first `count` bytes are blanks, if any, and then a token, which is this string
+pub record LeadsToText (stops : ℕ → Bool) (bytes : List ℕ) (count : ℕ) (text : List ℕ) : Type 0 where
+  pub byte : ℕ
+  pub rest : List ℕ
+  pub next : drop (run (λ c. not (is_blank c)) bytes) bytes ≡ byte ∷ rest
+  pub means : (token_by stops (lead_of byte) byte rest).gives ≡ Ok (Some (ScalarEvent (String text)))
+  pub ends : count ≡ run (λ c. not (is_blank c)) bytes + 1
+      + (token_by stops (lead_of byte) byte rest).bytes
+
+-- the first `count` bytes that remain are blanks, if any, and then a token, which is this string
+abbrev pub IsAhead : {R : Type 0} → (known : R → Option (List ℕ)) → Stop → Input R → (count : ℕ)
+    → (text : List ℕ) → Type 0
+IsAhead known stop input count text =
+    IfKnown (unread known input) (λ bytes. LeadsToText (stops stop) bytes count text)

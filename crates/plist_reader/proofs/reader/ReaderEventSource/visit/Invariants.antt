@@ -1,0 +1,15 @@
+use Rattle.plist_base.specs.Events.{PlainEvent}
+use Rattle.plist_base.specs.Visits.{YieldsPlain, HandsOverAll}
+use Rattle.plist_reader.specs.Reader.{Gives, steps_in_state}
+use Rattle.plist_reader.proofs.reader.ReaderEventSource.visit.Given as goal
+use Rattle.std.proofs.Common.{List}
+
+-- these events were handed over
+abbrev pub invariant-loop-turn : goal.invariant-loop-turn
+invariant-loop-turn g l =
+    (events : List PlainEvent)
+    × HandsOverAll (YieldsPlain (Gives g.R.Source.known g.R.Source.failures)) g.V.EventVisitor.step
+    (l.initial.self, l.initial.visitor) events (l.self, l.visitor)
+
+abbrev pub decreases-loop-turn : goal.decreases-loop-turn
+decreases-loop-turn g l = steps_in_state l.self.state
