@@ -1,11 +1,10 @@
-//! Proved callers of a reader: how many objects it reports and counts, and what it yields after an
-//! error.
+//! Proved callers of a reader: how many objects it reports, and what it yields after an error.
 
 ghost use Rattle.std.specs.Prelude.{◌≡◌, ◌≤◌, None, IfSome, false};
-ghost use Rattle.plist_binread.specs.BinaryReader.{cached_objects, counter_of, objects_in_head};
+ghost use Rattle.plist_binread.specs.BinaryReader.{objects_in_head};
 
 use plist_base::{Error, ErrorKind, OwnedEvent, Source};
-use plist_binread::{BinaryReader, DecodeCounter};
+use plist_binread::BinaryReader;
 use std::alloc::Global;
 
 /// Returns how many objects a reader reports before its first call, which is 0, and after it, which
@@ -70,14 +69,4 @@ pub fn count_again<R: Source>(reader: &mut BinaryReader<R>) -> (usize, usize)
     let before = reader.objects_in_file();
     let _ = reader.next();
     (before, reader.objects_in_file())
-}
-
-/// Reads an item by a reader that counts the small objects that it decodes. It has cached as many
-/// as it has counted, so none was decoded without being counted.
-pub fn never_counts<R: Source, C: DecodeCounter>(
-    reader: &mut BinaryReader<R, C>,
-) -> Option<Result<OwnedEvent, Error>>
-    ensures { C.counts → C.count (counter_of reader.new) ≡ cached_objects reader.new }
-{
-    reader.next()
 }
