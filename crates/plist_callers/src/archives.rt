@@ -1,10 +1,13 @@
-//! A proved caller of the calls of an archive that allocate no memory.
+//! Proved callers of an archive: the calls that allocate no memory, and the error of a tree.
 
-ghost use Rattle.std.specs.Prelude.{IfSome, IsNone};
+ghost use Rattle.std.specs.Prelude.{◌≡◌, Err, IfSome, IsNone, false};
+ghost use Rattle.plist_keyed.specs.Archives.{RecursiveUid, resolved_tree};
+ghost use Rattle.plist_keyed.specs.Contents.{trees_in};
 ghost use Rattle.plist_callers.specs.Objects.{HasNoObjectAt, IsObjectAt};
 
-use plist::Value;
-use plist_keyed::Archive;
+use plist::{Uid, Value};
+use plist_keyed::{Archive, KeyedError};
+use std::alloc::Global;
 
 /// Returns the object to which a key of an archive refers. No Uid in it is resolved.
 pub fn object_at<'a>(archive: &Archive<'a>, key: &str) -> Option<&'a Value>
@@ -14,5 +17,17 @@ pub fn object_at<'a>(archive: &Archive<'a>, key: &str) -> Option<&'a Value>
     match archive.top(key) {
         Some(uid) => archive.get(uid),
         None => None,
+    }
+}
+
+/// Makes the tree of a Uid below which the Uid `nested` is reached while its object is open.
+/// Returns whether the error names another Uid.
+pub fn names_another_open_uid(alloc: Global, archive: &Archive<'_>, uid: Uid, nested: u64) -> bool
+    requires { resolved_tree (trees_in archive.now) uid ≡ Err (RecursiveUid nested) }
+    ensures { result ≡ false }
+{
+    match archive.tree(alloc, uid) {
+        Err(KeyedError::RecursiveUid(named)) => named != nested,
+        _ => false,
     }
 }

@@ -1,7 +1,9 @@
-//! Proved callers of the reader: it returns its inner reader, and looks at no byte after a bracket.
+//! Proved callers of the reader: it returns its inner reader, looks at no byte after a bracket, and
+//! ends a comment at `*/`.
 
-ghost use Rattle.std.specs.Prelude.{◌≡◌, None, true};
+ghost use Rattle.std.specs.Prelude.{◌≡◌, None, false, true};
 ghost use Rattle.plist_ascii.specs.AsciiReader.{HasEndedAscii, device_of, peeked_byte};
+ghost use Rattle.plist_callers.specs.SmallInputs.{comment_and_array};
 
 use plist_ascii::{AsciiReader, ByteReader};
 use plist_base::Event;
@@ -31,6 +33,20 @@ pub fn comes_to_bracket<R: ByteReader + Drop>(reader: &mut AsciiReader<R>) -> bo
 {
     match reader.next() {
         Some(Ok(Event::StartArray(_) | Event::StartDictionary(_) | Event::EndCollection)) => true,
+        _ => false,
+    }
+}
+
+/// Reads a text with a comment that contains a star, and then the start of an array. Returns
+/// whether the comment ends right after that star, so that a string follows it. It ends at `*/`.
+#[tactic(auto, using(crate::proofs::SmallInputs::of_comment_and_array))]
+pub fn comment_closed_by_any_byte(alloc: Global, text: &[u8]) -> bool
+    requires { text.now ≡ comment_and_array }
+    ensures { result ≡ false }
+{
+    let mut reader = AsciiReader::new(alloc, text);
+    match reader.next() {
+        Some(Ok(Event::String(_))) => true,
         _ => false,
     }
 }

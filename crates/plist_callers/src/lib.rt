@@ -2,9 +2,13 @@
 //! clauses of what it calls alone, so that none of these clauses can be weakened unnoticed.
 //!
 //! They are listed from the lowest layer up: `faults`, `texts`, `dates`, `reals`, `hashes`,
-//! `events`, `sources`, `limits`, `data`; the readers `binary`, `ascii` and `either`, and the
-//! `writer`; `values` and their `contents`, what `writers` write of them, dictionaries by `pairs`,
-//! `entries` and `iterators`, and `depths`, the recursions over them; and `archives`.
+//! `events`, `sources`, `limits`, `data`; the readers `binary`, also over `small_files`, `ascii` and
+//! `either`, and the `writer`; `values` and their `contents`, what `writers` write of them, files by
+//! `stored`, dictionaries by `pairs`, `entries` and `iterators`, and `depths`, the recursions over
+//! them; and `archives`.
+//!
+//! A caller that has the name of a bug returns whether a library with that bug would show it, or
+//! returns what such a library would get wrong.
 #![tactic(auto)]
 
 pub mod archives;
@@ -23,7 +27,9 @@ pub mod iterators;
 pub mod limits;
 pub mod pairs;
 pub mod reals;
+pub mod small_files;
 pub mod sources;
+pub mod stored;
 pub mod texts;
 pub mod values;
 pub mod writer;

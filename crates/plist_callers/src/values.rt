@@ -1,5 +1,5 @@
-//! Proved callers of values: the value of bytes, what a builder returns, a dictionary's copy, and a
-//! value's copy, which is equal to it.
+//! Proved callers of values: the value of bytes, why there is none, what a builder returns, a
+//! dictionary's copy, and a value's copy, which is equal to it.
 
 ghost use Rattle.std.specs.Prelude.{◌≡◌, Err, IfOk, IfSome, false, true};
 ghost use Rattle.plist_ascii.specs.Texts.{tight_stops};
@@ -8,13 +8,13 @@ ghost use Rattle.plist_reader.specs.Reader.{items_of_dialect, items_of_input};
 ghost use Rattle.plist.specs.Collecting.{built_tree};
 ghost use Rattle.plist.specs.ValueOfItems.{IsValueOf};
 ghost use Rattle.plist.specs.LimitedValues.{NestsWithin};
-ghost use Rattle.plist.specs.FromReader.{items_of_text};
+ghost use Rattle.plist.specs.FromReader.{IsReadWithinBudget, items_of_text};
 ghost use Rattle.plist.specs.Dictionaries.{pairs_of};
 ghost use Rattle.plist.specs.ValueTrees.{tree_of, tree_pairs};
 
 use plist::callers::are_equal;
 use plist::{Builder, Dialect, Dictionary, Limits, Value};
-use plist_base::{Error, ErrorKind, Event, Writer};
+use plist_base::{Error, ErrorKind, Event, Source, Writer};
 use std::alloc::Global;
 use std::rt::Files;
 
@@ -100,4 +100,31 @@ pub fn equals_its_copy(alloc: Global, value: &Value) -> Result<bool, Error>
     ensures equal { IfOk result (λ equal. equal ≡ true) }
 {
     Ok(are_equal(&value.clone(alloc)?, value))
+}
+
+/// Returns whether the value of a slice can't be read because a read failed. No read of a slice
+/// fails.
+pub fn from_reader_makes_up_a_failure(alloc: Global, bytes: &[u8]) -> bool
+    ensures { result ≡ false }
+{
+    match Value::from_reader(alloc, bytes) {
+        Ok(_) => false,
+        Err(error) => error.is_io(),
+    }
+}
+
+/// Reads a value whose strings and data have at most 100 bytes. It is built from the items within
+/// this budget, the last byte of which may be used.
+///
+/// # Errors
+///
+/// Those of [`Value::from_reader_within`].
+pub fn budget_refuses_the_last_byte<R: Source>(
+    alloc: Global,
+    source: R,
+    limits: Limits,
+) -> Result<Value, Error>
+    ensures { IsReadWithinBudget limits 100 R.known R.failures source (built_tree result) }
+{
+    Value::from_reader_within(alloc, source, limits, 100)
 }

@@ -1,7 +1,7 @@
 //! Proved callers of the writers, for a value that is written to a vector: what they write is a
 //! file of the value, and is read back as the value.
 
-ghost use Rattle.std.specs.Prelude.{◌≡◌, IfErr, IfOk};
+ghost use Rattle.std.specs.Prelude.{◌≡◌, IfErr, IfOk, false};
 ghost use Rattle.plist_base.specs.Faults.{error_kind_of, kind_of};
 ghost use Rattle.plist_binwrite.specs.Files.{IsFileOf};
 ghost use Rattle.plist_binwrite.specs.ObjectCounts.{HasObjects};
@@ -10,7 +10,7 @@ ghost use Rattle.plist_share.specs.SharedFiles.{IsSharedFileOf};
 ghost use Rattle.plist.specs.ValueTrees.{tree_of};
 ghost use Rattle.plist_callers.specs.ReadBackFaults.{PreventsReadBack};
 
-use plist::callers::file_by_events;
+use plist::callers::{are_equal, file_by_events};
 use plist::{Error, Value};
 use plist_binwrite::EqualScalars;
 use plist_share::EqualTrees;
@@ -55,4 +55,17 @@ pub fn shared_file(alloc: Global, value: &Value) -> Result<Vec<u8>, Error>
     ensures least { IfOk result (λ _. IsLeastOfAll (tree_of value.now)) }
 {
     file_by_events::<EqualTrees>(alloc, value)
+}
+
+/// Writes a value and reads it back. Returns whether the value has changed, as it would if two
+/// strings of one length were stored as one.
+///
+/// # Errors
+///
+/// Those of [`write_back`].
+pub fn texts_by_length(alloc: Global, value: &Value) -> Result<bool, Error>
+    ensures { IfOk result (λ changed. changed ≡ false) }
+{
+    let again = write_back(alloc, value)?;
+    Ok(!are_equal(&again, value))
 }

@@ -1,0 +1,2 @@
+pub mod SmallInputs
+pub mod Failures

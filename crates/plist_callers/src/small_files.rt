@@ -1,0 +1,134 @@
+//! Proved callers of a reader over small files. Each has the name of a bug, and shows that the
+//! reader doesn't have it.
+
+ghost use Rattle.std.specs.Prelude.{◌≡◌, IfSome, false, negsuc};
+ghost use Rattle.plist_base.specs.Events.{ScalarEvent, event_of};
+ghost use Rattle.plist_base.specs.Trees.{Integer as PlainInteger};
+ghost use Rattle.plist_callers.specs.SmallInputs.{empty_array, five_at_true, five_byte_offsets, minus_one, missing_child, nested_arrays, root_is_second};
+
+use plist_base::{ErrorKind, Event, Integer};
+use plist_binread::BinaryReader;
+use std::alloc::Global;
+
+/// Reads a file whose root is its second object, an array. Returns whether the reader begins with
+/// its first object, a Boolean.
+#[tactic(auto, using(crate::proofs::SmallInputs::of_root_is_second))]
+pub fn root_is_the_first_object(alloc: Global, bytes: &[u8]) -> bool
+    requires { bytes.now ≡ root_is_second }
+    ensures { result ≡ false }
+{
+    let mut reader = BinaryReader::new(alloc, bytes);
+    match reader.next() {
+        Some(Ok(Event::Boolean(_))) => true,
+        _ => false,
+    }
+}
+
+/// Reads a file with offsets of five bytes. Returns whether the reader yields an event of it.
+#[tactic(auto, using(crate::proofs::SmallInputs::of_five_byte_offsets))]
+pub fn takes_five_byte_offsets(alloc: Global, bytes: &[u8]) -> bool
+    requires { bytes.now ≡ five_byte_offsets }
+    ensures { result ≡ false }
+{
+    let mut reader = BinaryReader::new(alloc, bytes);
+    match reader.next() {
+        Some(Ok(_event)) => true,
+        _ => false,
+    }
+}
+
+// Returns the integer that an event is, or `None` for any other event.
+fn integer_in(event: &Event<'_>) -> Option<Integer>
+    ensures { IfSome result (λ number. event_of event.now ≡ ScalarEvent (PlainInteger number)) }
+{
+    match event {
+        Event::Integer(number) => Some(*number),
+        _ => None,
+    }
+}
+
+/// Reads the file of the integer -1. Returns the integer that the reader yields, which is negative.
+#[tactic(auto, using(crate::proofs::SmallInputs::of_minus_one))]
+pub fn negative_is_unsigned(alloc: Global, bytes: &[u8]) -> Option<Integer>
+    requires { bytes.now ≡ minus_one }
+    ensures { IfSome result (λ number. number ≡ negsuc 0) }
+{
+    let mut reader = BinaryReader::new(alloc, bytes);
+    match reader.next() {
+        Some(Ok(event)) => integer_in(&event),
+        _ => None,
+    }
+}
+
+/// Reads a file with an array whose child doesn't exist. Returns whether the error has another
+/// offset than that of the array.
+#[tactic(auto, using(crate::proofs::SmallInputs::of_missing_child))]
+pub fn fault_at_the_child(alloc: Global, bytes: &[u8]) -> bool
+    requires { bytes.now ≡ missing_child }
+    ensures { result ≡ false }
+{
+    let mut reader = BinaryReader::new(alloc, bytes);
+    match reader.next() {
+        Some(Ok(_start)) => match reader.next() {
+            Some(Err(error)) => match error.kind() {
+                ErrorKind::ObjectReferenceTooLarge => error.offset() != Some(8),
+                _ => false,
+            },
+            _ => false,
+        },
+        _ => false,
+    }
+}
+
+/// Reads a file with the integer 5 at the key `true`. Returns whether the integer precedes the key.
+#[tactic(auto, using(crate::proofs::SmallInputs::of_five_at_true))]
+pub fn values_before_keys(alloc: Global, bytes: &[u8]) -> bool
+    requires { bytes.now ≡ five_at_true }
+    ensures { result ≡ false }
+{
+    let mut reader = BinaryReader::new(alloc, bytes);
+    match reader.next() {
+        Some(Ok(_start)) => match reader.next() {
+            Some(Ok(Event::Integer(_))) => true,
+            _ => false,
+        },
+        _ => false,
+    }
+}
+
+/// Reads a file with an array in an array. Returns whether the child of the inner array is read by
+/// the references of the outer one, so that the inner array would contain itself.
+#[tactic(auto, using(crate::proofs::SmallInputs::of_nested_arrays))]
+pub fn keeps_other_references(alloc: Global, bytes: &[u8]) -> bool
+    requires { bytes.now ≡ nested_arrays }
+    ensures { result ≡ false }
+{
+    let mut reader = BinaryReader::new(alloc, bytes);
+    match reader.next() {
+        Some(Ok(_outer)) => match reader.next() {
+            Some(Ok(_inner)) => match reader.next() {
+                Some(Err(error)) => matches!(error.kind(), ErrorKind::RecursiveObject),
+                _ => false,
+            },
+            _ => false,
+        },
+        _ => false,
+    }
+}
+
+/// Reads a file with an empty array. Returns whether the reader runs out of memory for the end of
+/// the array, for which it needs none.
+#[tactic(auto, using(crate::proofs::SmallInputs::of_empty_array))]
+pub fn end_wants_memory(alloc: Global, bytes: &[u8]) -> bool
+    requires { bytes.now ≡ empty_array }
+    ensures { result ≡ false }
+{
+    let mut reader = BinaryReader::new(alloc, bytes);
+    match reader.next() {
+        Some(Ok(_start)) => match reader.next() {
+            Some(Err(error)) => matches!(error.kind(), ErrorKind::OutOfMemory),
+            _ => false,
+        },
+        _ => false,
+    }
+}
