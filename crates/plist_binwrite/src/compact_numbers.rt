@@ -79,18 +79,6 @@ impl Numbers {
         })
     }
 
-    /// Creates a list in which 2^64 - 1 is repeated `count` times, or fails if the allocation
-    /// fails.
-    pub fn marks(alloc: Global, count: usize) -> Result<Numbers, AllocError>
-        ensures marks { IfOk result (λ r. r ≡ replicate count (2 ^ 64 - 1)) }
-    {
-        let wide = vec![in alloc; usize::MAX; count]?;
-        Ok(Numbers {
-            narrow: Vec::new(alloc),
-            wide,
-        })
-    }
-
     /// Returns the length of the list.
     pub fn len(&self) -> usize
         ensures { result ≡ length self.now }
