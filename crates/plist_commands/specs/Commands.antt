@@ -48,20 +48,27 @@ Answered answers contents words old answer new =
     (asked : PlainCommand) × (map string_bytes words ≡ words_for asked)
     × answers asked (contents old) answer (contents new)
 
--- Unless the status is 2, the arguments ask for a command that may have some result after which
--- these are the known bytes of the output, and the program ends as it does after that result.
-abbrev pub RunEnds : {O E : Type 0}
+-- the command may have this result, after which these are the known bytes of the output
+abbrev pub MayEnd : {O : Type 0}
     → (answers : PlainCommand → Option (List ℕ) → CommandOutcome → Option (List ℕ) → Type 0)
-    → (contents : O → Option (List ℕ)) → (reports : E → PlainMessage → Bool → E → Type 0)
-    → (words : List (String Global)) → (status : ℕ) → (old new : O) → (err whole : E) → Type 0
-RunEnds answers contents reports words status old new err whole =
+    → (contents : O → Option (List ℕ)) → PlainCommand → (old : O) → CommandOutcome → (new : O)
+    → Type 0
+MayEnd answers contents command old answer new =
+    answers command (contents old) answer (contents new)
+
+-- Unless the status is 2, the arguments ask for a command that may have some result, and the program
+-- ends as it does after that result. `before` and `after` are the output and the writer of messages.
+abbrev pub RunEnds : {O E : Type 0} → (ends : PlainCommand → O → CommandOutcome → O → Type 0)
+    → (reports : E → PlainMessage → Bool → E → Type 0) → (words : List (String Global))
+    → (status : ℕ) → (before after : O × E) → Type 0
+RunEnds ends reports words status before after =
     status ≢ 2 → (asked : PlainCommand) × (answer : CommandOutcome)
-    × (map string_bytes words ≡ words_for asked)
-    × answers asked (contents old) answer (contents new) × IsStatusAfter reports answer status err whole
+    × (map string_bytes words ≡ words_for asked) × ends asked before.0 answer after.0
+    × IsStatusAfter reports answer status before.1 after.1
 
 -- the command may have this result, after which these are the known bytes of the output
 abbrev pub Performs : {O A : Type 0} → (answers : PlainCommand → Option (List ℕ) → CommandOutcome
     → Option (List ℕ) → Type 0) → (contents : O → Option (List ℕ)) → Command → O → Result A Failure
     → O → Type 0
 Performs answers contents command old answer new =
-    answers (plain_command_of command) (contents old) (outcome_of answer) (contents new)
+    MayEnd answers contents (plain_command_of command) old (outcome_of answer) new

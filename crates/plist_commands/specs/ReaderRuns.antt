@@ -61,11 +61,10 @@ abbrev pub StepsBinary : {S : Type 0} {g : Ghosts S} (known : S → Option (List
 StepsBinary known failed = Steps known failed ⊥ (λ _. 0)
 
 -- what was printed of the events that a reader hadn't yielded yet
-abbrev pub PrintsReader : {S : Type 0} {g : Ghosts S} (known : S → Option (List ℕ)) (failed : S → ℕ)
-    → BinaryReaderOf S g → Result (Unit {0}) Error → BinaryReaderOf S g → (before after : Option (List ℕ))
-    → Type 0
-PrintsReader known failed old answer new before after =
-    PrintsRun (StepsBinary known failed) old answer new before after
+abbrev pub PrintsReader : {S : Type 0} {g : Ghosts S} → BinaryReaderOf S g → Result (Unit {0}) Error
+    → BinaryReaderOf S g → (before after : Option (List ℕ)) → Type 0
+PrintsReader {g = g} old answer new before after =
+    PrintsRun (StepsBinary g.known g.failures) old answer new before after
 
 -- the events of a new reader of this source were printed, and its failed reads were counted
 abbrev pub PrintsSource : {S : Type 0} (known : S → Option (List ℕ)) (failed : S → ℕ) (source : S)
@@ -74,7 +73,7 @@ PrintsSource {S} known failed source answer before after =
     (reader : BinaryReaderOf S (record { known = known; failures = failed }))
     × (left : BinaryReaderOf S (record { known = known; failures = failed }))
     × (binary_source reader ≡ source) × (is_new reader ≡ true)
-    × PrintsReader known failed reader answer left before after
+    × PrintsReader reader answer left before after
     × CountsReadsOf failed reader answer left
 
 -- ---- events that are buffered

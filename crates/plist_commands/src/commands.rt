@@ -3,7 +3,7 @@
 ghost use Rattle.std.specs.Prelude.{◌≡◌, ℕ, ◌↔◌, List, Option, Bool, map, string_bytes, IfSome, IsNone};
 ghost use Rattle.plist_commands.specs.Failures.{CommandOutcome};
 ghost use Rattle.plist_commands.specs.Messages.{Usage};
-ghost use Rattle.plist_commands.specs.Commands.{PlainCommand, plain_command_of, words_for, IsNoCommand, RunEnds, Performs};
+ghost use Rattle.plist_commands.specs.Commands.{PlainCommand, plain_command_of, words_for, IsNoCommand, MayEnd, RunEnds, Performs};
 
 use crate::convert::convert_file;
 use crate::failure::Failure;
@@ -112,8 +112,8 @@ pub fn run_words<R: Commands, O: Write, E: Messages>(
     ensures wrong { (result ≡ 2) ↔ IsNoCommand (map string_bytes words.now) }
     ensures silent { result ≡ 2 → out.new ≡ out.old }
     ensures usage { result ≡ 2 → (whole : Bool) × E.reports err.old Usage whole err.new }
-    ensures ends { RunEnds (R.answers rt.now) O.contents E.reports words.now result out.old out.new
-        err.old err.new }
+    ensures ends { RunEnds (MayEnd (R.answers rt.now) O.contents) E.reports words.now result
+        (out.old, err.old) (out.new, err.new) }
 {
     let Some(command) = command_of(words) else {
         let _ = err.report(Message::Usage);

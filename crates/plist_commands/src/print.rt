@@ -389,7 +389,7 @@ pub fn print_reader<S: Source, W: Write>(
     // Result.
     ensures printed { OnOk result
         (PrintsItems W.contents (items_left S.known reader.old) writer.old writer.new) }
-    ensures answers { PrintsReader S.known S.failures reader.old result reader.new
+    ensures answers { PrintsReader reader.old result reader.new
         (W.contents writer.old) (W.contents writer.new) }
     // Errors.
     ensures refused { IfErr result
