@@ -170,8 +170,8 @@ impl<R: ByteReader + Drop> AsciiReader<R> {
     }
 
     /// Hands the next event to a visitor, and returns what the visitor returns, or `None` if no
-    /// event remains. A bare string that lies whole in the buffer of the inner reader is lent to
-    /// the visitor, without being copied.
+    /// event remains. A bare string that lies whole in the buffer of the inner reader is handed
+    /// over without being copied.
     ///
     /// # Errors
     ///
