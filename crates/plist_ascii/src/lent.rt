@@ -1,4 +1,4 @@
-//! Finds bare strings that can be lent from the bytes at hand.
+//! Finds bare strings that can be borrowed from the bytes at hand.
 
 ghost use Rattle.std.specs.Prelude.{◌<◌, ◌≤◌, length, IfSome};
 ghost use Rattle.plist_ascii.specs.Unread.{stops};

@@ -85,7 +85,7 @@ impl<R: ByteReader> AsciiReader<R> {
     ghost use Rattle.plist_ascii.specs.Ascii.{OnlyBareTextsDiffer};
     ghost use Rattle.plist_ascii.specs.AsciiReader.{untaken_bytes, dialect_of, device_of, peeked_byte, place_of, HasEndedAscii};
 
-    /// Creates a reader of the lax dialect. Nothing is read before the first call of `next`.
+    /// Creates a reader of the lax dialect. Nothing is read before the first item is requested.
     pub fn new(alloc: Global, inner: R) -> Self
         // Result.
         ensures bytes { untaken_bytes R.remaining result ≡ readable (R.remaining inner) }
@@ -98,7 +98,7 @@ impl<R: ByteReader> AsciiReader<R> {
         AsciiReader::with_dialect(alloc, inner, Dialect::Lax)
     }
 
-    /// Creates a reader of this dialect. Nothing is read before the first call of `next`.
+    /// Creates a reader of this dialect. Nothing is read before the first item is requested.
     ///
     /// In the tight dialect `{a=b}` yields the start of a dictionary, `a`, `b` and an end.
     #[tactic(auto, using(crate::proofs::Unread::new_unread))]
@@ -170,8 +170,8 @@ impl<R: ByteReader + Drop> AsciiReader<R> {
     }
 
     /// Hands the next event to a visitor, and returns what the visitor returns, or `None` if no
-    /// event remains. A bare string that lies whole in the buffer of the inner reader is lent to
-    /// the visitor, without being copied.
+    /// event remains. A bare string that lies whole in the buffer of the inner reader is handed
+    /// over without being copied.
     ///
     /// # Errors
     ///

@@ -10,8 +10,8 @@ use std::marker::Model;
 // The Unix second of 2001-01-01T00:00:00Z, from which the seconds of property lists count.
 const PLIST_EPOCH: i64 = 978_307_200;
 
-/// A point in time from -9999-01-01T00:00:00Z to 9999-12-31T23:59:59Z, stored as the eight bytes of
-/// a real: the seconds since 2001-01-01T00:00:00Z, with a fraction.
+/// A point in time whose second is from -9999-01-01T00:00:00Z to 9999-12-31T23:59:59Z. It is stored
+/// as the eight bytes of a real: the seconds since 2001-01-01T00:00:00Z, with a fraction.
 ///
 /// Two dates are equal if their bytes are. So dates in the same second differ if their fractions
 /// do.

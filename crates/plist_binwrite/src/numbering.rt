@@ -58,7 +58,7 @@ impl Numbering {
         self.firsts.get(number)
     }
 
-    // Gives the next number to the object of the event at an index, unless it has a number already.
+    // Assigns the next number to the object of the event at an index, unless it has one already.
     #[inline(always)]
     fn number_one(&mut self, given: &Classed<'_, '_>, index: usize) -> Result<(), AllocError>
         requires so_far { IsNumberedSoFar given.now self.old }

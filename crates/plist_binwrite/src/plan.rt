@@ -17,7 +17,7 @@ use std::alloc::Global;
 /// The plan of a file of less than 2^64 bytes.
 #[derive(Drop)]
 pub struct FilePlan {
-    /// The numbers of its objects.
+    /// The number of each class's object.
     pub numbering: Numbering,
     /// The numbers of its objects, in the order of the file.
     pub order: Numbers,

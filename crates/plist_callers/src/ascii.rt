@@ -37,8 +37,8 @@ pub fn comes_to_bracket<R: ByteReader + Drop>(reader: &mut AsciiReader<R>) -> bo
     }
 }
 
-/// Reads a text with a comment that contains a star, and then the start of an array. Returns
-/// whether the comment ends right after that star, so that a string follows it. It ends at `*/`.
+/// Reads a comment that contains a star, and the start of an array after the comment. Returns
+/// whether the comment ends at that star, so that a string follows it. It ends at `*/`.
 #[tactic(auto, using(crate::proofs::SmallInputs::of_comment_and_array))]
 pub fn comment_closed_by_any_byte(alloc: Global, text: &[u8]) -> bool
     requires { text.now ≡ comment_and_array }

@@ -7,8 +7,8 @@
 //! `stored`, dictionaries by `pairs`, `entries` and `iterators`, and `depths`, the recursions over
 //! them; and `archives`.
 //!
-//! A caller that has the name of a bug returns whether a library with that bug would show it, or
-//! returns what such a library would get wrong.
+//! A caller that is named after a bug returns whether the library has that bug, or returns the
+//! result that the bug would change.
 #![tactic(auto)]
 
 pub mod archives;

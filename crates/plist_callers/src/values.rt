@@ -114,7 +114,7 @@ pub fn from_reader_makes_up_a_failure(alloc: Global, bytes: &[u8]) -> bool
 }
 
 /// Reads a value whose strings and data have at most 100 bytes. It is built from the items within
-/// this budget, the last byte of which may be used.
+/// this budget, which also admits the string or data that uses the budget's last byte.
 ///
 /// # Errors
 ///

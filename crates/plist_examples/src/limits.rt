@@ -38,7 +38,7 @@ fn run_check(alloc: Global, row: Row<'_>, limits: Limits, bytes: &[u8]) -> Resul
     }
 }
 
-/// Runs an example of what is read under limits. The input consists of these and the bytes.
+/// Runs an example of what is read under limits. The input consists of the limits and the bytes.
 pub(crate) fn run(alloc: Global, row: Row<'_>) -> Result<(), Wrong> {
     let (limits, rest) = limits_given(alloc, row.given)?;
     if row.check == "within" {

@@ -7,7 +7,7 @@ use plist_support::{Wrong, expect_same};
 use std::alloc::Global;
 use std::rt::Files;
 
-// Returns the words of a file under limits. The input consists of these and the file's name.
+// Returns the words of a file under limits. The input consists of the limits and the file's name.
 fn words_in_file<R: Files>(rt: &R, alloc: Global, given: &str) -> Result<String, Wrong> {
     let (limits, path) = limits_given(alloc, given)?;
     let answer = Value::from_file_with_limits(rt, alloc, path, limits);

@@ -84,7 +84,7 @@ fn expect_converted(alloc: Global, bytes: &[u8], wanted: &str) -> Result<(), Wro
     }
 }
 
-// Checks the value under limits. The input consists of these and the bytes.
+// Checks the value under limits. The input consists of the limits and the bytes.
 fn expect_limited(alloc: Global, row: Row<'_>) -> Result<(), Wrong> {
     let (limits, rest) = limits_given(alloc, row.given)?;
     let bytes = bytes_given(alloc, rest)?;

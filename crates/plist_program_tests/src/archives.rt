@@ -50,9 +50,9 @@ fn looks_up(rt: HostRuntime) {
     assert_eq!(rt; words_of_value(&rt, object).as_str(), "[1 uid:2 end");
 }
 
-// Returns an archive of arrays, each of which refers to the next one this often. The last one
-// refers to the object after it, which is a string, or to the first one. After the string there is
-// an array that refers to the first one, and to an object that isn't there.
+// Returns an archive of arrays, each of which refers to the next one this often. The last array
+// refers to `last`, which is the string after it or the first array. After the string there is an
+// array that refers to the first one, and to an object that isn't there.
 fn chain_of(rt: &(impl Abort + AllocGlobal), length: u64, times: u64, last: u64) -> Value {
     let mut builder = Builder::new(rt.alloc());
     must(

@@ -114,7 +114,7 @@ fn begin<R: Source>(
 /// If the first eight bytes are `bplist00`, it acts as a [`BinaryReader`]. If the first byte after
 /// an optional byte order mark (EF BB BF) and white space is `<`, its only item is
 /// `XmlUnsupported`, with the offset of that byte. Otherwise, even for empty input, it acts as an
-/// [`AsciiReader`]. The reader chooses on the first call of `next`.
+/// [`AsciiReader`]. The reader chooses when the first item is requested.
 ///
 /// # Errors
 ///
@@ -136,8 +136,8 @@ impl<R: Source> Reader<R> {
     ghost use Rattle.std.specs.Option.{option_map};
     ghost use Rattle.plist_reader.specs.Reader.{FirstAdvances, GivesFirst, IsNewReader, IsUnread, reader_is_limited, items_of_dialect, items_of_input, limited_input, reader_items, reader_source};
 
-    /// Creates a reader over a source. Nothing is read before the first call of `next`. A source in
-    /// ASCII is read in the lax dialect, in which a bare string doesn't end at the end of a line.
+    /// Creates a reader over a source. Nothing is read before the first item is requested. ASCII is
+    /// read in the lax dialect, in which a bare string doesn't end at the end of a line.
     pub fn new(alloc: Global, source: R) -> Self
         ensures items { reader_items R.known result ≡ option_map items_of_input (R.known source) }
         ensures source { reader_source result ≡ Some source }
@@ -241,7 +241,7 @@ impl<R: Source> Reader<R> {
     }
 
     // Hands the next event to a visitor, and returns what the visitor returns, or `None` if no
-    // event remains. A reader of ASCII lends strings to the visitor, if it can.
+    // event remains. A reader of ASCII hands strings over without copying them, if it can.
     #[inline(always)]
     fn hand_over<V: EventVisitor>(
         &mut self,

@@ -113,8 +113,8 @@ fn begins_dictionary(events: &EventTable<'_>, index: usize) -> bool
     }
 }
 
-// Returns the class of the collection that begins at an index. It is at least `found.count`, which is
-// above the classes of all scalars.
+// Returns the class of the collection that begins at an index. It is at least `found.count`, which
+// is above the classes of all scalars.
 fn class_of_collection(
     alloc: Global,
     events: &EventTable<'_>,

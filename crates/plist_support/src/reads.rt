@@ -81,8 +81,8 @@ fn device_of(
 
 const INTERRUPTED: DeviceFault = DeviceFault::Fails(ErrorKind::Interrupted);
 
-// Checks what is yielded if this call fails, which is made for the item that follows the items
-// `before`: `Io`, with the offset of the read, replaces that item, and no item follows.
+// Checks what is yielded if this call fails. The call is made for the item that follows the items
+// `before`. `Io`, with the offset of the read, replaces that item, and no item follows.
 fn expect_failure(
     alloc: Global,
     reading: Reading<'_>,

@@ -64,8 +64,8 @@ pub(crate) fn destroy_all(values: Vec<Value>) {
 // one list.
 //
 // It allocates no memory. The collection was removed from `left`, which therefore has capacity for
-// one more value: the last one of `below`. So `below` has capacity for one more, too: its own first
-// value, whose place `left` takes as an array.
+// one more value, and takes the last one of `below`. So `below` has capacity for one more value,
+// too: its first value moves to its end, and `left`, as an array, replaces the first value.
 fn joined(mut left: Vec<Value>, mut below: Vec<Value>) -> Vec<Value>
     requires { vec_len left < vec_capacity left }
     ensures { IsLess result.items left.items below.items }
