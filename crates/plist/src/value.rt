@@ -279,7 +279,8 @@ impl Value {
     /// Reads the value of an ASCII property list, by the rules of [`Value::from_reader`]. Bytes
     /// past the first 2^64 - 1 aren't read.
     ///
-    /// It reads a `Read` one byte at a time, so a plain file should be wrapped in a buffered reader.
+    /// It reads a `Read` one byte at a time, so a plain file should be wrapped in a buffered
+    /// reader.
     ///
     /// # Errors
     ///

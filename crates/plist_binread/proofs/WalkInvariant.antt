@@ -103,7 +103,7 @@ module _ (bytes : List ℕ) (bounds : Bounds) where
           sym (ap scalar_at (entry_there number h))
           ∙ (held_as _ _ _ _ (not_zero _ some) (k.held number h)).0
 
-      -- the same walk with other tags, contents and open collections is one over the file, if these
+      -- a walk with other tags, contents and open collections is a walk over the file, if these
       -- are right
       pub known_with : (new others : List ℕ) (gs : List Frame) → length new ≡ length tags
           → ((q : ℕ) → q < length tags

@@ -13,8 +13,8 @@ use std::alloc::{AllocError, Global};
 /// The number of each class's object, and the first event of each object.
 #[derive(Drop)]
 pub struct Numbering {
-    /// One more than the number of each class's object, indexed by the class, or 0 if the object has
-    /// no number yet.
+    /// One more than the number of each class's object, indexed by the class, or 0 if the object
+    /// has no number yet.
     pub by_class: Numbers,
     /// The index of the first event of each object, in the order of the objects' numbers.
     pub firsts: Numbers,

@@ -1,8 +1,8 @@
 //! Pushes objects of at most 17 bytes, and lengths, into a buffer that has room for them.
 //!
-//! Where room is known nothing can fail, so that no result is passed through the calls.
+//! If the room is known, nothing can fail, so no `Result` is passed through the calls.
 
-ghost use Rattle.std.specs.Prelude.{◌≡◌, ◌+◌, ◌++◌, ◌∷◌, [], ◌≤◌, length};
+ghost use Rattle.std.specs.Prelude.{◌≡◌, ◌+◌, ◌++◌, ◌∷◌, ◌≤◌, length};
 ghost use Rattle.plist_base.specs.Sinks.{buffered, room};
 ghost use Rattle.plist_binwrite.specs.Forms.{doublings, unsigned_form, integer_form, uid_form, length_form, boolean_form, date_form, real_form, marker_and_number};
 ghost use Rattle.plist_format.specs.Marker.{byte_of, high_half};
