@@ -35,15 +35,14 @@ lists_within None tags contents fs few same bounded = (few, tt)
 lists_within (Some bytes) tags contents fs few same bounded =
     (omega arith, (bounded, omega arith, omega arith))
 
-pub left_behind : {R C : Type 0} {g : Ghosts R} {h : CounterGhosts C}
-    (known : R → Option (List ℕ)) (counts : Type 0) (count : C → ℕ) (old new : BinaryReader R C g h)
-    → (counts → count new.decoder.counter ≡ cached_in new.walk)
-    → IfSome (known old.source) (IsBounded new.walk) → KeepsInvariant known counts count old new
-left_behind known counts count old new counted bounded =
+pub left_behind : {R C : Type 0} {g : Ghosts R} {h : CounterGhosts C} (old new : BinaryReader R C g h)
+    → (h.counts → h.count new.decoder.counter ≡ cached_in new.walk)
+    → IfSome (g.known old.source) (IsBounded new.walk) → KeepsInvariant old new
+left_behind {g = g} old new counted bounded =
     let walk = new.walk in
     let few : length walk.frames ≤ walk_objects walk =
     rw (← length-reverse walk.frames) (IsOpen-length _ _ walk.path) in
-    let within = lists_within (known old.source) walk.tags.items walk.contents.items walk.frames few
+    let within = lists_within (g.known old.source) walk.tags.items walk.contents.items walk.frames few
     walk.same bounded in
     record { nested = within.0; marked = walk.path; counted = counted; lists = within.1 }
 

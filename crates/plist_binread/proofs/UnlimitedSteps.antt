@@ -56,22 +56,21 @@ tells_fault known error count same = IfSome_then known same (λ bytes same.
 
 -- ---- the whole step
 
-module _ {R C : Type 0} {g : Ghosts R} {h : CounterGhosts C} (known : R → Option (List ℕ))
-    (failed : R → ℕ) (counts : Type 0) (count : C → ℕ) (old new : BinaryReader R C g h)
-    (same : known new.source ≡ known old.source)
-    (counted : counts → count new.decoder.counter ≡ cached_in new.walk)
+module _ {R C : Type 0} {g : Ghosts R} {h : CounterGhosts C} (old new : BinaryReader R C g h)
+    (same : g.known new.source ≡ g.known old.source)
+    (counted : h.counts → h.count new.decoder.counter ≡ cached_in new.walk)
     (limiter : new.limiter ≡ old.limiter) where
   pub first_walks : (noted : Result Flow StepError) (event : PlainEvent) → old.state ≡ Fresh
       → new.state ≡ state_after (Some noted)
-      → IfSome (known old.source) (GivesRoot (answer_in noted new.decoder.slot) event new.decoder.bounds new.walk)
+      → IfSome (g.known old.source) (GivesRoot (answer_in noted new.decoder.slot) event new.decoder.bounds new.walk)
       → ErrWithin 0 (2 ^ 64) (answer_in noted new.decoder.slot)
-      → IfSome (known old.source) (IsBounded new.walk)
-      → IfSome (known old.source) (CountsRoot noted new.decoder.slot new.walk)
-      → OnOk noted (IsKnownWalk (known old.source) new.decoder.bounds new.walk)
-      → IfSome (known old.source) (CachesRoot (answer_in noted new.decoder.slot) event new.walk)
+      → IfSome (g.known old.source) (IsBounded new.walk)
+      → IfSome (g.known old.source) (CountsRoot noted new.decoder.slot new.walk)
+      → OnOk noted (IsKnownWalk (g.known old.source) new.decoder.bounds new.walk)
+      → IfSome (g.known old.source) (CachesRoot (answer_in noted new.decoder.slot) event new.walk)
       → OnOk noted (weight_in new.walk < walk_steps (walk_objects new.walk))
-      → AnswersInSlot failed noted new.decoder.slot old.source new.source
-      → Walks known failed counts count old (item_with (item_in (Some noted) new.decoder.slot) event) new
+      → AnswersInSlot g.failures noted new.decoder.slot old.source new.source
+      → Walks old (item_with (item_in (Some noted) new.decoder.slot) event) new
   first_walks (Ok value) event fresh is yields within bounded objects held kept falls failures = record {
     gives = record {
       unchanged = same;
@@ -81,9 +80,9 @@ module _ {R C : Type 0} {g : Ghosts R} {h : CounterGhosts C} (known : R → Opti
       ends = tt;
       begun = ap is_fresh is;
       faults = tt;
-      head = holds_head (known old.source) new.decoder.bounds new.walk (is_walking new.state ≡ true) held;
+      head = holds_head (g.known old.source) new.decoder.bounds new.walk (is_walking new.state ≡ true) held;
       cached = simp fresh kept;
-      leaves = left_behind known counts count old new counted bounded;
+      leaves = left_behind old new counted bounded;
       objects = objects;
       kept = (ap is_some limiter, λ begun. absurd (cc (ap is_fresh fresh)));
     };
@@ -95,15 +94,15 @@ module _ {R C : Type 0} {g : Ghosts R} {h : CounterGhosts C} (known : R → Opti
   first_walks (Err r) event fresh is yields within bounded objects held kept falls failures = record {
     gives = record {
       unchanged = same;
-      items = simp (fresh, is) (IfSome_then (known old.source) yields (λ bytes h. (refl, h)));
+      items = simp (fresh, is) (IfSome_then (g.known old.source) yields (λ bytes h. (refl, h)));
       failures = failures;
       ended = λ e. absurd (cc);
       ends = is;
       begun = ap is_fresh is;
       faults = within;
-      head = IfSome-never (known old.source) _ (λ w. absurd (cc));
-      cached = IfSome-all (known old.source) (λ bytes. tt);
-      leaves = left_behind known counts count old new counted bounded;
+      head = IfSome-never (g.known old.source) _ (λ w. absurd (cc));
+      cached = IfSome-all (g.known old.source) (λ bytes. tt);
+      leaves = left_behind old new counted bounded;
       objects = objects;
       kept = (ap is_some limiter, λ begun. absurd (cc (ap is_fresh fresh)));
     };
@@ -112,30 +111,30 @@ module _ {R C : Type 0} {g : Ghosts R} {h : CounterGhosts C} (known : R → Opti
 
   item_walks_at : (noted : Option (Result Flow StepError)) (event : PlainEvent) → old.state ≡ Walking
       → new.state ≡ state_after noted
-      → IfSome (known old.source) (λ bytes. YieldsNext (remaining_in bytes old.decoder.bounds old.walk)
+      → IfSome (g.known old.source) (λ bytes. YieldsNext (remaining_in bytes old.decoder.bounds old.walk)
       (item_in noted new.decoder.slot) event (remaining_in bytes new.decoder.bounds new.walk))
       → ItemWithin 0 old.decoder.bounds.trailer (item_in noted new.decoder.slot)
       → walk_objects new.walk ≡ walk_objects old.walk
-      → IfSome (known old.source) (IsBounded old.walk)
-      → IsKnownWalk (known old.source) new.decoder.bounds new.walk
-      → CachesNext (known old.source) old.decoder.bounds old.walk (item_in noted new.decoder.slot) event new.walk
+      → IfSome (g.known old.source) (IsBounded old.walk)
+      → IsKnownWalk (g.known old.source) new.decoder.bounds new.walk
+      → CachesNext (g.known old.source) old.decoder.bounds old.walk (item_in noted new.decoder.slot) event new.walk
       → LightensNext old.walk noted new.walk
-      → ItemAnswersInSlot failed noted new.decoder.slot old.source new.source
-      → Walks known failed counts count old (item_with (item_in noted new.decoder.slot) event) new
+      → ItemAnswersInSlot g.failures noted new.decoder.slot old.source new.source
+      → Walks old (item_with (item_in noted new.decoder.slot) event) new
   item_walks_at None event walking is yields within size bounded held kept falls failures = record {
     gives = record {
       unchanged = same;
-      items = simp (walking, is) (IfSome_then (known old.source) yields
+      items = simp (walking, is) (IfSome_then (g.known old.source) yields
           (λ bytes nothing. (ap until_fault nothing.0, refl)));
       failures = failures;
       ended = λ e. refl;
       ends = is;
       begun = ap is_fresh is;
       faults = tt;
-      head = holds_head (known old.source) new.decoder.bounds new.walk (is_walking new.state ≡ true) held;
-      cached = IfSome-all (known old.source) (λ bytes. tt);
-      leaves = left_behind known counts count old new counted (rw (size, IsBounded) bounded);
-      objects = IfSome-all (known old.source) (λ bytes. tt);
+      head = holds_head (g.known old.source) new.decoder.bounds new.walk (is_walking new.state ≡ true) held;
+      cached = IfSome-all (g.known old.source) (λ bytes. tt);
+      leaves = left_behind old new counted (rw (size, IsBounded) bounded);
+      objects = IfSome-all (g.known old.source) (λ bytes. tt);
       kept = (ap is_some limiter, λ _. size);
     };
     falls = tt;
@@ -149,10 +148,10 @@ module _ {R C : Type 0} {g : Ghosts R} {h : CounterGhosts C} (known : R → Opti
       ends = tt;
       begun = ap is_fresh is;
       faults = tt;
-      head = holds_head (known old.source) new.decoder.bounds new.walk (is_walking new.state ≡ true) held;
+      head = holds_head (g.known old.source) new.decoder.bounds new.walk (is_walking new.state ≡ true) held;
       cached = simp walking kept;
-      leaves = left_behind known counts count old new counted (rw (size, IsBounded) bounded);
-      objects = IfSome_then (known old.source) held (λ bytes held. sym held.size);
+      leaves = left_behind old new counted (rw (size, IsBounded) bounded);
+      objects = IfSome_then (g.known old.source) held (λ bytes held. sym held.size);
       kept = (ap is_some limiter, λ _. size);
     };
     falls = simp (walking, is, size) falls.1;
@@ -160,7 +159,7 @@ module _ {R C : Type 0} {g : Ghosts R} {h : CounterGhosts C} (known : R → Opti
   item_walks_at (Some (Err r)) event walking is yields within size bounded held kept falls failures = record {
     gives = record {
       unchanged = same;
-      items = simp (walking, is) (IfSome_then (known old.source) yields (λ bytes next. (
+      items = simp (walking, is) (IfSome_then (g.known old.source) yields (λ bytes next. (
         refl,
         next,
       )));
@@ -170,11 +169,11 @@ module _ {R C : Type 0} {g : Ghosts R} {h : CounterGhosts C} (known : R → Opti
       begun = ap is_fresh is;
       faults = from_within _ 0 old.decoder.bounds.trailer 0 (2 ^ 64) within (omega arith)
           (omega (arith, old.decoder.bounds.small));
-      head = holds_head (known old.source) new.decoder.bounds new.walk (is_walking new.state ≡ true) held;
-      cached = IfSome-all (known old.source) (λ bytes. tt);
-      leaves = left_behind known counts count old new counted (rw (size, IsBounded) bounded);
-      objects = tells_fault (known old.source) new.decoder.slot.fault (walk_objects new.walk)
-          (IfSome_then (known old.source) held (λ bytes held. sym held.size));
+      head = holds_head (g.known old.source) new.decoder.bounds new.walk (is_walking new.state ≡ true) held;
+      cached = IfSome-all (g.known old.source) (λ bytes. tt);
+      leaves = left_behind old new counted (rw (size, IsBounded) bounded);
+      objects = tells_fault (g.known old.source) new.decoder.slot.fault (walk_objects new.walk)
+          (IfSome_then (g.known old.source) held (λ bytes held. sym held.size));
       kept = (ap is_some limiter, λ _. size);
     };
     falls = simp (walking, is) falls.0;
@@ -182,18 +181,18 @@ module _ {R C : Type 0} {g : Ghosts R} {h : CounterGhosts C} (known : R → Opti
 
   pub item_walks : (noted : Option (Result Flow StepError)) (event : PlainEvent) → old.state ≡ Walking
       → new.decoder.bounds ≡ old.decoder.bounds → new.state ≡ state_after noted
-      → IfSome (known old.source) (λ bytes. YieldsNext
+      → IfSome (g.known old.source) (λ bytes. YieldsNext
       (remaining_in bytes old.decoder.bounds old.walk)
       (item_in noted new.decoder.slot) event (remaining_in bytes old.decoder.bounds new.walk))
       → ItemWithin 0 old.decoder.bounds.trailer (item_in noted new.decoder.slot)
       → walk_objects new.walk ≡ walk_objects old.walk
-      → IfSome (known old.source) (IsBounded old.walk)
-      → IsKnownWalk (known old.source) old.decoder.bounds new.walk
-      → CachesNext (known old.source) old.decoder.bounds old.walk (item_in noted new.decoder.slot) event
+      → IfSome (g.known old.source) (IsBounded old.walk)
+      → IsKnownWalk (g.known old.source) old.decoder.bounds new.walk
+      → CachesNext (g.known old.source) old.decoder.bounds old.walk (item_in noted new.decoder.slot) event
       new.walk
       → LightensNext old.walk noted new.walk
-      → ItemAnswersInSlot failed noted new.decoder.slot old.source new.source
-      → Walks known failed counts count old (item_with (item_in noted new.decoder.slot) event) new
+      → ItemAnswersInSlot g.failures noted new.decoder.slot old.source new.source
+      → Walks old (item_with (item_in noted new.decoder.slot) event) new
   item_walks noted event walking bounds is yields within size bounded held kept falls failures =
       item_walks_at noted event walking is (rw bounds yields) within size bounded (rw bounds held) kept
       falls failures

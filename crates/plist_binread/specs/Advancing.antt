@@ -22,13 +22,12 @@ item_with None event = None
 item_with (Some (Ok value)) event = Some (Ok event)
 item_with (Some (Err error)) event = Some (Err error)
 
-module _ {R C : Type 0} {g : Ghosts R} {h : CounterGhosts C} (known : R → Option (List ℕ))
-    (failed : R → ℕ) (counts : Type 0) (count : C → ℕ) (old : BinaryReader R C g h) where
+module _ {R C : Type 0} {g : Ghosts R} {h : CounterGhosts C} (old : BinaryReader R C g h) where
   -- one step yields an item as `GivesBinaryBy` says, and fewer items remain after it
   pub record StepsBy (coming : List ℕ → BinaryReader R C g h → List Item)
       (limited : BinaryReader R C g h → Bool) (item : PlainItem) (new : BinaryReader R C g h) : Type 0
     where
-      pub gives : GivesBinaryBy known failed counts count old (λ event. event) coming limited item new
+      pub gives : GivesBinaryBy old (λ event. event) coming limited item new
       pub falls : IfSome item (λ _. binary_steps new < binary_steps old)
 
   -- one step of the reader, within its limits

@@ -145,35 +145,33 @@ module _ {R C : Type 0} {g : Ghosts R} {h : CounterGhosts C} where
       ≡ objects_in_file old)
 
   -- what is true of a reader after each call, whatever the call returned
-  pub record KeepsInvariant (known : R → Option (List ℕ)) (counts : Type 0) (count : C → ℕ)
-      (old new : BinaryReader R C g h) : Type 0 where
-    pub nested : MatchOption (known (binary_source old)) (open_collections new
+  pub record KeepsInvariant (old new : BinaryReader R C g h) : Type 0 where
+    pub nested : MatchOption (g.known (binary_source old)) (open_collections new
         ≤ objects_in_file new)
         (λ bytes. open_collections new ≤ objects_in_head bytes)
     pub marked : MarksItsPath new
-    pub counted : counts → count (counter_of new) ≡ cached_objects new
-    pub lists : IfSome (known (binary_source old)) (λ bytes. ListsAreWithin (objects_in_head bytes)
+    pub counted : h.counts → h.count (counter_of new) ≡ cached_objects new
+    pub lists : IfSome (g.known (binary_source old)) (λ bytes. ListsAreWithin (objects_in_head bytes)
         new)
 
-module _ {R C : Type 0} {g : Ghosts R} {h : CounterGhosts C} (known : R → Option (List ℕ))
-    (failed : R → ℕ) (counts : Type 0) (count : C → ℕ) (old : BinaryReader R C g h) where
+module _ {R C : Type 0} {g : Ghosts R} {h : CounterGhosts C} (old : BinaryReader R C g h) where
   -- one call yields an item; `shown` returns the event of a value, `coming` the remaining items
   pub record GivesBinaryBy {A : Type 0} (shown : A → PlainEvent)
       (coming : List ℕ → BinaryReader R C g h → List Item) (limited : BinaryReader R C g h → Bool)
       (item : Option (Result A Error)) (new : BinaryReader R C g h) : Type 0 where
-    pub unchanged : known (binary_source new) ≡ known (binary_source old)
-    pub items : IfSome (known (binary_source old))
+    pub unchanged : g.known (binary_source new) ≡ g.known (binary_source old)
+    pub items : IfSome (g.known (binary_source old))
         (λ bytes. GivesAs shown (is_new old) (coming bytes old) item (coming bytes new))
-    pub failures : ItemCountsIo item (failed (binary_source old)) (failed (binary_source new))
+    pub failures : ItemCountsIo item (g.failures (binary_source old)) (g.failures (binary_source new))
     pub ended : HasEndedBinary old → item ≡ None
     pub ends : EndsAfterFault item new
     pub begun : is_new new ≡ false
     pub faults : ItemGivenWithin 0 (2 ^ 64) (limited old) item
-    pub head : IfSome (known (binary_source old)) (λ bytes. HoldsHead bytes new)
-    pub cached : IfSome (known (binary_source old))
+    pub head : IfSome (g.known (binary_source old)) (λ bytes. HoldsHead bytes new)
+    pub cached : IfSome (g.known (binary_source old))
         (λ bytes. CachesItem shown (number_to_come bytes old) item new)
-    pub leaves : KeepsInvariant known counts count old new
-    pub objects : ObjectsMatchHead (known (binary_source old)) item new
+    pub leaves : KeepsInvariant old new
+    pub objects : ObjectsMatchHead (g.known (binary_source old)) item new
     pub kept : KeepsCounts old new
 
   -- one call of `next` yields an item

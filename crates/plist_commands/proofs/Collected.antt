@@ -25,7 +25,8 @@ use Rattle.plist_commands.specs.declared.collector.StopReason.TheVariants.{Faile
 use Rattle.plist_commands.specs.Holding.{AnswersVisit, HasPaused, HoldsMore, IsEmpty, MatchStop, MayPause, CollectsEvent, collected, is_complete}
 use Rattle.plist_commands.specs.Items.{ComesIfKnown}
 use Rattle.plist_commands.specs.Printing.{CountsReads}
-use Rattle.plist_commands.specs.ReaderRuns.{BuffersRun, StepsBinary}
+use Rattle.plist_binread.specs.Advancing.{Steps}
+use Rattle.plist_commands.specs.ReaderRuns.{BuffersRun}
 use Rattle.plist_commands.proofs.SourceItems.{binary_comes}
 use Rattle.plist_commands.proofs.PendingBytes.{fault_counts, memory_own, own_counts}
 use Rattle.plist_commands.proofs.Runs.{HasHeld, held_faulted, held_more, held_none, held_refused, held_stopped, held_whole}
@@ -250,35 +251,34 @@ may_pause old mid new event (Break stop) pauses holds (may, paused, same) =
 
 -- ---- a binary reader, from which the collector takes one event before it pauses
 
-module _ {S : Type 0} {g : Ghosts S} (known : S → Option (List ℕ)) (failed : S → ℕ)
-    (old : BinaryReaderOf S g) (before : Collector) (first : Result Visited Error)
+module _ {S : Type 0} {g : Ghosts S} (old : BinaryReaderOf S g) (before : Collector) (first : Result Visited Error)
     (mid : BinaryReaderOf S g) (taken : Collector)
     (empty : IsEmpty (is_complete before) (collected before))
-    (visit : Visits (StepsBinary known failed) CollectsEvent (old, before) first (mid, taken)) where
+    (visit : Visits Steps CollectsEvent (old, before) first (mid, taken)) where
   -- what is true after a visit of a binary reader
   abbrev pub BinaryConcludes : Result Bool Error → BinaryReaderOf S g × Collector → Type 0
   BinaryConcludes answer new =
-      Concludes (StepsBinary known failed) (items_left known)
-      (λ reader. failed (binary_source reader)) old answer new
+      Concludes Steps (items_left g.known)
+      (λ reader. g.failures (binary_source reader)) old answer new
 
   abbrev BinaryHeld : BinaryReaderOf S g × Collector → Type 0
   BinaryHeld now =
-      Held (StepsBinary known failed) (items_left known) (binary_comes known failed)
-      (λ reader. failed (binary_source reader)) (λ _. Unit {0})
+      Held Steps (items_left g.known) binary_comes
+      (λ reader. g.failures (binary_source reader)) (λ _. Unit {0})
       (λ old item new _ step. (step.gives.failures, tt)) old now
 
   begun : BinaryHeld (old, before)
   begun =
-      held_first (StepsBinary known failed) (items_left known) (binary_comes known failed)
-      (λ reader. failed (binary_source reader)) (λ _. Unit {0})
+      held_first Steps (items_left g.known) binary_comes
+      (λ reader. g.failures (binary_source reader)) (λ _. Unit {0})
       (λ old item new _ step. (step.gives.failures, tt)) (old, before) tt empty
 
   -- the collector didn't pause
   pub binary_once : (answer : Result Bool Error) → HasPaused false taken first
       → AnswersVisit first taken answer → BinaryConcludes answer (mid, taken)
   binary_once answer paused is =
-      concludes (StepsBinary known failed) (items_left known) (binary_comes known failed)
-      (λ reader. failed (binary_source reader)) (λ _. Unit {0})
+      concludes Steps (items_left g.known) binary_comes
+      (λ reader. g.failures (binary_source reader)) (λ _. Unit {0})
       (λ old item new _ step. (step.gives.failures, tt)) old (old, before) (mid, taken) first answer
       begun visit (inr paused) is
 
@@ -287,20 +287,20 @@ module _ {S : Type 0} {g : Ghosts S} (known : S → Option (List ℕ)) (failed :
       (new : BinaryReaderOf S g) (last : Collector) (answer : Result Bool Error)
       → HasPaused true taken first → collected expecting ≡ collected taken
       → is_complete expecting ≡ is_complete taken → expecting.pauses ≡ false
-      → Visits (StepsBinary known failed) CollectsEvent (mid, expecting) others (new, last)
+      → Visits Steps CollectsEvent (mid, expecting) others (new, last)
       → AnswersVisit others last answer → BinaryConcludes answer (new, last)
   binary_twice expecting others new last answer paused events whole pauses rest is =
-      concludes (StepsBinary known failed) (items_left known) (binary_comes known failed)
-      (λ reader. failed (binary_source reader)) (λ _. Unit {0})
+      concludes Steps (items_left g.known) binary_comes
+      (λ reader. g.failures (binary_source reader)) (λ _. Unit {0})
       (λ old item new _ step. (step.gives.failures, tt)) old (mid, expecting) (new, last) others
       answer held rest (inl pauses) is
     where
       held : BinaryHeld (mid, expecting)
       held =
-          held_same (StepsBinary known failed) (items_left known) (binary_comes known failed)
-          (λ reader. failed (binary_source reader)) (λ _. Unit {0})
+          held_same Steps (items_left g.known) binary_comes
+          (λ reader. g.failures (binary_source reader)) (λ _. Unit {0})
           (λ old item new _ step. (step.gives.failures, tt)) old mid taken expecting
-          (held_paused (StepsBinary known failed) (items_left known) (binary_comes known failed)
-          (λ reader. failed (binary_source reader)) (λ _. Unit {0})
+          (held_paused Steps (items_left g.known) binary_comes
+          (λ reader. g.failures (binary_source reader)) (λ _. Unit {0})
           (λ old item new _ step. (step.gives.failures, tt)) old (old, before) (mid, taken) first
           begun visit paused) events whole

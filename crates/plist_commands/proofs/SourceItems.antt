@@ -21,7 +21,8 @@ use Rattle.plist_commands.specs.Converting.{items_left}
 use Rattle.plist_commands.specs.EscapedLines.{first_fault, lines_of, lines_of_events}
 use Rattle.plist_commands.specs.Items.{ComesIfKnown, GivesNext, failures_if_held, failures_in, items_of_events}
 use Rattle.plist_commands.specs.Printing.{CountsReads, IsWriterError, PrintsAll, PrintsUntil}
-use Rattle.plist_commands.specs.ReaderRuns.{IsAskedOnce, PrintsRun, StepsBinary, StepsReader, StopsPrinting}
+use Rattle.plist_binread.specs.Advancing.{Steps}
+use Rattle.plist_commands.specs.ReaderRuns.{IsAskedOnce, PrintsRun, StepsReader, StopsPrinting}
 use Rattle.plist_base.proofs.SinkSteps.{prefix_more}
 use Rattle.plist_commands.proofs.PendingBytes.{device_own, fault_counts, memory_own, own_counts, own_ends}
 
@@ -43,12 +44,11 @@ given_comes None l before after fresh item e h = tt
 given_comes (Some bytes) l before after fresh item e h =
     (after bytes, ap (option_map after) e, given_next fresh (before bytes) (after bytes) item h)
 
-pub binary_comes : {S : Type 0} {g : Ghosts S} (known : S → Option (List ℕ)) (failed : S → ℕ)
-    (old : BinaryReaderOf S g) (item : PlainItem) (new : BinaryReaderOf S g)
-    → StepsBinary known failed old item new
-    → ComesIfKnown (items_left known old) item (items_left known new)
-binary_comes known failed old item new step =
-    given_comes (known (binary_source old)) (known (binary_source new))
+pub binary_comes : {S : Type 0} {g : Ghosts S} (old : BinaryReaderOf S g) (item : PlainItem)
+    (new : BinaryReaderOf S g) → Steps old item new
+    → ComesIfKnown (items_left g.known old) item (items_left g.known new)
+binary_comes {g = g} old item new step =
+    given_comes (g.known (binary_source old)) (g.known (binary_source new))
     (λ bytes. items_to_come bytes old) (λ bytes. items_to_come bytes new) (is_new old) item
     step.gives.unchanged step.gives.items
 

@@ -55,16 +55,10 @@ module _ {I : Type 0} (gives : I → PlainItem → I → Type 0) where
       (λ error. gives left (Some (Err error)) new
       ⊎ ((fault_of error ≡ fault_without_offset OutOfMemory) × (new ≡ left)))
 
--- one step of a reader of a binary source
-abbrev pub StepsBinary : {S : Type 0} {g : Ghosts S} (known : S → Option (List ℕ)) (failed : S → ℕ)
-    → BinaryReaderOf S g → PlainItem → BinaryReaderOf S g → Type 0
-StepsBinary known failed = Steps known failed ⊥ (λ _. 0)
-
 -- what was printed of the events that a reader hadn't yielded yet
 abbrev pub PrintsReader : {S : Type 0} {g : Ghosts S} → BinaryReaderOf S g → Result (Unit {0}) Error
     → BinaryReaderOf S g → (before after : Option (List ℕ)) → Type 0
-PrintsReader {g = g} old answer new before after =
-    PrintsRun (StepsBinary g.known g.failures) old answer new before after
+PrintsReader old answer new before after = PrintsRun Steps old answer new before after
 
 -- the events of a new reader of this source were printed, and its failed reads were counted
 abbrev pub PrintsSource : {S : Type 0} (known : S → Option (List ℕ)) (failed : S → ℕ) (source : S)
@@ -90,7 +84,7 @@ HoldsBinary {S} known failed source answer held =
     (reader : BinaryReaderOf S (record { known = known; failures = failed }))
     × (left : BinaryReaderOf S (record { known = known; failures = failed }))
     × (binary_source reader ≡ source) × (is_new reader ≡ true)
-    × BuffersRun (StepsBinary known failed) reader answer left held
+    × BuffersRun Steps reader answer left held
     × CountsReadsOf failed reader answer left
 
 -- the events of a new reader of this source, of any format, were buffered

@@ -123,11 +123,11 @@ file-input None dialect bytes is = ap (λ f. items_in_format dialect f bytes) is
 file-input (Some limits) dialect bytes is =
     ap (λ f. limited_items limits (items_in_format dialect f bytes)) is
 
-module _ {R : Type 0} {g : Ghosts R} (known : R → Option (List ℕ)) (failed : R → ℕ) where
-  pub binary-gives : (old new : BinaryReaderOf R g) (item : Given) → BinaryGives {g = g} known failed old item new
-      → StateGives known failed (state.Binary old) item (state.Binary new)
+module _ {R : Type 0} {g : Ghosts R} where
+  pub binary-gives : (old new : BinaryReaderOf R g) (item : Given) → BinaryGives {g = g} old item new
+      → StateGives g.known g.failures (state.Binary old) item (state.Binary new)
   binary-gives old new item h = record {
-    items = binary-goes (known (binary.binary_source old)) (known (binary.binary_source new))
+    items = binary-goes (g.known (binary.binary_source old)) (g.known (binary.binary_source new))
         (λ bytes. binary.items_to_come bytes old) (λ bytes. binary.items_to_come bytes new)
         (binary.is_new old)
         item h.unchanged h.items;
@@ -150,16 +150,16 @@ module _ {R : Type 0} {g : Ghosts R} (known : R → Option (List ℕ)) (failed :
   pub begun-binary : (source : R) (limits : Option Limits) (dialect : Dialect) (old new : BinaryReaderOf R g) (item : Given)
       → binary.binary_source old ≡ source → binary.is_new old ≡ true
       → binary.has_limits old ≡ is_some limits
-      → IfSome (known source) (λ bytes. format.Binary ≡ format_of bytes)
-      → IfSome (known source) (λ bytes. binary.items_to_come bytes old ≡ file_within limits bytes)
-      → BinaryGives {g = g} known failed old item new
-      → StateGives known failed (state.Unread source limits dialect) item (state.Binary new)
+      → IfSome (g.known source) (λ bytes. format.Binary ≡ format_of bytes)
+      → IfSome (g.known source) (λ bytes. binary.items_to_come bytes old ≡ file_within limits bytes)
+      → BinaryGives {g = g} old item new
+      → StateGives g.known g.failures (state.Unread source limits dialect) item (state.Binary new)
   begun-binary source limits dialect old new item at fresh limited is begins h =
-      chosen-gives {g = g} known failed source limits dialect (state.Binary old) (state.Binary new) item
-      (same-items (known source) (known (binary.binary_source old))
+      chosen-gives {g = g} g.known g.failures source limits dialect (state.Binary old) (state.Binary new) item
+      (same-items (g.known source) (g.known (binary.binary_source old))
       (λ bytes. binary.items_to_come bytes old)
-      (input_within dialect limits) (ap known at) (binary-items limits dialect (known source) old is begins))
+      (input_within dialect limits) (ap g.known at) (binary-items limits dialect (g.known source) old is begins))
       limited
-      (subst (λ n. ItemCountsIo item n (failed (binary.binary_source new)))
-      (ap failed at) h.failures)
+      (subst (λ n. ItemCountsIo item n (g.failures (binary.binary_source new)))
+      (ap g.failures at) h.failures)
       (old, fresh, limited, h) (binary-gives old new item h)

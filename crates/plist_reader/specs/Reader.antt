@@ -219,9 +219,9 @@ abbrev pub ItemHasOffset : Option (Result Event Error) → Type 0
 ItemHasOffset item = MatchOption item ⊤ (λ answer. IfErr answer (λ error. FaultHasOffset (fault_of error)))
 
 -- one call of the binary reader's `next`
-abbrev pub BinaryGives : {R : Type 0} {g : Ghosts R} (known : R → Option (List ℕ)) (failed : R → ℕ)
-    → BinaryReaderOf R g → Option (Result Event Error) → BinaryReaderOf R g → Type 0
-BinaryGives known failed = binary.GivesBinary known failed ⊥ (λ _. 0)
+abbrev pub BinaryGives : {R : Type 0} {g : Ghosts R} → BinaryReaderOf R g
+    → Option (Result Event Error) → BinaryReaderOf R g → Type 0
+BinaryGives = binary.GivesBinary
 
 -- one call of the ASCII reader's `next`
 abbrev pub AsciiGives : {R : Type 0} (known : R → Option (List ℕ)) (failed : R → ℕ)
@@ -234,7 +234,7 @@ module _ {R : Type 0} {g : Ghosts R} (known : R → Option (List ℕ)) (failed :
   abbrev pub BeginsInside : Option Limits → Dialect → Option (Result Event Error) → State R g → Type 0
   BeginsInside limits dialect item (state.Binary new) = (fresh : BinaryReaderOf R g)
       × (binary.is_new fresh ≡ true) × (binary.has_limits fresh ≡ is_some limits)
-      × BinaryGives known failed fresh item new
+      × BinaryGives fresh item new
   BeginsInside limits dialect item (state.Ascii new) = (fresh : AsciiReaderOf R)
       × (ascii.place_of fresh ≡ 0) × (ascii.dialect_of fresh ≡ dialect) × (limits ≡ None)
       × AsciiGives known failed fresh item new
@@ -251,7 +251,7 @@ module _ {R : Type 0} {g : Ghosts R} (known : R → Option (List ℕ)) (failed :
   GivesInside (state.Unread source limits dialect) item new =
       BeginsInside limits dialect item new
   GivesInside (state.Binary old) item new =
-      (reader : BinaryReaderOf R g) × (new ≡ state.Binary reader) × BinaryGives known failed old item reader
+      (reader : BinaryReaderOf R g) × (new ≡ state.Binary reader) × BinaryGives old item reader
   GivesInside (state.Ascii old) item new =
       (reader : AsciiReaderOf R) × (new ≡ state.Ascii reader) × AsciiGives known failed old item reader
   GivesInside (state.Limited old) item new = (reader : LimitedItems (AsciiReaderOf R) LimitCounter)

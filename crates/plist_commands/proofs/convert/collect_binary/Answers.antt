@@ -2,7 +2,7 @@ use Rattle.std.proofs.Common.{◌≡◌, ap, false, subst, true}
 use Rattle.plist_binread.specs.BinaryReader.{binary_source, items_to_come}
 use Rattle.plist_commands.specs.Converting.{AreNoTree, FindsTree, IfOkIs, IsRefusedFor, items_left, items_of_known}
 use Rattle.plist_commands.specs.Holding.{collected}
-use Rattle.plist_commands.specs.ReaderRuns.{StepsBinary}
+use Rattle.plist_binread.specs.Advancing.{Steps}
 use Rattle.plist_commands.proofs.Collected.{Concludes, binary_once, binary_twice}
 use Rattle.plist_commands.proofs.Streaming.{binary_items}
 use Rattle.plist_commands.proofs.convert.collect_binary.Goals as goal
@@ -19,22 +19,22 @@ same_items g c =
 
 -- what is true if the collector didn't pause
 after_first : (g : _) (c : After-answer g)
-    → Concludes (StepsBinary g.S.Source.known g.S.Source.failures) (items_left g.S.Source.known)
+    → Concludes Steps (items_left g.S.Source.known)
     (λ reader. g.S.Source.failures (binary_source reader)) c.new-reader.result c.answer.result
     (c.visit-first.new.self, c.visit-first.new.visitor)
 after_first g c =
-    binary_once g.S.Source.known g.S.Source.failures c.new-reader.result
+    binary_once c.new-reader.result
     (record c.args.collector.now { pauses = true }) c.visit-first.result c.visit-first.new.self
     c.visit-first.new.visitor c.requires.empty c.visit-first.ensures c.answer.result
     (rw c.if-not-has_paused.true at c.has_paused.ensures) c.answer.ensures.answer
 
 -- what is true if the collector paused, and the visit was continued
 after_others : (g : _) (c : After-answer-2 g)
-    → Concludes (StepsBinary g.S.Source.known g.S.Source.failures) (items_left g.S.Source.known)
+    → Concludes Steps (items_left g.S.Source.known)
     (λ reader. g.S.Source.failures (binary_source reader)) c.new-reader.result c.answer-2.result
     (c.visit-others.new.self, c.visit-others.new.visitor)
 after_others g c =
-    binary_twice g.S.Source.known g.S.Source.failures c.new-reader.result
+    binary_twice c.new-reader.result
     (record c.args.collector.now { pauses = true }) c.visit-first.result c.visit-first.new.self
     c.visit-first.new.visitor c.requires.empty c.visit-first.ensures c.expect_scalars.new.self
     c.visit-others.result c.visit-others.new.self c.visit-others.new.visitor c.answer-2.result

@@ -1,33 +1,33 @@
 use Rattle.plist_binread.specs.BinaryReader.{binary_source}
 use Rattle.plist_commands.specs.Converting.{items_left}
-use Rattle.plist_commands.specs.ReaderRuns.{StepsBinary}
+use Rattle.plist_binread.specs.Advancing.{Steps}
 use Rattle.plist_commands.proofs.SourceItems.{binary_comes, run_counted, run_front, run_printed, run_unchanged, run_until}
 use Rattle.plist_commands.proofs.print.print_reader.Goals as goal
 
 pub returns-clause-printed : goal.returns-clause-printed
 returns-clause-printed g c =
-    run_printed (StepsBinary g.S.Source.known g.S.Source.failures) (items_left g.S.Source.known)
-    (binary_comes g.S.Source.known g.S.Source.failures) c.args.reader.now c.print_source.new.source
+    run_printed Steps (items_left g.S.Source.known)
+    binary_comes c.args.reader.now c.print_source.new.source
     c.print_source.result (g.W.Write.contents c.args.writer.now)
     (g.W.Write.contents c.print_source.new.writer) c.print_source.ensures
 
 pub returns-clause-refused : goal.returns-clause-refused
 returns-clause-refused g c =
-    run_until (StepsBinary g.S.Source.known g.S.Source.failures) (items_left g.S.Source.known)
-    (binary_comes g.S.Source.known g.S.Source.failures) c.args.reader.now c.print_source.new.source
+    run_until Steps (items_left g.S.Source.known)
+    binary_comes c.args.reader.now c.print_source.new.source
     c.print_source.result (g.W.Write.contents c.args.writer.now)
     (g.W.Write.contents c.print_source.new.writer) c.print_source.ensures
 
 pub returns-clause-prefix : goal.returns-clause-prefix
 returns-clause-prefix g c =
-    run_front (StepsBinary g.S.Source.known g.S.Source.failures) (items_left g.S.Source.known)
-    (binary_comes g.S.Source.known g.S.Source.failures) c.args.reader.now c.print_source.new.source
+    run_front Steps (items_left g.S.Source.known)
+    binary_comes c.args.reader.now c.print_source.new.source
     c.print_source.result (g.W.Write.contents c.args.writer.now)
     (g.W.Write.contents c.print_source.new.writer) c.print_source.ensures
 
 pub returns-clause-unchanged : goal.returns-clause-unchanged
 returns-clause-unchanged g c =
-    run_unchanged (StepsBinary g.S.Source.known g.S.Source.failures)
+    run_unchanged Steps
     (λ reader. g.S.Source.known (binary_source reader))
     (λ old item new step. step.gives.unchanged) c.args.reader.now c.print_source.new.source
     c.print_source.result (g.W.Write.contents c.args.writer.now)
@@ -35,7 +35,7 @@ returns-clause-unchanged g c =
 
 pub returns-clause-failures : goal.returns-clause-failures
 returns-clause-failures g c =
-    run_counted (StepsBinary g.S.Source.known g.S.Source.failures)
+    run_counted Steps
     (λ reader. g.S.Source.failures (binary_source reader))
     (λ old item new step. step.gives.failures) c.args.reader.now c.print_source.new.source
     c.print_source.result (g.W.Write.contents c.args.writer.now)

@@ -20,7 +20,7 @@ returns-in-Ended-clause-walks g c = record {
       faults = tt;
       head = rw c.in-Ended.is (IfSome-never _ _ (λ w. absurd (cc)));
       cached = IfSome-all _ (λ bytes. tt);
-      leaves = left_behind _ _ _ _ _ c.args.self.now.counted c.args.self.now.bounded;
+      leaves = left_behind _ _ c.args.self.now.counted c.args.self.now.bounded;
       objects = IfSome-all _ (λ bytes. tt);
       kept = (refl, λ _. refl);
     };
@@ -34,7 +34,7 @@ returns-in-Fresh-clause-walks g c =
     let h = c.begin.ensures.handed in
     record {
       event = h.event;
-      is = first_walks _ _ _ _ c.args.self.now _ c.begin.ensures.unchanged c.begin.ensures.counted
+      is = first_walks c.args.self.now _ c.begin.ensures.unchanged c.begin.ensures.counted
           refl c.begin.result h.event c.in-Fresh.is c.state_after-self.ensures h.is.0
           c.begin.ensures.fault c.begin.ensures.bounded c.begin.ensures.objects c.begin.ensures.known
           h.is.1 c.begin.ensures.falls c.begin.ensures.failures;
@@ -46,7 +46,7 @@ returns-in-Walking-clause-walks g c =
     let h = c.advance-item.ensures.handed in
     record {
       event = h.event;
-      is = item_walks _ _ _ _ c.args.self.now _ c.advance-item.ensures.unchanged
+      is = item_walks c.args.self.now _ c.advance-item.ensures.unchanged
           c.advance-item.ensures.counted refl c.advance-item.result h.event c.in-Walking.is
           c.advance-item.ensures.bounds
           c.end_after.ensures h.is.0 c.advance-item.ensures.fault

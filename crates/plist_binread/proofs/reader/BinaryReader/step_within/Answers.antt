@@ -14,15 +14,11 @@ use Rattle.plist_binread.proofs.reader.BinaryReader.step_within.Goals.{After-ref
 
 -- the visitor received an event that exceeds a limit
 limit : (g : _) (c : After-refuse g) → Reached c.new-within.result c.step-item.new.visitor
-    (λ item event. Walks g.R.Source.known g.R.Source.failures
-    g.C.DecodeCounter.counts g.C.DecodeCounter.count c.args.self.now
-    (item_with (item_in item c.step-item.new.self.decoder.slot) event) c.step-item.new.self)
+    (λ item event. Walks c.args.self.now (item_with (item_in item c.step-item.new.self.decoder.slot) event) c.step-item.new.self)
     c.in-Err.error
 limit g c =
     reached_limit g.V.EventVisitor.step _ _ c.step-item.result
-    (λ item event. Walks g.R.Source.known g.R.Source.failures
-    g.C.DecodeCounter.counts g.C.DecodeCounter.count c.args.self.now
-    (item_with (item_in item c.step-item.new.self.decoder.slot) event) c.step-item.new.self)
+    (λ item event. Walks c.args.self.now (item_with (item_in item c.step-item.new.self.decoder.slot) event) c.step-item.new.self)
     c.in-Err.error (search rules) (search rules) c.step-item.ensures.walks
 
 pub returns-in-Err : goal.returns-in-Err

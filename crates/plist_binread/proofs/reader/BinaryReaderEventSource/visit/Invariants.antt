@@ -8,11 +8,8 @@ use Rattle.plist_binread.proofs.reader.BinaryReaderEventSource.visit.Given as go
 -- these events were handed over
 abbrev pub invariant-loop-turn : goal.invariant-loop-turn
 invariant-loop-turn g l =
-    let source = g.R.Source in
-    let counter = g.C.DecodeCounter in
     (events : List PlainEvent)
-    × HandsOverAll (Steps source.known source.failures counter.counts counter.count)
-    g.V.EventVisitor.step (l.fn.self, l.fn.visitor) events (l.self, l.visitor)
+    × HandsOverAll Steps g.V.EventVisitor.step (l.fn.self, l.fn.visitor) events (l.self, l.visitor)
 
 abbrev pub decreases-loop-turn : goal.decreases-loop-turn
 decreases-loop-turn g l = binary_steps l.self

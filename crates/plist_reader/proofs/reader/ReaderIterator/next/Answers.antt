@@ -9,7 +9,7 @@ pub returns-in-Binary-clause-steps : goal.returns-in-Binary-clause-steps
 returns-in-Binary-clause-steps g c =
     subst (λ s. StateGives g.R.Source.known g.R.Source.failures s c.next.result
     (Binary c.next.new.self)) (sym c.in-Binary.is)
-    (binary-gives g.R.Source.known g.R.Source.failures c.in-Binary.reader c.next.new.self
+    (binary-gives c.in-Binary.reader c.next.new.self
     c.next.result c.next.ensures.steps)
 
 pub returns-in-Ascii-clause-steps : goal.returns-in-Ascii-clause-steps
