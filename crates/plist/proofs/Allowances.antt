@@ -30,7 +30,7 @@ module _ {A : Type 0} (lets : A → List Item → List Item) (may_reach : Fault 
 
   begins : (was : Bool) (old new : A) (now : Bool) (asked item : Given) (all left : List Item)
       → was ≡ false → BeginsWith all (option_map (item_by event_of) asked) left
-      → PassesNext lets may_reach old asked item new now
+      → PassesNext lets may_reach old asked item (new, now)
       → BeginsWith (come was old all) (option_map (item_by event_of) item) (come now new left)
   begins was old new now None item all left w b p = rw (p.0, w, b) (ends old)
   begins was old new now (Some (Ok asked)) None all left w b p = absurd p
@@ -46,7 +46,7 @@ module _ {A : Type 0} (lets : A → List Item → List Item) (may_reach : Fault 
 
   goes : (was : Bool) (old new : A) (now : Bool) (k l : Option (List Item)) (asked item : Given)
       → was ≡ false → BeginsWithIfKnown k (option_map (item_by event_of) asked) l
-      → PassesNext lets may_reach old asked item new now
+      → PassesNext lets may_reach old asked item (new, now)
       → BeginsWithIfKnown (option_map (come was old) k) (option_map (item_by event_of) item)
       (option_map (come now new) l)
   goes was old new now None l asked item w g p = tt
@@ -83,7 +83,7 @@ module _ {A : Type 0} (lets : A → List Item → List Item) (may_reach : Fault 
         by : (b : Bool) → old.ended ≡ b
             → MatchBool b ((item ≡ None) × (new ≡ old))
             ((asked : Given) × inner_gives old.inner asked new.inner
-            × PassesNext lets may_reach old.limiter asked item new.limiter new.ended)
+            × PassesNext lets may_reach old.limiter asked item (new.limiter, new.ended))
             → BeginsWithIfKnown (option_map (items_allowed lets old) (coming (iterator_of old)))
             (option_map (item_by event_of) item)
             (option_map (items_allowed lets new) (coming (iterator_of new)))
@@ -96,7 +96,7 @@ module _ {A : Type 0} (lets : A → List Item → List Item) (may_reach : Fault 
 
   events-pass : (old new : A) (was now : Bool) (asked : Given) (x : Result Event Error)
       (e : PlainEvent) (items : List Item) → was ≡ false → item_by event_of x ≡ Ok e
-      → PassesNext lets may_reach old asked (Some x) new now
+      → PassesNext lets may_reach old asked (Some x) (new, now)
       → come was old (Ok e ∷ items) ≡ Ok e ∷ come now new items
   events-pass old new was now None x e items w is p = cc p.0
   events-pass old new was now (Some (Ok event)) (Ok passed) e items w is p =
@@ -109,7 +109,7 @@ module _ {A : Type 0} (lets : A → List Item → List Item) (may_reach : Fault 
   -- the inner iterator yielded the same event
   gave-same : {I : Type 0} (inner_gives : I → Given → I → Type 0) (before after : I) (old new : A)
       (now : Bool) (asked : Given) (x : Result Event Error) (e : PlainEvent)
-      → item_by event_of x ≡ Ok e → PassesNext lets may_reach old asked (Some x) new now
+      → item_by event_of x ≡ Ok e → PassesNext lets may_reach old asked (Some x) (new, now)
       → inner_gives before asked after → inner_gives before (Some x) after
   gave-same inner_gives before after old new now None x e is p gave = cc p.0
   gave-same inner_gives before after old new now (Some (Ok event)) (Ok passed) e is p gave =

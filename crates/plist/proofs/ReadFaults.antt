@@ -108,7 +108,7 @@ module _ {I A : Type 0} (lets : A → List Item → List Item) (may_reach : Faul
   passed old error new gives = by old.ended gives
     where
       behind : (asked : Option (Result Event Error)) → inner_gives old.inner asked new.inner
-          → PassesNext lets may_reach old.limiter asked (Some (Err error)) new.limiter new.ended
+          → PassesNext lets may_reach old.limiter asked (Some (Err error)) (new.limiter, new.ended)
           → IsReadingFault limited (fault_of error)
       behind None gave is = absurd (cc is.0)
       behind (Some (Ok event)) gave is = reaches (fault_of error) is.0.0
@@ -119,7 +119,7 @@ module _ {I A : Type 0} (lets : A → List Item → List Item) (may_reach : Faul
 
       by : (ended : Bool) → MatchBool ended ((refused error ≡ None) × (new ≡ old))
           ((asked : Option (Result Event Error)) × inner_gives old.inner asked new.inner
-          × PassesNext lets may_reach old.limiter asked (refused error) new.limiter new.ended)
+          × PassesNext lets may_reach old.limiter asked (refused error) (new.limiter, new.ended))
           → IsReadingFault limited (fault_of error)
       by true is = absurd (cc is.0)
       by false (asked, gave, is) = behind asked gave is

@@ -33,20 +33,19 @@ module _ {A : Type 0} (lets : A → List Item → List Item) where
   items_allowed limited items = cond limited.ended [] (lets limited.limiter items)
 
 module _ {A : Type 0} (lets : A → List Item → List Item) (may_reach : Fault → Type 0) where
-  -- `given` is yielded for the inner item `asked`; a fault may replace an event, and ends the items
-  abbrev pub Passes : (old : A) → (asked given : Result Event Error) → (new : A) → (ended : Bool)
-      → Type 0
-  Passes old (Ok event) given new ended = MatchResult given
-      (λ passed. (passed ≡ event) × AdmitsEvent lets old (event_of event) new × (ended ≡ false))
-      (λ error. RefusesEvent lets may_reach old (event_of event) (fault_of error) × (ended ≡ true))
-  Passes old (Err error) given new ended = (given ≡ Err error) × (ended ≡ true)
+  -- `given` is yielded for the inner item `asked`, and `left` is the allowance that is left and
+  -- whether the items have ended; a fault may replace an event, and ends the items
+  abbrev pub Passes : (old : A) → (asked given : Result Event Error) → (left : A × Bool) → Type 0
+  Passes old (Ok event) given left = MatchResult given
+      (λ passed. (passed ≡ event) × AdmitsEvent lets old (event_of event) left.0 × (left.1 ≡ false))
+      (λ error. RefusesEvent lets may_reach old (event_of event) (fault_of error) × (left.1 ≡ true))
+  Passes old (Err error) given left = (given ≡ Err error) × (left.1 ≡ true)
 
   -- `given` is yielded when the inner iterator yields `asked`; `None` ends this iterator, too
-  abbrev pub PassesNext : (old : A) → (asked given : Option (Result Event Error)) → (new : A)
-      → (ended : Bool) → Type 0
-  PassesNext old None given new ended = (given ≡ None) × (new ≡ old) × (ended ≡ true)
-  PassesNext old (Some asked) given new ended =
-      MatchOption given ⊥ (λ item. Passes old asked item new ended)
+  abbrev pub PassesNext : (old : A) → (asked given : Option (Result Event Error))
+      → (left : A × Bool) → Type 0
+  PassesNext old None given left = (given ≡ None) × (left.0 ≡ old) × (left.1 ≡ true)
+  PassesNext old (Some asked) given left = MatchOption given ⊥ (λ item. Passes old asked item left)
 
   -- one call of `next`: it yields `None` after the end, and else calls the inner iterator
   abbrev pub GivesAllowed : {I : Type 0} → (I → Option (Result Event Error) → I → Type 0)
@@ -54,4 +53,4 @@ module _ {A : Type 0} (lets : A → List Item → List Item) (may_reach : Fault 
   GivesAllowed inner_gives old item new = MatchBool old.ended
       ((item ≡ None) × (new ≡ old))
       ((asked : Option (Result Event Error)) × inner_gives old.inner asked new.inner
-      × PassesNext old.limiter asked item new.limiter new.ended)
+      × PassesNext old.limiter asked item (new.limiter, new.ended))

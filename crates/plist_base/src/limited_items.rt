@@ -86,7 +86,7 @@ impl<I, A: Allowance> LimitedItems<I, A> {
     fn pass(&mut self, item: Result<OwnedEvent, Error>) -> Result<OwnedEvent, Error>
         requires going { self.old.ended ≡ false }
         ensures passes { Passes A.lets A.may_reach self.old.limiter item.entry result
-            self.new.limiter self.new.ended }
+            (self.new.limiter, self.new.ended) }
         ensures inner { self.new.inner ≡ self.old.inner }
     {
         match item {

@@ -120,13 +120,6 @@ abbrev pub CachesEntered : {A : Type 0} → (known : Option (List ℕ)) → (num
 CachesEntered known number answer event walk = IfSome known (λ _.
     IsCurrentCached (Some number) (Some answer) event walk.tags.items)
 
--- the event is the first item of the object, or the result is an error that replaces it
-abbrev pub EntersObject : {A : Type 0} → (known : Option (List ℕ)) → Bounds → (old : Walk)
-    → Reference → Result A Error → (event : PlainEvent) → (new : Walk) → Type 0
-EntersObject known bounds old reference answer event new = IfSome known (λ bytes.
-    YieldsAnswer (remaining_entering bytes bounds old reference.at reference.number) answer event
-    (remaining_in bytes bounds new))
-
 -- the item is the first that remained, and the others remain
 abbrev pub YieldsItem : {A : Type 0} → (known : Option (List ℕ)) → Bounds → (old : Walk)
     → Option (Result A Error) → (event : PlainEvent) → (new : Walk) → Type 0

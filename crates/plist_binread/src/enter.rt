@@ -3,10 +3,11 @@
 ghost use Rattle.std.specs.Prelude.{◌≡◌, ◌+◌, ◌<◌, get_or, true, false, IfOk, IfErr, OnOk, IfSome};
 ghost use Rattle.plist_base.specs.Faults.{ObjectReferenceTooLarge, RecursiveObject, fault_at, fault_of};
 ghost use Rattle.plist_binread.specs.Packed.{is_marked};
-ghost use Rattle.plist_binread.specs.Walking.{IsWalkOf, cached_in, walk_objects};
+ghost use Rattle.plist_binread.specs.Walking.{IsWalkOf, cached_in, remaining_entering, remaining_in, walk_objects};
+ghost use Rattle.plist_binread.specs.DecodeOutcome.{YieldsAnswer};
 ghost use Rattle.plist_binread.specs.FaultOffsets.{ErrWithin};
 ghost use Rattle.plist_binread.specs.Decoded.{FitsWalk, small_count};
-ghost use Rattle.plist_binread.specs.Step.{IsFoundAt, IsLighterEntered, IsUnchanged, CachesDecoded, CachesEntered, EntersObject, IsCollectionStart, OpensCollection, OpensObject, RefusesEntering, RefusesWithoutIo};
+ghost use Rattle.plist_binread.specs.Step.{IsFoundAt, IsLighterEntered, IsUnchanged, CachesDecoded, CachesEntered, IsCollectionStart, OpensCollection, OpensObject, RefusesEntering, RefusesWithoutIo};
 ghost use Rattle.plist_binread.specs.Handing.{Hands};
 ghost use Rattle.plist_binread.specs.Slot.{AnswersInSlot, answer_in};
 
@@ -152,8 +153,9 @@ pub fn enter<S: Source, C: DecodeCounter, V: EventVisitor>(
     requires counted { C.counts → C.count decoder.old.counter ≡ cached_in walk.old }
     // Result.
     ensures handed { Hands V.step visitor.old visitor.new result (λ event.
-        EntersObject (S.known source.old) decoder.old.bounds walk.old reference
-        (answer_in result decoder.new.slot) event walk.new
+        IfSome (S.known source.old) (λ bytes.
+        YieldsAnswer (remaining_entering bytes decoder.old.bounds walk.old reference.at reference.number)
+        (answer_in result decoder.new.slot) event (remaining_in bytes decoder.old.bounds walk.new))
         × CachesEntered (S.known source.old) reference.number (answer_in result decoder.new.slot)
         event walk.new) }
     // Errors.
