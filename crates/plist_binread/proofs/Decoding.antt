@@ -344,16 +344,19 @@ long_bytes content_kind.Text count bytes is h = omega (arith, is, h)
 long_bytes content_kind.WideText count bytes is h = tt
 
 -- the event of a content that is borrowed is that of the content in the file
-pub lent_sets : {A : Type 0} (known : Option (List ℕ)) (kind : ContentKind) (start size place : ℕ)
-    (buffered : List ℕ) (answer : Result A Error) (current : PlainEvent)
-    → IfSome known (λ bytes. LiesAt bytes start buffered) → size ≤ length buffered
-    → SetsEvent (content_means kind (take size buffered)) place answer current
-    → IfSome known (λ bytes. start + size ≤ length bytes
-    → SetsEvent (content_means kind (take size (drop start bytes))) place answer current)
-lent_sets known kind start size place buffered answer current is h sets =
-    IfSome_then known is (λ bytes is fits.
-    let e : take size buffered ≡ take size (drop start bytes) =
-    ap (take size) is ∙ take-take size (length buffered) (drop start bytes) h in
+pub borrowed_sets : {A : Type 0} (known : Option (List ℕ)) (kind : ContentKind)
+    (place start size from cut : ℕ) (buffered : List ℕ) (answer : Result A Error)
+    (current : PlainEvent) → from ≡ start → cut ≡ size
+    → IfSome known (λ bytes. LiesAt bytes place buffered) → from + cut ≤ length buffered
+    → SetsEvent (content_means kind (take cut (drop from buffered))) place answer current
+    → IfSome known (λ bytes. place + start + size ≤ length bytes
+    → SetsEvent (content_means kind (take size (drop (place + start) bytes))) place answer current)
+borrowed_sets known kind place start size from cut buffered answer current begins ends lies h sets =
+    IfSome_then known lies (λ bytes lies fits.
+    let e : take cut (drop from buffered) ≡ take size (drop (place + start) bytes) =
+    rw (begins, ends) (ap (λ xs. take size (drop start xs)) lies
+    ∙ take-drop-take start size (length buffered) (drop place bytes) (rw (begins, ends) at h)
+    ∙ ap (take size) (drop-drop start place bytes)) in
     subst (λ xs. SetsEvent (content_means kind xs) place answer current) e sets)
 
 -- so is the event of a content that was read

@@ -228,10 +228,11 @@ fn hand_content<S: Source, V: EventVisitor>(
     ensures unchanged { S.known source.new ≡ S.known source.old }
     ensures failures { AnswersInSlot S.failures result slot.new source.old source.new }
 {
+    let start = usize::from(content.start);
     let size = content.count * content.kind.unit_size();
-    let buffered = source.buffered(place + u64::from(content.start));
-    if size <= buffered.len() as u64 {
-        let bytes = &buffered[..size as usize];
+    let buffered = source.buffered(place);
+    if start <= buffered.len() && size <= (buffered.len() - start) as u64 {
+        let bytes = &buffered[start..][..size as usize];
         return hand_bytes(content.kind, bytes, place, slot, visitor);
     }
     hand_far(source, place, content, slot, visitor)
