@@ -2,7 +2,7 @@
 use Rattle.std.proofs.Common.{◌≡◌, ℕ, suc, inl, inr, ◌+◌, ◌-◌, ◌*◌, ◌<◌, ◌≤◌, Bool, true, false, List, ◌∷◌, ◌++◌, length, take, drop, get_or, replicate, Option, None, Some, Result, Ok, Err, IfSome, refl, ap, sym, subst, ◌∙◌, arith}
 use Rattle.std.specs.Prelude.{⊤, OnOk, if◌then◌else◌}
 use Rattle.std.proofs.lemmas.Bool.{cases_lt, false≢true, le-leb}
-use Rattle.std.proofs.lemmas.List.{length-append, length-drop, length-take-le, drop-append-le, drop-drop, take-take}
+use Rattle.std.proofs.lemmas.List.{length-append, length-drop, length-take-le, drop-append-le, drop-drop}
 use Rattle.std.proofs.lemmas.Option.{IfSome_then}
 use Rattle.std.specs.Char.Utf16.{has_unpaired_surrogate, utf16_lossy_chars}
 use Rattle.std.specs.Str.{encode_utf8_all}
@@ -17,12 +17,13 @@ use Rattle.plist_base.specs.Trees as trees
 use Rattle.plist_base.proofs.Refusals.{MatchFault-at}
 use Rattle.plist_format.specs.Object.{Object, Scalar, Array, Dictionary, Faulty, date, date_if_any, length_in, object_in, text, text_of_units}
 use Rattle.plist_binread.specs.CountedContent.{content_means, counted_with, unit_size}
-use Rattle.plist_binread.specs.Decoded.{DecodesAfter, DecodesAt, DecodesSeen, CountsUnread, FailsUnread, FitsBefore, FitsWalk, IsDecodedAs, IsObjectFault, IsLongCount, IsDecodedOrUnread, SetsContentAt, SetsDecoded, SetsEvent, bytes_at, content_size, event_of_object, is_unread, kind_of_object_fault, small_count}
+use Rattle.plist_binread.specs.Decoded.{DecodesAfter, DecodesAt, DecodesSeen, FitsBefore, FitsWalk, IsDecodedAs, IsObjectFault, IsLongCount, SetsContentAt, SetsDecoded, SetsEvent, content_size, event_of_object, kind_of_object_fault, small_count}
 use Rattle.plist_binread.specs.Decoding.{Allocates, IsCollection, IsRefusedAs, scalar_event_in}
 use Rattle.plist_binread.specs.FaultOffsets.{FailsWithin, MatchReader}
+use Rattle.plist_binread.specs.Front.{IsFrontAt}
 use Rattle.plist_binread.specs.Packed.{MayAllocate, content_bytes, is_small_event, scalar_event, unmarked, unpacked}
 use Rattle.plist_binread.specs.NextChild.{IsCurrentCached}
-use Rattle.plist_binread.specs.Reading.{data_of_content, object_at, object_with}
+use Rattle.plist_binread.specs.Reading.{data_of_content, object_with}
 use Rattle.plist_binread.specs.Slot.{answer_in}
 use Rattle.plist_binread.specs.declared.decoded.Content.{Content}
 use Rattle.plist_binread.specs.declared.decoded.ContentKind.{ContentKind}
@@ -147,39 +148,18 @@ seen_after w m to_trailer seen rest answer is means = λ more whole.
     (means m more n))
 
 -- if the bytes are known, the object at the offset is the one that was decoded
-seen_answers : (known : Option (List ℕ)) (bounds : Bounds) (place : ℕ) (seen : List ℕ)
-    (answer : Decoded)
-    → place + length seen ≤ bounds.trailer → IfSome known (λ bytes. LiesAt bytes place seen)
+pub seen_decodes : (known : Option (List ℕ)) (bounds : Bounds) (place : ℕ) (seen : List ℕ)
+    (answer : Decoded) → IsFrontAt known bounds place seen
     → DecodesSeen (bounds.trailer - place) (object_in bounds.reference_width) seen answer
-    → IfSome known (λ bytes. bounds.trailer ≤ length bytes
-    → IsDecodedAs (bytes_at bounds place bytes) (object_at bounds place bytes) answer)
-seen_answers known bounds place seen answer buffered is means = IfSome_then known is (λ bytes is fits.
-    let cut = known_front (Some bytes) seen seen bounds.trailer place _ buffered (omega arith)
+    → DecodesAt known bounds place answer
+seen_decodes known bounds place seen answer front means =
+    IfSome_then known front.lies (λ bytes is fits.
+    let cut = known_front (Some bytes) seen seen bounds.trailer place _ front.front.within (omega arith)
     (sym (take-length _)) is fits in
     let to_trailer = ap length (sym cut.1) ∙ length-drop place (take bounds.trailer bytes)
     ∙ ap (λ m. m - place) (length-take-le bounds.trailer bytes fits) in
     subst (λ all. IsDecodedAs all (object_in bounds.reference_width all) answer) (sym cut.1)
     (means cut.0 to_trailer))
-
--- a result that was decoded from the bytes is one of a decoded or unread object
-read_as : (all : List ℕ) (object : Object) (place : ℕ) (d : Decoded) (slot : FaultSlot)
-    → IsDecodedAs all object d → IsDecodedOrUnread all object place d slot
-read_as all object place (decoded.Small kind content) slot is = is
-read_as all object place (decoded.Date content) slot is = is
-read_as all object place (decoded.Long kind start count) slot is = is
-read_as all object place (decoded.Array count) slot is = is
-read_as all object place (decoded.Dictionary count) slot is = is
-read_as all object place (decoded.Faulty fault) slot is = is
-read_as all object place decoded.Unread slot is = absurd is
-
-pub seen_decodes : (known : Option (List ℕ)) (bounds : Bounds) (place : ℕ) (seen : List ℕ)
-    (answer : Decoded) (slot : FaultSlot)
-    → place + length seen ≤ bounds.trailer → IfSome known (λ bytes. LiesAt bytes place seen)
-    → DecodesSeen (bounds.trailer - place) (object_in bounds.reference_width) seen answer
-    → DecodesAt known bounds place answer slot
-seen_decodes known bounds place seen answer slot buffered is means =
-    IfSome_then known (seen_answers known bounds place seen answer buffered is means)
-    (λ bytes there fits. read_as _ _ place answer slot (there fits))
 
 -- what was decoded ends before the trailer, whatever the bytes are
 decoded_fits : (trailer place : ℕ) (all : List ℕ) (object : Object) (d : Decoded)
@@ -191,7 +171,6 @@ decoded_fits trailer place all object (decoded.Long kind start count) h is =
 decoded_fits trailer place all object (decoded.Array count) h is = tt
 decoded_fits trailer place all object (decoded.Dictionary count) h is = omega (arith, h, is.1)
 decoded_fits trailer place all object (decoded.Faulty fault) h is = tt
-decoded_fits trailer place all object decoded.Unread h is = is
 
 -- some bytes before the trailer decode to this result
 pub seen_as : (bounds : Bounds) (place : ℕ) (seen : List ℕ) (answer : Decoded)
@@ -214,45 +193,12 @@ seen_fits bounds place seen answer h means =
     let a = seen_as bounds place seen answer h means in
     decoded_fits bounds.trailer place a.0 _ answer a.1 a.2
 
--- a result that was decoded from bytes isn't that of an unread object
-read_all : (all : List ℕ) (object : Object) (d : Decoded) → IsDecodedAs all object d
-    → is_unread d ≡ false
-read_all all object (decoded.Small kind content) is = refl
-read_all all object (decoded.Date content) is = refl
-read_all all object (decoded.Long kind start count) is = refl
-read_all all object (decoded.Array count) is = refl
-read_all all object (decoded.Dictionary count) is = refl
-read_all all object (decoded.Faulty fault) is = refl
-read_all all object decoded.Unread is = absurd is
-
-pub seen_read : (bounds : Bounds) (place : ℕ) (seen : List ℕ) (answer : Decoded)
-    → place + length seen ≤ bounds.trailer
-    → DecodesSeen (bounds.trailer - place) (object_in bounds.reference_width) seen answer
-    → is_unread answer ≡ false
-seen_read bounds place seen answer h means =
-    let a = seen_as bounds place seen answer h means in read_all a.0 _ answer a.2
-
-pub fails_none : (start end : ℕ) (d : Decoded) (slot : FaultSlot) → is_unread d ≡ false
-    → FailsUnread start end d slot
-fails_none start end d slot read unread = absurd (false≢true (sym read ∙ unread))
-
-pub counts_none : (d : Decoded) (slot : FaultSlot) (old new : ℕ) → is_unread d ≡ false
-    → new ≡ old → CountsUnread d slot old new
-counts_none (decoded.Small kind content) slot old new read same = same
-counts_none (decoded.Date content) slot old new read same = same
-counts_none (decoded.Long kind start count) slot old new read same = same
-counts_none (decoded.Array count) slot old new read same = same
-counts_none (decoded.Dictionary count) slot old new read same = same
-counts_none (decoded.Faulty fault) slot old new read same = same
-counts_none decoded.Unread slot old new read same = absurd (false≢true (sym read))
-
 pub fits_walk : (bounds : Bounds) (place : ℕ) (d : Decoded) → FitsBefore bounds.trailer place d
     → FitsWalk d
 fits_walk bounds place (decoded.Small kind content) h = h
 fits_walk bounds place (decoded.Date content) h = tt
 fits_walk bounds place (decoded.Long kind start count) h = tt
 fits_walk bounds place (decoded.Faulty fault) h = tt
-fits_walk bounds place decoded.Unread h = tt
 fits_walk bounds place (decoded.Array count) h = tt
 fits_walk bounds place (decoded.Dictionary count) h =
     let small = bounds.small in omega (arith, h, small)
@@ -344,20 +290,22 @@ long_bytes content_kind.Text count bytes is h = omega (arith, is, h)
 long_bytes content_kind.WideText count bytes is h = tt
 
 -- the event of a content that is borrowed is that of the content in the file
-pub borrowed_sets : {A : Type 0} (known : Option (List ℕ)) (kind : ContentKind)
-    (place start size from cut : ℕ) (buffered : List ℕ) (answer : Result A Error)
-    (current : PlainEvent) → from ≡ start → cut ≡ size
-    → IfSome known (λ bytes. LiesAt bytes place buffered) → from + cut ≤ length buffered
-    → SetsEvent (content_means kind (take cut (drop from buffered))) place answer current
-    → IfSome known (λ bytes. place + start + size ≤ length bytes
-    → SetsEvent (content_means kind (take size (drop (place + start) bytes))) place answer current)
-borrowed_sets known kind place start size from cut buffered answer current begins ends lies h sets =
+pub borrowed_sets : {A : Type 0} (known : Option (List ℕ)) (place : ℕ) (content : Content)
+    (seen : List ℕ) (answer : Result A Error) (current : PlainEvent)
+    → IfSome known (λ bytes. LiesAt bytes place seen)
+    → content.start + content_size content ≤ length seen
+    → SetsEvent (content_means content.kind (take (content_size content) (drop content.start seen)))
+    place answer current
+    → SetsContentAt known place content answer current
+borrowed_sets known place content seen answer current lies within sets =
     IfSome_then known lies (λ bytes lies fits.
-    let e : take cut (drop from buffered) ≡ take size (drop (place + start) bytes) =
-    rw (begins, ends) (ap (λ xs. take size (drop start xs)) lies
-    ∙ take-drop-take start size (length buffered) (drop place bytes) (rw (begins, ends) at h)
-    ∙ ap (take size) (drop-drop start place bytes)) in
-    subst (λ xs. SetsEvent (content_means kind xs) place answer current) e sets)
+    let start = content.start in
+    let size = content_size content in
+    let e : take size (drop start seen) ≡ take size (drop (place + start) bytes) =
+    ap (λ xs. take size (drop start xs)) lies
+    ∙ take-drop-take start size (length seen) (drop place bytes) within
+    ∙ ap (take size) (drop-drop start place bytes) in
+    subst (λ xs. SetsEvent (content_means content.kind xs) place answer current) e sets)
 
 -- so is the event of a content that was read
 pub read_sets : (known : Option (List ℕ)) (kind : ContentKind) (start size : ℕ)

@@ -1,29 +1,31 @@
 -- What is true when an object is entered.
-use Rattle.std.proofs.Common.{◌≡◌, ℕ, ◌<◌, ◌≤◌, true, false, List, length, get_or, Option, Some, Result, Ok, Err, IfSome, ap, sym, subst, ◌∙◌}
+use Rattle.std.proofs.Common.{◌≡◌, ℕ, ◌<◌, ◌≤◌, false, List, length, get_or, Option, Some, Result, Ok, Err, IfSome, ap, sym, subst, ◌∙◌}
 use Rattle.std.specs.List.{slice_get}
 use Rattle.plist_base.specs.Events.{PlainEvent}
 use Rattle.plist_base.specs.declared.error.Error.{Error}
 use Rattle.plist_binread.specs.Reading.{object_at}
+use Rattle.plist_binread.specs.declared.decoded.ContentKind.{ContentKind}
 use Rattle.plist_binread.specs.declared.decoded.Decoded.{Decoded}
 use Rattle.plist_binread.specs.declared.decoded.Decoded.TheVariants as decoded
 use Rattle.plist_binread.specs.declared.fault_slot.FaultSlot.{FaultSlot}
 use Rattle.plist_binread.specs.declared.fault_slot.StepError.{StepError}
 use Rattle.plist_binread.specs.Slot.{answer_in}
-use Rattle.plist_format.specs.Object.{Object}
 use Rattle.std.specs.Prelude.{OnOk}
-use Rattle.std.proofs.lemmas.Bool.{false≢true}
 use Rattle.plist_binread.specs.declared.head.Bounds.{Bounds}
 use Rattle.plist_binread.specs.declared.walk.Walk.{Walk}
 use Rattle.plist_binread.specs.Beginning.{IsKnownWalk}
 use Rattle.plist_binread.specs.Remaining.{Explains, entries_of}
-use Rattle.plist_binread.specs.Decoded.{DecodesAt, IsDecodedAs, IsDecodedOrUnread, SetsDecoded, SetsEvent, bytes_at, event_of_object, is_refused, is_unread}
+use Rattle.plist_binread.specs.Decoded.{DecodesAt, IsDecodedAs, IsRefusedAt, SetsDecoded, SetsEvent, bytes_at, event_of_object, is_refused}
 use Rattle.plist_binread.specs.Decoding.{IsRefusedAs}
 use Rattle.plist_binread.specs.DecodeOutcome.{YieldsAnswer, YieldsCurrent}
 use Rattle.plist_binread.specs.Step.{OpensObject}
 use Rattle.plist_binread.specs.Walking.{IsWalkOf, open_in, remaining_entering, remaining_in, walk_objects}
 use Rattle.plist_format.specs.Unfolding.{until_fault}
 use Rattle.plist_binread.specs.Packed.{is_marked, unmarked, cached, scalar_event}
-use Rattle.plist_binread.proofs.WalkInvariant.{IsPlaceIn, entry_of, entry_there, found_refused, found_scalar, held_scalar, place_is}
+use Rattle.plist_binread.proofs.Decoding.{named-long}
+use Rattle.plist_binread.proofs.OpenObjects.{not_open}
+use Rattle.plist_binread.proofs.WalkSteps.{yields_scalar}
+use Rattle.plist_binread.proofs.WalkInvariant.{IsPlaceIn, as_many, entry_of, entry_there, found_refused, found_scalar, held_scalar, place_is}
 use Rattle.std.proofs.lemmas.Option.{IfSome_then}
 use Rattle.plist_binread.proofs.UnknownBytes.{IfSome-both, IfSome-three}
 
@@ -36,36 +38,20 @@ pub record IsDecodedAt (bytes : List ℕ) (bounds : Bounds) (number place : ℕ)
     pub within : bounds.trailer ≤ length bytes
     pub decoded : IsDecodedAs (bytes_at bounds place bytes) (object_at bounds place bytes) d
 
--- an object that isn't unread was decoded
-was_read : (all : List ℕ) (object : Object) (place : ℕ) (d : Decoded) (slot : FaultSlot)
-    → is_unread d ≡ false → IsDecodedOrUnread all object place d slot → IsDecodedAs all object d
-was_read all object place (decoded.Small kind content) slot read is = is
-was_read all object place (decoded.Date content) slot read is = is
-was_read all object place (decoded.Long kind start count) slot read is = is
-was_read all object place (decoded.Array count) slot read is = is
-was_read all object place (decoded.Dictionary count) slot read is = is
-was_read all object place (decoded.Faulty fault) slot read is = is
-was_read all object place decoded.Unread slot read is = absurd (false≢true (sym read))
+-- a string or data of which only the length was decoded is entered without a change of the walk
+pub long_opens : (number start count : ℕ) (kind : ContentKind) (walk : Walk)
+    → number < walk_objects walk → get_or walk.tags.items number 0 ≡ 0
+    → OpensObject number (decoded.Long kind start count) walk walk
+long_opens number start count kind walk below new bytes bounds entry all k is found = (
+  (λ at event _ named. yields_scalar _ _ (as_many _ _ _ _ _ k) _ at _ _ walk.path below is
+      (not_open walk.path below new) event (named-long entry.object _ _ event found.1 named)),
+  k,
+)
 
-pub known_read : (known : Option (List ℕ)) (bounds : Bounds) (place : ℕ) (d : Decoded)
-    (slot : FaultSlot) → is_unread d ≡ false → DecodesAt known bounds place d slot
-    → IfSome known (λ bytes. bounds.trailer ≤ length bytes
-    → IsDecodedAs (bytes_at bounds place bytes) (object_at bounds place bytes) d)
-known_read known bounds place d slot read decodes = IfSome_then known decodes (λ bytes decodes fits.
-    was_read _ _ place d slot read (decodes fits))
-
--- if the object's bytes couldn't be read, the error is possible for the object
-pub known_unread : (known : Option (List ℕ)) (bounds : Bounds) (place : ℕ) (d : Decoded)
-    (slot : FaultSlot) → is_unread d ≡ true → DecodesAt known bounds place d slot
-    → IfSome known (λ bytes. bounds.trailer ≤ length bytes
-    → IsRefusedAs (object_at bounds place bytes) place slot.fault)
-known_unread known bounds place d slot unread decodes = IfSome_then known decodes
-    (λ bytes decodes fits. by d _ _ unread (decodes fits))
-  where
-    by : (d : Decoded) (all : List ℕ) (object : Object) → is_unread d ≡ true
-        → IsDecodedOrUnread all object place d slot → IsRefusedAs object place slot.fault
-    by decoded.Unread all object unread is = is
-    by other all object unread is = absurd (false≢true unread)
+-- a true statement is true after `Ok`
+pub always_ok : {A E : Type 0} (P : Type 0) (answer : Result A E) → P → OnOk answer P
+always_ok P (Ok value) p = p
+always_ok P (Err error) p = tt
 
 -- what is true after `Ok` is true of the result with the error that the slot stores
 pub on_answer : {A : Type 0} (P : Type 0) (answer : Result A StepError) (slot : FaultSlot)
@@ -92,9 +78,7 @@ module _ (known : Option (List ℕ)) (bounds : Bounds) (walk : Walk) (number : �
   -- the error of an object is possible in place of its first item
   pub known_refused : (at place : ℕ) (e : Error)
       → is_marked (get_or walk.tags.items number 0) ≡ false → IsPlaceIn walk number place
-      → IfSome known (λ bytes. bounds.trailer ≤ length bytes
-      → IsRefusedAs (object_at bounds place bytes) place e)
-      → IfSome known (λ bytes. Explains (until_fault (remaining_entering bytes bounds walk at number))
+      → IsRefusedAt known bounds place e → IfSome known (λ bytes. Explains (until_fault (remaining_entering bytes bounds walk at number))
       e)
   known_refused at place e free is refused = IfSome-both known k refused (λ bytes k refused.
       found_refused bytes bounds walk.tags.items walk.contents.items (open_in walk) k walk.path at
@@ -102,15 +86,14 @@ module _ (known : Option (List ℕ)) (bounds : Bounds) (walk : Walk) (number : �
       (rw (place_is bytes bounds walk k number place h is) at (refused k.within)))
 
   -- the object of this number was decoded from the bytes at its offset
-  pub known_decoded : (place : ℕ) (d : Decoded) (slot : FaultSlot) → IsPlaceIn walk number place
-      → is_unread d ≡ false → DecodesAt known bounds place d slot
-      → IfSome known (λ bytes. IsDecodedAt bytes bounds number place d)
-  known_decoded place d slot is read decodes = IfSome-both known k decodes (λ bytes k decodes. record {
+  pub known_decoded : (place : ℕ) (d : Decoded) → IsPlaceIn walk number place
+      → DecodesAt known bounds place d → IfSome known (λ bytes. IsDecodedAt bytes bounds number place d)
+  known_decoded place d is decodes = IfSome-both known k decodes (λ bytes k decodes. record {
     entry = entry_there bytes bounds walk.tags.items walk.contents.items (open_in walk) k number h;
     there = ap (λ p. object_at bounds p bytes) (sym (place_is bytes bounds walk k number place h is));
     at_place = place_is bytes bounds walk k number place h is;
     within = k.within;
-    decoded = was_read _ _ place d slot read (decodes k.within);
+    decoded = decodes k.within;
   })
 
   -- the event of the object is the first item that remains, or the result is the error of the

@@ -2,16 +2,14 @@
 use Rattle.std.specs.Prelude.{◌≡◌, ℕ, ◌+◌, ◌*◌, ◌^◌, ◌<◌, ◌≤◌, Bool, true, false, List, ◌∷◌, ◌++◌, length, take, drop, Option, None, Some, Result, IfSome, MatchResult, OnOk, ⊤}
 use Rattle.plist_base.specs.declared.error.Error.{Error}
 use Rattle.plist_base.specs.Events.{PlainEvent, StartArray, StartDictionary, ScalarEvent}
-use Rattle.plist_base.specs.Faults.{FaultKind, ObjectOffsetTooLarge, NullObjectUnimplemented, FillObjectUnimplemented, UnknownObjectType, IntegerOutOfRange, OverflowOrNanDate, InvalidUtf8String, InvalidUtf16String, OutOfMemory, fault_of}
+use Rattle.plist_base.specs.Faults.{FaultKind, ObjectOffsetTooLarge, NullObjectUnimplemented, FillObjectUnimplemented, UnknownObjectType, IntegerOutOfRange, OverflowOrNanDate, InvalidUtf8String, InvalidUtf16String, OutOfMemory}
 use Rattle.plist_base.specs.Trees as trees
 use Rattle.plist_format.specs.Object.{Object, Scalar, Array, Dictionary, Faulty, date, meaning_of_front}
 use Rattle.plist_binread.specs.CountedContent.{content_means, unit_size}
 use Rattle.plist_base.specs.declared.event.Event.{Event}
 use Rattle.plist_binread.specs.Decoding.{Allocates, Decodes, IsCollection, IsRefusedAs}
-use Rattle.plist_binread.specs.declared.fault_slot.FaultSlot.{FaultSlot}
 use Rattle.plist_binread.specs.Packed.{FitsContent, content_bytes, is_small_event, unpacked}
-use Rattle.plist_binread.specs.FaultOffsets.{ErrWithin, FailsWithin}
-use Rattle.plist_base.specs.Sources.{CountsIo}
+use Rattle.plist_binread.specs.FaultOffsets.{ErrWithin}
 use Rattle.plist_binread.specs.Reading.{object_at}
 use Rattle.plist_binread.specs.declared.decoded.Content.{Content}
 use Rattle.plist_binread.specs.declared.decoded.ContentKind.{ContentKind}
@@ -75,17 +73,10 @@ IsDecodedAs bytes object (decoded.Array count) = IsCollection object (StartArray
 IsDecodedAs bytes object (decoded.Dictionary count) =
     IsCollection object (StartDictionary (Some count)) (2 * count) × (2 * count ≤ length bytes)
 IsDecodedAs bytes object (decoded.Faulty fault) = IsObjectFault object fault
-IsDecodedAs bytes object decoded.Unread = ⊥
 
--- whether the object's bytes couldn't be read
-abbrev pub is_unread : Decoded → Bool
-is_unread decoded.Unread = true
-is_unread other = false
-
--- whether the object has no event: it is faulty, or its bytes couldn't be read
+-- whether the object is faulty, so that it has no event
 abbrev pub is_refused : Decoded → Bool
 is_refused (decoded.Faulty fault) = true
-is_refused decoded.Unread = true
 is_refused other = false
 
 -- the object that begins with these bytes is decoded, whatever follows them before the trailer
@@ -117,6 +108,12 @@ abbrev pub CountsSmall : {C : Type 0} → (counts : Type 0) → (count : C → �
     → Decoded → Type 0
 CountsSmall counts count old new decoded = counts → count new ≡ count old + small_count decoded
 
+-- the counter rises by one if a small scalar was read and decoded
+abbrev pub CountsRead : {C E : Type 0} → (counts : Type 0) → (count : C → ℕ) → (old new : C)
+    → Result Decoded E → Type 0
+CountsRead counts count old new answer = MatchResult answer
+    (CountsSmall counts count old new) (λ _. new ≡ old)
+
 -- the string is decoded, or there is no result because it has more than eight bytes
 abbrev pub DecodesIfShort : Object → Option Decoded → Type 0
 DecodesIfShort object answer =
@@ -128,26 +125,15 @@ DecodesIfShort object answer =
 abbrev pub bytes_at : Bounds → (place : ℕ) → List ℕ → List ℕ
 bytes_at bounds place bytes = drop place (take bounds.trailer bytes)
 
--- the object was decoded, or the slot stores the error because its bytes couldn't be read
-abbrev pub IsDecodedOrUnread : (bytes : List ℕ) → Object → (place : ℕ) → Decoded → FaultSlot → Type 0
-IsDecodedOrUnread bytes object place decoded.Unread slot = IsRefusedAs object place slot.fault
-IsDecodedOrUnread bytes object place decoded slot = IsDecodedAs bytes object decoded
+-- if the bytes are known, the object at this offset was decoded
+abbrev pub DecodesAt : (known : Option (List ℕ)) → Bounds → (place : ℕ) → Decoded → Type 0
+DecodesAt known bounds place decoded = IfSome known (λ bytes. bounds.trailer ≤ length bytes
+    → IsDecodedAs (bytes_at bounds place bytes) (object_at bounds place bytes) decoded)
 
--- if the bytes are known, the object at this offset was decoded or couldn't be read
-abbrev pub DecodesAt : (known : Option (List ℕ)) → Bounds → (place : ℕ) → Decoded → FaultSlot
-    → Type 0
-DecodesAt known bounds place decoded slot = IfSome known (λ bytes. bounds.trailer ≤ length bytes
-    → IsDecodedOrUnread (bytes_at bounds place bytes) (object_at bounds place bytes) place decoded slot)
-
--- if the object's bytes couldn't be read, the error's offset lies between `start` and `end`
-abbrev pub FailsUnread : (start end : ℕ) → Decoded → FaultSlot → Type 0
-FailsUnread start end decoded slot =
-    is_unread decoded ≡ true → FailsWithin start end (fault_of slot.fault)
-
--- the count of failures changes only if the object's bytes couldn't be read
-abbrev pub CountsUnread : Decoded → FaultSlot → (old new : ℕ) → Type 0
-CountsUnread decoded.Unread slot old new = CountsIo slot.fault old new
-CountsUnread decoded slot old new = new ≡ old
+-- if the bytes are known, this is an error of the object at this offset
+abbrev pub IsRefusedAt : (known : Option (List ℕ)) → Bounds → (place : ℕ) → Error → Type 0
+IsRefusedAt known bounds place error = IfSome known (λ bytes. bounds.trailer ≤ length bytes
+    → IsRefusedAs (object_at bounds place bytes) place error)
 
 -- what was decoded at an offset ends before the trailer and has sizes in range
 abbrev pub FitsBefore : (trailer place : ℕ) → Decoded → Type 0
@@ -158,7 +144,6 @@ FitsBefore trailer place (decoded.Long kind start count) =
 FitsBefore trailer place (decoded.Array count) = ⊤
 FitsBefore trailer place (decoded.Dictionary count) = 2 * count ≤ trailer
 FitsBefore trailer place (decoded.Faulty fault) = ⊤
-FitsBefore trailer place decoded.Unread = ⊥
 
 -- the walk can store what was decoded: the tag and the number of children aren't too large
 abbrev pub FitsWalk : Decoded → Type 0

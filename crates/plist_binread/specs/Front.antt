@@ -1,7 +1,9 @@
 -- What the bytes at an object's front say, whatever follows them.
-use Rattle.std.specs.Prelude.{◌≡◌, ℕ, ◌<◌, ◌≤◌, List, ◌++◌, length}
+use Rattle.std.specs.Prelude.{◌≡◌, ℕ, ◌+◌, ◌<◌, ◌≤◌, List, ◌++◌, length, Option, IfSome}
+use Rattle.plist_base.specs.Sources.{LiesAt}
 use Rattle.plist_format.specs.Container.{number_of}
 use Rattle.plist_format.specs.Object.{Object, meaning_of_front}
+use Rattle.plist_binread.specs.declared.head.Bounds.{Bounds}
 
 -- ---- what lies at the front of bytes
 
@@ -19,6 +21,15 @@ IsContent size rest content = (more : List ℕ) (meaning : List ℕ → Object) 
 abbrev pub ShowsContent : (to_trailer : ℕ) (rest : List ℕ) → Type 0
 ShowsContent to_trailer rest = length rest < 25 → to_trailer ≤ length rest
 
--- the bytes of the object reach up to the trailer, or are at least 26
-abbrev pub ShowsFront : (to_trailer : ℕ) (seen : List ℕ) → Type 0
-ShowsFront to_trailer seen = length seen < 26 → to_trailer ≤ length seen
+-- these bytes lie between an object's offset and the trailer, and reach up to the trailer or are at
+-- least 26
+pub record IsFront (bounds : Bounds) (place : ℕ) (seen : List ℕ) : Type 0 where
+  pub starts : place < bounds.trailer
+  pub within : place + length seen ≤ bounds.trailer
+  pub shown : length seen < 26 → bounds.trailer ≤ place + length seen
+
+-- these are an object's first bytes in the file, as many as `IsFront` says
+pub record IsFrontAt (known : Option (List ℕ)) (bounds : Bounds) (place : ℕ) (seen : List ℕ) : Type 0
+  where
+    pub front : IsFront bounds place seen
+    pub lies : IfSome known (λ bytes. LiesAt bytes place seen)

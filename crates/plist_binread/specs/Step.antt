@@ -6,13 +6,12 @@ use Rattle.plist_binread.specs.Reading.{ReadsChildAt}
 use Rattle.plist_binread.specs.Remaining.{Explains, entries_of, next_number, walk_weight}
 use Rattle.plist_binread.specs.Decoding.{IsCollection}
 use Rattle.plist_binread.specs.Decoded.{IsDecodedAs, event_of_object, is_refused, small_count}
-use Rattle.plist_binread.specs.DecodeOutcome.{YieldsAnswer, YieldsNext, YieldsCurrent}
+use Rattle.plist_binread.specs.DecodeOutcome.{YieldsNext, YieldsCurrent}
 use Rattle.plist_binread.specs.Packed.{unmarked}
 use Rattle.plist_binread.specs.declared.fault_slot.StepError.{StepError}
 use Rattle.plist_base.specs.Faults.{MatchFault, kind_of, error_kind_of}
 use Rattle.plist_base.specs.declared.error.Error.{Error}
 use Rattle.plist_binread.specs.declared.enter.Known.{Known}
-use Rattle.plist_binread.specs.declared.references.Reference.{Reference}
 use Rattle.plist_binread.specs.NextChild.{IsFound, IsCurrentCached, WeightFalls, TakesNextChild}
 use Rattle.plist_format.specs.Unfolding.{TableEntry, until_fault}
 use Rattle.plist_binread.specs.Walking.{IsWalkOf, walk_objects, open_in, remaining_entering, remaining_in, weight_entering, weight_in}

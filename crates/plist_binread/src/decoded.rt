@@ -4,7 +4,7 @@ ghost use Rattle.std.specs.Prelude.{ℕ, ◌≡◌, ◌<◌, ◌≤◌};
 ghost use Rattle.plist_base.specs.Faults.{fault_of, kind_of};
 ghost use Rattle.plist_base.specs.Sources.{CountsIo};
 ghost use Rattle.plist_format.specs.Object.{Object};
-ghost use Rattle.plist_binread.specs.Decoded.{IsObjectFault, is_unread, kind_of_object_fault};
+ghost use Rattle.plist_binread.specs.Decoded.{IsObjectFault, kind_of_object_fault};
 ghost use Rattle.plist_binread.specs.Decoding.{IsRefusedAs};
 ghost use Rattle.plist_binread.specs.FaultOffsets.{FailsWithin};
 ghost use Rattle.plist_binread.specs.CountedContent.{unit_size};
@@ -47,6 +47,39 @@ pub struct Content {
     pub count: u64,
 }
 
+impl Content {
+    ghost use Rattle.std.specs.Prelude.{◌≡◌, ◌+◌, ◌^◌, ◌<◌, ◌≤◌, true, drop, length, take};
+    ghost use Rattle.plist_binread.specs.Decoded.{content_size};
+
+    // Returns the size of the content in bytes.
+    #[inline(always)]
+    fn size(self) -> u64
+        requires { content_size self < 2 ^ 64 }
+        ensures { result ≡ content_size self }
+    {
+        self.count * self.kind.unit_size()
+    }
+
+    /// Returns whether these first bytes of the object contain all of its content.
+    #[inline(always)]
+    pub fn lies_in(self, seen: &[u8]) -> bool
+        requires { content_size self < 2 ^ 64 }
+        ensures { result ≡ true → self.start + content_size self ≤ length seen.now }
+    {
+        let start = usize::from(self.start);
+        start <= seen.len() && self.size() <= (seen.len() - start) as u64
+    }
+
+    /// Returns the content of the object that begins with these bytes.
+    #[inline(always)]
+    pub fn bytes_in(self, seen: &[u8]) -> &[u8]
+        requires { self.start + content_size self ≤ length seen.now }
+        ensures { result.now ≡ take (content_size self) (drop self.start seen.now) }
+    {
+        &seen[usize::from(self.start)..][..self.size() as usize]
+    }
+}
+
 /// An object that was decoded from its first bytes, or the reason why it couldn't be decoded.
 ///
 /// Each variant has a few small fields followed by at most one `u64`, so that a value is passed in
@@ -66,26 +99,6 @@ pub enum Decoded {
     Dictionary(u64),
     /// An object that can't be decoded.
     Faulty(ObjectFault),
-    /// An object whose bytes couldn't be read. The decoder's slot stores the error.
-    Unread,
-}
-
-impl Decoded {
-    /// Returns whether the bytes of the object couldn't be read.
-    #[inline(always)]
-    pub fn is_unread(self) -> bool
-        ensures { result ≡ is_unread self }
-    {
-        match self {
-            Decoded::Unread => true,
-            Decoded::Small(..)
-            | Decoded::Date(_)
-            | Decoded::Long(..)
-            | Decoded::Array(_)
-            | Decoded::Dictionary(_)
-            | Decoded::Faulty(_) => false,
-        }
-    }
 }
 
 /// Why an object can't be decoded.

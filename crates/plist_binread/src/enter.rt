@@ -12,11 +12,12 @@ ghost use Rattle.plist_binread.specs.Handing.{Hands};
 ghost use Rattle.plist_binread.specs.Slot.{AnswersInSlot, answer_in};
 
 use crate::counter::DecodeCounter;
-use crate::decoded::Decoded;
+use crate::decoded::{Content, Decoded};
 use crate::decoder::Decoder;
 use crate::fault_slot::{FaultSlot, StepError};
-use crate::hand::{hand_decoded, hand_small};
-use crate::object::decode;
+use crate::front::decode_front;
+use crate::hand::{hand_bytes, hand_decoded, hand_small};
+use crate::object::{buffered_front, read_object};
 use crate::packed::{PackedKind, cache, is_open, mark_open};
 use crate::references::Reference;
 use crate::walk::Walk;
@@ -135,7 +136,6 @@ fn cache_or_open(walk: &mut Walk, number: u64, decoded: Decoded) -> bool
         Decoded::Date(_) => true,
         Decoded::Long(..) => true,
         Decoded::Faulty(_) => true,
-        Decoded::Unread => true,
     }
 }
 
@@ -176,10 +176,20 @@ pub fn enter<S: Source, C: DecodeCounter, V: EventVisitor>(
             None => Err(decoder.slot.refuse_memory()),
         },
         Known::At(place) => {
-            let decoded = decode(source, decoder, place);
-            if decoded.is_unread() {
-                return Err(StepError);
-            }
+            let seen = buffered_front(source, &decoder.bounds, place);
+            let decoded = if seen.is_empty() {
+                read_object(source, decoder, place)?
+            } else {
+                let decoded = decode_front(decoder, place, seen);
+                if let Decoded::Long(kind, start, count) = decoded {
+                    let content = Content { kind, start, count };
+                    if content.lies_in(seen) {
+                        let bytes = content.bytes_in(seen);
+                        return hand_bytes(kind, bytes, place, &mut decoder.slot, visitor);
+                    }
+                }
+                decoded
+            };
             if cache_or_open(walk, reference.number, decoded) {
                 return hand_decoded(source, decoder, place, decoded, visitor);
             }

@@ -6,10 +6,10 @@
 //! If an object has several faults, the first of the following is reported: the marker is invalid,
 //! the object doesn't end before the trailer, or the content is invalid.
 
-ghost use Rattle.std.specs.Prelude.{◌≡◌, ◌<◌, ◌≤◌, cond, length};
+ghost use Rattle.std.specs.Prelude.{◌≡◌, ◌-◌, ◌<◌, ◌≤◌, cond, length};
 ghost use Rattle.plist_format.specs.Object.{object_in};
 ghost use Rattle.plist_binread.specs.Decoded.{CountsSmall, DecodesAfter, DecodesSeen, small_count};
-ghost use Rattle.plist_binread.specs.Front.{ShowsContent, ShowsFront};
+ghost use Rattle.plist_binread.specs.Front.{IsFront, ShowsContent};
 ghost use Rattle.plist_binread.specs.Reading.{object_with};
 
 use crate::counted_content::{
@@ -17,6 +17,7 @@ use crate::counted_content::{
 };
 use crate::counter::DecodeCounter;
 use crate::decoded::{Decoded, ObjectFault};
+use crate::decoder::Decoder;
 use crate::fixed_content::{
     decode_date, decode_real, decode_short_real, decode_signed, decode_uid, decode_unsigned,
     decode_wide_integer,
@@ -74,8 +75,7 @@ fn is_small(decoded: Decoded) -> bool
         | Decoded::Long(..)
         | Decoded::Array(_)
         | Decoded::Dictionary(_)
-        | Decoded::Faulty(_)
-        | Decoded::Unread => false,
+        | Decoded::Faulty(_) => false,
     }
 }
 
@@ -89,29 +89,26 @@ fn count_small<C: DecodeCounter>(decoded: Decoded, counter: &mut C)
     }
 }
 
-/// Decodes the object at the front of these bytes, and counts it if it is small. The bytes reach up
-/// to the trailer, or are at least 26.
+/// Decodes the object at an offset from its first bytes, and counts it if it is small.
 ///
 /// No other function decodes small objects, so that none is decoded without being counted.
 #[inline(always)]
-pub fn decode_front<C: DecodeCounter>(
-    alloc: Global,
-    seen: &[u8],
-    to_trailer: u64,
-    width: usize,
-    counter: &mut C,
-) -> Decoded
-    requires to_trailer { length seen.now ≤ to_trailer }
-    requires some { 0 < to_trailer }
-    requires shown { ShowsFront to_trailer seen.now }
-    requires width { (0 < width) × (width ≤ 8) }
-    ensures decoded { DecodesSeen to_trailer (object_in width) seen.now result }
-    ensures counted { CountsSmall C.counts C.count counter.old counter.new result }
+pub fn decode_front<C: DecodeCounter>(decoder: &mut Decoder<C>, place: u64, seen: &[u8]) -> Decoded
+    requires { IsFront decoder.old.bounds place seen.now }
+    // Result.
+    ensures decoded { DecodesSeen (decoder.old.bounds.trailer - place)
+        (object_in decoder.old.bounds.reference_width) seen.now result }
+    // State afterwards.
+    ensures counted { CountsSmall C.counts C.count decoder.old.counter decoder.new.counter result }
+    ensures bounds { decoder.new.bounds ≡ decoder.old.bounds }
 {
+    let to_trailer = decoder.bounds.trailer - place;
+    let width = decoder.bounds.reference_width;
+    let alloc = decoder.slot.alloc;
     match seen.split_first() {
         Some((marker, rest)) => {
             let decoded = decode_after_marker(alloc, *marker, rest, to_trailer - 1, width);
-            count_small(decoded, counter);
+            count_small(decoded, &mut decoder.counter);
             decoded
         }
         None => Decoded::Faulty(ObjectFault::Overrun),

@@ -153,10 +153,10 @@ fn hand_wide_text<V: EventVisitor>(
     hand_read(read, slot, visitor)
 }
 
-// Hands over the string or data in these bytes, or stores the error of the object at this offset if
-// a string is invalid.
+/// Hands over the string or data in these bytes, or stores the error of the object at this offset
+/// if a string is invalid.
 #[inline(always)]
-fn hand_bytes<V: EventVisitor>(
+pub fn hand_bytes<V: EventVisitor>(
     kind: ContentKind,
     bytes: &[u8],
     place: u64,
@@ -204,41 +204,8 @@ fn hand_far<S: Source, V: EventVisitor>(
     hand_read(read, slot, visitor)
 }
 
-// Hands over the string or data of the object at this offset.
-//
-// Its bytes are borrowed from the source if all of them are buffered, and are otherwise read into
-// new memory.
-#[inline(always)]
-fn hand_content<S: Source, V: EventVisitor>(
-    source: &mut S,
-    place: u64,
-    content: Content,
-    slot: &mut FaultSlot,
-    visitor: &mut V,
-) -> Result<ControlFlow<()>, StepError>
-    requires fits { EndsIn64Bits place content }
-    requires long { IsLong content }
-    // Result.
-    ensures handed { Hands V.step visitor.old visitor.new result (λ event.
-        SetsContentAt (S.known source.old) place content (answer_in result slot.new) event
-        × OnOk result (is_small_event event ≡ false)) }
-    // Errors.
-    ensures fault { FailsInContent place content (answer_in result slot.new) }
-    // State afterwards.
-    ensures unchanged { S.known source.new ≡ S.known source.old }
-    ensures failures { AnswersInSlot S.failures result slot.new source.old source.new }
-{
-    let start = usize::from(content.start);
-    let size = content.count * content.kind.unit_size();
-    let buffered = source.buffered(place);
-    if start <= buffered.len() && size <= (buffered.len() - start) as u64 {
-        let bytes = &buffered[start..][..size as usize];
-        return hand_bytes(content.kind, bytes, place, slot, visitor);
-    }
-    hand_far(source, place, content, slot, visitor)
-}
-
-/// Hands over the first event of the object at this offset, or stores its error if it is faulty.
+/// Hands over the first event of the object at this offset, or stores its error if it is faulty. A
+/// long string or long data is read into new memory.
 #[inline(always)]
 pub fn hand_decoded<S: Source, C: DecodeCounter, V: EventVisitor>(
     source: &mut S,
@@ -270,11 +237,10 @@ pub fn hand_decoded<S: Source, C: DecodeCounter, V: EventVisitor>(
         Decoded::Date(content) => hand_date(content, place, &mut decoder.slot, visitor),
         Decoded::Long(kind, start, count) => {
             let content = Content { kind, start, count };
-            hand_content(source, place, content, &mut decoder.slot, visitor)
+            hand_far(source, place, content, &mut decoder.slot, visitor)
         }
         Decoded::Array(count) => Ok(visitor.start_array(Some(count))),
         Decoded::Dictionary(count) => Ok(visitor.start_dictionary(Some(count))),
         Decoded::Faulty(fault) => Err(decoder.slot.refuse_object(fault, place)),
-        Decoded::Unread => unreachable!(),
     }
 }

@@ -9,8 +9,9 @@ use Rattle.plist_binread.specs.Remaining.{scalar_at}
 use Rattle.plist_binread.proofs.WalkSteps.{yields_scalar, steps_positive}
 use Rattle.plist_binread.proofs.OpenObjects.{not_open, cached_count-keep}
 use Rattle.plist_binread.proofs.WalkInvariant.{as_many, known_kept}
+use Rattle.plist_binread.proofs.ObjectEntry.{long_opens}
 use Rattle.plist_binread.proofs.PackedScalars.{kind_of_tag-some}
-use Rattle.plist_binread.proofs.Decoding.{collection-named, named-date, named-long, named-scalar}
+use Rattle.plist_binread.proofs.Decoding.{collection-named, named-date, named-scalar}
 use Rattle.plist_binread.proofs.enter.cache_or_open.Goals as goal
 
 pub returns-in-Small-clause-counted : goal.returns-in-Small-clause-counted
@@ -54,14 +55,9 @@ pub returns-in-Long-clause-falls : goal.returns-in-Long-clause-falls
 returns-in-Long-clause-falls c = λ _. omega (arith, steps_positive)
 
 pub returns-in-Long-clause-yields : goal.returns-in-Long-clause-yields
-returns-in-Long-clause-yields c = λ _ bytes bounds entry all k is found.
-    let d = rw c.in-Long.is at found in (
-      (λ at event _ named. yields_scalar _ _ (as_many _ _ _ _ _ k) _ at _ _
-          c.args.walk.now.path c.requires.below is
-          (not_open c.args.walk.now.path c.requires.below c.requires.new) event
-          (named-long entry.object _ _ event d.1 named)),
-      k,
-    )
+returns-in-Long-clause-yields c =
+    rw c.in-Long.is (λ _. long_opens c.args.number c.in-Long.field-1 c.in-Long.field-2 c.in-Long.field-0
+    c.args.walk.now c.requires.below c.requires.new)
 
 pub returns-in-Array-clause-yields : goal.returns-in-Array-clause-yields
 returns-in-Array-clause-yields c = λ done bytes bounds entry all k is found.
@@ -99,10 +95,3 @@ returns-in-Faulty-clause-yields c = λ _ bytes bounds entry all k is found. (
   (λ at event fine named. absurd (false≢true (sym (rw c.in-Faulty.is at fine)))),
   k,
 )
-
-pub returns-in-Unread-clause-falls : goal.returns-in-Unread-clause-falls
-returns-in-Unread-clause-falls c = λ _. omega (arith, steps_positive)
-
-pub returns-in-Unread-clause-yields : goal.returns-in-Unread-clause-yields
-returns-in-Unread-clause-yields c = λ _ bytes bounds entry all k is found.
-    absurd (rw c.in-Unread.is at found)

@@ -1,15 +1,23 @@
-use Rattle.std.proofs.Common.{◌≡◌, ◌<◌, true, arith, get_or, IfSome, ap, refl, rules, ◌∙◌}
+use Rattle.std.proofs.Common.{◌≡◌, ℕ, ◌<◌, true, arith, get_or, length, List, Option, IfSome, ap, refl, rules, subst, sym, ◌∙◌}
 use Rattle.plist_base.specs.Events.{EndCollection}
-use Rattle.plist_binread.proofs.Decoding.{cached_if, fits_walk}
-use Rattle.plist_binread.proofs.ObjectEntry.{IsDecodedAt, known_decoded, on_answer, known_opens, known_read, known_refused, known_set, known_unpacked, known_unread}
+use Rattle.plist_binread.proofs.Decoding.{borrowed_sets, cached_if, fits_walk, large_unlike, long_bytes, long_sets, seen_decodes, seen_fits}
+use Rattle.plist_binread.proofs.FaultOffsets.{err_within, passed}
+use Rattle.plist_binread.proofs.ObjectEntry.{IsDecodedAt, always_ok, known_decoded, known_opens, known_refused, known_set, known_unpacked, long_opens, on_answer}
+use Rattle.std.proofs.lemmas.List.{length-drop, length-take-le}
 use Rattle.std.proofs.lemmas.Option.{IfSome_then}
 use Rattle.plist_binread.proofs.WalkInvariant.{known_full, unfound_memory}
 use Rattle.plist_binread.proofs.UnknownBytes.{IfSome-all}
 use Rattle.plist_binread.proofs.WalkSteps.{steps_positive}
+use Rattle.plist_binread.specs.Decoded.{DecodesAt, FitsBefore}
+use Rattle.plist_binread.specs.Front.{IsFrontAt}
+use Rattle.plist_binread.specs.declared.decoded.Content.{Content}
+use Rattle.plist_binread.specs.declared.decoded.Decoded.{Decoded}
+use Rattle.plist_binread.specs.declared.head.Bounds.{Bounds}
+use Rattle.plist_binread.specs.declared.decoded.Decoded.TheVariants as decoded
 use Rattle.plist_binread.specs.Packed.{is_small_event, scalar_event, unmarked}
 use Rattle.plist_binread.specs.Slot.{answer_in}
 use Rattle.plist_binread.proofs.enter.enter.Goals as goal
-use Rattle.plist_binread.proofs.enter.enter.Goals.{After-cache_or_open}
+use Rattle.plist_binread.proofs.enter.enter.Goals.{After-cache_or_open, In-Long, else-is_empty+in-Long+else-lies_in, else-is_empty+in_default, then-is_empty+in_ok-decoded-in-At}
 
 pub returns-in-Some-clause-falls : goal.returns-in-Some-clause-falls
 returns-in-Some-clause-falls g c = omega (arith, steps_positive)
@@ -47,49 +55,163 @@ returns-in-None-clause-handed g c =
       taken = c.in-None.ensures.1;
     }
 
-pub returns-then-is_unread-clause-handed : goal.returns-then-is_unread-clause-handed
-returns-then-is_unread-clause-handed g c = record {
-  event = EndCollection;
-  is = (
-    known_refused _ _ c.args.walk.now c.args.reference.number c.requires.known c.in_ok-kind.ensures.below
-        c.args.reference.at c.in-At.place c.decode-decoded.new.decoder.slot.fault c.in_ok-kind.ensures.new
-        (rw c.in-At.is at c.in_ok-kind.ensures.found)
-        (known_unread _ c.args.decoder.now.bounds c.in-At.place _ c.decode-decoded.new.decoder.slot
-        (search rules) c.decode-decoded.ensures.decoded),
-    IfSome-all _ (λ _. tt),
-  );
-  taken = refl;
-}
+pub returns-in_err-decoded-in-At-clause-handed : goal.returns-in_err-decoded-in-At-clause-handed
+returns-in_err-decoded-in-At-clause-handed g c =
+    rw (passed _ c.from_residual-in_err-decoded-in-At.ensures.1) (record {
+      event = EndCollection;
+      is = (
+        known_refused _ _ c.args.walk.now c.args.reference.number c.requires.known
+            c.in_ok-kind.ensures.below c.args.reference.at c.in-At.place _ c.in_ok-kind.ensures.new
+            (rw c.in-At.is at c.in_ok-kind.ensures.found) c.in_err-decoded-in-At.ensures.refused,
+        IfSome-all _ (λ _. tt),
+      );
+      taken = refl;
+    })
+
+-- a long string or long data that was decoded ends before the trailer
+long_fits : (g : _) (c : In-Long g) → FitsBefore c.args.decoder.now.bounds.trailer c.in-At.place
+    (decoded.Long c.in-Long.kind c.in-Long.start c.in-Long.count)
+long_fits g c =
+    subst (FitsBefore c.args.decoder.now.bounds.trailer c.in-At.place) c.in-Long.is
+    (seen_fits c.args.decoder.now.bounds c.in-At.place c.buffered_front-seen.result.now
+    c.decode_front-decoded.result (search rules) c.decode_front-decoded.ensures.decoded)
+
+pub lies_in-requires : goal.lies_in-requires
+lies_in-requires g c =
+    let fits = long_fits g (goal.at.lies_in-requires g c).In-Long in
+    let small = c.args.decoder.now.bounds.small in
+    omega (arith, fits.0, small)
+
+pub hand_bytes-requires-clause-long : goal.hand_bytes-requires-clause-long
+hand_bytes-requires-clause-long g c =
+    let fits = long_fits g (goal.at.hand_bytes-requires-clause-long g c).In-Long in
+    let within = c.lies_in.ensures c.if-lies_in.true in
+    let rest = length-drop c.in-Long.start c.buffered_front-seen.result.now in
+    long_bytes c.in-Long.kind c.in-Long.count c.bytes_in-bytes.result.now
+    (ap length c.bytes_in-bytes.ensures ∙ length-take-le _ _ (omega (arith, within, rest))) fits.1
+
+pub returns-then-lies_in-clause-fault : goal.returns-then-lies_in-clause-fault
+returns-then-lies_in-clause-fault g c =
+    err_within _ c.in-At.place c.args.decoder.now.bounds.trailer 0 c.args.decoder.now.bounds.trailer
+    (c.hand_bytes.ensures.fault c.args.decoder.now.bounds.trailer) (omega arith) (omega arith)
+
+pub returns-then-lies_in-clause-falls : goal.returns-then-lies_in-clause-falls
+returns-then-lies_in-clause-falls g c =
+    always_ok _ c.hand_bytes.result (omega (arith, steps_positive))
+
+-- the first bytes of the object are buffered
+seen_front : (g : _) (c : In-Long g) → IsFrontAt (g.S.Source.known c.args.source.now)
+    c.args.decoder.now.bounds c.in-At.place c.buffered_front-seen.result.now
+seen_front g c = c.buffered_front-seen.ensures (search rules)
+
+pub returns-then-lies_in-clause-handed : goal.returns-then-lies_in-clause-handed
+returns-then-lies_in-clause-handed g c =
+    let at = (goal.at.returns-then-lies_in-clause-handed g c).In-Long in
+    let bounds = c.args.decoder.now.bounds in
+    let content : Content
+    = record { kind = c.in-Long.kind; start = c.in-Long.start; count = c.in-Long.count } in
+    let long = decoded.Long c.in-Long.kind c.in-Long.start c.in-Long.count in
+    let h = c.hand_bytes.ensures.handed in
+    let answer = answer_in c.hand_bytes.result c.hand_bytes.new.slot in
+    let front = seen_front g at in
+    let there = known_decoded _ bounds c.args.walk.now c.args.reference.number c.requires.known
+    c.in_ok-kind.ensures.below c.in-At.place long (rw c.in-At.is at c.in_ok-kind.ensures.found)
+    (subst (DecodesAt (g.S.Source.known c.args.source.now) bounds c.in-At.place) c.in-Long.is
+    (seen_decodes _ bounds c.in-At.place _ c.decode_front-decoded.result front
+    c.decode_front-decoded.ensures.decoded)) in
+    let sets = long_sets _ bounds c.in-At.place content answer h.event (long_fits g at).0
+    (borrowed_sets _ c.in-At.place content c.buffered_front-seen.result.now answer h.event front.lies
+    (c.lies_in.ensures c.if-lies_in.true) (rw c.bytes_in-bytes.ensures at h.is.0)) in
+    record {
+      event = h.event;
+      is = (
+        known_set _ bounds c.args.walk.now c.args.reference.number c.requires.known
+            c.in_ok-kind.ensures.below c.args.reference.at c.in-At.place long c.args.walk.now _ answer
+            h.event refl c.in_ok-kind.ensures.new there
+            (long_opens c.args.reference.number c.in-Long.start c.in-Long.count c.in-Long.kind
+            c.args.walk.now c.in_ok-kind.ensures.below (search rules)) sets (always_ok _ answer refl),
+        cached_if _ c.args.reference.number c.hand_bytes.result c.hand_bytes.new.slot h.event long
+            c.args.walk.now.tags.items (large_unlike c.hand_bytes.result long h.event h.is.1)
+            (λ no. absurd (cc)),
+      );
+      taken = h.taken;
+    }
 
 pub cache_or_open-requires-clause-fits : goal.cache_or_open-requires-clause-fits
 cache_or_open-requires-clause-fits g c =
-    fits_walk c.args.decoder.now.bounds c.in-At.place _ (c.decode-decoded.ensures.fits (search rules))
+    let bounds = c.args.decoder.now.bounds in
+    let seen = c.buffered_front-seen.result.now in
+    fits_walk bounds c.in-At.place _ (elim c.if-is_empty.branch [
+      | then-is_empty+in_ok-decoded-in-At w ↦
+          subst (FitsBefore bounds.trailer c.in-At.place) (sym w.decoded-is)
+          w.in_ok-decoded-in-At.ensures.fits
+      | else-is_empty+in-Long+else-lies_in w ↦
+          subst (FitsBefore bounds.trailer c.in-At.place) (w.in-Long.is ∙ sym w.decoded-is) (seen_fits bounds
+          c.in-At.place seen w.decode_front-decoded.result (search rules)
+          w.decode_front-decoded.ensures.decoded)
+      | else-is_empty+in_default w ↦
+          subst (FitsBefore bounds.trailer c.in-At.place) (sym w.decoded-is) (seen_fits bounds
+          c.in-At.place seen w.decode_front-decoded.result (search rules)
+          w.decode_front-decoded.ensures.decoded)
+    ])
+
+-- an object was decoded, and the source and the bounds are unchanged
+record Fetched (known now : Option (List ℕ)) (bounds left : Bounds) (place : ℕ) (d : Decoded) : Type 0
+  where
+    decodes : DecodesAt known bounds place d
+    fits : FitsBefore bounds.trailer place d
+    unchanged : now ≡ known
+    same : left ≡ bounds
+
+fetched : (g : _) (c : After-cache_or_open g) → Fetched (g.S.Source.known c.args.source.now)
+    (g.S.Source.known c.if-is_empty.source) c.args.decoder.now.bounds c.if-is_empty.decoder.bounds
+    c.in-At.place c.if-is_empty.decoded
+fetched g c =
+    let known = g.S.Source.known c.args.source.now in
+    let bounds = c.args.decoder.now.bounds in
+    let seen = c.buffered_front-seen.result.now in
+    elim c.if-is_empty.branch [
+      | then-is_empty+in_ok-decoded-in-At w ↦ record {
+        decodes = subst (DecodesAt known bounds c.in-At.place) (sym w.decoded-is)
+            w.in_ok-decoded-in-At.ensures.decoded;
+        fits = subst (FitsBefore bounds.trailer c.in-At.place) (sym w.decoded-is)
+            w.in_ok-decoded-in-At.ensures.fits;
+        unchanged = rw w.source-is w.in_ok-decoded-in-At.ensures.unchanged;
+        same = rw w.decoder-is w.in_ok-decoded-in-At.ensures.bounds;
+      }
+      | else-is_empty+in-Long+else-lies_in w ↦ record {
+        decodes = subst (DecodesAt known bounds c.in-At.place) (w.in-Long.is ∙ sym w.decoded-is) (seen_decodes known
+            bounds c.in-At.place seen w.decode_front-decoded.result
+            (c.buffered_front-seen.ensures (search rules)) w.decode_front-decoded.ensures.decoded);
+        fits = subst (FitsBefore bounds.trailer c.in-At.place) (w.in-Long.is ∙ sym w.decoded-is) (seen_fits bounds
+            c.in-At.place seen w.decode_front-decoded.result (search rules)
+            w.decode_front-decoded.ensures.decoded);
+        unchanged = rw w.source-is refl;
+        same = rw w.decoder-is w.decode_front-decoded.ensures.bounds;
+      }
+      | else-is_empty+in_default w ↦ record {
+        decodes = subst (DecodesAt known bounds c.in-At.place) (sym w.decoded-is) (seen_decodes known
+            bounds c.in-At.place seen w.decode_front-decoded.result
+            (c.buffered_front-seen.ensures (search rules)) w.decode_front-decoded.ensures.decoded);
+        fits = subst (FitsBefore bounds.trailer c.in-At.place) (sym w.decoded-is) (seen_fits bounds
+            c.in-At.place seen w.decode_front-decoded.result (search rules)
+            w.decode_front-decoded.ensures.decoded);
+        unchanged = rw w.source-is refl;
+        same = rw w.decoder-is w.decode_front-decoded.ensures.bounds;
+      }
+    ]
+
+pub hand_decoded-requires : goal.hand_decoded-requires
+hand_decoded-requires g c =
+    let f = fetched g (goal.at.hand_decoded-requires g c).After-cache_or_open in rw f.same f.fits
 
 -- the object of the reference was decoded
 there : (g : _) (c : After-cache_or_open g)
     → IfSome (g.S.Source.known c.args.source.now) (λ bytes. IsDecodedAt bytes c.args.decoder.now.bounds
-    c.args.reference.number c.in-At.place c.decode-decoded.result)
+    c.args.reference.number c.in-At.place c.if-is_empty.decoded)
 there g c =
     known_decoded _ _ c.args.walk.now _ c.requires.known c.in_ok-kind.ensures.below _ _
-    c.decode-decoded.new.decoder.slot (rw c.in-At.is at c.in_ok-kind.ensures.found) (search rules)
-    c.decode-decoded.ensures.decoded
-
-pub returns-else-cache_or_open-clause-handed : goal.returns-else-cache_or_open-clause-handed
-returns-else-cache_or_open-clause-handed g c = record {
-  event = EndCollection;
-  is = (
-    known_refused _ _ c.args.walk.now c.args.reference.number c.requires.known
-        c.in_ok-kind.ensures.below c.args.reference.at c.in-At.place _ c.in_ok-kind.ensures.new
-        (rw c.in-At.is at c.in_ok-kind.ensures.found)
-        (known_full _ c.args.decoder.now.bounds c.in-At.place
-        c.decode-decoded.result c.refuse_memory-in-At.new.self.fault c.refuse_memory-in-At.ensures.fault
-        (c.cache_or_open.ensures.wanted c.if-cache_or_open.false)
-        (known_read _ c.args.decoder.now.bounds c.in-At.place _ c.decode-decoded.new.decoder.slot (search rules)
-        c.decode-decoded.ensures.decoded)),
-    IfSome-all _ (λ _. tt),
-  );
-  taken = refl;
-}
+    (rw c.in-At.is at c.in_ok-kind.ensures.found) (fetched g c).decodes
 
 pub returns-then-cache_or_open-clause-known : goal.returns-then-cache_or_open-clause-known
 returns-then-cache_or_open-clause-known g c =
@@ -98,8 +220,27 @@ returns-then-cache_or_open-clause-known g c =
     (there g (goal.at.returns-then-cache_or_open-clause-known g c).After-cache_or_open)
     (c.cache_or_open.ensures.yields c.if-cache_or_open.true)
 
+pub returns-else-cache_or_open-clause-handed : goal.returns-else-cache_or_open-clause-handed
+returns-else-cache_or_open-clause-handed g c =
+    let f = fetched g (goal.at.returns-else-cache_or_open-clause-handed g c).After-cache_or_open in
+    record {
+      event = EndCollection;
+      is = (
+        known_refused _ _ c.args.walk.now c.args.reference.number c.requires.known
+            c.in_ok-kind.ensures.below c.args.reference.at c.in-At.place _ c.in_ok-kind.ensures.new
+            (rw c.in-At.is at c.in_ok-kind.ensures.found)
+            (known_full _ c.args.decoder.now.bounds c.in-At.place c.if-is_empty.decoded
+            c.refuse_memory-in-At.new.self.fault c.refuse_memory-in-At.ensures.fault
+            (c.cache_or_open.ensures.wanted c.if-cache_or_open.false) f.decodes),
+        IfSome-all _ (λ _. tt),
+      );
+      taken = refl;
+    }
+
 pub returns-then-cache_or_open-clause-handed : goal.returns-then-cache_or_open-clause-handed
 returns-then-cache_or_open-clause-handed g c =
+    let at = (goal.at.returns-then-cache_or_open-clause-handed g c).After-cache_or_open in
+    let f = fetched g at in
     let h = c.hand_decoded.ensures.handed in
     record {
       event = h.event;
@@ -107,18 +248,12 @@ returns-then-cache_or_open-clause-handed g c =
         known_set _ _ c.args.walk.now c.args.reference.number c.requires.known c.in_ok-kind.ensures.below
             c.args.reference.at c.in-At.place _ c.cache_or_open.new.walk _
             (answer_in c.hand_decoded.result c.hand_decoded.new.decoder.slot) h.event
-            c.decode-decoded.ensures.unchanged c.in_ok-kind.ensures.new
-            (there g (goal.at.returns-then-cache_or_open-clause-handed g c).After-cache_or_open)
-            (c.cache_or_open.ensures.yields c.if-cache_or_open.true)
-            (rw c.decode-decoded.ensures.bounds at h.is.0)
+            f.unchanged c.in_ok-kind.ensures.new (there g at)
+            (c.cache_or_open.ensures.yields c.if-cache_or_open.true) (rw f.same at h.is.0)
             (on_answer _ c.hand_decoded.result c.hand_decoded.new.decoder.slot c.hand_decoded.ensures.found),
         cached_if _ c.args.reference.number c.hand_decoded.result c.hand_decoded.new.decoder.slot h.event
-            c.decode-decoded.result c.cache_or_open.new.walk.tags.items h.is.1
+            c.if-is_empty.decoded c.cache_or_open.new.walk.tags.items h.is.1
             c.cache_or_open.ensures.cached,
       );
       taken = h.taken;
     }
-
-pub hand_decoded-requires : goal.hand_decoded-requires
-hand_decoded-requires g c =
-    rw c.decode-decoded.ensures.bounds (c.decode-decoded.ensures.fits (search rules))

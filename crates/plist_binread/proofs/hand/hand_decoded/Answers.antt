@@ -4,7 +4,7 @@ use Rattle.plist_binread.proofs.hand.hand_decoded.Goals as goal
 
 pub returns-in-Long-clause-handed : goal.returns-in-Long-clause-handed
 returns-in-Long-clause-handed g c =
-    let h = c.hand_content.ensures.handed in
+    let h = c.hand_far.ensures.handed in
     let fits = rw c.in-Long.is at c.requires in
     record {
       event = h.event;
@@ -14,8 +14,8 @@ returns-in-Long-clause-handed g c =
           start = c.in-Long.start;
           count = c.in-Long.count;
         })
-            (answer_in c.hand_content.result c.hand_content.new.slot) h.event fits.0 h.is.0),
-        large_unlike c.hand_content.result c.args.decoded h.event h.is.1,
+            (answer_in c.hand_far.result c.hand_far.new.slot) h.event fits.0 h.is.0),
+        large_unlike c.hand_far.result c.args.decoded h.event h.is.1,
       );
       taken = h.taken;
     }
