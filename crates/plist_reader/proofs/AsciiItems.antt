@@ -151,7 +151,8 @@ ascii-items dialect (Some bytes) l e is =
 -- ---- under limits
 
 abbrev PassesNext : (old : LimitCounter) (asked item : Given) (new : LimitCounter) (ended : Bool) → Type 0
-PassesNext = PassesAllowed limited_by IsLimitReached
+PassesNext old asked item new ended =
+    PassesAllowed limited_by IsLimitReached old asked item (new, ended)
 
 abbrev come : Bool → LimitCounter → List Item → List Item
 come ended limiter items = cond ended [] (limited_by limiter items)
