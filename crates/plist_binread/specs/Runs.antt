@@ -8,7 +8,6 @@ use Rattle.plist_base.specs.Sources.{LiesAt}
 use Rattle.plist_binread.specs.Reading.{AreReferencesOf}
 use Rattle.plist_binread.specs.declared.head.Bounds.{Bounds}
 use Rattle.plist_binread.specs.declared.run.Run.{Run}
-use Rattle.plist_binread.specs.declared.references.CollectionReferences.{CollectionReferences}
 use Rattle.plist_binread.specs.declared.references.ReferenceReader.{ReferenceReader}
 
 -- if the bytes of the source are known, these bytes lie at the offset
@@ -19,19 +18,14 @@ LieAt known place found = IfSome known (λ bytes. LiesAt bytes place found)
 abbrev pub IsRunOf : (known : Option (List ℕ)) → Run → Type 0
 IsRunOf known run = LieAt known run.at (take run.len run.bytes)
 
--- the runs of a collection are copies of bytes of the source
-abbrev pub AreRunsOf : (known : Option (List ℕ)) → CollectionReferences → Type 0
+-- the runs of a reader are copies of bytes of the source
+abbrev pub AreRunsOf : (known : Option (List ℕ)) → ReferenceReader → Type 0
 AreRunsOf known references = IsRunOf known references.near × IsRunOf known references.values
 
 -- the location of the references is right, and the runs are copies of bytes of the source
-abbrev pub KnowsCollection : (known : Option (List ℕ)) → Bounds → CollectionReferences → Type 0
-KnowsCollection known bounds references =
-    AreReferencesOf known bounds references.site × AreRunsOf known references
-
--- `KnowsCollection` is true of both collections of the reader
 abbrev pub KnowsReferences : (known : Option (List ℕ)) → Bounds → ReferenceReader → Type 0
 KnowsReferences known bounds references =
-    KnowsCollection known bounds references.current × KnowsCollection known bounds references.previous
+    AreReferencesOf known bounds references.site × AreRunsOf known references
 
 -- ---- equations between lists of bytes
 

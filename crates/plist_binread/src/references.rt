@@ -17,7 +17,6 @@ use crate::numbers::read_unbuffered_number;
 use crate::run::Run;
 use plist_base::{Source, read_exact_at};
 use plist_format::{CountedKind, Marker};
-use std::mem;
 
 /// A reference to an object.
 #[derive(Clone, Copy)]
@@ -195,14 +194,14 @@ fn read_reference<S: Source>(
     }
 }
 
-/// The references of one collection: where they lie, and copies of the bytes around those that were
-/// read last.
+/// Reads the references of collections.
 ///
-/// The references to consecutive children are read from these copies without asking the source
-/// again.
+/// The reader stores the location of the last collection's references, and copies of the bytes
+/// around the references that were read last. The references to consecutive children are read from
+/// these copies without asking the source again.
 #[derive(Clone, Copy)]
-pub struct CollectionReferences {
-    /// The location of the references.
+pub struct ReferenceReader {
+    /// The location of the last collection's references.
     pub site: References,
     /// A copy of bytes from which references are read.
     pub near: Run,
@@ -211,20 +210,20 @@ pub struct CollectionReferences {
     pub values: Run,
 }
 
-impl CollectionReferences {
-    ghost use Rattle.std.specs.Prelude.{◌≡◌, ◌^◌, ◌≤◌, IfErr, OnOk, Option, List, ℕ};
+impl ReferenceReader {
+    ghost use Rattle.std.specs.Prelude.{◌≡◌, ◌^◌, ◌≤◌, IfErr, IfOk, OnOk, Option, List, ℕ};
     ghost use Rattle.plist_binread.specs.FaultOffsets.{ErrWithin};
-    ghost use Rattle.plist_binread.specs.Reading.{IfFound, IsNumberAt};
-    ghost use Rattle.plist_binread.specs.Runs.{AreRunsOf, KnowsCollection};
+    ghost use Rattle.plist_binread.specs.Reading.{IfFound, IsNumberAt, ReadsChildAt};
+    ghost use Rattle.plist_binread.specs.Runs.{AreRunsOf, KnowsReferences};
     ghost use Rattle.plist_binread.specs.Slot.{AnswersInSlot, answer_in};
     ghost use Rattle.plist_binread.specs.Step.{RefusesEach};
 
-    // Creates the references of no collection.
-    fn new() -> Self
+    /// Creates a reader that hasn't located any references yet.
+    pub fn new() -> Self
         ensures place { result.site.place ≡ 2 ^ 64 - 1 }
         ensures runs { (known : Option (List ℕ)) → AreRunsOf known result }
     {
-        CollectionReferences {
+        ReferenceReader {
             site: References::none(),
             near: Run::new(),
             values: Run::new(),
@@ -232,7 +231,7 @@ impl CollectionReferences {
     }
 
     // Locates the references of the collection at an offset.
-    #[inline(always)]
+    #[inline(never)]
     fn locate<S: Source>(
         &mut self,
         source: &mut S,
@@ -240,7 +239,7 @@ impl CollectionReferences {
         place: u64,
         slot: &mut FaultSlot,
     ) -> Result<(), StepError>
-        requires known { KnowsCollection (S.known source.old) bounds.now self.old }
+        requires known { KnowsReferences (S.known source.old) bounds.now self.old }
         // Result.
         ensures place { OnOk result (self.new.site.place ≡ place) }
         // Errors.
@@ -248,7 +247,7 @@ impl CollectionReferences {
             slot.new) }
         ensures fault { ErrWithin place bounds.now.trailer (answer_in result slot.new) }
         // State afterwards.
-        ensures known { KnowsCollection (S.known source.old) bounds.now self.new }
+        ensures known { KnowsReferences (S.known source.old) bounds.now self.new }
         ensures unchanged { S.known source.new ≡ S.known source.old }
         ensures failures { AnswersInSlot S.failures result slot.new source.old source.new }
     {
@@ -272,6 +271,37 @@ impl CollectionReferences {
         Ok(())
     }
 
+    // Locates the references of the collection at an offset, unless they are known from the last
+    // call.
+    #[inline(always)]
+    fn turn_to<S: Source, C: DecodeCounter>(
+        &mut self,
+        source: &mut S,
+        decoder: &mut Decoder<C>,
+        place: u64,
+    ) -> Result<(), StepError>
+        requires known { KnowsReferences (S.known source.old) decoder.old.bounds self.old }
+        // Result.
+        ensures place { OnOk result (self.new.site.place ≡ place) }
+        // Errors.
+        ensures refused { IfErr result (RefusesEach (S.known source.old) decoder.old.bounds place
+            decoder.new.slot) }
+        ensures fault { ErrWithin place decoder.old.bounds.trailer
+            (answer_in result decoder.new.slot) }
+        // State afterwards.
+        ensures known { KnowsReferences (S.known source.old) decoder.old.bounds self.new }
+        ensures bounds { decoder.new.bounds ≡ decoder.old.bounds }
+        ensures counter { decoder.new.counter ≡ decoder.old.counter }
+        ensures unchanged { S.known source.new ≡ S.known source.old }
+        ensures failures { AnswersInSlot S.failures result decoder.new.slot source.old source.new }
+    {
+        if self.site.place == place {
+            return Ok(());
+        }
+        let bounds = decoder.bounds;
+        self.locate(source, &bounds, place, &mut decoder.slot)
+    }
+
     // Returns the reference to a child at offset `at`, or `None` if it isn't buffered.
     #[inline(always)]
     fn buffered_reference<S: Source>(
@@ -292,99 +322,6 @@ impl CollectionReferences {
             None if self.site.is_value(index) => self.values.read(source, at, width),
             None => self.near.read(source, at, width),
         }
-    }
-}
-
-/// Reads the references of collections.
-///
-/// The references of the last two collections are known, so that those of a collection needn't be
-/// located again after one of its children was read that has no collections in it.
-#[derive(Clone, Copy)]
-pub struct ReferenceReader {
-    /// The references of the last collection.
-    pub current: CollectionReferences,
-    /// The references of the last collection before that one.
-    pub previous: CollectionReferences,
-}
-
-impl ReferenceReader {
-    ghost use Rattle.std.specs.Prelude.{◌≡◌, ◌^◌, IfErr, OnOk, Option, List, ℕ};
-    ghost use Rattle.plist_binread.specs.FaultOffsets.{ErrWithin};
-    ghost use Rattle.plist_binread.specs.Reading.{ReadsChildAt};
-    ghost use Rattle.plist_binread.specs.Runs.{AreRunsOf, KnowsReferences};
-    ghost use Rattle.plist_binread.specs.Slot.{AnswersInSlot, answer_in};
-    ghost use Rattle.plist_binread.specs.Step.{RefusesEach};
-
-    /// Creates a reader that hasn't located any references yet.
-    pub fn new() -> Self
-        ensures current { result.current.site.place ≡ 2 ^ 64 - 1 }
-        ensures previous { result.previous.site.place ≡ 2 ^ 64 - 1 }
-        ensures current_runs { (known : Option (List ℕ)) → AreRunsOf known result.current }
-        ensures previous_runs { (known : Option (List ℕ)) → AreRunsOf known result.previous }
-    {
-        ReferenceReader {
-            current: CollectionReferences::new(),
-            previous: CollectionReferences::new(),
-        }
-    }
-
-    // Makes the collection at an offset the current one, which it isn't. Its references are located
-    // unless it was the previous one.
-    #[inline(never)]
-    fn change_to<S: Source>(
-        &mut self,
-        source: &mut S,
-        bounds: &Bounds,
-        place: u64,
-        slot: &mut FaultSlot,
-    ) -> Result<(), StepError>
-        requires known { KnowsReferences (S.known source.old) bounds.now self.old }
-        // Result.
-        ensures place { OnOk result (self.new.current.site.place ≡ place) }
-        // Errors.
-        ensures refused { IfErr result (RefusesEach (S.known source.old) bounds.now place
-            slot.new) }
-        ensures fault { ErrWithin place bounds.now.trailer (answer_in result slot.new) }
-        // State afterwards.
-        ensures known { KnowsReferences (S.known source.old) bounds.now self.new }
-        ensures unchanged { S.known source.new ≡ S.known source.old }
-        ensures failures { AnswersInSlot S.failures result slot.new source.old source.new }
-    {
-        mem::swap(&mut self.current, &mut self.previous);
-        if self.current.site.place == place {
-            return Ok(());
-        }
-        self.current.locate(source, bounds, place, slot)
-    }
-
-    // Makes the collection at an offset the current one.
-    #[inline(always)]
-    fn turn_to<S: Source, C: DecodeCounter>(
-        &mut self,
-        source: &mut S,
-        decoder: &mut Decoder<C>,
-        place: u64,
-    ) -> Result<(), StepError>
-        requires known { KnowsReferences (S.known source.old) decoder.old.bounds self.old }
-        // Result.
-        ensures place { OnOk result (self.new.current.site.place ≡ place) }
-        // Errors.
-        ensures refused { IfErr result (RefusesEach (S.known source.old) decoder.old.bounds place
-            decoder.new.slot) }
-        ensures fault { ErrWithin place decoder.old.bounds.trailer
-            (answer_in result decoder.new.slot) }
-        // State afterwards.
-        ensures known { KnowsReferences (S.known source.old) decoder.old.bounds self.new }
-        ensures bounds { decoder.new.bounds ≡ decoder.old.bounds }
-        ensures counter { decoder.new.counter ≡ decoder.old.counter }
-        ensures unchanged { S.known source.new ≡ S.known source.old }
-        ensures failures { AnswersInSlot S.failures result decoder.new.slot source.old source.new }
-    {
-        if self.current.site.place == place {
-            return Ok(());
-        }
-        let bounds = decoder.bounds;
-        self.change_to(source, &bounds, place, &mut decoder.slot)
     }
 
     /// Reads the reference to a child of the collection at an offset, and returns the child's
@@ -414,9 +351,9 @@ impl ReferenceReader {
         self.turn_to(source, decoder, place)?;
         let trailer = decoder.bounds.trailer;
         let width = decoder.bounds.reference_width;
-        match reference_place(&self.current.site, index, width) {
+        match reference_place(&self.site, index, width) {
             Some(at) if at < trailer && width as u64 <= trailer - at => {
-                match self.current.buffered_reference(source, index, at, width) {
+                match self.buffered_reference(source, index, at, width) {
                     Some(number) => Ok(number),
                     None => match read_reference(source, at, width, &mut decoder.slot) {
                         Some(number) => Ok(number),

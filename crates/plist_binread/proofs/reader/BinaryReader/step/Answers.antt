@@ -63,16 +63,9 @@ invariant_of-self g c = record {
   known = λ walking. rw c.begin.ensures.unchanged
       (walks_on_ok c.begin.result _ _ c.state_after-self.ensures c.begin.ensures.known walking);
   refers = λ _. (
-    (
-      known_no_references (g.R.Source.known c.begin.new.source) c.begin.new.decoder.bounds
-          c.new-self.result.current.site c.new-self.ensures.current,
-      c.new-self.ensures.current_runs _,
-    ),
-    (
-      known_no_references (g.R.Source.known c.begin.new.source) c.begin.new.decoder.bounds
-          c.new-self.result.previous.site c.new-self.ensures.previous,
-      c.new-self.ensures.previous_runs _,
-    ),
+    known_no_references (g.R.Source.known c.begin.new.source) c.begin.new.decoder.bounds
+        c.new-self.result.site c.new-self.ensures.place,
+    c.new-self.ensures.runs _,
   );
 }
 

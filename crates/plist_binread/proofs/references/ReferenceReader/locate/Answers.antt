@@ -1,7 +1,7 @@
 use Rattle.std.proofs.Common.{rules, Err, refl, arith}
 use Rattle.plist_binread.proofs.Children.{known_references, known_beyond, known_childless}
 use Rattle.plist_binread.proofs.ObjectFronts.{known_front, known_prefix}
-use Rattle.plist_binread.proofs.references.CollectionReferences.locate.Goals as goal
+use Rattle.plist_binread.proofs.references.ReferenceReader.locate.Goals as goal
 
 pub returns-then-place-bounds-clause-refused : goal.returns-then-place-bounds-clause-refused
 returns-then-place-bounds-clause-refused g c = λ index.
