@@ -1,9 +1,6 @@
 //! Visitors, which take the events of a property list one by one.
 
-ghost use Rattle.std.specs.Iterator.{IsFinite};
-ghost use Rattle.plist_base.specs.Visits.{YieldsPlain, Visits};
-
-use crate::{Date, Error, Event, Integer, OwnedEvent, RealBits, Uid};
+use crate::{Date, Error, Event, Integer, RealBits, Uid};
 use std::borrow::{CowSlice, CowStr};
 use std::ops::ControlFlow;
 
@@ -132,31 +129,4 @@ pub trait EventSource {
     /// The error that replaces an event. The events that precede it were handed over.
     fn visit<V: EventVisitor>(&mut self, visitor: &mut V) -> Result<Visited, Error>
         ensures { Visits yields V.step (self.old, visitor.old) result (self.new, visitor.new) };
-}
-
-/// Hands the remaining events of an iterator to a visitor, one by one, until the iterator ends or
-/// yields an error, or the visitor returns `Break`.
-///
-/// # Errors
-///
-/// The error that the iterator yields. The events that precede it were handed over.
-pub fn visit_items<I: Iterator<Item = Result<OwnedEvent, Error>>, V: EventVisitor>(
-    items: &mut I,
-    visitor: &mut V,
-) -> Result<Visited, Error>
-    requires can { I.can_next items.old }
-    requires ends { IsFinite (I.remaining items.old) }
-    ensures { Visits (YieldsPlain I.next_gives) V.step (items.old, visitor.old) result
-        (items.new, visitor.new) }
-{
-    while let Some(item) = items.next() {
-        match item {
-            Ok(event) => match visitor.event(event) {
-                ControlFlow::Continue(()) => {}
-                ControlFlow::Break(()) => return Ok(Visited::Stopped),
-            },
-            Err(error) => return Err(error),
-        }
-    }
-    Ok(Visited::Ended)
 }
