@@ -176,19 +176,19 @@ pub fn enter<S: Source, C: DecodeCounter, V: EventVisitor>(
             None => Err(decoder.slot.refuse_memory()),
         },
         Known::At(place) => {
-            let seen = buffered_front(source, &decoder.bounds, place);
-            let decoded = if seen.is_empty() {
-                read_object(source, decoder, place)?
-            } else {
-                let decoded = decode_front(decoder, place, seen);
-                if let Decoded::Long(kind, start, count) = decoded {
-                    let content = Content { kind, start, count };
-                    if content.lies_in(seen) {
-                        let bytes = content.bytes_in(seen);
-                        return hand_bytes(kind, bytes, place, &mut decoder.slot, visitor);
+            let decoded = match buffered_front(source, &decoder.bounds, place) {
+                Some(seen) => {
+                    let decoded = decode_front(decoder, place, seen);
+                    if let Decoded::Long(kind, start, count) = decoded {
+                        let content = Content { kind, start, count };
+                        if content.lies_in(seen) {
+                            let bytes = content.bytes_in(seen);
+                            return hand_bytes(kind, bytes, place, &mut decoder.slot, visitor);
+                        }
                     }
+                    decoded
                 }
-                decoded
+                None => read_object(source, decoder, place)?,
             };
             if cache_or_open(walk, reference.number, decoded) {
                 return hand_decoded(source, decoder, place, decoded, visitor);

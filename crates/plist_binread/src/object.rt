@@ -1,6 +1,6 @@
 //! Finds the first bytes of an object, and reads them if they aren't buffered.
 
-ghost use Rattle.std.specs.Prelude.{◌≡◌, ◌<◌, length, IfErr, IfOk};
+ghost use Rattle.std.specs.Prelude.{◌≡◌, IfErr, IfOk, IfSome};
 ghost use Rattle.plist_binread.specs.Decoded.{CountsRead, DecodesAt, FitsBefore, IsRefusedAt};
 ghost use Rattle.plist_binread.specs.FaultOffsets.{ErrWithin};
 ghost use Rattle.plist_binread.specs.Front.{IsFrontAt};
@@ -19,23 +19,21 @@ use plist_base::{Source, read_exact_at};
 const FRONT: usize = 26;
 
 /// Returns the bytes from the offset of an object up to the trailer, as far as they are buffered.
-/// The slice is empty if these may be too few to decode the object.
+/// Returns `None` if these may be too few to decode the object.
 #[inline(always)]
-pub fn buffered_front<'a, S: Source>(source: &'a S, bounds: &Bounds, place: u64) -> &'a [u8]
-    ensures { 0 < length result.now
-        → IsFrontAt (S.known source.now) bounds.now place result.now }
+pub fn buffered_front<'a, S: Source>(source: &'a S, bounds: &Bounds, place: u64) -> Option<&'a [u8]>
+    ensures { IfSome result (λ seen. IsFrontAt (S.known source.now) bounds.now place seen.now) }
 {
     if place >= bounds.trailer {
-        return &[];
+        return None;
     }
     let to_trailer = bounds.trailer - place;
     let buffered = source.buffered(place);
     let seen = &buffered[..to_trailer.min(buffered.len() as u64) as usize];
     if seen.len() >= FRONT || seen.len() as u64 == to_trailer {
-        seen
-    } else {
-        &[]
+        return Some(seen);
     }
+    None
 }
 
 /// Reads the first bytes of the object at an offset, and decodes it. If the object doesn't lie before

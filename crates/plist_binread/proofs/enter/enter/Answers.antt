@@ -17,7 +17,7 @@ use Rattle.plist_binread.specs.declared.decoded.Decoded.TheVariants as decoded
 use Rattle.plist_binread.specs.Packed.{is_small_event, scalar_event, unmarked}
 use Rattle.plist_binread.specs.Slot.{answer_in}
 use Rattle.plist_binread.proofs.enter.enter.Goals as goal
-use Rattle.plist_binread.proofs.enter.enter.Goals.{After-cache_or_open, In-Long, else-is_empty+in-Long+else-lies_in, else-is_empty+in_default, then-is_empty+in_ok-decoded-in-At}
+use Rattle.plist_binread.proofs.enter.enter.Goals.{After-cache_or_open, In-Long, in-Some-buffered_front+in-Long+else-lies_in, in-Some-buffered_front+in_default, in-None-buffered_front+in_ok-decoded-in-None-buffered_front}
 
 pub returns-in-Some-clause-falls : goal.returns-in-Some-clause-falls
 returns-in-Some-clause-falls g c = omega (arith, steps_positive)
@@ -55,14 +55,14 @@ returns-in-None-clause-handed g c =
       taken = c.in-None.ensures.1;
     }
 
-pub returns-in_err-decoded-in-At-clause-handed : goal.returns-in_err-decoded-in-At-clause-handed
-returns-in_err-decoded-in-At-clause-handed g c =
-    rw (passed _ c.from_residual-in_err-decoded-in-At.ensures.1) (record {
+pub returns-in_err-decoded-in-None-buffered_front-clause-handed : goal.returns-in_err-decoded-in-None-buffered_front-clause-handed
+returns-in_err-decoded-in-None-buffered_front-clause-handed g c =
+    rw (passed _ c.from_residual-in_err-decoded-in-None-buffered_front.ensures.1) (record {
       event = EndCollection;
       is = (
         known_refused _ _ c.args.walk.now c.args.reference.number c.requires.known
             c.in_ok-kind.ensures.below c.args.reference.at c.in-At.place _ c.in_ok-kind.ensures.new
-            (rw c.in-At.is at c.in_ok-kind.ensures.found) c.in_err-decoded-in-At.ensures.refused,
+            (rw c.in-At.is at c.in_ok-kind.ensures.found) c.in_err-decoded-in-None-buffered_front.ensures.refused,
         IfSome-all _ (λ _. tt),
       );
       taken = refl;
@@ -73,7 +73,7 @@ long_fits : (g : _) (c : In-Long g) → FitsBefore c.args.decoder.now.bounds.tra
     (decoded.Long c.in-Long.kind c.in-Long.start c.in-Long.count)
 long_fits g c =
     subst (FitsBefore c.args.decoder.now.bounds.trailer c.in-At.place) c.in-Long.is
-    (seen_fits c.args.decoder.now.bounds c.in-At.place c.buffered_front-seen.result.now
+    (seen_fits c.args.decoder.now.bounds c.in-At.place c.in-Some-buffered_front.seen.now
     c.decode_front-decoded.result (search rules) c.decode_front-decoded.ensures.decoded)
 
 pub lies_in-requires : goal.lies_in-requires
@@ -86,7 +86,7 @@ pub hand_bytes-requires-clause-long : goal.hand_bytes-requires-clause-long
 hand_bytes-requires-clause-long g c =
     let fits = long_fits g (goal.at.hand_bytes-requires-clause-long g c).In-Long in
     let within = c.lies_in.ensures c.if-lies_in.true in
-    let rest = length-drop c.in-Long.start c.buffered_front-seen.result.now in
+    let rest = length-drop c.in-Long.start c.in-Some-buffered_front.seen.now in
     long_bytes c.in-Long.kind c.in-Long.count c.bytes_in-bytes.result.now
     (ap length c.bytes_in-bytes.ensures ∙ length-take-le _ _ (omega (arith, within, rest))) fits.1
 
@@ -101,8 +101,8 @@ returns-then-lies_in-clause-falls g c =
 
 -- the first bytes of the object are buffered
 seen_front : (g : _) (c : In-Long g) → IsFrontAt (g.S.Source.known c.args.source.now)
-    c.args.decoder.now.bounds c.in-At.place c.buffered_front-seen.result.now
-seen_front g c = c.buffered_front-seen.ensures (search rules)
+    c.args.decoder.now.bounds c.in-At.place c.in-Some-buffered_front.seen.now
+seen_front g c = c.in-Some-buffered_front.ensures
 
 pub returns-then-lies_in-clause-handed : goal.returns-then-lies_in-clause-handed
 returns-then-lies_in-clause-handed g c =
@@ -120,7 +120,7 @@ returns-then-lies_in-clause-handed g c =
     (seen_decodes _ bounds c.in-At.place _ c.decode_front-decoded.result front
     c.decode_front-decoded.ensures.decoded)) in
     let sets = long_sets _ bounds c.in-At.place content answer h.event (long_fits g at).0
-    (borrowed_sets _ c.in-At.place content c.buffered_front-seen.result.now answer h.event front.lies
+    (borrowed_sets _ c.in-At.place content c.in-Some-buffered_front.seen.now answer h.event front.lies
     (c.lies_in.ensures c.if-lies_in.true) (rw c.bytes_in-bytes.ensures at h.is.0)) in
     record {
       event = h.event;
@@ -140,18 +140,17 @@ returns-then-lies_in-clause-handed g c =
 pub cache_or_open-requires-clause-fits : goal.cache_or_open-requires-clause-fits
 cache_or_open-requires-clause-fits g c =
     let bounds = c.args.decoder.now.bounds in
-    let seen = c.buffered_front-seen.result.now in
-    fits_walk bounds c.in-At.place _ (elim c.if-is_empty.branch [
-      | then-is_empty+in_ok-decoded-in-At w ↦
+    fits_walk bounds c.in-At.place _ (elim c.match-buffered_front.branch [
+      | in-None-buffered_front+in_ok-decoded-in-None-buffered_front w ↦
           subst (FitsBefore bounds.trailer c.in-At.place) (sym w.decoded-is)
-          w.in_ok-decoded-in-At.ensures.fits
-      | else-is_empty+in-Long+else-lies_in w ↦
+          w.in_ok-decoded-in-None-buffered_front.ensures.fits
+      | in-Some-buffered_front+in-Long+else-lies_in w ↦
           subst (FitsBefore bounds.trailer c.in-At.place) (w.in-Long.is ∙ sym w.decoded-is) (seen_fits bounds
-          c.in-At.place seen w.decode_front-decoded.result (search rules)
+          c.in-At.place w.in-Some-buffered_front.seen.now w.decode_front-decoded.result (search rules)
           w.decode_front-decoded.ensures.decoded)
-      | else-is_empty+in_default w ↦
+      | in-Some-buffered_front+in_default w ↦
           subst (FitsBefore bounds.trailer c.in-At.place) (sym w.decoded-is) (seen_fits bounds
-          c.in-At.place seen w.decode_front-decoded.result (search rules)
+          c.in-At.place w.in-Some-buffered_front.seen.now w.decode_front-decoded.result (search rules)
           w.decode_front-decoded.ensures.decoded)
     ])
 
@@ -164,37 +163,36 @@ record Fetched (known now : Option (List ℕ)) (bounds left : Bounds) (place : �
     same : left ≡ bounds
 
 fetched : (g : _) (c : After-cache_or_open g) → Fetched (g.S.Source.known c.args.source.now)
-    (g.S.Source.known c.if-is_empty.source) c.args.decoder.now.bounds c.if-is_empty.decoder.bounds
-    c.in-At.place c.if-is_empty.decoded
+    (g.S.Source.known c.match-buffered_front.source) c.args.decoder.now.bounds c.match-buffered_front.decoder.bounds
+    c.in-At.place c.match-buffered_front.decoded
 fetched g c =
     let known = g.S.Source.known c.args.source.now in
     let bounds = c.args.decoder.now.bounds in
-    let seen = c.buffered_front-seen.result.now in
-    elim c.if-is_empty.branch [
-      | then-is_empty+in_ok-decoded-in-At w ↦ record {
+    elim c.match-buffered_front.branch [
+      | in-None-buffered_front+in_ok-decoded-in-None-buffered_front w ↦ record {
         decodes = subst (DecodesAt known bounds c.in-At.place) (sym w.decoded-is)
-            w.in_ok-decoded-in-At.ensures.decoded;
+            w.in_ok-decoded-in-None-buffered_front.ensures.decoded;
         fits = subst (FitsBefore bounds.trailer c.in-At.place) (sym w.decoded-is)
-            w.in_ok-decoded-in-At.ensures.fits;
-        unchanged = rw w.source-is w.in_ok-decoded-in-At.ensures.unchanged;
-        same = rw w.decoder-is w.in_ok-decoded-in-At.ensures.bounds;
+            w.in_ok-decoded-in-None-buffered_front.ensures.fits;
+        unchanged = rw w.source-is w.in_ok-decoded-in-None-buffered_front.ensures.unchanged;
+        same = rw w.decoder-is w.in_ok-decoded-in-None-buffered_front.ensures.bounds;
       }
-      | else-is_empty+in-Long+else-lies_in w ↦ record {
+      | in-Some-buffered_front+in-Long+else-lies_in w ↦ record {
         decodes = subst (DecodesAt known bounds c.in-At.place) (w.in-Long.is ∙ sym w.decoded-is) (seen_decodes known
-            bounds c.in-At.place seen w.decode_front-decoded.result
-            (c.buffered_front-seen.ensures (search rules)) w.decode_front-decoded.ensures.decoded);
+            bounds c.in-At.place w.in-Some-buffered_front.seen.now w.decode_front-decoded.result
+            w.in-Some-buffered_front.ensures w.decode_front-decoded.ensures.decoded);
         fits = subst (FitsBefore bounds.trailer c.in-At.place) (w.in-Long.is ∙ sym w.decoded-is) (seen_fits bounds
-            c.in-At.place seen w.decode_front-decoded.result (search rules)
+            c.in-At.place w.in-Some-buffered_front.seen.now w.decode_front-decoded.result (search rules)
             w.decode_front-decoded.ensures.decoded);
         unchanged = rw w.source-is refl;
         same = rw w.decoder-is w.decode_front-decoded.ensures.bounds;
       }
-      | else-is_empty+in_default w ↦ record {
+      | in-Some-buffered_front+in_default w ↦ record {
         decodes = subst (DecodesAt known bounds c.in-At.place) (sym w.decoded-is) (seen_decodes known
-            bounds c.in-At.place seen w.decode_front-decoded.result
-            (c.buffered_front-seen.ensures (search rules)) w.decode_front-decoded.ensures.decoded);
+            bounds c.in-At.place w.in-Some-buffered_front.seen.now w.decode_front-decoded.result
+            w.in-Some-buffered_front.ensures w.decode_front-decoded.ensures.decoded);
         fits = subst (FitsBefore bounds.trailer c.in-At.place) (sym w.decoded-is) (seen_fits bounds
-            c.in-At.place seen w.decode_front-decoded.result (search rules)
+            c.in-At.place w.in-Some-buffered_front.seen.now w.decode_front-decoded.result (search rules)
             w.decode_front-decoded.ensures.decoded);
         unchanged = rw w.source-is refl;
         same = rw w.decoder-is w.decode_front-decoded.ensures.bounds;
@@ -208,7 +206,7 @@ hand_decoded-requires g c =
 -- the object of the reference was decoded
 there : (g : _) (c : After-cache_or_open g)
     → IfSome (g.S.Source.known c.args.source.now) (λ bytes. IsDecodedAt bytes c.args.decoder.now.bounds
-    c.args.reference.number c.in-At.place c.if-is_empty.decoded)
+    c.args.reference.number c.in-At.place c.match-buffered_front.decoded)
 there g c =
     known_decoded _ _ c.args.walk.now _ c.requires.known c.in_ok-kind.ensures.below _ _
     (rw c.in-At.is at c.in_ok-kind.ensures.found) (fetched g c).decodes
@@ -229,7 +227,7 @@ returns-else-cache_or_open-clause-handed g c =
         known_refused _ _ c.args.walk.now c.args.reference.number c.requires.known
             c.in_ok-kind.ensures.below c.args.reference.at c.in-At.place _ c.in_ok-kind.ensures.new
             (rw c.in-At.is at c.in_ok-kind.ensures.found)
-            (known_full _ c.args.decoder.now.bounds c.in-At.place c.if-is_empty.decoded
+            (known_full _ c.args.decoder.now.bounds c.in-At.place c.match-buffered_front.decoded
             c.refuse_memory-in-At.new.self.fault c.refuse_memory-in-At.ensures.fault
             (c.cache_or_open.ensures.wanted c.if-cache_or_open.false) f.decodes),
         IfSome-all _ (λ _. tt),
@@ -252,7 +250,7 @@ returns-then-cache_or_open-clause-handed g c =
             (c.cache_or_open.ensures.yields c.if-cache_or_open.true) (rw f.same at h.is.0)
             (on_answer _ c.hand_decoded.result c.hand_decoded.new.decoder.slot c.hand_decoded.ensures.found),
         cached_if _ c.args.reference.number c.hand_decoded.result c.hand_decoded.new.decoder.slot h.event
-            c.if-is_empty.decoded c.cache_or_open.new.walk.tags.items h.is.1
+            c.match-buffered_front.decoded c.cache_or_open.new.walk.tags.items h.is.1
             c.cache_or_open.ensures.cached,
       );
       taken = h.taken;
