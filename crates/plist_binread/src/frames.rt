@@ -105,6 +105,16 @@ impl Stack {
                 return Ok(());
             }
         }
+        self.push_wide(frame)
+    }
+
+    // Pushes a frame whose numbers have eight bytes.
+    #[cold]
+    #[inline(never)]
+    fn push_wide(&mut self, frame: Frame) -> Result<(), AllocError>
+        ensures value { OnOk result (self.new ≡ self.old ++ frame ∷ []) }
+        ensures unchanged { OnErr result (self.new ≡ self.old) }
+    {
         self.wide.push(frame)?;
         Ok(())
     }
