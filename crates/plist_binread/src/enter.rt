@@ -20,6 +20,7 @@ use crate::hand::{hand_bytes, hand_decoded, hand_small};
 use crate::object::{buffered_front, read_object};
 use crate::packed::{PackedKind, cache, is_open, mark_open};
 use crate::references::Reference;
+use crate::relay::Relay;
 use crate::walk::Walk;
 use plist_base::{ErrorKind, EventVisitor, Source};
 use std::ops::ControlFlow;
@@ -171,10 +172,15 @@ pub fn enter<S: Source, C: DecodeCounter, V: EventVisitor>(
     ensures failures { AnswersInSlot S.failures result decoder.new.slot source.old source.new }
 {
     match look_up(walk, &mut decoder.slot, reference.at, reference.number)? {
-        Known::Small(kind, content) => match hand_small(kind, content, visitor) {
-            Some(flow) => Ok(flow),
-            None => Err(decoder.slot.refuse_memory()),
-        },
+        Known::Small(kind, content) => {
+            // The relay's type makes this a call of its own, so that the code that hands over a
+            // scalar that was just decoded has only one caller and becomes part of the loop.
+            let mut relay = Relay::new(visitor);
+            match hand_small(kind, content, &mut relay) {
+                Some(flow) => Ok(flow),
+                None => Err(decoder.slot.refuse_memory()),
+            }
+        }
         Known::At(place) => {
             let decoded = match buffered_front(source, &decoder.bounds, place) {
                 Some(seen) => {

@@ -1,10 +1,11 @@
-use Rattle.std.proofs.Common.{◌≡◌, ℕ, ◌<◌, true, arith, get_or, length, List, Option, IfSome, ap, refl, rules, subst, sym, ◌∙◌}
+use Rattle.std.proofs.Common.{◌≡◌, ℕ, ◌<◌, true, arith, get_or, length, List, Ok, Option, IfSome, ap, refl, rules, subst, sym, ◌∙◌}
 use Rattle.plist_base.specs.Events.{EndCollection}
 use Rattle.plist_binread.proofs.Decoding.{borrowed_sets, cached_if, fits_walk, large_unlike, long_bytes, long_sets, seen_decodes, seen_fits}
 use Rattle.plist_binread.proofs.FaultOffsets.{err_within, passed}
 use Rattle.plist_binread.proofs.ObjectEntry.{IsDecodedAt, always_ok, known_decoded, known_opens, known_refused, known_set, known_unpacked, long_opens, on_answer}
 use Rattle.std.proofs.lemmas.List.{length-drop, length-take-le}
 use Rattle.std.proofs.lemmas.Option.{IfSome_then}
+use Rattle.plist_binread.proofs.VisitorLimits.{passed_on}
 use Rattle.plist_binread.proofs.WalkInvariant.{known_full, unfound_memory}
 use Rattle.plist_binread.proofs.UnknownBytes.{IfSome-all}
 use Rattle.plist_binread.proofs.WalkSteps.{steps_positive}
@@ -36,7 +37,8 @@ returns-in-Some-clause-handed g c =
             {P = λ _. is_small_event h.0 ≡ true → 0 < unmarked
             (get_or c.args.walk.now.tags.items c.args.reference.number 0)} (λ _ _. found.0),
       );
-      taken = h.2;
+      taken = passed_on g.V.EventVisitor.step c.new-relay.result c.hand_small.new.visitor _ _ (Ok _) h.0
+          (search rules) (search rules) h.2;
     }
 
 pub returns-in-None-clause-handed : goal.returns-in-None-clause-handed
@@ -52,7 +54,7 @@ returns-in-None-clause-handed g c =
             (rw found.1 c.in-None.ensures.0)),
         IfSome-all _ (λ _. tt),
       );
-      taken = c.in-None.ensures.1;
+      taken = (let same = c.in-None.ensures.1 in search rules);
     }
 
 pub returns-in_err-decoded-in-None-buffered_front-clause-handed : goal.returns-in_err-decoded-in-None-buffered_front-clause-handed
