@@ -173,8 +173,6 @@ pub fn enter<S: Source, C: DecodeCounter, V: EventVisitor>(
 {
     match look_up(walk, &mut decoder.slot, reference.at, reference.number)? {
         Known::Small(kind, content) => {
-            // The relay's type makes this a call of its own, so that the code that hands over a
-            // scalar that was just decoded has only one caller and becomes part of the loop.
             let mut relay = Relay::new(visitor);
             match hand_small(kind, content, &mut relay) {
                 Some(flow) => Ok(flow),
