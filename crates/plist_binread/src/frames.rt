@@ -95,7 +95,6 @@ impl Stack {
         }
     }
 
-    #[inline(always)]
     fn push(&mut self, frame: Frame) -> Result<(), AllocError>
         ensures value { OnOk result (self.new ≡ self.old ++ frame ∷ []) }
         ensures unchanged { OnErr result (self.new ≡ self.old) }
