@@ -95,7 +95,25 @@ impl Stack {
         }
     }
 
+    // Pushes a frame. The list grows out of line, so that a push is a few instructions.
+    #[inline(always)]
     fn push(&mut self, frame: Frame) -> Result<(), AllocError>
+        ensures value { OnOk result (self.new ≡ self.old ++ frame ∷ []) }
+        ensures unchanged { OnErr result (self.new ≡ self.old) }
+    {
+        if self.wide.is_empty() && self.narrow.len() < self.narrow.capacity() {
+            if let Some(narrow) = narrowed(frame) {
+                self.narrow.push_reserved(narrow);
+                return Ok(());
+            }
+        }
+        self.grow_and_push(frame)
+    }
+
+    // Pushes a frame, and allocates room for it if there is none.
+    #[cold]
+    #[inline(never)]
+    fn grow_and_push(&mut self, frame: Frame) -> Result<(), AllocError>
         ensures value { OnOk result (self.new ≡ self.old ++ frame ∷ []) }
         ensures unchanged { OnErr result (self.new ≡ self.old) }
     {
@@ -105,16 +123,6 @@ impl Stack {
                 return Ok(());
             }
         }
-        self.push_wide(frame)
-    }
-
-    // Pushes a frame whose numbers have eight bytes.
-    #[cold]
-    #[inline(never)]
-    fn push_wide(&mut self, frame: Frame) -> Result<(), AllocError>
-        ensures value { OnOk result (self.new ≡ self.old ++ frame ∷ []) }
-        ensures unchanged { OnErr result (self.new ≡ self.old) }
-    {
         self.wide.push(frame)?;
         Ok(())
     }
