@@ -1,5 +1,5 @@
 -- Bare strings that end among the bytes at hand.
-use Rattle.std.proofs.Common.{◌≡◌, ℕ, suc, ◌+◌, ◌-◌, ◌^◌, ◌<◌, ◌≤◌, ◌≢◌, Bool, true, false, cond, List, [], ◌∷◌, ◌++◌, length, take, drop, Option, Some, Ok, None, refl, sym, ap, ◌∙◌, subst, arith, length-drop, length-append, length-take-le}
+use Rattle.std.proofs.Common.{◌≡◌, ℕ, suc, ◌+◌, ◌-◌, ◌^◌, ◌<◌, ◌≤◌, Bool, true, false, List, [], ◌∷◌, ◌++◌, length, take, drop, Option, Some, Ok, None, refl, sym, ap, ◌∙◌, subst, arith, length-drop}
 use Rattle.std.proofs.lemmas.List.{take-append-le, drop-append-le}
 use Rattle.std.specs.Str.{is_utf8}
 use Rattle.std.specs.Prelude.{not}
@@ -9,15 +9,14 @@ use Rattle.plist_base.specs.Trees.{String}
 use Rattle.plist_base.specs.IntegerText.{integer_of_text}
 use Rattle.plist_ascii.specs.declared.stop.Stop.{Stop}
 use Rattle.plist_ascii.specs.declared.stop.Stop.TheVariants as stop
-use Rattle.plist_ascii.specs.declared.token.Lead.TheVariants as lead
-use Rattle.plist_ascii.specs.Ascii.{is_blank, lead_of, token_by, placed_items}
+use Rattle.plist_ascii.specs.Ascii.{is_blank, lead_of, token_by}
 use Rattle.plist_ascii.specs.declared.input.Input.{Input}
 use Rattle.plist_ascii.specs.declared.reader.AsciiReader.{AsciiReader}
 use Rattle.plist_ascii.specs.AsciiReader.{BeginsWithItem, GivesAscii, bytes_to_come}
 use Rattle.plist_ascii.specs.Kinds.{IfBracket, IsAsciiEvent}
 use Rattle.plist_ascii.specs.Taken.{run}
 use Rattle.plist_ascii.specs.Texts.{bare, bare_event, number_or_text}
-use Rattle.plist_ascii.specs.Unread.{stops, unread}
+use Rattle.plist_ascii.specs.Unread.{stops}
 use Rattle.plist_ascii.specs.inner.Inputs.{DropsFirst, hand_of}
 use Rattle.plist_ascii.specs.inner.BareFronts.{IsAhead, IsBareFront, LeadsToText}
 use Rattle.plist_ascii.proofs.Items.{going_start, going_blanks, going_event}

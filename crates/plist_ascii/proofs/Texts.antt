@@ -10,16 +10,16 @@ use Rattle.plist_base.specs.Faults.{InvalidUtf8AsciiStream, FaultKind, UnclosedS
 use Rattle.std.specs.Option.{option_map}
 use Rattle.plist_base.specs.Events.{PlainEvent, StartArray, StartDictionary, EndCollection, ScalarEvent, event_of}
 use Rattle.plist_base.specs.Trees.{Scalar, String}
-use Rattle.std.specs.Prelude.{ℤ, SomeIff, ⊤, ◌==◌, ◌||◌, length, encode_utf8}
+use Rattle.std.specs.Prelude.{ℤ, SomeIff, ⊤, ◌==◌, length, encode_utf8}
 use Rattle.plist_ascii.specs.Texts.{Token, utf8_or_fault, number_or_text, bare, bare_event, quoted_event}
-use Rattle.plist_ascii.specs.Kinds.{IsTextEvent, IsAsciiEvent, IfBracket}
+use Rattle.plist_ascii.specs.Kinds.{IsTextEvent, IsTextFault, IsAsciiEvent, IfBracket}
 use lib.Utf8.{low_scalar}
 use Rattle.std.specs.Char.{IsScalar, is_digit}
 use Rattle.plist_ascii.specs.Taken.{Taken, taken, past_one, past_outcome, front, front_gives, run}
 use Rattle.plist_ascii.specs.Escapes.{is_surrogate, bad_unit, escape, escape_by, simple, simple_escape, octal_text, unit, first_unit, second_unit, second_letter, second_digits, pair_text}
 use Rattle.plist_ascii.specs.Quoted.{with_front, escape_then, run_end, quoted_by, quoted_in, quoted, quoted_outcome, quoted_token}
 use Rattle.plist_ascii.specs.declared.token.Lead.{Lead}
-use Rattle.plist_ascii.specs.Ascii.{IsTextFault, IsTextToken, lead_of, token_by}
+use Rattle.plist_ascii.specs.Ascii.{IsTextToken, lead_of, token_by}
 use Rattle.plist_ascii.specs.Comments.{slash}
 use Rattle.plist_ascii.specs.Unread.{IfKnown, first, TakesFront, GivesFront}
 use Rattle.std.proofs.lemmas.Bool.{ne_eqb}
@@ -48,11 +48,6 @@ abbrev pub InText : {A : Type 0} → Result A FaultKind → Type 0
 InText (Ok a) = ⊤
 InText (Err kind) = IsTextFault kind
 
-number_wants : (text : List ℕ) (o : Option ℤ)
-    → IsTextToken (Ok (Some (ScalarEvent (number_or_text text o))))
-number_wants text None = tt
-number_wants text (Some number) = tt
-
 utf8_wants : (b : Bool) (text : List ℕ) (scalar : Scalar) → is_utf8 text ≡ b
     → IsTextToken (Ok (Some (ScalarEvent scalar))) → IsTextToken (utf8_or_fault text scalar)
 utf8_wants true text scalar e h = rw e h
@@ -62,7 +57,7 @@ pub bare_wants : (stops : ℕ → Bool) (c : ℕ) (xs : List ℕ) → IsTextToke
 unfolding bare_event
 bare_wants stops c xs =
     let text = c ∷ take (run stops xs) xs in
-    utf8_wants _ _ _ refl (number_wants _ _)
+    utf8_wants _ _ _ refl (number_is_text _ _)
 
 -- ---- the parts of a quoted string
 
@@ -103,13 +98,13 @@ digits_in high xs =
 letter_in : (high : ℕ) (xs : List ℕ) → InText (second_letter high xs).gives
 letter_in high [] = tt
 letter_in high (c ∷ xs) =
-    cond_in ((c == 117) || (c == 85)) (past_one (second_digits high xs)) (bad_unit 0)
+    cond_in _ (past_one (second_digits high xs)) (bad_unit 0)
     (digits_in high xs) tt
 
 second_in : (high : ℕ) (xs : List ℕ) → InText (second_unit high xs).gives
 second_in high [] = tt
 second_in high (c ∷ xs) =
-    cond_in (c == 92) (second_letter high xs) (bad_unit 0) (letter_in high xs) tt
+    cond_in _ (second_letter high xs) (bad_unit 0) (letter_in high xs) tt
 
 first_in : (u : Option ℕ) (xs : List ℕ) → InText (first_unit u xs).gives
 first_in None xs = tt
@@ -129,7 +124,7 @@ by_in c xs =
     let u = followed_in xs (unit xs).bytes (unit xs).gives first_unit (unit_in xs) first_in in
     let o = needs_in 2 xs (front 2 xs) (λ ds. octal_text (c ∷ ds)) (λ ds. octal_in (c ∷ ds)) in
     let s = simple_in (simple_escape c) in
-    cond_in (c == 85) _ _ u (cond_in (is_digit c 8) _ _ o s)
+    cond_in _ _ _ u (cond_in (is_digit c 8) _ _ o s)
 
 escape_in : (xs : List ℕ) → InText (escape xs).gives
 unfolding escape

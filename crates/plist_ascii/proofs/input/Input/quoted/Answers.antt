@@ -17,7 +17,7 @@ returns-then-branch-clause-answers g c =
       λ xs e.
           let i = c.parts.invariant.goes xs e in
           let t = ok i.0 i.1 in
-          quoting_ends _ _ i.2 t.0 t.5 t.2 (ap Ok (sym t.3)) t.4,
+          quoting_ends _ _ i.2 t.0 t.3 t.1.1 (ap Ok (sym t.1.2)) t.2,
     )
 
 pub parts-preserved : goal.parts-preserved
@@ -25,7 +25,8 @@ parts-preserved g c =
     let ok = rw c.if-branch.false at c.in_ok-part.ensures.value in
     since_on c.parts.invariant c.in_ok-part.ensures.failures
     (omega (arith, c.in_ok-part.ensures.rises.0))
-    (λ xs ys i u. let t = ok ys u in (_, t.4, quoting_more _ _ i t.0 t.5 t.1 t.2 t.3))
+    (λ xs ys i u.
+    let t = ok ys u in (_, t.2, quoting_more _ _ i t.0 t.3 t.1.0 t.1.1 t.1.2))
 
 pub returns-in_err-part-clause-answers : goal.returns-in_err-part-clause-answers
 returns-in_err-part-clause-answers g c =
