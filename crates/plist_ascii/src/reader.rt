@@ -177,8 +177,8 @@ impl<R: ByteReader + Drop> AsciiReader<R> {
     }
 
     /// Hands the next event to a visitor, and returns what the visitor returns, or `None` if no
-    /// event remains. A bare string that lies whole in the buffer of the inner reader is handed
-    /// over without being copied.
+    /// event remains. A string without escapes that lies whole in the buffer of the inner reader is
+    /// handed over without being copied.
     ///
     /// # Errors
     ///
