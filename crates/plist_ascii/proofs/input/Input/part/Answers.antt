@@ -5,15 +5,9 @@ use Rattle.plist_ascii.specs.Quoted.{ends_run, quoted_by}
 use Rattle.plist_ascii.specs.inner.Inputs.{FailsAfter}
 use Rattle.plist_ascii.specs.inner.Parts.{escaped_bytes}
 use Rattle.plist_ascii.specs.inner.TokenFaults.{kind_in_bytes}
-use Rattle.plist_ascii.proofs.Answering.{passed_on, some_same, outside_fails}
+use Rattle.plist_ascii.proofs.Answering.{passed_on, some_same}
 use Rattle.plist_ascii.proofs.Quotes.{part_ends, part_goes_on, text_closes, text_goes_on}
 use Rattle.plist_ascii.proofs.input.Input.part.Goals as goal
-
-pub returns-in_err-take_run-clause-fault : goal.returns-in_err-take_run-clause-fault
-returns-in_err-take_run-clause-fault g c =
-    passed_on (FailsAfter g.R.ByteReader.remaining (quoted_by c.args.quote) c.args.self.now
-    c.take_run.new.self) _ _ c.from_residual.ensures.1
-    (c.in_err-take_run.ensures.place, outside_fails _ _ c.in_err-take_run.ensures.fault)
 
 pub returns-in-None-clause-value : goal.returns-in-None-clause-value
 returns-in-None-clause-value g c = λ xs e.

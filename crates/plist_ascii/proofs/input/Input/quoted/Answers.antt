@@ -3,12 +3,9 @@ use Rattle.plist_ascii.specs.Quoted.{quoted}
 use Rattle.plist_ascii.specs.inner.TokenFaults.{kind_in_bytes}
 use Rattle.std.specs.Prelude.{vec_items, Err}
 use Rattle.plist_ascii.proofs.Answering.{gives_passed, some_by}
-use Rattle.plist_ascii.proofs.Loops.{since_start, since_on}
-use Rattle.plist_ascii.proofs.Quotes.{quoting_start, quoting_more, quoting_ends}
+use Rattle.plist_ascii.proofs.Loops.{since_on}
+use Rattle.plist_ascii.proofs.Quotes.{quoting_more, quoting_ends}
 use Rattle.plist_ascii.proofs.input.Input.quoted.Goals as goal
-
-pub parts-init : goal.parts-init
-parts-init g c = since_start (λ xs. rw c.new-text.ensures.items (quoting_start _ xs _))
 
 pub returns-then-branch-clause-answers : goal.returns-then-branch-clause-answers
 returns-then-branch-clause-answers g c =

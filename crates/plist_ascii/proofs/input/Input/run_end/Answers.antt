@@ -20,13 +20,6 @@ returns-clause-value g c = λ xs e.
       omega (arith, k.2, p.0),
     )
 
-pub returns-clause-rises : goal.returns-clause-rises
-returns-clause-rises g c = (
-  omega (arith, c.in_ok-expect_byte.ensures.place.0, c.in_ok-piece.ensures.answers.0),
-  omega
-      (arith, c.in_ok-expect_byte.ensures.place.0, c.in_ok-expect_byte.ensures.place.1),
-)
-
 pub returns-in_err-piece-clause-fault : goal.returns-in_err-piece-clause-fault
 returns-in_err-piece-clause-fault g c =
     let b = c.in_err-piece.ensures.answers in
