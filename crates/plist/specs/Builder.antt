@@ -1,14 +1,14 @@
 -- What contracts see of a builder.
-use Rattle.std.specs.Prelude.{◌≡◌, false, Some, Result, IfErr}
+use Rattle.std.specs.Prelude.{◌≡◌, Some, Result, IfErr}
 use Rattle.plist_base.specs.declared.error.Error.{Error}
 use Rattle.plist_base.specs.Bracketing.{AreAlike, bracketing}
 use Rattle.plist_base.specs.Events.{PlainEvent, Item}
-use Rattle.plist_base.specs.Faults.{Fault, fault_of}
+use Rattle.plist_base.specs.Faults.{fault_of}
 use Rattle.plist_base.specs.Writing.{Answer}
 use Rattle.plist.specs.declared.stream.builder.Builder.{Builder}
 use Rattle.plist.specs.Building.{Built, IsNested, IsAnswered, complete_tree, events_so_far}
-use Rattle.plist.specs.Collecting.{RefusesOne, TakesOne}
-use Rattle.plist.specs.UnfinishedValues.{AddsEvent, unfinished_of}
+use Rattle.plist.specs.Collecting.{RefusesOne}
+use Rattle.plist.specs.UnfinishedValues.{unfinished_of}
 use Rattle.plist.specs.ValueTrees.{tree_of}
 use Rattle.plist.specs.declared.value.Value.{Value}
 
@@ -22,17 +22,10 @@ IsBuildingStep before event answer after =
     IsNested (unfinished_of before.unfinished)
     × IsAnswered (built_of before) event answer (built_of after) (after ≡ before)
 
--- the item is an event, which the builder adds
-abbrev pub TakesItem : (before : Builder) → Item → (after : Builder) → Type 0
-TakesItem before item after = TakesOne (built_of before) item (built_of after)
-
--- a builder that hasn't failed rejects an item's event, or returns an item's fault
-abbrev pub RefusesItem : (before : Builder) → Item → Fault → Type 0
-RefusesItem before item fault = RefusesOne (built_of before).unfinished item fault
-
 -- if the call failed, the builder rejected the item's event, or returned the item's fault
 abbrev pub RefusesWith : {A : Type 0} → (before : Builder) → Item → Result A Error → Type 0
-RefusesWith before item answer = IfErr answer (λ error. RefusesItem before item (fault_of error))
+RefusesWith before item answer =
+    IfErr answer (λ error. RefusesOne (built_of before).unfinished item (fault_of error))
 
 -- the events so far are exactly those of this value
 abbrev pub HasAllEventsOf : Built → Value → Type 0
@@ -41,13 +34,3 @@ HasAllEventsOf built value = AreAlike (events_so_far built.unfinished) (bracketi
 -- the value's tree is what was built
 abbrev pub IsBuilt : Built → Value → Type 0
 IsBuilt built value = complete_tree built.unfinished ≡ Some (tree_of value)
-
--- if the builder hadn't failed and the call failed, it rejected the item's event, or returned its
--- fault
-abbrev pub RefusesUnlessFailed : {A : Type 0} → (before : Builder) → Item → Result A Error → Type 0
-RefusesUnlessFailed before item answer =
-    (built_of before).failed ≡ false → RefusesWith before item answer
-
--- the event is added to a builder's unfinished tree
-abbrev pub BuilderAddsEvent : (before : Builder) → PlainEvent → (after : Builder) → Type 0
-BuilderAddsEvent before event after = AddsEvent before.unfinished event after.unfinished

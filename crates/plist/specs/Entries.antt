@@ -1,7 +1,7 @@
 -- The words in the contracts of a dictionary's entries. They can also be applied to one kind of
 -- entry, as in `with_value (Occupied o)`.
 pub use Rattle.plist.specs.declared.dictionary.entry.Entry.TheVariants.{Occupied, Vacant}
-use Rattle.std.specs.Prelude.{◌≡◌, ℕ, ◌<◌, List, [], ◌∷◌, ◌++◌, length, Option, None, Some, Result, cond, is_some, slice_get, string_bytes, bytes_eq, String}
+use Rattle.std.specs.Prelude.{◌≡◌, ℕ, ◌<◌, List, [], ◌∷◌, ◌++◌, length, Option, None, Some, Result, if◌then◌else◌, is_some, slice_get, string_bytes, bytes_eq, String}
 use Rattle.std.specs.Borrow.{Fml, MutBor, follows, follows_if, name_if_ok}
 use Rattle.std.specs.Map.{keys_of, lookup, values_of}
 use Rattle.std.specs.Option.{UnwrapsOrElse}
@@ -66,7 +66,7 @@ dictionary_with e v = dictionary_of (with_value e v)
 -- the key, unless it is among the pairs
 abbrev pub unless_there : String Global → List (List ℕ × Value) → Option (String Global)
 unless_there key pairs =
-    cond (is_some (lookup (bytes_eq (string_bytes key)) pairs)) None (Some key)
+    if is_some (lookup (bytes_eq (string_bytes key)) pairs) then None else Some key
 
 -- setting the entry's value inserts it at this key
 abbrev pub Inserts : Entry → (pairs : List (List ℕ × Value)) → (key : List ℕ) → Type 0
@@ -76,13 +76,9 @@ Inserts e pairs key = (v : Value) → IsSetAt pairs key v (with_value e v)
 abbrev pub Removes : Entry → (pairs : List (List ℕ × Value)) → (key : List ℕ) → Type 0
 Removes e pairs key = (after : List (List ℕ × Value)) → IsTaken e after → IsTakenAt pairs key after
 
--- the key that the entry owns, and this value
-abbrev pub HandsBack : Entry → Value → String Global × Value → Type 0
-HandsBack e value back = (kept_key e ≡ Some back.0) × (back.1 ≡ value)
-
--- the key that the entry owns, and a value that was made
-abbrev pub HandsBackMade : Entry → (made : Value → Type 0) → String Global × Value → Type 0
-HandsBackMade e made back = (kept_key e ≡ Some back.0) × made back.1
+-- the key that the entry owns, and a value of which this is true
+abbrev pub HandsBack : Entry → (Value → Type 0) → String Global × Value → Type 0
+HandsBack e P back = (kept_key e ≡ Some back.0) × P back.1
 
 -- the reference is to the key's value or, if there was none, to one that was made
 abbrev pub HasOrMakes : Entry → (made : Value → Type 0) → MutBor Value → Type 0

@@ -1,6 +1,6 @@
 -- Property lists that are the same up to the order of a dictionary's pairs. If a key occurs more
 -- than once, its first value counts.
-use Rattle.std.specs.Prelude.{◌≡◌, ℕ, Bool, true, false, ◌&&◌, ◌||◌, cond, Option, Some, None, is_some, List, [], ◌∷◌, ◌↔◌, bytes_eq}
+use Rattle.std.specs.Prelude.{◌≡◌, ℕ, Bool, true, false, ◌&&◌, ◌||◌, if◌then◌else◌, Option, Some, None, is_some, List, [], ◌∷◌, ◌↔◌, bytes_eq}
 use Rattle.std.specs.List.{list_any}
 use Rattle.plist_base.specs.Scalars.{scalar_eq}
 use Rattle.plist_base.specs.Trees.{Scalar, Tree, Leaf, Array, Dictionary, Trees, NoTrees, TreeAnd, Members, NoMembers, MemberAnd}
@@ -9,7 +9,7 @@ use Rattle.plist_base.specs.Trees.{Scalar, Tree, Leaf, Array, Dictionary, Trees,
 abbrev pub first_value : List ℕ → Members → Option Tree
 first_value key NoMembers = None
 first_value key (MemberAnd other tree members) =
-    cond (bytes_eq key other) (Some tree) (first_value key members)
+    if bytes_eq key other then Some tree else first_value key members
 
 -- the key is one of these
 abbrev pub is_among : List ℕ → List (List ℕ) → Bool
@@ -57,11 +57,6 @@ AreSameAt None (Some u) = ⊥
 AreSameAt (Some t) None = ⊥
 AreSameAt (Some t) (Some u) = same t u ≡ true
 
--- at each key the values are the same, or both are missing
-abbrev pub AreSameEverywhere : (left right : Members) → Type 0
-AreSameEverywhere left right =
-    (key : List ℕ) → AreSameAt (first_value key left) (first_value key right)
-
 -- ---- properties of `same`
 
 -- `same` is transitive
@@ -76,8 +71,8 @@ DecidesScalars = (left right : Scalar) → (same (Leaf left) (Leaf right) ≡ tr
 
 -- dictionaries are the same if and only if they have the same values at all keys
 abbrev pub DecidesDictionaries : Type 0
-DecidesDictionaries = (left right : Members)
-    → (same (Dictionary left) (Dictionary right) ≡ true) ↔ AreSameEverywhere left right
+DecidesDictionaries = (left right : Members) → (same (Dictionary left) (Dictionary right) ≡ true)
+    ↔ ((key : List ℕ) → AreSameAt (first_value key left) (first_value key right))
 
 -- dictionaries with these members are the same
 abbrev pub same_members : Members → Members → Bool

@@ -1,5 +1,5 @@
 -- How the value of a source or of a file is read, item by item, and why there may be none.
-use Rattle.std.specs.Prelude.{◌≡◌, ℕ, ◌⊎◌, Bool, List, Option, None, Some, Result, Err, ⊤}
+use Rattle.std.specs.Prelude.{◌≡◌, ℕ, ◌⊎◌, Bool, List, Option, None, Result, Err, ⊤}
 use Rattle.plist_base.specs.Events.{Item, event_of}
 use Rattle.plist_base.specs.Faults.{Fault, FaultKind, ExpectedEndOfEventStream, Io, UnexpectedEndOfEventStream, UnexpectedEventType, fault_without_offset}
 use Rattle.plist_base.specs.Allowances.{iterator_of as inner_of_limited}
@@ -17,7 +17,6 @@ use Rattle.plist_ascii.specs.AsciiReader as ascii
 use Rattle.plist_ascii.specs.AsciiReader.{untaken_bytes, dialect_of, device_of, peeked_byte, place_of, readable}
 use Rattle.plist_ascii.specs.declared.reader.AsciiReader.{AsciiReader}
 use Rattle.plist_ascii.specs.declared.dialect.Dialect.{Dialect}
-use Rattle.plist_ascii.specs.declared.dialect.Dialect.TheVariants.{Lax}
 use Rattle.plist_reader.specs.Formats.{input_front}
 use Rattle.plist_reader.specs.declared.reader.Reader.{Reader}
 use Rattle.plist_reader.specs.Reader.{Gives, FaultHasOffset, IsReaderFault, IsNewReader, IsUnread, limited_input}
@@ -30,12 +29,6 @@ abbrev pub IsReadInDialect : {R : Type 0} → Dialect → (known : R → Option 
 IsReadInDialect {R} dialect known failed source answer =
     (reader : Reader R (record { known = known; failures = failed }))
     × IsUnread reader source None dialect × Collects event_of (Gives known failed) reader answer
-
--- the result is built from the items of a new reader of this source, which reads ASCII in the lax
--- dialect
-abbrev pub IsReadByReader : {R : Type 0} (known : R → Option (List ℕ)) (failed : R → ℕ) (source : R)
-    → Result Tree Fault → Type 0
-IsReadByReader known failed source answer = IsReadInDialect Lax known failed source answer
 
 -- the items of an input under these limits, whose strings and data have at most this many bytes
 abbrev pub budgeted_input : Limits → (bytes : ℕ) → List ℕ → List Item

@@ -1,5 +1,5 @@
 -- A tree in which each key occurs once: in its first position, with its last value.
-use Rattle.std.specs.Prelude.{◌≡◌, ℕ, List, [], ◌∷◌, ◌++◌, Option, None, Some, cond, bytes_eq}
+use Rattle.std.specs.Prelude.{◌≡◌, ℕ, List, [], ◌∷◌, ◌++◌, Option, None, Some, if◌then◌else◌, bytes_eq}
 use Rattle.std.specs.List.{list_any}
 use Rattle.std.specs.Map.{lookup, keys_of}
 use Rattle.std.specs.Option.{option_or}
@@ -21,7 +21,7 @@ last_values rows = insert_all bytes_eq [] rows
 
 -- the keys after this one is inserted: one that is there stays, and a new one is last
 abbrev pub and_key : (keys : List (List ℕ)) → (key : List ℕ) → List (List ℕ)
-and_key keys key = cond (list_any (bytes_eq key) keys) keys (keys ++ key ∷ [])
+and_key keys key = if list_any (bytes_eq key) keys then keys else keys ++ key ∷ []
 
 -- the keys seen so far, and then the new ones among these keys, each once
 abbrev pub first_keys_after : (seen keys : List (List ℕ)) → List (List ℕ)
@@ -36,7 +36,7 @@ first_keys keys = first_keys_after [] keys
 abbrev pub last_value : (key : List ℕ) → TreePairs → Option Tree
 last_value key [] = None
 last_value key (row ∷ rows) =
-    option_or (last_value key rows) (cond (bytes_eq key row.0) (Some row.1) None)
+    option_or (last_value key rows) (if bytes_eq key row.0 then Some row.1 else None)
 
 -- the keys in the order of their first occurrence, each with its last value
 abbrev pub AreLastValues : (rows result : TreePairs) → Type 0

@@ -1,5 +1,4 @@
 -- What the `&mut` accessors of a value borrow from it, and the types of what is borrowed.
-use denote.RattleType.{RattleType}
 use Rattle.std.specs.Prelude.{Option, option_map}
 use Rattle.plist_base.specs.Trees.{Members, Trees}
 use Rattle.plist.specs.ValueTrees.{item_trees, pair_trees}
@@ -16,23 +15,17 @@ use Rattle.plist.specs.contracts.value.Value.{the_row}
 use Rattle.plist.specs.declared.value.Value.{Value}
 use Rattle.plist.specs.declared.value.Value.TheVariants as made
 
--- the type of arrays, `Vec<Value>`
-abbrev pub array_row : RattleType
-array_row = vec.the_row the_row global.the_row ghosts
-
--- the type `Dictionary`
-abbrev pub dictionary_row : RattleType
-dictionary_row = dictionary.the_row
-
 -- when the borrow ends, the value is the array that the reference had last; without a reference it
 -- is unchanged
 abbrev pub LendsArray : MutBor Value → Option (MutBor (Vec Value Global)) → Value → Fml
-LendsArray value lent old = LendsIf the_row array_row value lent made.Array old
+LendsArray value lent old =
+    LendsIf the_row (vec.the_row the_row global.the_row ghosts) value lent made.Array old
 
 -- when the borrow ends, the value is the dictionary that the reference had last; without a
 -- reference it is unchanged
 abbrev pub LendsDictionary : MutBor Value → Option (MutBor Dictionary) → Value → Fml
-LendsDictionary value lent old = LendsIf the_row dictionary_row value lent made.Dictionary old
+LendsDictionary value lent old =
+    LendsIf the_row dictionary.the_row value lent made.Dictionary old
 
 -- the items of the array to which the reference points
 abbrev pub items_lent : Option (MutBor (Vec Value Global)) → Option Trees

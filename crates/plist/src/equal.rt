@@ -7,10 +7,11 @@
 
 ghost use Rattle.std.specs.Prelude.{◌≡◌, ◌-◌};
 ghost use Rattle.plist_base.specs.Trees.{Dictionary};
-ghost use Rattle.plist.specs.inner.DeferredPairs.{PutsOff, waiting, ComparesContent, ComparesItems, ComparesPairs, ComparesValues, TakesLast};
+ghost use Rattle.plist.specs.inner.DeferredPairs.{Compares, ComparesItems, ComparesPairs, ComparesValues, PutsOff, TakesLast, same_values, waiting};
 ghost use Rattle.plist.specs.Dictionaries.{pairs_of};
 ghost use Rattle.plist.specs.Equal.{same};
 ghost use Rattle.plist.specs.ValueTrees.{tree_of};
+ghost use Rattle.plist.specs.inner.Weights.{weight};
 
 use crate::{Dictionary, Value};
 use std::alloc::Global;
@@ -118,7 +119,8 @@ impl<'a> DeferredPairs<'a> {
     // it never defers the two values themselves.
     #[cycle(same)]
     fn compare_content(&mut self, value: &'a Value, other: &'a Value, levels: u32) -> bool
-        ensures { ComparesContent value.now other.now self.old result self.new }
+        ensures { Compares (same_values value.now other.now) (weight value.now - 1) self.old result
+            self.new }
     {
         match value {
             Value::Array(items) => {

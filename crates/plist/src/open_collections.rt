@@ -1,8 +1,12 @@
 //! The collections that are open while a value is built.
 
-ghost use Rattle.std.specs.Prelude.{◌≡◌, ◌<◌, ◌∷◌, [], length, reverse, IfOk, MatchOption, OnOk, Some, false, string_bytes, true};
-ghost use Rattle.plist.specs.OpenCollections.{Items};
-ghost use Rattle.plist.specs.inner.CollectionSteps.{AddsKey, AddsPair, AddsTo, CannotEnd, ChangesInnermost, Closes, EndsInnermost, OpensDictionary, TakesKey, expected_in};
+ghost use Rattle.std.specs.Prelude.{◌≡◌, ◌<◌, ◌∷◌, [], length, map, reverse, IfOk, MatchOption, OnOk, Some, false, string_bytes, true};
+ghost use Rattle.plist.specs.Building.{InDictionary, Within};
+ghost use Rattle.plist.specs.LastWins.{with_pair};
+ghost use Rattle.plist.specs.OpenCollections.{Items, open_of, within};
+ghost use Rattle.plist.specs.ValueTrees.{tree_of};
+ghost use Rattle.plist.specs.inner.BuilderSteps.{and_tree};
+ghost use Rattle.plist.specs.inner.CollectionSteps.{AddsKey, AddsPair, CannotEnd, ChangesInnermost, Closes, EndsInnermost, TakesKey, expected_in};
 
 use crate::open_arrays::OpenArrays;
 use crate::{Dictionary, Value};
@@ -165,7 +169,8 @@ impl OpenCollections {
 
     /// Opens a dictionary in the innermost collection.
     pub(crate) fn open_dictionary(&mut self, alloc: Global) -> Result<(), AllocError>
-        ensures { OnOk result (OpensDictionary self.old self.new) }
+        ensures { OnOk result (within self.new
+            ≡ Within (InDictionary []) (map open_of self.old)) }
     {
         self.levels.reserve(1)?;
         self.dictionaries
@@ -185,7 +190,8 @@ impl OpenCollections {
     /// Adds a value to the innermost collection. If memory runs out, the value is dropped.
     pub(crate) fn add(&mut self, value: Value) -> Result<(), AllocError>
         requires { 0 < length self.old }
-        ensures { OnOk result (AddsTo self.old value self.new) }
+        ensures { OnOk result (within self.new
+            ≡ and_tree with_pair (tree_of value) (map open_of self.old)) }
     {
         match self.levels.last() {
             None => Ok(()),

@@ -1,11 +1,14 @@
 //! A value that isn't complete yet: the open collections, and finally the root.
 
-ghost use Rattle.std.specs.Prelude.{◌≡◌, [], None, OnOk, option_map};
+ghost use Rattle.std.specs.Prelude.{◌≡◌, [], None, MatchOption, OnOk, option_map, string_bytes};
 ghost use Rattle.plist_base.specs.Events as events;
 ghost use Rattle.plist_base.specs.Events.{event_of};
 ghost use Rattle.plist_base.specs.Faults.{kind_of};
+ghost use Rattle.plist_base.specs.Trees as trees;
+ghost use Rattle.plist.specs.LastWins.{with_pair};
+ghost use Rattle.plist.specs.inner.BuilderSteps.{and_tree};
 ghost use Rattle.plist.specs.Building.{InArray, InDictionary, NotBegun, complete_tree, kind_expected, refusal_at, refusal_of};
-ghost use Rattle.plist.specs.UnfinishedValues.{AddsValue, AddsEvent, RootIsTaken, IsRefusalOf, Opens, TakesText, unfinished_of};
+ghost use Rattle.plist.specs.UnfinishedValues.{AddsEvent, Opens, collections_of, unfinished_of};
 ghost use Rattle.plist.specs.ValueTrees.{tree_of};
 
 use crate::Value;
@@ -77,7 +80,8 @@ impl UnfinishedValue {
 
     /// Returns the kind of error for an event that can't come next, or `None` if it can.
     pub(crate) fn refusal(&self, event: &Event<'_>) -> Option<ErrorKind>
-        ensures { IsRefusalOf self.now event.now result }
+        ensures { option_map kind_of result
+            ≡ refusal_at (unfinished_of self.now) (event_of event.now) }
     {
         if self.root.is_some() {
             return Some(ErrorKind::ExpectedEndOfEventStream {
@@ -109,7 +113,8 @@ impl UnfinishedValue {
     // Adds a complete value to the innermost collection, or makes it the root.
     fn add(&mut self, value: Value) -> Result<(), AllocError>
         requires { self.old.root ≡ None }
-        ensures { OnOk result (AddsValue self.old value self.new) }
+        ensures { OnOk result (unfinished_of self.new
+            ≡ and_tree with_pair (tree_of value) (collections_of self.old)) }
     {
         if self.collections.is_empty() {
             self.root = Some(value);
@@ -133,7 +138,8 @@ impl UnfinishedValue {
     // Adds a string, as a key or as a value.
     fn add_text(&mut self, text: String) -> Result<(), AllocError>
         requires { self.old.root ≡ None }
-        ensures { OnOk result (TakesText self.old text self.new) }
+        ensures { OnOk result (AddsEvent self.old
+            (events.ScalarEvent (trees.String (string_bytes text))) self.new) }
     {
         match self.collections.expect() {
             Some(Expect::Pairs) => {
@@ -168,7 +174,8 @@ impl UnfinishedValue {
     /// Removes and returns the root if it is complete, after which nothing is left.
     pub(crate) fn take_root(&mut self) -> Option<Value>
         ensures root { option_map tree_of result ≡ complete_tree (unfinished_of self.old) }
-        ensures left { RootIsTaken self.old result self.new }
+        ensures left { MatchOption result (self.new ≡ self.old)
+            (λ _. unfinished_of self.new ≡ NotBegun) }
     {
         let root = self.root.take()?;
         self.collections.clear();

@@ -7,7 +7,7 @@ ghost use Rattle.plist.specs.Collecting.{built_tree};
 ghost use Rattle.plist.specs.Accessors.{array_in, data_in, dictionary_in, text_in};
 ghost use Rattle.plist.specs.ValueOfItems.{AnswersIterable, CollectsIterable, ReadsItems, DetermineTrees};
 ghost use Rattle.plist_pairs.specs.Bulk.{IterableEnds};
-ghost use Rattle.plist.specs.FromReader.{IsReadByReader, IsReadInDialect, IsReadWithin, IsReadWithinBudget, IsReadAsAscii, IsReadingFault, budgeted_input, items_of_text};
+ghost use Rattle.plist.specs.FromReader.{IsReadInDialect, IsReadWithin, IsReadWithinBudget, IsReadAsAscii, IsReadingFault, budgeted_input, items_of_text};
 ghost use Rattle.plist.specs.ReadingBack.{ReadsBackIn};
 ghost use Rattle.plist_ascii.specs.Texts.{ends_bare, lax_stops};
 ghost use Rattle.plist_reader.specs.Reader.{items_of_dialect, items_of_input, limited_input};
@@ -191,7 +191,8 @@ impl Value {
     /// - `OutOfMemory` if an allocation fails.
     pub fn from_reader<R: Source>(alloc: Global, source: R) -> Result<Value, Error>
         ensures value { ReadsItems items_of_input (R.known source) result }
-        ensures read { IsReadByReader R.known R.failures source (built_tree result) }
+        ensures read { IsReadInDialect Dialect.Lax R.known R.failures source
+            (built_tree result) }
         ensures fault { IfFault result (IsReadingFault false) }
         ensures reads_back { ReadsBackIn (R.known source) result }
     {

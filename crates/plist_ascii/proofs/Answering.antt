@@ -1,13 +1,12 @@
 -- How the outcomes of a token's parts determine the outcome of the token.
-use Rattle.std.proofs.Common.{◌≡◌, ℕ, ◌+◌, ◌≤◌, None, Some, sym, ap, ◌∙◌, suc, List, [], ◌∷◌, length, drop, Option, Result, Ok, Err, refl, arith}
+use Rattle.std.proofs.Common.{◌≡◌, ℕ, ◌+◌, ◌≤◌, None, Some, sym, ap, List, [], ◌∷◌, drop, Option, Result, Ok, Err, refl, arith}
 use Rattle.std.specs.Prelude.{IfSome}
 use Rattle.std.specs.Option.{option_map}
 use Rattle.std.specs.Result.{IsErrAnd, IfErr, OnOk}
-use Rattle.std.proofs.lemmas.List.{drop-drop}
 use Rattle.plist_base.specs.Faults.{FaultKind, UnclosedString}
 use Rattle.plist_ascii.specs.declared.fault.TokenFault.{TokenFault}
 use Rattle.plist_ascii.specs.Unread.{IfKnown, FirstIsTaken, TakesFront, GivesFront}
-use Rattle.plist_ascii.specs.Taken.{Taken, taken, past_one, past_outcome, followed, front, front_gives, needs}
+use Rattle.plist_ascii.specs.Taken.{Taken, taken, past_one, front}
 use Rattle.plist_ascii.specs.inner.TokenFaults.{kind_in_bytes, said}
 
 -- a fact for `Ok` implies what follows from it
@@ -27,26 +26,6 @@ some_same None P Q h p = tt
 some_same (Some a) P Q h p = h a p
 
 -- ---- several bytes that are required
-
-front_past : {A : Type 0} (n left c : ℕ) (o : Option (List ℕ))
-    (meaning : List ℕ → Result A FaultKind)
-    → front_gives (suc n) (suc left) (option_map (λ cs. c ∷ cs) o) meaning
-    ≡ past_one (front_gives n left o (λ ds. meaning (c ∷ ds)))
-front_past n left c None meaning = refl
-front_past n left c (Some ds) meaning = refl
-
-needs_past : {A : Type 0} (n c : ℕ) (ys : List ℕ) (meaning : List ℕ → Result A FaultKind)
-    → needs (suc n) (c ∷ ys) meaning ≡ past_one (needs n ys (λ ds. meaning (c ∷ ds)))
-needs_past n c ys meaning = front_past n (length ys) c (front n ys) meaning
-
--- a failed read or allocation says nothing about the bytes
-pub outside_says : {A : Type 0} (f : TokenFault) (P : Result A FaultKind → Type 0)
-    → kind_in_bytes f ≡ None → IfSome (option_map (λ kind. Err kind) (kind_in_bytes f)) P
-outside_says f P e = rw e tt
-
-pub outside_fails : (f : TokenFault) (P : FaultKind → Type 0) → kind_in_bytes f ≡ None
-    → IfSome (kind_in_bytes f) P
-outside_fails f P e = rw e tt
 
 -- a fact about the fault of a part implies what follows about the fault of the whole
 pub some_from : {A : Type 0} (k : Option FaultKind) (P : Result A FaultKind → Type 0)
@@ -125,43 +104,6 @@ module _ {A : Type 0} (front : List ℕ → Taken A) where
     some_by (kind_in_bytes f) _ (λ kind. Err kind) _ (λ kind b xs e.
         let k = b.1 xs e in rw (k.1, h) (ap Err (sym b.0), cc, omega (arith, same))) a,
   )
-
--- one of the required bytes was taken, and then what follows it
-pub gives_one : {A : Type 0} (n c : ℕ) (meaning : List ℕ → Result A FaultKind)
-    (old mid : Option (List ℕ)) (p m : ℕ) (new : Option (List ℕ)) (q : ℕ)
-    (o : Option (Result A FaultKind)) → FirstIsTaken old c mid → m ≡ p + 1
-    → GivesFront (λ ys. needs n ys (λ ds. meaning (c ∷ ds))) mid m new q o
-    → GivesFront (λ ys. needs (suc n) ys meaning) old p new q o
-gives_one n c meaning old mid p m new q o t s a =
-    gives_past (λ ys. needs (suc n) ys meaning) (λ ys. needs n ys (λ ds. meaning (c ∷ ds)))
-    old mid c p m new q o t s (λ ys. needs_past n c ys meaning) a
-
-module _ {A B : Type 0} (part : List ℕ → Taken A) (next : A → List ℕ → Taken B) where
-  then_at : (xs : List ℕ) (n : ℕ) (g : Result A FaultKind) (a : A) (outcome : Result B FaultKind)
-      (new : Option (List ℕ)) (p m q : ℕ) → g ≡ Ok a → m ≡ p + n
-      → TakesFront (next a (drop n xs)) outcome new m q (drop n xs)
-      → TakesFront (past_outcome xs n g next) outcome new p q xs
-  then_at xs n g a outcome new p m q e s t =
-      rw e (t.0, t.1 ∙ ap Some (drop-drop _ n xs), omega (arith, s, t.2))
-
-  -- a part was taken, and then what follows it
-  pub gives_then : (old mid : Option (List ℕ)) (p m : ℕ) (a : A) (new : Option (List ℕ)) (q : ℕ)
-      (o : Option (Result B FaultKind)) → GivesFront part old p mid m (Some (Ok a))
-      → GivesFront (next a) mid m new q o
-      → GivesFront (λ xs. followed xs (part xs) next) old p new q o
-  gives_then old mid p m a new q o h k = (
-    omega (arith, h.0, k.0),
-    some_same o _ _ (λ outcome t xs e.
-        let b = h.1 xs e in then_at xs _ _ a outcome new p m q b.0 b.2 (t _ b.1)) k.1,
-  )
-
-  -- a part has a fault
-  pub gives_stops : (old : Option (List ℕ)) (p : ℕ) (new : Option (List ℕ)) (q : ℕ)
-      (k : Option FaultKind) → GivesFront part old p new q (option_map (λ kind. Err kind) k)
-      → GivesFront (λ xs. followed xs (part xs) next) old p new q (option_map (λ kind. Err kind) k)
-  gives_stops old p new q None a = (a.0, tt)
-  gives_stops old p new q (Some kind) a =
-      (a.0, λ xs e. let b = a.1 xs e in rw b.0 (refl, b.1, b.2))
 
 pub front_from : {A : Type 0} (t : Taken A) (g : Result A FaultKind) (new : Option (List ℕ))
     (p q n : ℕ) (xs : List ℕ) → t ≡ taken n g → new ≡ Some (drop n xs) → q ≡ p + n

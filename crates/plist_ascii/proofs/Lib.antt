@@ -6,4 +6,4 @@ pub mod Items
 pub mod Texts
 pub mod Numbers
 pub mod Dialects
-pub mod BareFronts
+pub mod FrontTexts

@@ -25,9 +25,6 @@ pub record Since {R : Type 0} (known : R → Option (List ℕ)) (failures : R �
 
 module _ {R : Type 0} {known : R → Option (List ℕ)} {failures : R → Option ℕ} {old : Input R}
     {P : List ℕ → ℕ → List ℕ → ℕ → Type 0} where
-  pub since_start : ((xs : List ℕ) → P xs old.taken xs old.taken) → Since known failures old old P
-  since_start h = record { rises = omega arith; counts = refl; goes = λ xs e. (xs, e, h xs) }
-
   pub since_on : {mid new : Input R} {Q : List ℕ → ℕ → List ℕ → ℕ → Type 0}
       → Since known failures old mid P → failures new.inner ≡ failures mid.inner
       → mid.taken ≤ new.taken
@@ -47,10 +44,6 @@ pub record Behind {A : Type 0} (whole : List ℕ → Taken A) (follows : ℕ →
   pub place : q ≡ p + k
   pub all : whole xs ≡ follows k ys
   pub rest : ys ≡ drop k xs
-
-pub behind_start : {A : Type 0} {whole : List ℕ → Taken A} {follows : ℕ → List ℕ → Taken A}
-    {xs : List ℕ} {p : ℕ} → whole xs ≡ follows 0 xs → Behind whole follows xs p xs p
-behind_start e = record { k = 0; place = omega arith; all = e; rest = refl }
 
 module _ {A : Type 0} {whole : List ℕ → Taken A} {follows : ℕ → List ℕ → Taken A} {xs : List ℕ}
     {p : ℕ} {ys : List ℕ} {q : ℕ} (h : Behind whole follows xs p ys q) (n r : ℕ) (s : r ≡ q + n)
@@ -229,9 +222,6 @@ star_misses xs e =
 -- `k` bytes of a comment were taken, and the others follow
 abbrev pub Commenting : List ℕ → ℕ → List ℕ → ℕ → Type 0
 Commenting = Behind block_comment (λ k ys. past k (block_comment ys))
-
-pub commenting_start : (xs : List ℕ) (p : ℕ) → Commenting xs p xs p
-commenting_start xs p = behind_start (past_none _)
 
 module _ {xs : List ℕ} {p : ℕ} {ys : List ℕ} {q : ℕ} (h : Commenting xs p ys q) (n : ℕ) {r : ℕ}
     (s : r ≡ q + n) where

@@ -7,7 +7,7 @@ use Rattle.plist_ascii.specs.Taken.{Taken, taken, past_one, run}
 use Rattle.plist_ascii.specs.Escapes.{escape}
 use Rattle.plist_ascii.specs.Quoted.{piece_then, with_front, ends_run, run_end, quoted_by, quoted_in, quoted, escape_then}
 use Rattle.plist_ascii.specs.Unread.{TakesFront}
-use Rattle.plist_ascii.proofs.Loops.{Behind, behind_start, behind_more, behind_ends}
+use Rattle.plist_ascii.proofs.Loops.{Behind, behind_more, behind_ends}
 
 -- ---- what follows a run
 
@@ -106,16 +106,6 @@ quoted_opens quote (c ∷ xs) =
 -- `k` bytes of a quoted string were taken, which stand for `text`, and the others follow
 abbrev pub Quoting : (quote : ℕ) (text xs : List ℕ) → ℕ → List ℕ → ℕ → Type 0
 Quoting quote text = Behind (quoted quote) (λ k ys. piece_then k text (quoted quote ys))
-
-pub quoting_start : (quote : ℕ) (xs : List ℕ) (p : ℕ) → Quoting quote [] xs p xs p
-quoting_start quote xs p = behind_start (behind_none _)
-  where
-    with_none : (r : Result (List ℕ) FaultKind) → with_front [] r ≡ r
-    with_none r = search rules
-
-    behind_none : (t : Taken (List ℕ)) → t ≡ piece_then 0 [] t
-    behind_none t =
-        let n : 0 + t.bytes ≡ t.bytes = omega arith in rw (n, with_none _) refl
 
 module _ (quote : ℕ) (text : List ℕ) {xs : List ℕ} {p : ℕ} {ys : List ℕ} {q : ℕ}
     (h : Quoting quote text xs p ys q) (n : ℕ) {r : ℕ} (s : r ≡ q + n) where

@@ -1,27 +1,25 @@
 -- The meaning of strings, which tokens are strings, and what a slash begins.
 use Rattle.std.proofs.Common.{◌≡◌, ℕ, ◌+◌, ◌≤◌, List, true, false, Option, Some, Ok, Err, refl, ◌<◌, None, ap, sym, subst, ◌∙◌, arith, zero, suc, Bool, cond, [], ◌∷◌, ◌++◌, take, drop, Result, ◌≢◌}
 use Rattle.plist_base.specs.declared.event.Event.{Event}
-use Rattle.plist_ascii.specs.inner.Inputs.{IfCame}
 use Rattle.plist_ascii.specs.inner.TokenFaults.{Means, said}
 use Rattle.std.specs.Str.{is_utf8}
 use Rattle.plist_ascii.specs.declared.fault.TokenFault.{TokenFault}
 use Rattle.plist_ascii.specs.declared.fault.TokenFault.TheVariants as fault
 use Rattle.plist_base.specs.Faults.{InvalidUtf8AsciiStream, FaultKind, UnclosedString}
-use Rattle.std.specs.Option.{option_map}
-use Rattle.plist_base.specs.Events.{PlainEvent, StartArray, StartDictionary, EndCollection, ScalarEvent, event_of}
+use Rattle.plist_base.specs.Events.{PlainEvent, ScalarEvent, event_of}
 use Rattle.plist_base.specs.Trees.{Scalar, String}
-use Rattle.std.specs.Prelude.{ℤ, SomeIff, ⊤, ◌==◌, ◌||◌, length, encode_utf8}
+use Rattle.std.specs.Prelude.{ℤ, SomeIff, ⊤, ◌==◌, length, encode_utf8}
 use Rattle.plist_ascii.specs.Texts.{Token, utf8_or_fault, number_or_text, bare, bare_event, quoted_event}
-use Rattle.plist_ascii.specs.Kinds.{IsTextEvent, IsAsciiEvent, IfBracket}
+use Rattle.plist_ascii.specs.Kinds.{IsTextEvent, IsTextFault}
 use lib.Utf8.{low_scalar}
 use Rattle.std.specs.Char.{IsScalar, is_digit}
 use Rattle.plist_ascii.specs.Taken.{Taken, taken, past_one, past_outcome, front, front_gives, run}
 use Rattle.plist_ascii.specs.Escapes.{is_surrogate, bad_unit, escape, escape_by, simple, simple_escape, octal_text, unit, first_unit, second_unit, second_letter, second_digits, pair_text}
 use Rattle.plist_ascii.specs.Quoted.{with_front, escape_then, run_end, quoted_by, quoted_in, quoted, quoted_outcome, quoted_token}
 use Rattle.plist_ascii.specs.declared.token.Lead.{Lead}
-use Rattle.plist_ascii.specs.Ascii.{IsTextFault, IsTextToken, lead_of, token_by}
+use Rattle.plist_ascii.specs.Ascii.{IsTextToken, lead_of, token_by}
 use Rattle.plist_ascii.specs.Comments.{slash}
-use Rattle.plist_ascii.specs.Unread.{IfKnown, first, TakesFront, GivesFront}
+use Rattle.plist_ascii.specs.Unread.{IfKnown, first, GivesFront}
 use Rattle.std.proofs.lemmas.Bool.{ne_eqb}
 use Rattle.plist_ascii.proofs.Unread.{first_splits}
 
@@ -48,11 +46,6 @@ abbrev pub InText : {A : Type 0} → Result A FaultKind → Type 0
 InText (Ok a) = ⊤
 InText (Err kind) = IsTextFault kind
 
-number_wants : (text : List ℕ) (o : Option ℤ)
-    → IsTextToken (Ok (Some (ScalarEvent (number_or_text text o))))
-number_wants text None = tt
-number_wants text (Some number) = tt
-
 utf8_wants : (b : Bool) (text : List ℕ) (scalar : Scalar) → is_utf8 text ≡ b
     → IsTextToken (Ok (Some (ScalarEvent scalar))) → IsTextToken (utf8_or_fault text scalar)
 utf8_wants true text scalar e h = rw e h
@@ -62,7 +55,7 @@ pub bare_wants : (stops : ℕ → Bool) (c : ℕ) (xs : List ℕ) → IsTextToke
 unfolding bare_event
 bare_wants stops c xs =
     let text = c ∷ take (run stops xs) xs in
-    utf8_wants _ _ _ refl (number_wants _ _)
+    utf8_wants _ _ _ refl (number_is_text _ _)
 
 -- ---- the parts of a quoted string
 
@@ -103,13 +96,13 @@ digits_in high xs =
 letter_in : (high : ℕ) (xs : List ℕ) → InText (second_letter high xs).gives
 letter_in high [] = tt
 letter_in high (c ∷ xs) =
-    cond_in ((c == 117) || (c == 85)) (past_one (second_digits high xs)) (bad_unit 0)
+    cond_in _ (past_one (second_digits high xs)) (bad_unit 0)
     (digits_in high xs) tt
 
 second_in : (high : ℕ) (xs : List ℕ) → InText (second_unit high xs).gives
 second_in high [] = tt
 second_in high (c ∷ xs) =
-    cond_in (c == 92) (second_letter high xs) (bad_unit 0) (letter_in high xs) tt
+    cond_in _ (second_letter high xs) (bad_unit 0) (letter_in high xs) tt
 
 first_in : (u : Option ℕ) (xs : List ℕ) → InText (first_unit u xs).gives
 first_in None xs = tt
@@ -129,7 +122,7 @@ by_in c xs =
     let u = followed_in xs (unit xs).bytes (unit xs).gives first_unit (unit_in xs) first_in in
     let o = needs_in 2 xs (front 2 xs) (λ ds. octal_text (c ∷ ds)) (λ ds. octal_in (c ∷ ds)) in
     let s = simple_in (simple_escape c) in
-    cond_in (c == 85) _ _ u (cond_in (is_digit c 8) _ _ o s)
+    cond_in _ _ _ u (cond_in (is_digit c 8) _ _ o s)
 
 escape_in : (xs : List ℕ) → InText (escape xs).gives
 unfolding escape
@@ -187,21 +180,6 @@ slash_wants stops xs e = rw e (bare_wants _ 47 xs)
 
 -- ---- how the parts of a string determine its meaning
 
--- the meaning of a quoted string is that of its bytes
-pub quoted_means : (quote : ℕ) (text : List ℕ) (g : Result (Option PlainEvent) FaultKind)
-    (new : Option (List ℕ)) (p q : ℕ) (xs : List ℕ) → quoted_event text ≡ g
-    → TakesFront (quoted quote xs) (Ok text) new p q xs
-    → TakesFront (quoted_token quote xs) g new p q xs
-quoted_means quote text g new p q xs m h = (ap quoted_outcome h.0 ∙ m, h.1, h.2)
-
--- the faults of a quoted string are those of its bytes
-pub quoted_stops : (quote : ℕ) (old : Option (List ℕ)) (p : ℕ) (new : Option (List ℕ)) (q : ℕ)
-    (k : Option FaultKind) → GivesFront (quoted quote) old p new q (option_map (λ kind. Err kind) k)
-    → GivesFront (quoted_token quote) old p new q (option_map (λ kind. Err kind) k)
-quoted_stops quote old p new q None a = (a.0, tt)
-quoted_stops quote old p new q (Some kind) a =
-    (a.0, λ xs e. let k = a.1 xs e in (ap quoted_outcome k.0, k.1, k.2))
-
 -- the token of a bare string is the event or the fault of its bytes
 pub bare_becomes : (stops : ℕ → Bool) (c : ℕ) (old : Option (List ℕ)) (p : ℕ)
     (new : Option (List ℕ)) (q : ℕ) (none text : List ℕ) (r : Result Event TokenFault) → p ≤ q
@@ -224,17 +202,6 @@ bare_becomes stops c old p new q none text (Err f) le e k m =
           (ap bare_event (sym same) ∙ m.1, h.1, h.2),
     )
 
--- the token of a quoted string is the event or the fault of its bytes
-pub quoted_becomes : (quote : ℕ) (old : Option (List ℕ)) (p : ℕ) (new : Option (List ℕ)) (q : ℕ)
-    (text : List ℕ) (r : Result Event TokenFault) → GivesFront (quoted quote) old p new q (Some
-    (Ok text))
-    → Means r (quoted_event text)
-    → GivesFront (quoted_token quote) old p new q (said (λ e. Some (event_of e)) r)
-quoted_becomes quote old p new q text (Ok event) h m =
-    (h.0, λ xs e. quoted_means quote text _ new p q xs m.0 (h.1 xs e))
-quoted_becomes quote old p new q text (Err f) h m =
-    rw m.0 (h.0, λ xs e. quoted_means quote text _ new p q xs m.1 (h.1 xs e))
-
 -- ---- the token that a byte begins
 
 pub led_by : (stops : ℕ → Bool) (byte : ℕ) (lead is : Lead) → lead ≡ lead_of byte → lead ≡ is
@@ -249,32 +216,6 @@ wants_led stops byte lead is e f xs h =
     subst (λ (t : Token). IsTextToken t.gives) (sym (led_by stops byte lead is e f xs)) h
 
 -- ---- events of strings
-
-text_is_ascii : (event : PlainEvent) → IsTextEvent event → IsAsciiEvent event
-text_is_ascii (StartArray length) h = absurd h
-text_is_ascii (StartDictionary length) h = absurd h
-text_is_ascii EndCollection h = absurd h
-text_is_ascii (ScalarEvent scalar) h = h
-
-pub text_no_bracket : (event : PlainEvent) (behind : Type 0) → IsTextEvent event
-    → IfBracket event behind
-text_no_bracket (StartArray length) behind h = absurd h
-text_no_bracket (StartDictionary length) behind h = absurd h
-text_no_bracket EndCollection behind h = absurd h
-text_no_bracket (ScalarEvent scalar) behind h = tt
-
-pub text_came : (r : Result (Option Event) TokenFault) → IfCame r (λ e. IsTextEvent (event_of e))
-    → IfCame r (λ e. IsAsciiEvent (event_of e))
-text_came (Ok (Some e)) h = text_is_ascii (event_of e) h
-text_came (Ok None) h = tt
-text_came (Err f) h = tt
-
-pub texts_no_bracket : (r : Result (Option Event) TokenFault) (behind : Type 0)
-    → IfCame r (λ e. IsTextEvent (event_of e))
-    → IfCame r (λ e. IfBracket (event_of e) behind)
-texts_no_bracket (Ok (Some e)) behind h = text_no_bracket (event_of e) behind h
-texts_no_bracket (Ok None) behind h = tt
-texts_no_bracket (Err f) behind h = tt
 
 -- rules for the meaning of a string that was read
 pub ruleset texts = (text_gives, text_fails)

@@ -1,6 +1,6 @@
 -- How looking at bytes and taking them changes the bytes that remain.
 use Rattle.std.proofs.Common.{◌≡◌, ℕ, zero, suc, ◌+◌, ◌-◌, ◌^◌, ◌<◌, ◌≤◌, ◌≢◌, Bool, true, false, List, [], ◌∷◌, ◌++◌, length, take, drop, Option, None, Some, refl, sym, ap, ◌∙◌, rules, arith}
-use Rattle.std.specs.Prelude.{is_some, MatchOption, IfSome, ◌==◌, slice_index_or, nat_eq}
+use Rattle.std.specs.Prelude.{is_some, MatchOption, IfSome, nat_eq}
 use Rattle.std.specs.Option.{option_map}
 use Rattle.std.specs.Io.KnownBytes.{Consumes}
 use Rattle.std.proofs.lemmas.List.{length-take, length-take-le, take-append-le, take-append-drop, take_all, drop_at}
@@ -230,22 +230,6 @@ module _ (k now : Option (List ℕ)) (e : Bool) (p : Option ℕ) (t : ℕ) (xs :
       let known : unread_of k false None t ≡ Some xs = rw (← h, ← q) g in
       let read : unread_of now false (Some c) t ≡ Some xs = one_unread k _ c t xs r known in
       (rw h read, sym (ap first (held_unread now c t xs room read).1))
-
--- the first byte at hand is the first of those that remain
-pub hand_looks : (hand bytes rest xs : List ℕ) → bytes ≡ hand → (length bytes == 0) ≡ false
-    → xs ≡ hand ++ rest → Some (slice_index_or bytes 0 0) ≡ first xs
-hand_looks hand [] rest xs same some e = cc
-hand_looks hand (c ∷ cs) rest xs same some e =
-    let all : xs ≡ (c ∷ cs) ++ rest = rw (← same) at e in rw all refl
-
-pub empty_hand : (hand bytes : List ℕ) → bytes ≡ hand → (length bytes == 0) ≡ true → hand ≡ []
-empty_hand hand [] same none = sym same
-empty_hand hand (c ∷ cs) same none = absurd
-    (let wrong = eqb-true _ _ none in let no : ⊥ = omega arith in no)
-
-pub some_hand : (hand bytes : List ℕ) → bytes ≡ hand → (length bytes == 0) ≡ false → 0 < length hand
-some_hand hand [] same some = cc
-some_hand hand (c ∷ cs) same some = rw (sym same) (omega arith)
 
 -- if all bytes at hand were taken, the offset rose by their number
 pub all_taken : (hand bytes : List ℕ) (n p q : ℕ) → bytes ≡ hand → q ≡ p + n

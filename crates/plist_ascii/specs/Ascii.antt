@@ -1,24 +1,21 @@
 -- The tokens of an old-style ASCII property list, and their items.
-use Rattle.std.specs.Prelude.{◌≡◌, ◌⊎◌, ℕ, zero, suc, ◌+◌, Bool, true, false, cond, ◌||◌, ◌==◌, List, [], ◌∷◌, length, drop, map, Option, None, Some, Result, Ok, Err, ⊤}
-use Rattle.std.specs.List.{list_any}
-use Rattle.plist_base.specs.Faults.{FaultKind, UnclosedString, InvalidUtf8AsciiStream, InvalidOctalString, InvalidUtf16String, fault_at}
-use Rattle.plist_base.specs.Events.{PlainEvent, StartArray, StartDictionary, EndCollection, ScalarEvent, Item}
-use Rattle.plist_base.specs.Trees.{Integer, String}
+use Rattle.std.specs.Prelude.{◌≡◌, ◌⊎◌, ℕ, zero, suc, ◌+◌, Bool, true, false, if◌then◌else◌, List, [], ◌∷◌, length, drop, map, Option, None, Some, Result, Ok, Err}
+use Rattle.plist_base.specs.Faults.{FaultKind, fault_at}
+use Rattle.plist_base.specs.Events.{PlainEvent, StartArray, StartDictionary, EndCollection, Item}
 use Rattle.plist_ascii.specs.declared.token.Lead.{Lead}
 use Rattle.plist_ascii.specs.declared.token.Lead.TheVariants as lead
-use Rattle.plist_ascii.specs.Taken.{taken, past_one}
+use Rattle.plist_ascii.specs.Taken.{is_one_of, taken, past_one}
 use Rattle.plist_ascii.specs.Texts.{Token, bare, lax_stops}
 use Rattle.plist_ascii.specs.Quoted.{quoted_token}
 use Rattle.plist_ascii.specs.Comments.{slash}
+use Rattle.plist_ascii.specs.Kinds.{IsTextEvent, IsTextFault}
 
--- what a byte begins: ( and { begin a start, ) and } an end, quotes a quoted string, / a comment or
--- a bare string, separators and white space nothing, and any other byte a bare string
+-- what a byte begins: a start, an end, nothing, a quoted string, a comment or a bare string
 abbrev pub lead_of : ℕ → Lead
 lead_of c =
-    cond (c == 40) lead.ArrayStart (cond (c == 123) lead.DictionaryStart
-    (cond ((c == 41) || (c == 125)) lead.End
-    (cond (list_any (λ d. c == d) (44 ∷ 59 ∷ 61 ∷ 32 ∷ 13 ∷ 9 ∷ 10 ∷ [])) lead.Blank
-    (cond ((c == 39) || (c == 34)) lead.Quote (cond (c == 47) lead.Slash lead.Bare)))))
+    if is_one_of "(" c then lead.ArrayStart else if is_one_of "{" c then lead.DictionaryStart
+    else if is_one_of ")}" c then lead.End else if is_one_of ",;= \r\t\n" c then lead.Blank
+    else if is_one_of "'\"" c then lead.Quote else if is_one_of "/" c then lead.Slash else lead.Bare
 
 -- is it what a separator or white space begins, which is nothing?
 abbrev pub begins_nothing : Lead → Bool
@@ -29,16 +26,12 @@ begins_nothing other = false
 abbrev pub is_blank : ℕ → Bool
 is_blank c = begins_nothing (lead_of c)
 
--- a token of one byte
-abbrev pub token_of_one : Option PlainEvent → Token
-token_of_one event = taken 0 (Ok event)
-
 -- the token that c begins, without c itself
 abbrev pub token_by : (stops : ℕ → Bool) → Lead → ℕ → List ℕ → Token
-token_by stops lead.ArrayStart c rest = token_of_one (Some (StartArray None))
-token_by stops lead.DictionaryStart c rest = token_of_one (Some (StartDictionary None))
-token_by stops lead.End c rest = token_of_one (Some EndCollection)
-token_by stops lead.Blank c rest = token_of_one None
+token_by stops lead.ArrayStart c rest = taken 0 (Ok (Some (StartArray None)))
+token_by stops lead.DictionaryStart c rest = taken 0 (Ok (Some (StartDictionary None)))
+token_by stops lead.End c rest = taken 0 (Ok (Some EndCollection))
+token_by stops lead.Blank c rest = taken 0 (Ok None)
 token_by stops lead.Quote c rest = quoted_token c rest
 token_by stops lead.Slash c rest = slash stops rest
 token_by stops lead.Bare c rest = bare stops c rest
@@ -89,27 +82,17 @@ items_of_ascii stops bytes place = map (λ p. p.item) (placed_items stops bytes 
 
 -- ---- where memory may run out
 
--- a fault of a string
-abbrev pub IsTextFault : FaultKind → Type 0
-IsTextFault UnclosedString = ⊤
-IsTextFault InvalidUtf8AsciiStream = ⊤
-IsTextFault InvalidOctalString = ⊤
-IsTextFault InvalidUtf16String = ⊤
-IsTextFault kind = ⊥
-
 -- the token is a string, an integer or a string's fault
 abbrev pub IsTextToken : Result (Option PlainEvent) FaultKind → Type 0
-IsTextToken (Ok (Some (ScalarEvent (String text)))) = ⊤
-IsTextToken (Ok (Some (ScalarEvent (Integer number)))) = ⊤
+IsTextToken (Ok None) = ⊥
+IsTextToken (Ok (Some event)) = IsTextEvent event
 IsTextToken (Err kind) = IsTextFault kind
-IsTextToken outcome = ⊥
 
 -- the first item is a string, an integer or a string's fault
 abbrev pub BeginsWithText : List Item → Type 0
-BeginsWithText (Ok (ScalarEvent (String text)) ∷ items) = ⊤
-BeginsWithText (Ok (ScalarEvent (Integer number)) ∷ items) = ⊤
+BeginsWithText [] = ⊥
+BeginsWithText (Ok event ∷ items) = IsTextEvent event
 BeginsWithText (Err fault ∷ items) = IsTextFault fault.kind
-BeginsWithText items = ⊥
 
 -- ---- what follows an item
 

@@ -1,18 +1,18 @@
 -- A reader as contracts describe it: the bytes that it hasn't taken yet, and their items.
-use Rattle.std.specs.Prelude.{◌≡◌, ℕ, ◌-◌, ◌^◌, ◌<◌, ◌≤◌, Bool, true, false, List, [], ◌∷◌, take, drop, Option, None, Some, Result, Ok, Err, IfSome, MatchOption, MatchResult, ⊤}
+use Rattle.std.specs.Prelude.{◌≡◌, ℕ, ◌-◌, ◌^◌, ◌<◌, ◌≤◌, Bool, true, false, List, [], ◌∷◌, take, drop, Option, None, Some, Result, Ok, Err, IfErr, IfSome, OnOk, ⊤}
 use Rattle.std.specs.Option.{option_map}
 use Rattle.plist_base.specs.declared.error.Error.{Error}
 use Rattle.plist_base.specs.declared.event.Event.{Event}
-use Rattle.plist_base.specs.Faults.{MatchFault, kind_of, error_kind_of, fault_of}
+use Rattle.plist_base.specs.Faults.{MatchFault, fault_of}
 use Rattle.plist_base.specs.Events.{Item, event_of}
 use Rattle.plist_ascii.specs.declared.reader.AsciiReader.{AsciiReader}
 use Rattle.plist_ascii.specs.declared.dialect.Dialect.{Dialect}
 use Rattle.plist_ascii.specs.Texts.{ends_bare}
 use Rattle.plist_ascii.specs.declared.token.Lead.{Lead}
 use Rattle.plist_ascii.specs.Ascii.{PlacedItem, placed, placed_items, items_of_ascii, BeginsWithText, FirstIsQuoted}
-use Rattle.plist_ascii.specs.Kinds.{IsAsciiItem, IfBracketItem}
+use Rattle.plist_ascii.specs.Kinds.{IsAsciiItem, IsFaultOfBytes, IfBracketItem, MatchItem}
 use Rattle.plist_ascii.specs.Incoming.{ItemCountsIoIfCounted}
-use Rattle.plist_ascii.specs.Unread.{readable_with, unread, IfKnown, IsFaultAt}
+use Rattle.plist_ascii.specs.Unread.{readable_with, unread, IfKnown}
 
 -- the inner reader
 abbrev pub device_of : {R : Type 0} → AsciiReader R → R
@@ -66,36 +66,31 @@ pub record BeginsWithItem (stops : ℕ → Bool) (bytes : List ℕ) (p : ℕ) (i
 -- string, an integer or a string's fault
 abbrev pub GivesAsciiItem : (stops : ℕ → Bool) → List ℕ → (p : ℕ) → Option (Result Event Error)
     → (rest : List ℕ) → (q : ℕ) → Type 0
-GivesAsciiItem stops bytes p item rest q = MatchOption item
-    ((items_of_ascii stops bytes p ≡ []) × (rest ≡ []))
-    (λ answer. MatchResult answer
-    (λ event. BeginsWithItem stops bytes p (Ok (event_of event)) rest q)
-    (λ error. MatchFault (kind_of (error_kind_of error)) (rest ≡ [])
-    ((rest ≡ []) × BeginsWithText (items_of_ascii stops bytes p))
-    (BeginsWithItem stops bytes p (Err (fault_of error)) rest q)))
+GivesAsciiItem stops bytes p item rest q =
+    let items = items_of_ascii stops bytes p in
+    MatchItem item ((items ≡ []) × (rest ≡ []))
+    (λ event. BeginsWithItem stops bytes p (Ok (event_of event)) rest q) (rest ≡ [])
+    ((rest ≡ []) × BeginsWithText items) (λ fault. BeginsWithItem stops bytes p (Err fault) rest q)
 
 -- at least one byte is taken for an event or a fault in the bytes, and no byte is put back
 abbrev pub TakesBytes : Option (Result Event Error) → (p q : ℕ) → Type 0
-TakesBytes item p q = MatchOption item (p ≤ q) (λ answer. MatchResult answer
-    (λ _. p < q)
-    (λ error. MatchFault (kind_of (error_kind_of error)) (p ≤ q) (p ≤ q) (p < q)))
+TakesBytes item p q = MatchItem item (p ≤ q) (λ _. p < q) (p ≤ q) (p ≤ q) (λ _. p < q)
 
--- a fault's offset is the number of bytes taken; `OutOfMemory` has none
+-- the offset of `Io` and of a fault in the bytes is the number of bytes taken; `OutOfMemory` has
+-- none
 abbrev pub FaultIsAt : Option (Result Event Error) → ℕ → Type 0
-FaultIsAt item place =
-    MatchOption item ⊤ (λ answer. MatchResult answer (λ _. ⊤)
-    (λ error. IsFaultAt (fault_of error) place))
+FaultIsAt item place = IfSome item (λ answer. IfErr answer (λ error.
+    let fault = fault_of error in
+    MatchFault fault.kind (fault.offset ≡ Some place) (fault.offset ≡ None)
+    (IsFaultOfBytes fault.kind × (fault.offset ≡ Some place))))
 
 -- if the item is an event and the first of these items is a quoted string, the fact is true
 abbrev pub IfQuotedItem : List PlacedItem → Option (Result Event Error) → (fact : Type 0) → Type 0
-IfQuotedItem items item fact =
-    MatchOption item ⊤ (λ answer. MatchResult answer (λ _. FirstIsQuoted items → fact) (λ _. ⊤))
+IfQuotedItem items item fact = IfSome item (λ answer. OnOk answer (FirstIsQuoted items → fact))
 
 -- after `Io`, `OutOfMemory` and `None`, the reader has ended
-abbrev pub EndsAfterIoOrMemory : Option (Result Event Error) → Type 0 → Type 0
-EndsAfterIoOrMemory item ended =
-    MatchOption item ended (λ answer. MatchResult answer (λ _. ⊤)
-    (λ error. MatchFault (kind_of (error_kind_of error)) ended ended ⊤))
+abbrev pub EndsAfterIoOrMemory : Option (Result Event Error) → (ended : Type 0) → Type 0
+EndsAfterIoOrMemory item ended = MatchItem item ended (λ _. ⊤) ended ended (λ _. ⊤)
 
 -- what one call of `next` does: it returns the first item of the bytes not taken yet; a reader that
 -- has ended doesn't call the inner reader, and after a start, an end or a quoted string no further

@@ -1,5 +1,5 @@
 -- What a slash begins, from the byte after it on: a comment or a bare string.
-use Rattle.std.specs.Prelude.{ℕ, suc, Bool, false, cond, ◌&&◌, ◌==◌, List, [], ◌∷◌, length, Option, None, Some, Ok, Err}
+use Rattle.std.specs.Prelude.{ℕ, suc, Bool, false, if◌then◌else◌, ◌&&◌, ◌==◌, List, [], ◌∷◌, length, Option, None, Some, Ok, Err}
 use Rattle.std.specs.Option.{option_map}
 use Rattle.plist_base.specs.Faults.{IncompleteComment}
 use Rattle.plist_ascii.specs.Taken.{taken, past_one, run}
@@ -18,7 +18,7 @@ begins_with c (d ∷ rest) = d == c
 abbrev pub close_at : List ℕ → Option ℕ
 close_at [] = None
 close_at (c ∷ rest) =
-    cond ((c == 42) && begins_with 47 rest) (Some 0) (option_map suc (close_at rest))
+    if (c == 42) && begins_with 47 rest then Some 0 else option_map suc (close_at rest)
 
 -- a block comment, up to and including the `*/` at this offset
 abbrev pub block_comment_to : List ℕ → Option ℕ → Token
@@ -33,6 +33,5 @@ block_comment rest = block_comment_to rest (close_at rest)
 abbrev pub slash : (stops : ℕ → Bool) → List ℕ → Token
 slash stops [] = taken 0 (Err IncompleteComment)
 slash stops (c ∷ rest) =
-    cond (c == 47) (past_one (line_comment rest))
-    (cond (c == 42) (past_one (block_comment rest))
-    (bare stops 47 (c ∷ rest)))
+    if c == 47 then past_one (line_comment rest)
+    else if c == 42 then past_one (block_comment rest) else bare stops 47 (c ∷ rest)

@@ -6,32 +6,24 @@
 --     U unit \ U unit               the character of a surrogate pair; the second `U` may be small
 --
 -- A unit is four hexadecimal digits. The digits are taken before they are checked.
-use Rattle.std.specs.Prelude.{ℕ, ◌-◌, Bool, cond, ◌&&◌, ◌||◌, ◌==◌, nat_lt, nat_le, List, [], ◌∷◌, slice_index, Option, None, Some, Result, Ok, Err, encode_utf8}
-use Rattle.std.specs.List.{list_all}
+use Rattle.std.specs.Prelude.{ℕ, ◌-◌, Bool, if◌then◌else◌, ◌&&◌, ◌||◌, ◌==◌, codes, nat_lt, nat_le, List, [], ◌∷◌, slice_index, Option, None, Some, Result, Ok, Err, encode_utf8}
+use Rattle.std.specs.List.{list_all, zip}
+use Rattle.std.specs.Map.{lookup}
 use Rattle.std.specs.Char.{is_digit}
 use Rattle.std.specs.Char.Utf16.{is_high_surrogate, is_low_surrogate, surrogate_pair_char}
 use Rattle.std.specs.Str.Parse.{digits_value}
 use Rattle.plist_base.specs.Faults.{FaultKind, InvalidUtf16String, InvalidUtf8AsciiStream, InvalidOctalString}
-use Rattle.plist_ascii.specs.Bytes.{bell, backspace, tab, line_feed, vertical_tab, form_feed, carriage_return, quotation_mark, apostrophe, backslash, capital_u, small_a, small_b, small_f, small_n, small_r, small_t, small_u, small_v}
-use Rattle.plist_ascii.specs.Taken.{Taken, taken, past_one, after_byte, followed, needs}
+use Rattle.plist_ascii.specs.Taken.{Taken, taken, past_one, after_byte, followed, is_one_of, needs}
 
 -- ---- one letter
 
 -- each letter, and the byte that it stands for
 abbrev pub letters : List (ℕ × ℕ)
-letters =
-    (backslash, backslash) ∷ (quotation_mark, quotation_mark) ∷ (apostrophe, apostrophe)
-    ∷ (small_a, bell) ∷ (small_b, backspace) ∷ (small_f, form_feed) ∷ (small_n, line_feed)
-    ∷ (small_r, carriage_return) ∷ (small_t, tab) ∷ (small_v, vertical_tab) ∷ []
-
--- the byte in the row of the letter c, or `None` if there is no such row
-abbrev pub beside : ℕ → List (ℕ × ℕ) → Option ℕ
-beside c [] = None
-beside c (row ∷ rows) = cond (c == row.0) (Some row.1) (beside c rows)
+letters = zip (codes "\\\"'abfnrtv") (codes "\\\"'\u{7}\u{8}\u{c}\n\r\t\u{b}")
 
 -- the byte that a letter stands for, or `None`
 abbrev pub simple_escape : ℕ → Option ℕ
-simple_escape c = beside c letters
+simple_escape c = lookup (λ letter. c == letter) letters
 
 -- a letter stands for its byte, or is a fault if it stands for none; no more bytes are taken
 abbrev pub simple : Option ℕ → Taken (List ℕ)
@@ -62,13 +54,13 @@ nextstep =
 
 -- the character of an octal number: NeXTSTEP's from 128 to 255, and otherwise Unicode's
 unfoldable pub octal_char : ℕ → ℕ
-octal_char n = cond (nat_le 128 n && nat_lt n 256) (slice_index nextstep (n - 128)) n
+octal_char n = if nat_le 128 n && nat_lt n 256 then slice_index nextstep (n - 128) else n
 
 -- the character of three octal digits, or a fault if one of the bytes isn't an octal digit
 unfoldable pub octal_text : List ℕ → Result (List ℕ) FaultKind
 octal_text digits =
-    cond (list_all (λ c. is_digit c 8) digits)
-    (Ok (encode_utf8 (octal_char (digits_value 8 digits)))) (Err InvalidOctalString)
+    if list_all (λ c. is_digit c 8) digits
+    then Ok (encode_utf8 (octal_char (digits_value 8 digits))) else Err InvalidOctalString
 
 -- an octal escape: the digit c, and the two bytes after it
 abbrev pub octal : ℕ → List ℕ → Taken (List ℕ)
@@ -78,7 +70,8 @@ octal c rest = needs 2 rest (λ digits. octal_text (c ∷ digits))
 
 -- the number that hexadecimal digits spell, or `None` if one of the bytes isn't a digit
 abbrev pub unit_of : List ℕ → Option ℕ
-unit_of digits = cond (list_all (λ c. is_digit c 16) digits) (Some (digits_value 16 digits)) None
+unit_of digits =
+    if list_all (λ c. is_digit c 16) digits then Some (digits_value 16 digits) else None
 
 -- four bytes, and the unit that they spell, if they are digits
 abbrev pub unit : List ℕ → Taken (Option ℕ)
@@ -95,8 +88,8 @@ bad_unit n = taken n (Err InvalidUtf16String)
 -- the character of a high surrogate followed by a low one, or a fault
 abbrev pub pair_text : ℕ → Option ℕ → Result (List ℕ) FaultKind
 pair_text high (Some low) =
-    cond (is_high_surrogate high && is_low_surrogate low)
-    (Ok (encode_utf8 (surrogate_pair_char high low))) (Err InvalidUtf16String)
+    if is_high_surrogate high && is_low_surrogate low then
+    Ok (encode_utf8 (surrogate_pair_char high low)) else Err InvalidUtf16String
 pair_text high None = Err InvalidUtf16String
 
 -- the digits of the second unit, after its letter
@@ -107,16 +100,17 @@ second_digits high rest = followed rest (unit rest) (λ low _. taken 0 (pair_tex
 abbrev pub second_letter : ℕ → List ℕ → Taken (List ℕ)
 second_letter high [] = bad_unit 0
 second_letter high (c ∷ rest) =
-    cond ((c == small_u) || (c == capital_u)) (past_one (second_digits high rest)) (bad_unit 0)
+    if is_one_of "uU" c then past_one (second_digits high rest) else bad_unit 0
 
 -- the second unit, after the digits of the first: a backslash, a letter and digits
 abbrev pub second_unit : ℕ → List ℕ → Taken (List ℕ)
 second_unit high =
-    after_byte (λ c rest. cond (c == backslash) (second_letter high rest) (bad_unit 0))
+    after_byte (λ c rest. if is_one_of "\\" c then second_letter high rest else bad_unit 0)
 
 -- what follows the digits of the first unit: nothing, or the second unit of a pair
 abbrev pub first_unit : Option ℕ → List ℕ → Taken (List ℕ)
-first_unit (Some u) rest = cond (is_surrogate u) (second_unit u rest) (taken 0 (Ok (encode_utf8 u)))
+first_unit (Some u) rest =
+    if is_surrogate u then second_unit u rest else taken 0 (Ok (encode_utf8 u))
 first_unit None rest = bad_unit 0
 
 -- what follows `\U`
@@ -128,8 +122,8 @@ unicode rest = followed rest (unit rest) first_unit
 -- what an escape with the first byte c stands for
 abbrev pub escape_by : ℕ → List ℕ → Taken (List ℕ)
 escape_by c rest =
-    cond (c == capital_u) (unicode rest)
-    (cond (is_digit c 8) (octal c rest) (simple (simple_escape c)))
+    if is_one_of "U" c then unicode rest
+    else if is_digit c 8 then octal c rest else simple (simple_escape c)
 
 -- the bytes that an escape stands for
 unfoldable pub escape : List ℕ → Taken (List ℕ)

@@ -1,18 +1,14 @@
 -- The bytes that remain after a byte was read, and how the count of failures changes.
-use Rattle.std.specs.Prelude.{◌≡◌, ℕ, List, [], ◌∷◌, ◌++◌, take, Option, None, Some, Result, IfSome, MatchOption, MatchResult, ⊤}
+use Rattle.std.specs.Prelude.{◌≡◌, ℕ, List, [], ◌∷◌, ◌++◌, Option, None, Some, Result, IfSome, MatchResult, ⊤}
 use Rattle.std.specs.Io.KnownBytes.{Consumes, IsAtEnd}
 use Rattle.plist_base.specs.declared.error.Error.{Error}
-use Rattle.plist_base.specs.Faults.{MatchFault, kind_of, error_kind_of}
 use Rattle.plist_base.specs.Sources.{Rises}
+use Rattle.plist_ascii.specs.Kinds.{MatchItem}
 
 -- the byte that was returned is removed from the known bytes; `None` is returned only at their end
 abbrev pub GivesByte : Option (List ℕ) → Option ℕ → Option (List ℕ) → Type 0
 GivesByte old None new = Consumes old new [] × IsAtEnd new
 GivesByte old (Some byte) new = Consumes old new (byte ∷ [])
-
--- the first `count` buffered bytes are removed from the known bytes
-abbrev pub LosesFirst : (count : ℕ) → (held : List ℕ) → Option (List ℕ) → Option (List ℕ) → Type 0
-LosesFirst count held old new = Consumes old new (take count held)
 
 -- the known bytes begin with the buffered ones
 abbrev pub StartsWithHeld : (held : List ℕ) → Option (List ℕ) → Type 0
@@ -26,21 +22,12 @@ RisesIfCounted (Some old) (Some new) = Rises old new
 
 -- the count of failures is unchanged after `Ok`, and rose after `Err`
 abbrev pub CountsFailureIfCounted : {A E : Type 0} → Result A E → Option ℕ → Option ℕ → Type 0
-CountsFailureIfCounted answer old new = MatchResult answer (λ _. new
-    ≡ old) (λ _. RisesIfCounted old new)
-
--- the count of failures rose if the error is `Io`, and is unchanged after any other error
-abbrev pub CountsIoIfCounted : Error → Option ℕ → Option ℕ → Type 0
-CountsIoIfCounted error old new =
-    MatchFault (kind_of (error_kind_of error)) (RisesIfCounted old new) (new ≡ old) (new ≡ old)
-
--- the count of failures rose if the call returned `Io`, and otherwise is unchanged
-abbrev pub AnswersIoIfCounted : {A : Type 0} → Result A Error → Option ℕ → Option ℕ → Type 0
-AnswersIoIfCounted answer old new = MatchResult answer (λ _. new ≡ old)
-    (λ error. CountsIoIfCounted error old new)
+CountsFailureIfCounted answer old new =
+    MatchResult answer (λ _. new ≡ old) (λ _. RisesIfCounted old new)
 
 -- the count of failures rose if the iterator yielded `Io`, and otherwise is unchanged
 abbrev pub ItemCountsIoIfCounted : {A : Type 0} → Option (Result A Error) → Option ℕ → Option ℕ
     → Type 0
-ItemCountsIoIfCounted item old new = MatchOption item (new ≡ old)
-    (λ answer. AnswersIoIfCounted answer old new)
+ItemCountsIoIfCounted item old new =
+    let same = new ≡ old in
+    MatchItem item same (λ _. same) (RisesIfCounted old new) same (λ _. same)

@@ -1,19 +1,30 @@
 -- Which events and faults the reader can yield.
-use Rattle.std.specs.Prelude.{Option, None, Result, MatchOption, MatchResult, ⊤}
+use Rattle.std.specs.Prelude.{Option, None, Result, IfOk, IfSome, MatchOption, MatchResult, ⊤}
 use Rattle.plist_base.specs.declared.error.Error.{Error}
 use Rattle.plist_base.specs.declared.event.Event.{Event}
 use Rattle.plist_base.specs.Events.{PlainEvent, StartArray, StartDictionary, EndCollection, ScalarEvent, event_of}
 use Rattle.plist_base.specs.Trees.{Integer, String}
-use Rattle.plist_base.specs.Faults.{FaultKind, UnclosedString, IncompleteComment, InvalidUtf8AsciiStream, InvalidOctalString, InvalidUtf16String, MatchFault, kind_of, error_kind_of}
+use Rattle.plist_base.specs.Faults.{Fault, FaultKind, UnclosedString, IncompleteComment, InvalidUtf8AsciiStream, InvalidOctalString, InvalidUtf16String, MatchFault, kind_of, error_kind_of, fault_of}
+
+-- a fact for each kind of item: none, an event, `Io`, `OutOfMemory` and a fault in the bytes
+abbrev pub MatchItem : {E : Type 0} → Option (Result E Error) → (none : Type 0)
+    → (event : E → Type 0) → (io memory : Type 0) → (fault : Fault → Type 0) → Type 0
+MatchItem item none event io memory fault =
+    MatchOption item none (λ answer. MatchResult answer event
+    (λ error. MatchFault (kind_of (error_kind_of error)) io memory (fault (fault_of error))))
+
+-- a fault of a string
+abbrev pub IsTextFault : FaultKind → Type 0
+IsTextFault UnclosedString = ⊤
+IsTextFault InvalidUtf8AsciiStream = ⊤
+IsTextFault InvalidOctalString = ⊤
+IsTextFault InvalidUtf16String = ⊤
+IsTextFault kind = ⊥
 
 -- the kind of a fault that bytes can have
 abbrev pub IsFaultOfBytes : FaultKind → Type 0
-IsFaultOfBytes UnclosedString = ⊤
 IsFaultOfBytes IncompleteComment = ⊤
-IsFaultOfBytes InvalidUtf8AsciiStream = ⊤
-IsFaultOfBytes InvalidOctalString = ⊤
-IsFaultOfBytes InvalidUtf16String = ⊤
-IsFaultOfBytes kind = ⊥
+IsFaultOfBytes kind = IsTextFault kind
 
 -- `Io`, `OutOfMemory`, or a fault that the bytes can have
 abbrev pub IsAsciiFault : FaultKind → Type 0
@@ -35,8 +46,7 @@ IsAsciiEvent event = IsTextEvent event
 -- the item, if there is one, is one of these events or faults
 abbrev pub IsAsciiItem : Option (Result Event Error) → Type 0
 IsAsciiItem item =
-    MatchOption item ⊤ (λ answer. MatchResult answer (λ event. IsAsciiEvent (event_of event))
-    (λ error. IsAsciiFault (kind_of (error_kind_of error))))
+    MatchItem item ⊤ (λ event. IsAsciiEvent (event_of event)) ⊤ ⊤ (λ f. IsFaultOfBytes f.kind)
 
 -- if the event is a start or an end, the fact is true
 abbrev pub IfBracket : PlainEvent → (fact : Type 0) → Type 0
@@ -48,5 +58,4 @@ IfBracket (ScalarEvent scalar) fact = ⊤
 -- if the item is a start or an end, the fact is true
 abbrev pub IfBracketItem : Option (Result Event Error) → (fact : Type 0) → Type 0
 IfBracketItem item fact =
-    MatchOption item ⊤ (λ answer. MatchResult answer
-    (λ event. IfBracket (event_of event) fact) (λ _. ⊤))
+    IfSome item (λ answer. IfOk answer (λ event. IfBracket (event_of event) fact))

@@ -1,5 +1,4 @@
 pub mod Taken
-pub mod Bytes
 pub mod Texts
 pub mod Escapes
 pub mod Quoted

@@ -1,5 +1,5 @@
 -- Quoted strings, from the byte after the opening quote on.
-use Rattle.std.specs.Prelude.{ℕ, zero, suc, ◌+◌, Bool, cond, ◌||◌, ◌==◌, List, [], ◌∷◌, ◌++◌, length, take, drop, Option, Result, Ok, Err}
+use Rattle.std.specs.Prelude.{ℕ, zero, suc, ◌+◌, Bool, if◌then◌else◌, ◌||◌, ◌==◌, List, [], ◌∷◌, ◌++◌, length, take, drop, Option, Result, Ok, Err}
 use Rattle.plist_base.specs.Faults.{FaultKind, UnclosedString}
 use Rattle.plist_base.specs.Events.{PlainEvent}
 use Rattle.plist_ascii.specs.Taken.{Taken, taken, past_one, run}
@@ -29,8 +29,8 @@ module _ (quote : ℕ) (more : List ℕ → Taken (List ℕ)) where
   abbrev pub run_end : List ℕ → Taken (List ℕ)
   run_end [] = taken 0 (Err UnclosedString)
   run_end (c ∷ rest) =
-      past_one (cond (c == quote) (taken 0 (Ok []))
-      (escape_then (escape rest).bytes (escape rest).gives (λ n. more (drop n rest))))
+      past_one (if c == quote then taken 0 (Ok [])
+      else escape_then (escape rest).bytes (escape rest).gives (λ n. more (drop n rest)))
 
   -- the longest run of plain bytes, followed by what ends it
   abbrev pub quoted_by : List ℕ → Taken (List ℕ)

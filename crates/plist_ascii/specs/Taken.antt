@@ -1,6 +1,7 @@
 -- How many bytes are taken from the front of a list, and what they mean.
-use Rattle.std.specs.Prelude.{ℕ, suc, zero, ◌+◌, Bool, not, List, [], ◌∷◌, length, drop, Option, None, Some, Result, Ok, Err}
-use Rattle.std.specs.List.{prefix_len}
+use Rattle.std.specs.Prelude.{ℕ, suc, zero, ◌+◌, Bool, not, ◌==◌, codes, List, [], ◌∷◌, length, drop, Option, None, Some, Result, Ok, Err}
+use Prim.Native.String.{String}
+use Rattle.std.specs.List.{list_any, prefix_len}
 use Rattle.std.specs.Option.{option_map}
 use Rattle.plist_base.specs.Faults.{FaultKind, UnclosedString}
 
@@ -53,6 +54,10 @@ needs count bytes meaning = front_gives count (length bytes) (front count bytes)
 abbrev pub after_byte : {A : Type 0} → (ℕ → List ℕ → Taken A) → List ℕ → Taken A
 after_byte next [] = taken 0 (Err UnclosedString)
 after_byte next (c ∷ rest) = past_one (next c rest)
+
+-- is the byte one of these characters?
+abbrev pub is_one_of : String → ℕ → Bool
+is_one_of characters c = list_any (λ d. c == d) (codes characters)
 
 -- the number of bytes before the first stop
 abbrev pub run : (stops : ℕ → Bool) → List ℕ → ℕ

@@ -1,6 +1,5 @@
 -- The meaning of bare and quoted strings.
-use Rattle.std.specs.Prelude.{ℕ, ℤ, Bool, cond, ◌==◌, List, [], ◌∷◌, take, Option, None, Some, Result, Ok, Err}
-use Rattle.std.specs.List.{list_any}
+use Rattle.std.specs.Prelude.{ℕ, ℤ, Bool, if◌then◌else◌, List, ◌∷◌, take, Option, None, Some, Result, Ok, Err}
 use Rattle.std.specs.Str.{is_utf8}
 use Rattle.plist_base.specs.Faults.{FaultKind, InvalidUtf8AsciiStream}
 use Rattle.plist_base.specs.Events.{PlainEvent, ScalarEvent}
@@ -8,19 +7,19 @@ use Rattle.plist_base.specs.Trees.{Scalar, Integer, String}
 use Rattle.plist_base.specs.IntegerText.{integer_of_text}
 use Rattle.plist_ascii.specs.declared.dialect.Dialect.{Dialect}
 use Rattle.plist_ascii.specs.declared.dialect.Dialect.TheVariants as dialect
-use Rattle.plist_ascii.specs.Taken.{Taken, taken, run}
+use Rattle.plist_ascii.specs.Taken.{Taken, is_one_of, taken, run}
 
 -- a token: the number of bytes taken, and an event, no event or a fault
 abbrev pub Token : Type 0
 Token = Taken (Option PlainEvent)
 
--- the bytes that end a bare string in the lax dialect: space, `)`, CR, tab, `;`, `,`
+-- does the byte end a bare string in the lax dialect?
 abbrev pub lax_stops : ℕ → Bool
-lax_stops c = list_any (λ d. c == d) (32 ∷ 41 ∷ 13 ∷ 9 ∷ 59 ∷ 44 ∷ [])
+lax_stops c = is_one_of " )\r\t;," c
 
--- the bytes that end a bare string in the tight dialect: those of the lax one, and LF, `}`, `=`
+-- does the byte end a bare string in the tight dialect?
 abbrev pub tight_stops : ℕ → Bool
-tight_stops c = list_any (λ d. c == d) (32 ∷ 41 ∷ 13 ∷ 9 ∷ 59 ∷ 44 ∷ 10 ∷ 125 ∷ 61 ∷ [])
+tight_stops c = is_one_of " )\r\t;,\n}=" c
 
 -- does the byte end a bare string in this dialect?
 abbrev pub ends_bare : Dialect → ℕ → Bool
@@ -39,7 +38,7 @@ scalar_of_text text = number_or_text text (integer_of_text text)
 -- the event of a scalar, or a fault if the bytes of its string aren't UTF-8
 abbrev pub utf8_or_fault : List ℕ → Scalar → Result (Option PlainEvent) FaultKind
 utf8_or_fault text scalar =
-    cond (is_utf8 text) (Ok (Some (ScalarEvent scalar))) (Err InvalidUtf8AsciiStream)
+    if is_utf8 text then Ok (Some (ScalarEvent scalar)) else Err InvalidUtf8AsciiStream
 
 -- the meaning of a bare string
 unfoldable pub bare_event : List ℕ → Result (Option PlainEvent) FaultKind

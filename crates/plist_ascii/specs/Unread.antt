@@ -1,9 +1,8 @@
 -- The bytes that an input hasn't taken yet, and those that remain after a part of a token is taken.
-use Rattle.std.specs.Prelude.{◌≡◌, ℕ, ◌+◌, ◌-◌, ◌^◌, ◌≤◌, Bool, true, false, not, ◌==◌, List, [], ◌∷◌, ◌++◌, length, take, drop, Option, None, Some, Result, IfSome, slice_get}
+use Rattle.std.specs.Prelude.{◌≡◌, ℕ, ◌+◌, ◌-◌, ◌^◌, ◌≤◌, Bool, true, false, not, ◌==◌, List, [], ◌∷◌, ◌++◌, length, take, drop, Option, Some, Result, IfSome, slice_get}
 use Rattle.std.specs.List.{cons_option}
 use Rattle.std.specs.Option.{option_map}
-use Rattle.plist_base.specs.Faults.{Fault, FaultKind, MatchFault}
-use Rattle.plist_ascii.specs.Kinds.{IsFaultOfBytes}
+use Rattle.plist_base.specs.Faults.{FaultKind}
 use Rattle.plist_ascii.specs.declared.input.Input.{Input}
 use Rattle.plist_ascii.specs.declared.stop.Stop.{Stop}
 use Rattle.plist_ascii.specs.declared.stop.Stop.TheVariants as stop
@@ -42,13 +41,6 @@ stops (stop.Bare dialect) c = ends_bare dialect c
 stops stop.LineEnd c = c == 10
 stops stop.Star c = c == 42
 stops (stop.Quoted quote) c = ends_run quote c
-
--- the offset of `Io` and of a fault in the bytes is the number of bytes taken; `OutOfMemory` has
--- none
-abbrev pub IsFaultAt : Fault → ℕ → Type 0
-IsFaultAt fault place =
-    MatchFault fault.kind (fault.offset ≡ Some place) (fault.offset ≡ None)
-    (IsFaultOfBytes fault.kind × (fault.offset ≡ Some place))
 
 -- the first of the old bytes was taken
 abbrev pub FirstIsTaken : Option (List ℕ) → ℕ → Option (List ℕ) → Type 0

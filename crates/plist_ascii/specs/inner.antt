@@ -2,4 +2,4 @@
 pub mod TokenFaults
 pub mod Parts
 pub mod Inputs
-pub mod BareFronts
+pub mod FrontTexts

@@ -1,7 +1,8 @@
 //! The readers from which bytes are taken.
 
-ghost use Rattle.std.specs.Prelude.{◌≡◌, ◌≤◌, ℕ, List, [], length, Option, None, IfOk};
-ghost use Rattle.plist_ascii.specs.Incoming.{GivesByte, CountsFailureIfCounted, LosesFirst, StartsWithHeld};
+ghost use Rattle.std.specs.Prelude.{◌≡◌, ◌≤◌, ℕ, List, [], length, take, Option, None, IfOk};
+ghost use Rattle.std.specs.Io.KnownBytes.{Consumes};
+ghost use Rattle.plist_ascii.specs.Incoming.{GivesByte, CountsFailureIfCounted, StartsWithHeld};
 
 use std::io;
 use std::io::Read;
@@ -36,7 +37,8 @@ pub trait ByteReader {
     /// Takes the first `count` of the buffered bytes.
     fn consume(&mut self, count: usize)
         requires within { count ≤ length (held self.old) }
-        ensures bytes { LosesFirst count (held self.old) (remaining self.old) (remaining self.new) }
+        ensures bytes { Consumes (remaining self.old) (remaining self.new)
+            (take count (held self.old)) }
         ensures failures { failures self.new ≡ failures self.old };
 }
 

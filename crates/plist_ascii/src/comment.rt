@@ -1,8 +1,8 @@
 //! Takes comments.
 
-ghost use Rattle.std.specs.Prelude.{◌≡◌, ◌^◌, ◌<◌, ◌≤◌, None, IfOk, IfSome, OnOk};
+ghost use Rattle.std.specs.Prelude.{◌≡◌, ◌^◌, ◌<◌, ◌≤◌, None, IfOk, OnOk};
 ghost use Rattle.plist_ascii.specs.Comments.{line_comment, block_comment};
-ghost use Rattle.plist_ascii.specs.inner.Inputs.{AsksNoMemory, CountsFailed, CountsRead, GivesNothing, SkipsRun, TakesPast};
+ghost use Rattle.plist_ascii.specs.inner.Inputs.{AsksNoMemory, CountsFailed, CountsRead, GivesBy, IfCame, SkipsRun, TakesPast};
 
 use crate::byte_reader::ByteReader;
 use crate::fault::TokenFault;
@@ -38,10 +38,10 @@ impl<R: ByteReader> Input<R> {
         // Result.
         ensures value { IfOk result (λ byte. TakesPast R.remaining stop self.old byte self.new) }
         // State afterwards.
-        ensures peeked { IfOk result (λ byte. IfSome byte (λ _. self.new.peeked ≡ None)) }
-        ensures rises { IfOk result (λ byte. IfSome byte (λ _. self.old.taken < self.new.taken)) }
+        ensures peeked { IfCame result (λ _. self.new.peeked ≡ None) }
+        ensures rises { IfCame result (λ _. self.old.taken < self.new.taken) }
         ensures place { self.old.taken ≤ self.new.taken }
-        ensures countable { IfOk result (λ byte. IfSome byte (λ _. self.new.taken < 2 ^ 64)) }
+        ensures countable { IfCame result (λ _. self.new.taken < 2 ^ 64) }
         ensures failures { CountsRead R.failures self.old result self.new }
     {
         self.skip_run(stop)?;
@@ -51,7 +51,7 @@ impl<R: ByteReader> Input<R> {
     /// Takes the rest of a line comment, whose two slashes have been taken. The LF that ends it
     /// isn't taken.
     pub fn line_comment(&mut self) -> Result<(), TokenFault>
-        ensures answers { GivesNothing R.remaining line_comment self.old result self.new }
+        ensures answers { GivesBy R.remaining (λ _. None) line_comment self.old result self.new }
         ensures memory { AsksNoMemory result }
         ensures failures { CountsFailed R.failures self.old result self.new }
     {
@@ -61,7 +61,7 @@ impl<R: ByteReader> Input<R> {
     /// Takes the rest of a block comment up to and including its `*/`. Its `/*` has been taken. No
     /// byte after the comment is looked at. If there is no `*/`, the error is `IncompleteComment`.
     pub fn block_comment(&mut self) -> Result<(), TokenFault>
-        ensures answers { GivesNothing R.remaining block_comment self.old result self.new }
+        ensures answers { GivesBy R.remaining (λ _. None) block_comment self.old result self.new }
         ensures memory { AsksNoMemory result }
         ensures failures { CountsFailed R.failures self.old result self.new }
     {

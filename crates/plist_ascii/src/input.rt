@@ -1,10 +1,10 @@
 //! Takes the bytes of a reader one after another.
 
-ghost use Rattle.std.specs.Prelude.{◌≡◌, ◌+◌, ◌++◌, ◌^◌, ◌<◌, ◌≤◌, [], length, None, Some, true, false, IfOk, IfErr, IfSome, OnOk};
+ghost use Rattle.std.specs.Prelude.{◌≡◌, ◌+◌, ◌++◌, ◌^◌, ◌<◌, ◌≤◌, [], length, None, Some, true, false, IfOk, IfErr, OnOk};
 ghost use Rattle.plist_ascii.specs.Unread.{unread};
 ghost use Rattle.plist_base.specs.Faults.{fault_of};
 ghost use Rattle.plist_ascii.specs.inner.TokenFaults.{fault_after};
-ghost use Rattle.plist_ascii.specs.inner.Inputs.{AddsPart, CountsByte, CountsFailed, CountsRead, DropsFirst, EndsInput, HasFailed, HasHand, IsAtStop, IsUnclosedText, Looks, SkipsPart, StartsWithHand, TakesHand, TakesIf, TakesNext, TakesOneMore, hand};
+ghost use Rattle.plist_ascii.specs.inner.Inputs.{AddsPart, CountsByte, CountsFailed, CountsRead, DropsFirst, EndsInput, HasFailed, IfCame, IsAtStop, IsUnclosedText, Looks, SkipsPart, StartsWithHand, TakesHand, TakesIf, TakesNext, TakesOneMore, hand};
 
 use crate::byte_reader::ByteReader;
 use crate::fault::TokenFault;
@@ -113,7 +113,7 @@ impl<R: ByteReader> Input<R> {
         // Result.
         ensures next { IfOk result (λ byte. Looks R.remaining self.old byte self.new) }
         // State afterwards.
-        ensures hand { IfOk result (λ byte. IfSome byte (λ _. HasHand R.held self.new)) }
+        ensures hand { IfCame result (λ _. 0 < length (hand R.held self.new)) }
         ensures place { self.new.taken ≡ self.old.taken }
         ensures failures { CountsRead R.failures self.old result self.new }
     {
@@ -146,7 +146,7 @@ impl<R: ByteReader> Input<R> {
         // Result.
         ensures next { IfOk result (λ byte. Looks R.remaining self.old byte self.new) }
         // State afterwards.
-        ensures hand { IfOk result (λ byte. IfSome byte (λ _. HasHand R.held self.new)) }
+        ensures hand { IfCame result (λ _. 0 < length (hand R.held self.new)) }
         ensures place { self.new.taken ≡ self.old.taken }
         ensures failures { CountsRead R.failures self.old result self.new }
     {
@@ -163,7 +163,7 @@ impl<R: ByteReader> Input<R> {
         // Result.
         ensures next { IfOk result (λ byte. TakesNext R.remaining self.old byte self.new) }
         // State afterwards.
-        ensures peeked { IfOk result (λ byte. IfSome byte (λ _. self.new.peeked ≡ None)) }
+        ensures peeked { IfCame result (λ _. self.new.peeked ≡ None) }
         ensures place { CountsByte self.old result self.new }
         ensures failures { CountsRead R.failures self.old result self.new }
     {

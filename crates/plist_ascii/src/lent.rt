@@ -1,9 +1,9 @@
-//! Finds bare strings that can be borrowed from the bytes at hand.
+//! Finds strings that can be borrowed from the bytes at hand.
 
-ghost use Rattle.std.specs.Prelude.{◌<◌, ◌≤◌, length, IfSome};
+ghost use Rattle.std.specs.Prelude.{◌+◌, ◌<◌, ◌≤◌, ℕ, Bool, length, IfSome};
 ghost use Rattle.plist_ascii.specs.Unread.{stops};
 ghost use Rattle.plist_ascii.specs.inner.Inputs.{hand};
-ghost use Rattle.plist_ascii.specs.inner.BareFronts.{IsAhead, IsBareFront};
+ghost use Rattle.plist_ascii.specs.inner.FrontTexts.{BeginWithText, IsAhead, IsBareFront, IsQuotedFront};
 
 use crate::byte_reader::ByteReader;
 use crate::input::Input;
@@ -11,7 +11,7 @@ use crate::stop::{Stop, run_length};
 use crate::text::may_be_number;
 use crate::token::{Lead, lead_of};
 
-/// A bare string among the bytes at hand.
+/// A string among the bytes at hand.
 #[derive(Clone, Copy)]
 pub struct LentText<'a> {
     /// The number of bytes up to its end.
@@ -38,9 +38,83 @@ fn bare_length(stop: Stop, bytes: &[u8]) -> Option<usize>
     Some(1 + count)
 }
 
+// Returns the number of bytes between the quotes of the quoted string with which these bytes begin.
+// Returns `None` if they begin with anything else, or if the string has an escape or doesn't end
+// among them.
+#[inline(always)]
+fn quoted_length(bytes: &[u8]) -> Option<usize>
+    ensures within { IfSome result (λ n. n + 2 ≤ length bytes.now) }
+    ensures front { IfSome result (IsQuotedFront bytes.now) }
+{
+    let (first, rest) = bytes.split_first()?;
+    let Lead::Quote = lead_of(*first) else {
+        return None;
+    };
+    let count = run_length(Stop::Quoted(*first), rest);
+    let end = rest.get(count)?;
+    if *end != *first {
+        return None;
+    }
+    Some(count)
+}
+
+// Returns the bare string with which these bytes begin, unless it may continue after the last byte
+// or spells an integer.
+#[inline(always)]
+fn bare_front(stop: Stop, bytes: &[u8]) -> Option<LentText<'_>>
+    ensures text { IfSome result (λ lent. BeginWithText (stops stop) bytes.now lent.count
+        lent.text.now) }
+    ensures within { IfSome result (λ lent. lent.count ≤ length bytes.now) }
+{
+    let length = bare_length(stop, bytes)?;
+    match str::from_utf8(&bytes[..length]) {
+        Ok(text) => {
+            if may_be_number(text) {
+                return None;
+            }
+            Some(LentText {
+                count: length,
+                text,
+            })
+        }
+        Err(_) => None,
+    }
+}
+
+// Returns the quoted string with which these bytes begin, unless it has an escape or doesn't end
+// among them.
+#[inline(always)]
+fn quoted_front(bytes: &[u8]) -> Option<LentText<'_>>
+    ensures text { IfSome result (λ lent. (ends : ℕ → Bool)
+        → BeginWithText ends bytes.now lent.count lent.text.now) }
+    ensures within { IfSome result (λ lent. lent.count ≤ length bytes.now) }
+{
+    let length = quoted_length(bytes)?;
+    match str::from_utf8(&bytes[1..1 + length]) {
+        Ok(text) => Some(LentText {
+            count: length + 2,
+            text,
+        }),
+        Err(_) => None,
+    }
+}
+
+// Returns the string with which these bytes begin, if it can be borrowed from them.
+#[inline(always)]
+fn front_text(stop: Stop, bytes: &[u8]) -> Option<LentText<'_>>
+    ensures text { IfSome result (λ lent. BeginWithText (stops stop) bytes.now lent.count
+        lent.text.now) }
+    ensures within { IfSome result (λ lent. lent.count ≤ length bytes.now) }
+{
+    match bare_front(stop, bytes) {
+        Some(lent) => Some(lent),
+        None => quoted_front(bytes),
+    }
+}
+
 impl<R: ByteReader> Input<R> {
-    /// Returns the bare string that is next after blanks, if it lies whole among the bytes at hand
-    /// and spells no integer. Nothing is read or taken.
+    /// Returns the string that is next after blanks, if it lies whole among the bytes at hand, has
+    /// no escape and spells no integer. Nothing is read or taken.
     #[inline(always)]
     pub fn lent_text(&self, stop: Stop) -> Option<LentText<'_>>
         ensures text { IfSome result (λ lent. IsAhead R.remaining stop self.now lent.count
@@ -50,19 +124,10 @@ impl<R: ByteReader> Input<R> {
     {
         let bytes = self.at_hand();
         let blanks = run_length(Stop::Lead, bytes);
-        let rest = &bytes[blanks..];
-        let length = bare_length(stop, rest)?;
-        match str::from_utf8(&rest[..length]) {
-            Ok(text) => {
-                if may_be_number(text) {
-                    return None;
-                }
-                Some(LentText {
-                    count: blanks + length,
-                    text,
-                })
-            }
-            Err(_) => None,
-        }
+        let front = front_text(stop, &bytes[blanks..])?;
+        Some(LentText {
+            count: blanks + front.count,
+            text: front.text,
+        })
     }
 }

@@ -1,11 +1,11 @@
 //! Takes quoted strings.
 
-ghost use Rattle.std.specs.Prelude.{◌≡◌, ◌+◌, ◌<◌, ◌++◌, None, Some, Ok, true, false, IfOk, IfErr, OnOk};
+ghost use Rattle.std.specs.Prelude.{◌≡◌, ◌+◌, ◌<◌, ◌++◌, None, Some, Ok, true, false, IfOk, IfErr, OnOk, vec_items};
 ghost use Rattle.plist_base.specs.Events.{event_of};
-ghost use Rattle.plist_ascii.specs.Quoted.{quoted, quoted_token};
-ghost use Rattle.plist_ascii.specs.inner.Parts.{escaped_bytes, PartFails, EndFails};
+ghost use Rattle.plist_ascii.specs.Quoted.{quoted, quoted_by, quoted_token, run_end};
+ghost use Rattle.plist_ascii.specs.inner.Parts.{escaped_bytes, EndsRun, Quotes};
 ghost use Rattle.plist_ascii.specs.Kinds.{IsTextEvent};
-ghost use Rattle.plist_ascii.specs.inner.Inputs.{CountsFailed, TakesSomeMore, TakesEnd, Quotes, FailsAfter, GivesOne, GivesText};
+ghost use Rattle.plist_ascii.specs.inner.Inputs.{CountsFailed, TakesSomeMore, TakesFirst, FailsAfter, GivesBy, some_event};
 
 use crate::byte_reader::ByteReader;
 use crate::fault::TokenFault;
@@ -36,9 +36,10 @@ impl<R: ByteReader> Input<R> {
     // an escape.
     fn run_end(&mut self, quote: u8) -> Result<Option<Escaped>, TokenFault>
         // Result.
-        ensures value { IfOk result (TakesEnd R.remaining quote self.old self.new) }
+        ensures value { IfOk result (λ piece. TakesFirst R.remaining
+            (λ xs. EndsRun quote xs piece) self.old self.new) }
         // Errors.
-        ensures fault { IfErr result (FailsAfter R.remaining (EndFails quote) self.old self.new) }
+        ensures fault { IfErr result (FailsAfter R.remaining (run_end quote) self.old self.new) }
         // State afterwards.
         ensures rises { OnOk result (TakesSomeMore self.old self.new) }
         ensures peeked { IfOk result (λ piece. piece ≡ None → self.new.peeked ≡ None) }
@@ -54,9 +55,10 @@ impl<R: ByteReader> Input<R> {
     // Takes a run of plain bytes and what follows it. Returns whether the string is closed.
     fn part(&mut self, quote: u8, text: &mut Vec<u8>) -> Result<bool, TokenFault>
         // Result.
-        ensures value { IfOk result (Quotes R.remaining quote self.old text.old self.new text.new) }
+        ensures value { IfOk result (λ closed. TakesFirst R.remaining
+            (Quotes quote closed text.old text.new) self.old self.new) }
         // Errors.
-        ensures fault { IfErr result (FailsAfter R.remaining (PartFails quote) self.old self.new) }
+        ensures fault { IfErr result (FailsAfter R.remaining (quoted_by quote) self.old self.new) }
         // State afterwards.
         ensures rises { OnOk result (TakesSomeMore self.old self.new) }
         ensures peeked { IfOk result (λ closed. closed ≡ true → self.new.peeked ≡ None) }
@@ -75,7 +77,7 @@ impl<R: ByteReader> Input<R> {
     // Takes a string up to and including its closing quote, and returns the bytes that it stands
     // for.
     fn quoted(&mut self, alloc: Global, quote: u8) -> Result<Vec<u8>, TokenFault>
-        ensures answers { GivesText R.remaining (quoted quote) self.old result self.new }
+        ensures answers { GivesBy R.remaining vec_items (quoted quote) self.old result self.new }
         ensures peeked { IfOk result (λ _. self.new.peeked ≡ None) }
         ensures failures { CountsFailed R.failures self.old result self.new }
     {
@@ -90,7 +92,8 @@ impl<R: ByteReader> Input<R> {
     /// Takes the rest of a quoted string, whose opening quote has been taken, and returns its
     /// event. No byte after the closing quote is looked at.
     pub fn quoted_text(&mut self, alloc: Global, quote: u8) -> Result<OwnedEvent, TokenFault>
-        ensures answers { GivesOne R.remaining (quoted_token quote) self.old result self.new }
+        ensures answers { GivesBy R.remaining some_event (quoted_token quote) self.old result
+            self.new }
         ensures kinds { IfOk result (λ event. IsTextEvent (event_of event)) }
         ensures peeked { IfOk result (λ _. self.new.peeked ≡ None) }
         ensures failures { CountsFailed R.failures self.old result self.new }

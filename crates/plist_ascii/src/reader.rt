@@ -1,9 +1,11 @@
 //! The reader of ASCII property lists.
 
-ghost use Rattle.std.specs.Prelude.{◌≡◌, ◌-◌, ◌<◌, None, Some, true, IfSome};
+ghost use Rattle.std.specs.Prelude.{◌≡◌, ◌-◌, ◌<◌, ℕ, List, None, Some, true, IfSome};
 ghost use Rattle.plist_ascii.specs.Kinds.{IsAsciiItem, IfBracketItem};
-ghost use Rattle.plist_ascii.specs.AsciiReader.{TakesBytes, FaultIsAt, EndsAfterIoOrMemory, readable, HoldsLeft};
-ghost use Rattle.plist_ascii.specs.inner.Inputs.{ItemCountsFailed, GivesToStop, StopsAtQuote, input_steps};
+ghost use Rattle.plist_ascii.specs.Ascii.{placed_items};
+ghost use Rattle.plist_ascii.specs.Incoming.{ItemCountsIoIfCounted};
+ghost use Rattle.plist_ascii.specs.Unread.{IfKnown, stops, unread};
+ghost use Rattle.plist_ascii.specs.AsciiReader.{GivesAsciiItem, TakesBytes, FaultIsAt, IfQuotedItem, EndsAfterIoOrMemory, bytes_to_come, readable, HoldsLeft};
 
 use crate::byte_reader::ByteReader;
 use crate::dialect::Dialect;
@@ -19,10 +21,13 @@ impl<R: ByteReader> Input<R> {
     // if no item remains.
     fn item(&mut self, alloc: Global, stop: Stop) -> Option<Result<OwnedEvent, Error>>
         // Result.
-        ensures items { GivesToStop R.remaining stop self.old result self.new }
+        ensures items { IfKnown (unread R.remaining self.old) (λ xs. (ys : List ℕ)
+            × (unread R.remaining self.new ≡ Some ys)
+            × GivesAsciiItem (stops stop) xs self.old.taken result ys self.new.taken) }
         ensures kinds { IsAsciiItem result }
         ensures brackets { IfBracketItem result (self.new.peeked ≡ None) }
-        ensures quotes { StopsAtQuote R.remaining stop self.old result self.new }
+        ensures quotes { IfKnown (unread R.remaining self.old) (λ xs. IfQuotedItem
+            (placed_items (stops stop) xs self.old.taken) result (self.new.peeked ≡ None)) }
         // Errors.
         ensures offset { FaultIsAt result self.new.taken }
         // State afterwards.
@@ -30,8 +35,10 @@ impl<R: ByteReader> Input<R> {
         ensures ended { self.old.ended ≡ true → result ≡ None }
         ensures unasked { self.old.ended ≡ true → self.new.inner ≡ self.old.inner }
         ensures ends { EndsAfterIoOrMemory result (self.new.ended ≡ true) }
-        ensures falls { IfSome result (λ _. input_steps self.new < input_steps self.old) }
-        ensures failures { ItemCountsFailed R.failures self.old result self.new }
+        ensures falls { IfSome result (λ _. bytes_to_come self.new.ended self.new.taken
+            < bytes_to_come self.old.ended self.old.taken) }
+        ensures failures { ItemCountsIoIfCounted result (R.failures self.old.inner)
+            (R.failures self.new.inner) }
     {
         if self.has_ended() {
             return None;
@@ -170,8 +177,8 @@ impl<R: ByteReader + Drop> AsciiReader<R> {
     }
 
     /// Hands the next event to a visitor, and returns what the visitor returns, or `None` if no
-    /// event remains. A bare string that lies whole in the buffer of the inner reader is handed
-    /// over without being copied.
+    /// event remains. A string without escapes that lies whole in the buffer of the inner reader is
+    /// handed over without being copied.
     ///
     /// # Errors
     ///

@@ -1,14 +1,16 @@
 //! Bare strings, and the meaning of strings.
 
-ghost use Rattle.std.specs.Prelude.{◌≡◌, ◌+◌, ◌≤◌, [], ◌∷◌, ◌++◌, None, Some, Ok, Err, false, IfOk, IfErr, OnOk, string_bytes};
+ghost use Rattle.std.specs.Prelude.{◌≡◌, ◌+◌, ◌≤◌, [], ◌∷◌, ◌++◌, None, Some, Ok, Err, false, true, IfOk, IfErr, OnOk, string_bytes};
 ghost use Rattle.plist_base.specs.IntegerText.{integer_of_text};
 ghost use Rattle.plist_base.specs.Events.{ScalarEvent, event_of};
 ghost use Rattle.plist_ascii.specs.Texts.{bare, bare_event, quoted_event, number_or_text, scalar_of_text};
 ghost use Rattle.plist_ascii.specs.Kinds.{IsTextEvent};
+ghost use Rattle.plist_ascii.specs.Unread.{stops};
 ghost use Rattle.plist_ascii.specs.inner.TokenFaults.{Means, kind_in_bytes};
-ghost use Rattle.plist_ascii.specs.inner.Inputs.{AddsRun, CountsFailed, GivesOne, bare_until};
-ghost use Rattle.plist_ascii.specs.inner.Parts.{IsTextOf, IsNoText, begins_number};
+ghost use Rattle.plist_ascii.specs.inner.Inputs.{AddsRun, CountsFailed, GivesBy, some_event};
+ghost use Rattle.plist_ascii.specs.inner.Parts.{begins_number};
 ghost use Rattle.std.specs.Char.{is_digit};
+ghost use Rattle.std.specs.Str.{is_utf8};
 
 use crate::byte_reader::ByteReader;
 use crate::fault::TokenFault;
@@ -29,8 +31,10 @@ pub fn push_byte(text: &mut Vec<u8>, byte: u8) -> Result<(), AllocError>
 
 // Returns the string of these bytes, or `InvalidUtf8` if they aren't UTF-8.
 fn text_of(bytes: Vec<u8>) -> Result<String, TokenFault>
-    ensures value { IfOk result (IsTextOf bytes.items) }
-    ensures fault { IfErr result (IsNoText bytes.items) }
+    ensures value { IfOk result (λ text. (is_utf8 bytes.items ≡ true)
+        × (string_bytes text ≡ bytes.items)) }
+    ensures fault { IfErr result (λ f. (is_utf8 bytes.items ≡ false)
+        × (f ≡ TokenFault.InvalidUtf8)) }
 {
     match String::from_utf8(bytes) {
         Ok(text) => Ok(text),
@@ -152,7 +156,8 @@ impl<R: ByteReader> Input<R> {
 
     /// Takes the rest of a bare string, whose first byte has been taken, and returns its event.
     pub fn bare(&mut self, alloc: Global, stop: Stop, first: u8) -> Result<OwnedEvent, TokenFault>
-        ensures answers { GivesOne R.remaining (bare_until stop first) self.old result self.new }
+        ensures answers { GivesBy R.remaining some_event (bare (stops stop) first) self.old result
+            self.new }
         ensures kinds { IfOk result (λ event. IsTextEvent (event_of event)) }
         ensures failures { CountsFailed R.failures self.old result self.new }
     {

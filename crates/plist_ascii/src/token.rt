@@ -2,11 +2,12 @@
 
 ghost use Rattle.std.specs.Prelude.{◌≡◌, None, Some, IfErr, IfOk};
 ghost use Rattle.plist_base.specs.Events.{event_of};
+ghost use Rattle.std.specs.Option.{option_map};
 ghost use Rattle.plist_ascii.specs.Comments.{slash};
-ghost use Rattle.plist_ascii.specs.Ascii.{lead_of, token_by, is_blank};
-ghost use Rattle.plist_ascii.specs.Kinds.{IsTextEvent, IsAsciiEvent};
+ghost use Rattle.plist_ascii.specs.Ascii.{lead_of, is_blank};
+ghost use Rattle.plist_ascii.specs.Kinds.{IsTextEvent, IsAsciiEvent, IfBracket};
 ghost use Rattle.plist_ascii.specs.Unread.{stops};
-ghost use Rattle.plist_ascii.specs.inner.Inputs.{CountsFailed, IfCame, token_until, GivesToken, AllocatesForText, StopsAtBracket};
+ghost use Rattle.plist_ascii.specs.inner.Inputs.{CountsFailed, IfCame, GivesBy, AllocatesForText, token_until};
 
 use crate::byte_reader::ByteReader;
 use crate::fault::TokenFault;
@@ -63,7 +64,8 @@ impl<R: ByteReader> Input<R> {
     // comment.
     fn slash(&mut self, alloc: Global, stop: Stop) -> Result<Option<OwnedEvent>, TokenFault>
         // Result.
-        ensures answers { GivesToken R.remaining (slash (stops stop)) self.old result self.new }
+        ensures answers { GivesBy R.remaining (option_map event_of) (slash (stops stop)) self.old
+            result self.new }
         ensures kinds { IfCame result (λ event. IsTextEvent (event_of event)) }
         // Errors.
         ensures memory { IfErr result (AllocatesForText R.remaining (slash (stops stop)) self.old) }
@@ -98,13 +100,15 @@ impl<R: ByteReader> Input<R> {
         byte: u8,
     ) -> Result<Option<OwnedEvent>, TokenFault>
         // Result.
-        ensures answers { GivesToken R.remaining (token_until stop byte) self.old result self.new }
+        ensures answers { GivesBy R.remaining (option_map event_of) (token_until stop byte) self.old
+            result self.new }
         ensures kinds { IfCame result (λ event. IsAsciiEvent (event_of event)) }
         // Errors.
         ensures memory { IfErr result (AllocatesForText R.remaining (token_until stop byte)
             self.old) }
         // State afterwards.
-        ensures brackets { self.old.peeked ≡ None → IfCame result (StopsAtBracket self.new) }
+        ensures brackets { self.old.peeked ≡ None → IfCame result (λ event.
+            IfBracket (event_of event) (self.new.peeked ≡ None)) }
         ensures quotes { lead_of byte ≡ Lead.Quote → IfOk result (λ _. self.new.peeked ≡ None) }
         ensures failures { CountsFailed R.failures self.old result self.new }
     {

@@ -1,13 +1,13 @@
 //! Takes the escapes in quoted strings.
 
-ghost use Rattle.std.specs.Prelude.{◌≡◌, ◌+◌, ◌*◌, ◌<◌, ◌≤◌, ◌&&◌, ◌||◌, ◌==◌, [], ◌∷◌, nat_le, nat_lt, None, Some, Ok, Err, true, false, MatchOption};
-ghost use Rattle.std.specs.Char.{is_digit};
+ghost use Rattle.std.specs.Prelude.{◌≡◌, ◌+◌, ◌*◌, ◌<◌, ◌≤◌, ◌&&◌, [], ◌∷◌, nat_le, nat_lt, None, Some, Ok, Err, true, false, MatchOption};
+ghost use Rattle.std.specs.Char.{digit_value, is_digit};
 ghost use Rattle.std.specs.Char.Utf16.{is_high_surrogate, is_low_surrogate};
 ghost use Rattle.plist_base.specs.Faults.{InvalidOctalString, InvalidUtf16String};
-ghost use Rattle.plist_ascii.specs.Bytes.{capital_u, small_u};
+ghost use Rattle.plist_ascii.specs.Taken.{is_one_of};
 ghost use Rattle.plist_ascii.specs.Escapes.{simple_escape, octal, octal_char, octal_text, unit, unit_of, is_surrogate, pair_text, first_unit, second_unit, second_letter, second_digits, unicode, escape, escape_by};
-ghost use Rattle.plist_ascii.specs.inner.Inputs.{CountsFailed, GivesEscaped, GivesUnit};
-ghost use Rattle.plist_ascii.specs.inner.Parts.{IsDigitOf, IsCharOfUnit, IsCharOr};
+ghost use Rattle.plist_ascii.specs.inner.Inputs.{CountsFailed, GivesBy};
+ghost use Rattle.plist_ascii.specs.inner.Parts.{IsCharOr, escaped_bytes};
 
 use crate::byte_reader::ByteReader;
 use crate::fault::TokenFault;
@@ -63,7 +63,8 @@ fn simple_of(byte: u8) -> Option<u8>
 // Returns the value of a digit, or `None` if the byte isn't a digit of this radix.
 fn digit(byte: u8, radix: u32) -> Option<u32>
     requires radix { (2 ≤ radix) × (radix ≤ 36) }
-    ensures { MatchOption result (is_digit byte radix ≡ false) (IsDigitOf byte radix) }
+    ensures { MatchOption result (is_digit byte radix ≡ false) (λ value.
+        (is_digit byte radix ≡ true) × (value ≡ digit_value byte) × (value < radix)) }
 {
     char::from(byte).to_digit(radix)
 }
@@ -118,14 +119,15 @@ fn unit_of(first: u8, second: u8, third: u8, fourth: u8) -> Option<u16>
 
 // Returns the character of a unit, or `None` if the unit is a surrogate.
 fn lone_char(unit: u16) -> Option<char>
-    ensures { MatchOption result (is_surrogate unit ≡ true) (IsCharOfUnit unit) }
+    ensures { MatchOption result (is_surrogate unit ≡ true) (λ c.
+        (is_surrogate unit ≡ false) × (c ≡ unit)) }
 {
     char::from_u32(u32::from(unit))
 }
 
 // Returns whether this byte is the letter between the backslash and the digits of a unit.
 fn is_unit_letter(byte: u8) -> bool
-    ensures { result ≡ (byte == small_u) || (byte == capital_u) }
+    ensures { result ≡ is_one_of "uU" byte }
 {
     byte == b'u' || byte == b'U'
 }
@@ -152,7 +154,7 @@ fn pair_char(high: u16, low: Option<u16>) -> Option<char>
 impl<R: ByteReader> Input<R> {
     /// Takes the rest of an escape, whose backslash has been taken, and returns what it stands for.
     pub fn escape(&mut self) -> Result<Escaped, TokenFault>
-        ensures answers { GivesEscaped R.remaining escape self.old result self.new }
+        ensures answers { GivesBy R.remaining escaped_bytes escape self.old result self.new }
         ensures failures { CountsFailed R.failures self.old result self.new }
     {
         let byte = self.expect_byte()?;
@@ -161,7 +163,8 @@ impl<R: ByteReader> Input<R> {
 
     // Takes the rest of an escape, whose backslash and first byte have been taken.
     fn escape_by(&mut self, byte: u8) -> Result<Escaped, TokenFault>
-        ensures answers { GivesEscaped R.remaining (escape_by byte) self.old result self.new }
+        ensures answers { GivesBy R.remaining escaped_bytes (escape_by byte) self.old
+            result self.new }
         ensures failures { CountsFailed R.failures self.old result self.new }
     {
         if byte == b'U' {
@@ -178,7 +181,7 @@ impl<R: ByteReader> Input<R> {
 
     // Takes the second and the third byte of an octal escape.
     fn octal(&mut self, first: u8) -> Result<Escaped, TokenFault>
-        ensures answers { GivesEscaped R.remaining (octal first) self.old result self.new }
+        ensures answers { GivesBy R.remaining escaped_bytes (octal first) self.old result self.new }
         ensures failures { CountsFailed R.failures self.old result self.new }
     {
         let second = self.expect_byte()?;
@@ -192,7 +195,7 @@ impl<R: ByteReader> Input<R> {
     // Takes the four digits of a unit. Returns `None` if one of the bytes isn't a hexadecimal
     // digit.
     fn unit(&mut self) -> Result<Option<u16>, TokenFault>
-        ensures answers { GivesUnit R.remaining unit self.old result self.new }
+        ensures answers { GivesBy R.remaining (λ u. u) unit self.old result self.new }
         ensures failures { CountsFailed R.failures self.old result self.new }
     {
         let a = self.expect_byte()?;
@@ -204,7 +207,7 @@ impl<R: ByteReader> Input<R> {
 
     // Takes the unit or the surrogate pair after `\U`.
     fn unicode(&mut self) -> Result<Escaped, TokenFault>
-        ensures answers { GivesEscaped R.remaining unicode self.old result self.new }
+        ensures answers { GivesBy R.remaining escaped_bytes unicode self.old result self.new }
         ensures failures { CountsFailed R.failures self.old result self.new }
     {
         let unit = self.unit()?;
@@ -214,7 +217,8 @@ impl<R: ByteReader> Input<R> {
     // Takes the second unit if the first is a surrogate, and returns the character. The first unit
     // is `None` if its digits are invalid.
     fn first_unit(&mut self, unit: Option<u16>) -> Result<Escaped, TokenFault>
-        ensures answers { GivesEscaped R.remaining (first_unit unit) self.old result self.new }
+        ensures answers { GivesBy R.remaining escaped_bytes (first_unit unit) self.old
+            result self.new }
         ensures failures { CountsFailed R.failures self.old result self.new }
     {
         let Some(unit) = unit else {
@@ -228,7 +232,8 @@ impl<R: ByteReader> Input<R> {
 
     // Takes the second unit of a surrogate pair: a backslash, a letter and digits.
     fn second_unit(&mut self, high: u16) -> Result<Escaped, TokenFault>
-        ensures answers { GivesEscaped R.remaining (second_unit high) self.old result self.new }
+        ensures answers { GivesBy R.remaining escaped_bytes (second_unit high) self.old
+            result self.new }
         ensures failures { CountsFailed R.failures self.old result self.new }
     {
         if self.expect_byte()? == b'\\' {
@@ -240,7 +245,8 @@ impl<R: ByteReader> Input<R> {
     // Takes the letter and the digits of the second unit. A byte other than the letter is an error,
     // and isn't taken.
     fn second_letter(&mut self, high: u16) -> Result<Escaped, TokenFault>
-        ensures answers { GivesEscaped R.remaining (second_letter high) self.old result self.new }
+        ensures answers { GivesBy R.remaining escaped_bytes (second_letter high) self.old
+            result self.new }
         ensures failures { CountsFailed R.failures self.old result self.new }
     {
         match self.peek()? {
@@ -257,7 +263,8 @@ impl<R: ByteReader> Input<R> {
 
     // Takes the digits of the second unit, and returns the character of the pair.
     fn second_digits(&mut self, high: u16) -> Result<Escaped, TokenFault>
-        ensures answers { GivesEscaped R.remaining (second_digits high) self.old result self.new }
+        ensures answers { GivesBy R.remaining escaped_bytes (second_digits high) self.old
+            result self.new }
         ensures failures { CountsFailed R.failures self.old result self.new }
     {
         let low = self.unit()?;

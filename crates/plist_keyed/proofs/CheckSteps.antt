@@ -25,7 +25,7 @@ use Rattle.plist.specs.ValueTrees.{tree_of}
 use Rattle.plist_keyed.specs.declared.check.Check.{Check}
 use Rattle.plist_keyed.specs.declared.error.WalkError.{WalkError}
 use Rattle.plist_keyed.specs.declared.error.WalkError.TheVariants as walk
-use Rattle.plist_keyed.specs.inner.Checking.{Covers, IsCheck, IsCheckAt, IsCheckOf, IsOpened, IsReached, KeepsReached, Leaves, objects_checked, objects_seen, open_uids, settled_uids, unchecked_from, unchecked_steps, unchecked_steps_in, unchecked_with}
+use Rattle.plist_keyed.specs.inner.Checking.{Covers, IsCheck, IsCheckAt, IsCheckOf, IsOpened, IsReached, Leaves, objects_checked, objects_seen, open_uids, settled_uids, unchecked_from, unchecked_steps, unchecked_steps_in, unchecked_with}
 use Rattle.plist_keyed.specs.inner.Settled.{AreSettled, IsEndOf, IsIn, IsNoUid, LeadsOnlyTo, NameOnly, settled_in}
 use Rattle.plist_keyed.specs.inner.Walks.{Given, Step, IsFirstFaultOf, PassesEvents, follow_in, given_by, steps_from, steps_of_event, steps_of_events, uid_of_event}
 use Rattle.plist_keyed.proofs.TreeItems.{given_by-append}
@@ -100,12 +100,6 @@ plain_steps f EndCollection h = refl
 plain_steps f (ScalarEvent x) h =
     ap (λ found. option_map_or f found (Some (Ok (ScalarEvent x)) ∷ [])) h
 
--- an event that is a Uid is the event of that Uid
-pub uid_event : (e : PlainEvent) (uid : ℕ) → uid_of_event e ≡ Some uid → e ≡ ScalarEvent (Uid uid)
-uid_event (ScalarEvent (Uid u)) uid h = ap (λ n. ScalarEvent (Uid n)) (same_Some u uid h)
-uid_event (ScalarEvent x) uid h = absurd (cc)
-uid_event e uid h = absurd (cc)
-
 -- the innermost open Uid isn't open a second time
 off : {count : ℕ} (uid : ℕ) (path : List ℕ) → IsPath count (uid ∷ path) → IsIn uid path → ⊥
 unfolding IsDistinct
@@ -136,14 +130,6 @@ module _ (objects : List (List PlainEvent)) where
     (before, at, more-named before uids u named),
     covers-more uids below path (ScalarEvent (Uid uid) ∷ []) u h,
   )
-
-  -- an event of the innermost object is taken
-  pub covers-taken : (uids : List ℕ) (left after : Events) (below : List Events) (path : List ℕ)
-      (e : PlainEvent) → remaining_events left ≡ e ∷ remaining_events after
-      → Covers objects uids (left ∷ below) path [] → Covers objects uids (after ∷ below) path (e ∷ [])
-  covers-taken uids left after below [] e is h = tt
-  covers-taken uids left after below (uid ∷ path) e is ((before, at, named), h) =
-      ((before, at ∙ ap (λ l. Some (before ++ l)) is, named), h)
 
   -- ---- entering an object
 
@@ -366,20 +352,6 @@ module _ (old new : Check) (uid : ℕ) (object : Value)
       off_path out is)
   opened-checks (Err e) h = tt
 
-  pub opened-reached : {A : Type 0} (r : Result A WalkError) → OnOk r (IsOpened old uid object new)
-      → OnOk r (IsReached new uid)
-  opened-reached (Ok a) (same, keys, level, ends) =
-      inl (rw (keys, reverse-snoc old.path.keys uid) (or_left _ _ (eq-eqb uid uid refl)))
-  opened-reached (Err e) h = tt
-
-  pub opened-keeps : {A : Type 0} (r : Result A WalkError) → OnOk r (IsOpened old uid object new)
-      → OnOk r (KeepsReached old new)
-  opened-keeps (Ok a) (same, keys, level, ends) = λ u is. elim is [
-    | inl p ↦ inl (rw (keys, reverse-snoc old.path.keys uid) (or_right (nat_eq u uid) _ p))
-    | inr p ↦ inr (rw ends p)
-  ]
-  opened-keeps (Err e) h = tt
-
 -- ---- the walk of one Uid
 
 module _ (start : Check) (uid : ℕ) (keys : start.path.keys ≡ []) (levels : start.levels.items ≡ [])
@@ -433,17 +405,6 @@ module _ (old new : Check) where
       rw (open_before, none, levels, same) (omega arith, ([], refl))
   left-passes left none (Err e) h same = tt
 
-  pub left-keeps : {A : Type 0} (r : Result A WalkError) → OnOk r (Leaves old new)
-      → OnOk r (KeepsReached old new)
-  left-keeps (Ok a) (uid, open_before, settled_after, levels) = λ u is. elim is [
-    | inl p ↦ elim (eqb_tells u uid) [
-      | inl e ↦ inr (rw (settled_after, e.1) (or_left _ _ (eq-eqb uid uid refl)))
-      | inr e ↦ inl (rw e.0 at (rw open_before at p))
-    ]
-    | inr p ↦ inr (rw settled_after (or_right (nat_eq u uid) _ p))
-  ]
-  left-keeps (Err e) h = tt
-
 -- ---- an event of the innermost object
 
 -- the event is taken
@@ -455,20 +416,6 @@ pub takes : (objects : List (List PlainEvent)) (left after : Events) (below : Li
 takes objects left after below [] e n is = absurd (omega (arith, n))
 takes objects left after below (uid ∷ path) e n is =
     rw is (append_assoc (steps_of_event (follow_in objects (uid ∷ path)) e) _ _)
-
-pub taken-check : (objects : List (List PlainEvent)) (path uids : List ℕ) (below : List Events)
-    (find : ℕ → Option ℕ) (left after : Events) (e : PlainEvent)
-    → remaining_events left ≡ e ∷ remaining_events after
-    → IsCheckOf objects path uids (left ∷ below) find []
-    → IsCheckOf objects path uids (after ∷ below) find (e ∷ [])
-taken-check objects path uids below find left after e is o = record {
-  is_path = o.is_path;
-  each_left = o.each_left;
-  are_settled = o.are_settled;
-  are_apart = o.are_apart;
-  is_covered = covers-taken objects uids left after below path e is o.is_covered;
-  are_ends = o.are_ends;
-}
 
 -- the step of an event that isn't a Uid is done
 pub passes-plain : (f : ℕ → List Step) (e : PlainEvent) (rest : List Step) → uid_of_event e ≡ None

@@ -1,5 +1,5 @@
 -- The remaining steps of the walk over settled Uids, after each kind of step.
-use Rattle.std.proofs.Common.{◌≡◌, ℕ, ◌<◌, List, [], ◌∷◌, ◌++◌, length, map, reverse, Option, Some, None, Ok, Err, refl, ap, sym, ◌∙◌, append_assoc, append-nil, arith, subst}
+use Rattle.std.proofs.Common.{◌≡◌, ℕ, ◌<◌, List, [], ◌∷◌, ◌++◌, length, map, Option, Some, None, Ok, Err, ap, sym, ◌∙◌, append_assoc, append-nil, arith, subst}
 use Rattle.std.specs.Prelude.{slice_get}
 use Rattle.std.specs.Option.{unwrap_or}
 use Rattle.std.proofs.lemmas.List.{length-append, length-map}
@@ -14,11 +14,11 @@ use Rattle.plist.specs.ValueTrees.{tree_of}
 use Rattle.plist_base.specs.Bracketing.{bracketing}
 use Rattle.plist_keyed.specs.declared.walk.Walk.{Walk}
 use Rattle.plist_keyed.specs.inner.Checking.{objects_seen}
-use Rattle.plist_keyed.specs.inner.RemainingSteps.{AllNameOnly, Skips, IsWalk, coming_items, items_at, objects_walked, remaining_from, remaining_steps, steps_in_levels, walk_levels}
+use Rattle.plist_keyed.specs.inner.RemainingSteps.{Skips, IsWalk, coming_items, items_at, remaining_from, remaining_steps, steps_in_levels}
 use Rattle.plist_keyed.specs.inner.Settled.{AreEnds, AreSettled, IsEndOf, IsIn, IsSettledIn, NameOnly}
 use Rattle.plist_keyed.specs.inner.Walks.{Step, events_given, given_by, steps_from, steps_of_event, steps_of_events, uid_of_event}
 use Rattle.plist_keyed.proofs.TreeItems.{given_by-append}
-use Rattle.plist_keyed.proofs.CheckSteps.{reverse-snoc, uid_steps}
+use Rattle.plist_keyed.proofs.CheckSteps.{uid_steps}
 use Rattle.plist_keyed.proofs.SettledUids.{settled-unfolds, some_step}
 
 -- the list of the objects' events is as long as that of the objects
@@ -79,38 +79,6 @@ module _ (objects : List (List PlainEvent)) where
   shorter e uid rest left is same =
       let some : 0 < length (from uid) = some_step objects _ [] uid in
       rw (same, uid_steps from e uid is, length-append (from uid) rest) (omega (arith, some))
-
-module _ (walk : Walk) (items below : List Events) (left : Events)
-    (had : walk.levels.items ≡ below ++ left ∷ []) where
-  first : walk_levels walk ≡ left ∷ reverse below
-  first = ap reverse had ∙ reverse-snoc below left
-
-  -- an event of the innermost object is taken
-  pub taken-steps : (after : Events) (e : PlainEvent) → items ≡ below ++ after ∷ []
-      → remaining_events left ≡ e ∷ remaining_events after
-      → remaining_steps walk ≡ steps_of_event (steps_from (objects_walked walk)) e
-      ++ steps_in_levels (objects_walked walk) (reverse items)
-  taken-steps after e has is =
-      rw (first, has, reverse-snoc below after)
-      (takes (objects_walked walk) left after (reverse below) e is)
-
-  pub taken-names : (after : Events) (e : PlainEvent) (uids : List ℕ)
-      → items ≡ below ++ after ∷ [] → remaining_events left ≡ e ∷ remaining_events after
-      → AllNameOnly (walk_levels walk) uids
-      → NameOnly (e ∷ []) uids × AllNameOnly (reverse items) uids
-  taken-names after e uids has is names =
-      let (these, others) = (rw first at names) in
-      let (one, more) = (rw is at these) in
-      ((one, tt), rw (has, reverse-snoc below after) (more, others))
-
-  -- the innermost object is left, which has no remaining events
-  pub left-skips : remaining_events left ≡ []
-      → Skips (remaining_steps walk) (steps_in_levels (objects_walked walk) (reverse below))
-  left-skips none = rw (first, none) (refl, omega arith)
-
-  pub left-names : (uids : List ℕ) → AllNameOnly (walk_levels walk) uids
-      → AllNameOnly (reverse below) uids
-  left-names uids names = (rw first at names).1
 
 -- the items that remain of a walk that began with a Uid
 pub begun : (start walk : Walk) (objects : List Value) (uid : ℕ) → start.objects.now ≡ objects

@@ -26,28 +26,18 @@ trees_in archive = map tree_of (objects_of archive)
 abbrev pub names_of : Archive → List (List ℕ × Value)
 names_of archive = pairs_of archive.names.now
 
--- the key's value is this array
-abbrev pub IsArrayAt : (key : List ℕ) → (pairs : List (List ℕ × Value)) → (array : Vec Value Global)
-    → Type 0
-IsArrayAt key pairs array = lookup (bytes_eq key) pairs ≡ Some (value.Array array)
+-- the key has this value
+abbrev pub IsValueAt : (key : List ℕ) → (pairs : List (List ℕ × Value)) → Value → Type 0
+IsValueAt key pairs v = lookup (bytes_eq key) pairs ≡ Some v
 
--- the key's value isn't an array, or the key is missing
-abbrev pub HasNoArrayAt : (key : List ℕ) → (pairs : List (List ℕ × Value)) → Type 0
-HasNoArrayAt key pairs = (array : Vec Value Global) → ¬ (IsArrayAt key pairs array)
-
--- the key's value is this dictionary
-abbrev pub IsDictionaryAt : (key : List ℕ) → (pairs : List (List ℕ × Value))
-    → (dictionary : Dictionary) → Type 0
-IsDictionaryAt key pairs dictionary =
-    lookup (bytes_eq key) pairs ≡ Some (value.Dictionary dictionary)
-
--- the key's value isn't a dictionary, or the key is missing
-abbrev pub HasNoDictionaryAt : (key : List ℕ) → (pairs : List (List ℕ × Value)) → Type 0
-HasNoDictionaryAt key pairs = (dictionary : Dictionary) → ¬ (IsDictionaryAt key pairs dictionary)
+-- the key's value isn't of this kind, or the key is missing
+abbrev pub HasNoneAt : {X : Type 0} → (kind : X → Value) → (key : List ℕ)
+    → (pairs : List (List ℕ × Value)) → Type 0
+HasNoneAt {X} kind key pairs = (x : X) → ¬ (IsValueAt key pairs (kind x))
 
 -- the key's value is this Uid
 abbrev pub IsUidAt : (key : List ℕ) → (pairs : List (List ℕ × Value)) → (uid : ℕ) → Type 0
-IsUidAt key pairs uid = lookup (bytes_eq key) pairs ≡ Some (value.Uid uid)
+IsUidAt key pairs uid = IsValueAt key pairs (value.Uid uid)
 
 -- the property list is a dictionary with these objects in the array at `$objects`, and these names
 -- in the dictionary at `$top`
@@ -56,8 +46,10 @@ abbrev pub IsArchiveOf : (root : Value) → (objects : List Value) → (names : 
 IsArchiveOf root objects names =
     (dictionary : Dictionary) × (array : Vec Value Global) × (top : Dictionary)
     × (root ≡ value.Dictionary dictionary)
-    × IsArrayAt (codes "$objects") (pairs_of dictionary) array × (array.items ≡ objects)
-    × IsDictionaryAt (codes "$top") (pairs_of dictionary) top × (pairs_of top ≡ names)
+    × IsValueAt (codes "$objects") (pairs_of dictionary) (value.Array array)
+    × (array.items ≡ objects)
+    × IsValueAt (codes "$top") (pairs_of dictionary) (value.Dictionary top)
+    × (pairs_of top ≡ names)
 
 -- the property list is an archive
 abbrev pub IsArchive : (root : Value) → Type 0

@@ -24,12 +24,6 @@ MatchError error.OutOfMemory closed memory fault = memory
 abbrev pub IsFaultOf : {A : Type 0} → Result A ArchiveFault → KeyedError → Type 0
 IsFaultOf answer e = MatchError e ⊥ ⊤ (λ fault. answer ≡ Err fault)
 
--- a fact for `OutOfMemory`, and one for a fault that a walk found in the archive
-abbrev pub MatchWalkError : WalkError → (memory : Type 0) → (ArchiveFault → Type 0) → Type 0
-MatchWalkError (walk.MissingObject uid) memory fault = fault (UidOutOfRange uid)
-MatchWalkError (walk.OpenObject uid) memory fault = fault (RecursiveUid uid)
-MatchWalkError walk.OutOfMemory memory fault = memory
-
 -- the error of an archive for an error of a walk over it
 abbrev pub error_of_walk : WalkError → KeyedError
 error_of_walk (walk.MissingObject uid) = error.UidOutOfRange uid

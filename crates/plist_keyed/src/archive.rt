@@ -4,7 +4,7 @@ ghost use Rattle.std.specs.Prelude.{◌≡◌, ℕ, Ok, IfErr, IfOk, IfSome, IsN
 ghost use Rattle.std.specs.declared.alloc.Global.{Global};
 ghost use Rattle.std.specs.declared.vec.Vec.{Vec};
 ghost use Rattle.std.specs.Option.{option_copied};
-ghost use Rattle.plist_keyed.specs.Contents.{IsArrayAt, IsDictionaryAt, IsUidAt, names_of, objects_of, trees_in, HasNoArrayAt, HasNoDictionaryAt, IsOpenedOf, IsNoArchive};
+ghost use Rattle.plist_keyed.specs.Contents.{HasNoneAt, IsUidAt, IsValueAt, names_of, objects_of, trees_in, IsOpenedOf, IsNoArchive};
 ghost use Rattle.plist.specs.Dictionaries.{pairs_of};
 ghost use Rattle.plist.specs.ValueTrees.{tree_of};
 ghost use Rattle.plist_keyed.specs.Archives.{resolved_tree};
@@ -27,8 +27,9 @@ pub struct Archive<'a> {
 
 // Returns the array at a key.
 fn array_at<'a>(pairs: &'a Dictionary, key: &str) -> Option<&'a Vec<Value>>
-    ensures found { IfSome result (λ array. IsArrayAt key.now (pairs_of pairs.now) array.now) }
-    ensures missing { IsNone result → HasNoArrayAt key.now (pairs_of pairs.now) }
+    ensures found { IfSome result (λ array. IsValueAt key.now (pairs_of pairs.now)
+        (Value.Array array.now)) }
+    ensures missing { IsNone result → HasNoneAt Value.Array key.now (pairs_of pairs.now) }
 {
     let Some(Value::Array(array)) = pairs.get(key) else {
         return None;
@@ -38,9 +39,9 @@ fn array_at<'a>(pairs: &'a Dictionary, key: &str) -> Option<&'a Vec<Value>>
 
 // Returns the dictionary at a key.
 fn dictionary_at<'a>(pairs: &'a Dictionary, key: &str) -> Option<&'a Dictionary>
-    ensures found { IfSome result (λ others. IsDictionaryAt key.now
-        (pairs_of pairs.now) others.now) }
-    ensures missing { IsNone result → HasNoDictionaryAt key.now (pairs_of pairs.now) }
+    ensures found { IfSome result (λ others. IsValueAt key.now (pairs_of pairs.now)
+        (Value.Dictionary others.now)) }
+    ensures missing { IsNone result → HasNoneAt Value.Dictionary key.now (pairs_of pairs.now) }
 {
     let Some(Value::Dictionary(others)) = pairs.get(key) else {
         return None;

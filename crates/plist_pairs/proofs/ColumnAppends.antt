@@ -2,14 +2,12 @@
 use Rattle.std.proofs.Common.{◌≡◌, ℕ, ◌+◌, ◌<◌, Bool, true, false, not, cond, List, [], ◌∷◌, ◌++◌, length, map, sym, ap, subst, ◌∙◌, is_some, IsSome, Option, length-append, Some, None, position, string_bytes, bytes_eq, lt-ltb, refl, append_assoc, arith, is_lt, string_cmp, IsPermutation, IsSorted, nat_cmp, IsSortedBy}
 use Rattle.std.specs.List.{list_any, position_or_len, IsDistinct}
 use Rattle.std.specs.Map.{lookup, keys_of}
-use Rattle.std.specs.Option.{option_to_list}
 use Rattle.std.proofs.lemmas.List.{length-map, get_or-map, map-append, map_push}
 use Rattle.plist_pairs.proofs.PairColumns.{Text, rows, rows-pushed, columns, any-rows, keys-rows}
 use Rattle.plist_pairs.proofs.EntrySteps.{comes_last, none_of}
 use Rattle.std.specs.Cmp.Lexicographic.{slice_cmp, nat_list_eq_equiv}
 use Rattle.std.proofs.lemmas.List.Sorted.{IsPermutation-map}
 use Rattle.indexmap.proofs.MapLemmas.{absent_before, distinct_permutation}
-use Rattle.indexmap.proofs.RemoveLemmas.{popped_last}
 use Rattle.plist_pairs.specs.Shown.{shown_owned_pair}
 use Rattle.plist_pairs.proofs.DistinctKeys.{first-distinct}
 
@@ -60,37 +58,6 @@ module _ (ks : List Text) (k : Text) (b : Bool) (new : b ≡ not (has ks k)) (n 
       at_first (λ (l : Text). bytes_eq (string_bytes k) (string_bytes l)) ks i at
       (rw (← old-keys) within)
 
--- popping the key that was appended returns it, and restores the others
-module _ (ks : List Text) (k : Text) (b : Bool) (new : b ≡ not (has ks k)) (n : b ≡ true)
-    (ls : List Text) (h : ls ≡ cond (has ks k) ks (ks ++ k ∷ [])) where
-  new-lacks : has ks k ≡ false
-  new-lacks = is-not b _ new ∙ ap not n
-
-  pub popped-key : (ms : List Text) (o : Option Text) (t : Text) → ls ≡ ms ++ option_to_list o
-      → o ≡ Some t → (t ≡ k) × (ms ≡ ks)
-  popped-key ms o t popped some =
-      let put : ls ≡ ks ++ k ∷ [] = h ∙ ap (λ c. cond c ks (ks ++ k ∷ [])) new-lacks in
-      let p = popped_last ks ms k o (sym put ∙ popped) (subst IsSome (sym some) refl) in
-      let same : o ≡ Some k = p.0 in
-      (cc, p.1)
-
-  module _ {X : Type 0} (vs : List X) (e : length vs ≡ length ks) (pairs : List (List ℕ × X))
-      (seen : rows ks vs ≡ pairs) where
-    -- the key wasn't there
-    pub new-absent : is_some (lookup (bytes_eq (string_bytes k)) pairs) ≡ false
-    new-absent =
-        ap (λ l. is_some (lookup (bytes_eq (string_bytes k)) l)) (sym seen)
-        ∙ sym (any-rows ks vs (bytes_eq (string_bytes k)) e) ∙ new-lacks
-
-    -- neither column changed
-    pub undone : (ms : List Text) (ws : List X) → ms ≡ ks → ws ≡ vs
-        → IsDistinct bytes_eq (map string_bytes ks)
-        → (length ws ≡ length ms) × IsDistinct bytes_eq (map string_bytes ms)
-    undone ms ws keys items d = (
-      ap length items ∙ e ∙ sym (ap length keys),
-      subst (λ l. IsDistinct bytes_eq (map string_bytes l)) (sym keys) d,
-    )
-
 -- a list that is sorted by a function's values becomes a sorted list of these values
 sorted-map : {A K : Type 0} (f : A → K) (lt : K → K → Bool) (xs : List A)
     → IsSortedBy (λ a b. lt (f a) (f b)) xs → IsSortedBy lt (map f xs)
@@ -132,16 +99,6 @@ module _ {V : Type 0} where
               ∙ append_assoc (rows ks vs) ((string_bytes k, v) ∷ []) (map shown_owned_pair less)
               ∙ parts,
         )
-
-  -- the next pair by value is one more row
-  pub row-moved : (rows new : List (Text × V)) (row : Text × V) (left less pairs : List (List ℕ × V))
-      → map shown_owned_pair rows ++ left ≡ pairs → left ≡ shown_owned_pair row ∷ less
-      → new ≡ rows ++ row ∷ [] → map shown_owned_pair new ++ less ≡ pairs
-  row-moved rows new row left less pairs so next put =
-      ap (λ l. map shown_owned_pair l ++ less) put
-      ∙ ap (λ l. l ++ less) (map_push shown_owned_pair rows row)
-      ∙ append_assoc (map shown_owned_pair rows) (shown_owned_pair row ∷ []) less
-      ∙ ap (λ l. map shown_owned_pair rows ++ l) (sym next) ∙ so
 
   keys-shown : (all : List (Text × V))
       → map (λ (r : Text × V). string_bytes r.0) all ≡ keys_of (map shown_owned_pair all)

@@ -1,12 +1,11 @@
 -- The first bytes of a source.
-use Rattle.std.proofs.Common.{◌≡◌, inl, inr, ℕ, ◌+◌, ◌<◌, ◌≤◌, Bool, true, false, cond, ◌==◌, nat_eq, List, [], ◌∷◌, length, take, get_or, Option, None, Some, IfSome, IsTrue, ◌↔◌, refl, ap, sym, ◌∙◌, arith}
+use Rattle.std.proofs.Common.{◌≡◌, inl, inr, ℕ, ◌+◌, ◌<◌, ◌≤◌, Bool, true, false, cond, ◌==◌, nat_eq, List, [], ◌∷◌, length, take, get_or, Option, None, Some, IfSome, refl, ap, ◌∙◌, arith}
 use Rattle.std.specs.Bool.{then_some}
 use Rattle.std.specs.List.{starts_with, slice_get}
 use Rattle.std.proofs.lemmas.Bool.{cases_lt, and_right}
 use Rattle.std.proofs.lemmas.List.{length-take, get_or-take, get_or_past}
 use Rattle.std.proofs.lemmas.List.Sums.{prefix_len-drop_all, prefix_len-drop_no, prefix_len-drop_yes}
 use Rattle.std.proofs.lemmas.Option.{slice_get_within, slice_get-get_or, get_or_from_slice_get}
-use Rattle.plist_base.specs.Faults.{FaultKind, Io, OutOfMemory, IsIo}
 use Rattle.plist_base.specs.Sources.{IsOffsetWithin}
 use Rattle.plist_format.specs.Container.{magic}
 use Rattle.plist_binread.specs.FaultOffsets.{HasOffset}
@@ -32,24 +31,6 @@ short-starts bytes [] h = absurd (omega arith)
 short-starts [] (n ∷ needle) h = refl
 short-starts (b ∷ bytes) (n ∷ needle) h =
     and_right (nat_eq n b) _ (short-starts bytes needle (omega arith))
-
-io-is : (kind : FaultKind) → IsIo kind → kind ≡ Io
-io-is Io h = refl
-io-is OutOfMemory h = absurd h
-io-is kind h = absurd h
-
-never_true : {A : Type 0} (b : Bool) → b ≡ false → IsTrue b → A
-never_true b e h = cc
-
--- if reading the first bytes fails, but not for an I/O error, there are too few
-pub short-front : (bytes : List ℕ) (kind : FaultKind) (is : Bool) (n : ℕ) (needle : List ℕ)
-    → n ≡ length needle → is ≡ false → (IsTrue is ↔ (kind ≡ Io))
-    → (0 + n ≤ length bytes → IsIo kind) → false ≡ starts_with nat_eq bytes needle
-short-front bytes kind is n needle e f t h =
-    elim (cases_lt (length bytes) n) [
-      | inl l ↦ sym (short-starts bytes needle (omega (arith, e)))
-      | inr l ↦ never_true is f (t.1 (io-is _ (h (omega arith))))
-    ]
 
 module _ (m : ℕ) (bytes : List ℕ) where
   abbrev cut : List ℕ

@@ -1,11 +1,11 @@
 -- The bytes of a source that were read but not taken.
-use Rattle.std.proofs.Common.{◌≡◌, ◌⊎◌, inl, inr, ℕ, suc, ◌+◌, ◌-◌, ◌^◌, ◌<◌, ◌≤◌, List, [], ◌∷◌, ◌++◌, length, take, drop, drop-cons, get_or, Option, None, Some, IfSome, refl, sym, ap, ◌∙◌, arith, append_assoc}
+use Rattle.std.proofs.Common.{◌≡◌, ◌⊎◌, inl, inr, ℕ, suc, ◌+◌, ◌-◌, ◌^◌, ◌<◌, ◌≤◌, List, [], ◌∷◌, ◌++◌, length, take, drop, drop-cons, get_or, Option, None, Some, IfSome, sym, ap, ◌∙◌, arith, append_assoc}
 use Rattle.std.specs.Option.{option_map}
 use Rattle.std.specs.Io.KnownBytes.{Consumes, IsAtEnd}
 use Rattle.std.proofs.lemmas.List.{drop-drop, drop_all, drop-take, take-take, take-append-drop, length-take, length-take-le, get_or-take}
 use Rattle.plist_base.specs.Sources.{GivesAt}
 use Rattle.plist_base.specs.Sequential.{from_place}
-use Rattle.plist_ascii.specs.Incoming.{GivesByte, StartsWithHeld}
+use Rattle.plist_ascii.specs.Incoming.{GivesByte}
 use Rattle.plist_base.proofs.Places.{nothing_past, nothing_after}
 
 -- ---- one read
@@ -97,9 +97,3 @@ several_there (Some xs) p from n all =
     (sym (take-append-drop n _)
     ∙ ap (λ z. take n (drop from all) ++ z) (drop-drop n _ _))
     ∙ append_assoc (take n _) (drop (from + n) all) (from_place p xs)
-
--- the bytes that remain begin with those that were read
-pub held_starts : (k : Option (List ℕ)) (held : List ℕ) (p : ℕ)
-    → StartsWithHeld held (option_map (λ bytes. held ++ from_place p bytes) k)
-held_starts None held p = tt
-held_starts (Some xs) held p = (from_place p xs, refl)

@@ -1,5 +1,5 @@
 -- The format that the first bytes of an input indicate.
-use Rattle.std.specs.Prelude.{◌≡◌, ℕ, ◌+◌, ◌-◌, ◌^◌, Bool, cond, ◌==◌, nat_eq, List, [], ◌∷◌, take, drop, get_or, Option, None, Some, codes, refl}
+use Rattle.std.specs.Prelude.{◌≡◌, ℕ, ◌+◌, ◌-◌, ◌^◌, Bool, if◌then◌else◌, ◌==◌, nat_eq, List, [], ◌∷◌, take, drop, get_or, Option, None, Some, codes, refl}
 use Rattle.std.specs.List.{list_any, prefix_len, starts_with}
 use Rattle.plist_format.specs.Container.{magic}
 use Rattle.plist_reader.specs.declared.format.Format.{Format}
@@ -19,7 +19,7 @@ byte_order_mark = 0xEF ∷ 0xBB ∷ 0xBF ∷ []
 
 -- the length of the byte order mark with which the bytes begin, or 0
 abbrev pub byte_order_mark_length : List ℕ → ℕ
-byte_order_mark_length bytes = cond (starts_with nat_eq bytes byte_order_mark) 3 0
+byte_order_mark_length bytes = if starts_with nat_eq bytes byte_order_mark then 3 else 0
 
 -- the offset of the first byte after white space, from an offset on
 abbrev pub past_white : (place : ℕ) → List ℕ → ℕ
@@ -28,7 +28,7 @@ past_white place bytes = place + prefix_len is_white (drop place bytes)
 -- the offset of the first byte after white space, if that byte is `<`
 abbrev pub xml_place : (place : ℕ) → List ℕ → Option ℕ
 xml_place place bytes =
-    cond (get_or bytes (past_white place bytes) 0 == 60) (Some (past_white place bytes)) None
+    let start = past_white place bytes in if get_or bytes start 0 == 60 then Some start else None
 
 -- XML if there is such an offset, and else ASCII
 abbrev pub text_format : Option ℕ → Format
@@ -38,8 +38,8 @@ text_format (Some place) = Xml place
 -- the format: binary by the first eight bytes, XML by the first after white space, else ASCII
 unfoldable pub format_of : List ℕ → Format
 format_of bytes =
-    cond (starts_with nat_eq bytes magic) Binary
-    (text_format (xml_place (byte_order_mark_length bytes) (input_front bytes)))
+    if starts_with nat_eq bytes magic then Binary
+    else text_format (xml_place (byte_order_mark_length bytes) (input_front bytes))
 
 -- ---- worked examples
 

@@ -9,7 +9,7 @@ use Rattle.plist_base.specs.declared.limits.Limits.{Limits}
 use Rattle.plist_base.specs.declared.limits.LimitCounter.{LimitCounter}
 use Rattle.plist_base.specs.Allowances.{HasEndedLimited, iterator_of}
 use Rattle.plist_base.specs.Limits.{GivesLimited, items_admitted, limited_items}
-use Rattle.plist_base.specs.Faults.{Fault, FaultKind, Io, IncompleteComment, InvalidOctalString, InvalidUtf16String, InvalidUtf8AsciiStream, LimitReached, MatchFault, OutOfMemory, UnclosedString, XmlUnsupported, kind_of, error_kind_of, fault_of, fault_at}
+use Rattle.plist_base.specs.Faults.{Fault, FaultKind, Io, IncompleteComment, InvalidOctalString, InvalidUtf16String, InvalidUtf8AsciiStream, LimitReached, OutOfMemory, UnclosedString, XmlUnsupported, kind_of, error_kind_of, fault_of, fault_at}
 use Rattle.plist_base.specs.Events.{Item, event_of}
 use Rattle.plist_base.specs.Sources.{ItemCountsIo}
 use Rattle.plist_binread.specs.BinaryReader as binary
@@ -20,6 +20,7 @@ use Rattle.plist_binread.specs.FaultOffsets.{HasOffset, MatchGiven}
 use Rattle.plist_binread.specs.Remaining.{SomeRemain, walk_steps}
 use Rattle.plist_format.specs.Unfolding.{items_of_file}
 use Rattle.plist_ascii.specs.Ascii.{items_of_ascii}
+use Rattle.plist_ascii.specs.Kinds.{MatchItem}
 use Rattle.plist_ascii.specs.AsciiReader as ascii
 use Rattle.plist_ascii.specs.declared.reader.AsciiReader.{AsciiReader}
 use Rattle.plist_reader.specs.declared.bytes.BufferedSource.{BufferedSource}
@@ -149,11 +150,8 @@ reader_is_limited reader = is_limited_in reader.state
 abbrev pub GivesItem : (before : List Item) → Option (Result Event Error) → (after : List Item)
     → Type 0
 GivesItem before item after =
-    MatchOption item ((before ≡ []) × (after ≡ [])) (λ answer. MatchResult answer
-    (λ event. before ≡ Ok (event_of event) ∷ after)
-    (λ error. MatchFault (kind_of (error_kind_of error)) (after ≡ []) ((after ≡ [])
-    × SomeRemain before)
-    (before ≡ Err (fault_of error) ∷ after)))
+    MatchItem item ((before ≡ []) × (after ≡ [])) (λ event. before ≡ Ok (event_of event) ∷ after)
+    (after ≡ []) ((after ≡ []) × SomeRemain before) (λ fault. before ≡ Err fault ∷ after)
 
 -- `GivesItem` is true of the remaining items if these are known
 abbrev pub GivesIfKnown : (before : Option (List Item)) → Option (Result Event Error)
@@ -172,9 +170,8 @@ MatchText kind text other = other
 
 -- after `None`, and after a fault that ASCII can't have, the reader has ended
 abbrev pub EndsAfter : Option (Result Event Error) → Type 0 → Type 0
-EndsAfter item ended =
-    MatchOption item ended (λ answer. MatchResult answer (λ _. ⊤)
-    (λ error. MatchText (kind_of (error_kind_of error)) ⊤ ended))
+EndsAfter item ended = MatchOption item ended (λ answer.
+    IfErr answer (λ error. MatchText (kind_of (error_kind_of error)) ⊤ ended))
 
 -- one of the readers can yield a fault of this kind, that of a limit only under limits
 abbrev pub IsReaderFault : (limited : Bool) → FaultKind → Type 0
@@ -183,8 +180,8 @@ IsReaderFault limited kind = MatchText kind ⊤ (MatchGiven kind ⊤ ⊤ ⊤ (li
 
 -- the fault of the item, if it has one, is one that a reader can yield
 abbrev pub IsReaderItem : (limited : Bool) → Option (Result Event Error) → Type 0
-IsReaderItem limited item = MatchOption item ⊤ (λ answer. MatchResult answer (λ _. ⊤)
-    (λ error. IsReaderFault limited (kind_of (error_kind_of error))))
+IsReaderItem limited item = IfSome item (λ answer.
+    IfErr answer (λ error. IsReaderFault limited (kind_of (error_kind_of error))))
 
 -- the source is kept, and its count of failures rises if the item is `Io`, and else is unchanged
 abbrev pub HoldsSource : {R : Type 0} (failed : R → ℕ) (old : Option R)
@@ -216,7 +213,8 @@ FaultHasOffset fault = MatchOffset fault.kind (fault.offset ≡ None) (HasOffset
 
 -- `FaultHasOffset` is true of the item's fault, if it has one
 abbrev pub ItemHasOffset : Option (Result Event Error) → Type 0
-ItemHasOffset item = MatchOption item ⊤ (λ answer. IfErr answer (λ error. FaultHasOffset (fault_of error)))
+ItemHasOffset item =
+    IfSome item (λ answer. IfErr answer (λ error. FaultHasOffset (fault_of error)))
 
 -- one call of the binary reader's `next`
 abbrev pub BinaryGives : {R : Type 0} {g : Ghosts R} → BinaryReaderOf R g

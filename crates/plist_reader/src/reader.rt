@@ -179,7 +179,8 @@ impl<R: Source> Reader<R> {
     }
 
     // Reads the first item. Only this call moves the state, which is large if the source stores
-    // windows.
+    // windows. The state that is replaced is dropped by a call, since the drop of an assignment is
+    // more expensive to prove.
     fn first(&mut self) -> Option<Result<OwnedEvent, Error>>
         ensures yields { GivesFirst R.known R.failures self.old.state result self.new.state }
         ensures falls { FirstAdvances self.old.state result self.new.state }
@@ -187,11 +188,11 @@ impl<R: Source> Reader<R> {
         match mem::replace(&mut self.state, State::Moved) {
             State::Unread(source, limits, dialect) => {
                 let (state, item) = begin(self.alloc, source, limits, dialect);
-                self.state = state;
+                drop(mem::replace(&mut self.state, state));
                 item
             }
             state => {
-                self.state = state;
+                drop(mem::replace(&mut self.state, state));
                 None
             }
         }

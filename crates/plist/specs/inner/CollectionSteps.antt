@@ -1,5 +1,5 @@
 -- What changes the open collections of a value that is being built.
-use Rattle.std.specs.Prelude.{◌≡◌, ℕ, List, [], ◌∷◌, ◌++◌, Option, Some, None, String, map, string_bytes, ⊤}
+use Rattle.std.specs.Prelude.{◌≡◌, ℕ, List, [], ◌∷◌, ◌++◌, Option, Some, None, String, string_bytes, ⊤}
 use Rattle.std.specs.declared.alloc.Global.{Global}
 use Rattle.plist_base.specs.Events.{ScalarEvent}
 use Rattle.plist_base.specs.declared.expects.Expect.{Expect}
@@ -9,11 +9,11 @@ use Rattle.plist.specs.declared.dictionary.Dictionary.{Dictionary}
 use Rattle.plist.specs.declared.open_collections.OpenDictionary.{OpenDictionary}
 use Rattle.plist.specs.declared.open_collections.OpenDictionary.TheVariants as run
 use Rattle.plist.specs.declared.value.Value.{Value}
-use Rattle.plist.specs.Building.{OpenCollection, InArray, InDictionary, AfterKey, Within, expected_within}
+use Rattle.plist.specs.Building.{OpenCollection, InArray, InDictionary, AfterKey, expected_within}
 use Rattle.plist.specs.Dictionaries.{pairs_of}
 use Rattle.plist.specs.LastWins.{last_values, with_pair}
 use Rattle.plist.specs.OpenCollections.{Contents, Items, Pairs, open_dictionary, open_of, within}
-use Rattle.plist.specs.inner.BuilderSteps.{and_event, and_tree}
+use Rattle.plist.specs.inner.BuilderSteps.{and_event}
 use Rattle.plist.specs.ValueTrees.{tree_of, tree_pairs}
 
 -- the arrays after an item is appended to the innermost one
@@ -25,10 +25,6 @@ with_item (items ∷ arrays) item = (items ++ item ∷ []) ∷ arrays
 abbrev pub expected_in : List Contents → Option Expect
 expected_in [] = None
 expected_in (contents ∷ outer) = Some (expected_within (open_of contents))
-
--- the value is added to the innermost collection
-abbrev pub AddsTo : (old : List Contents) → Value → (new : List Contents) → Type 0
-AddsTo old value new = within new ≡ and_tree with_pair (tree_of value) (map open_of old)
 
 -- the innermost dictionary is replaced
 abbrev pub ChangesInnermost : (old new : List OpenDictionary) → Type 0
@@ -63,10 +59,6 @@ Closes [] value new = ⊥
 Closes (contents ∷ outer) value new =
     (new ≡ outer) × (tree_of value ≡ ended_tree (open_of contents))
     × (CannotEnd (contents ∷ outer) → ⊥)
-
--- a dictionary without pairs was opened
-abbrev pub OpensDictionary : (old new : List Contents) → Type 0
-OpensDictionary old new = within new ≡ Within (InDictionary []) (map open_of old)
 
 -- the key is added to the unfinished tree
 abbrev pub TakesKey : (old : List Contents) → (key : List ℕ) → (new : List Contents) → Type 0

@@ -1,5 +1,5 @@
 -- Pairs of values whose comparison is deferred.
-use Rattle.std.specs.Prelude.{◌≡◌, ◌≤◌, ℕ, ◌+◌, ◌-◌, Bool, true, false, ◌&&◌, Option, None, Some, List, [], ◌∷◌, ◌++◌, MatchOption, drop, bytes_eq}
+use Rattle.std.specs.Prelude.{◌≡◌, ◌≤◌, ℕ, ◌+◌, Bool, true, false, ◌&&◌, Option, None, Some, List, [], ◌∷◌, ◌++◌, MatchOption, drop, bytes_eq}
 use Rattle.std.specs.Map.{lookup, values_of}
 use Rattle.std.specs.Option.{option_eq}
 use Rattle.std.specs.declared.alloc.Global.{Global}
@@ -104,9 +104,3 @@ abbrev pub ComparesValues : (value other : Value) → (before : DeferredPairs) �
     → (after : DeferredPairs) → Type 0
 ComparesValues value other before answer after =
     Compares (same_values value other) (weight value) before answer after
-
--- the contents of two values are compared, and the two values aren't deferred
-abbrev pub ComparesContent : (value other : Value) → (before : DeferredPairs) → (answer : Bool)
-    → (after : DeferredPairs) → Type 0
-ComparesContent value other before answer after =
-    Compares (same_values value other) (weight value - 1) before answer after

@@ -139,7 +139,7 @@ impl<'a> VacantEntry<'a> {
     /// If memory runs out, the dictionary is unchanged, and the key and the value are returned.
     pub fn insert(self, value: Value) -> Result<&'a mut Value, (String, Value)>
         ensures value { IfOk result (λ lent. lent.now ≡ value) }
-        ensures handed_back { IfErr result (HandsBack (Vacant self.entry) value) }
+        ensures handed_back { IfErr result (HandsBack (Vacant self.entry) (λ v. v ≡ value)) }
         ensures* writes_back { sem 𝓛 (entry_lends_ok (Vacant self.entry) result) }
     {
         let VacantEntry { pairs, key } = self;
@@ -151,7 +151,7 @@ impl<'a> VacantEntry<'a> {
 
 impl<'a> Entry<'a> {
     ghost use Rattle.std.specs.Borrow.{sem};
-    ghost use Rattle.plist.specs.Entries.{HandsBack, HandsBackMade, HasOrMakes, entry_key, entry_lends_ok, entry_value};
+    ghost use Rattle.plist.specs.Entries.{HandsBack, HasOrMakes, entry_key, entry_lends_ok, entry_value};
 
     /// Returns the key.
     pub fn key(&self) -> &String
@@ -172,7 +172,7 @@ impl<'a> Entry<'a> {
     pub fn or_insert(self, value: Value) -> Result<&'a mut Value, (String, Value)>
         ensures value { IfOk result (λ lent. lent.now ≡ unwrap_or (entry_value self.entry) value) }
         ensures absent { OnErr result (entry_value self.entry ≡ None) }
-        ensures handed_back { IfErr result (HandsBack self.entry value) }
+        ensures handed_back { IfErr result (HandsBack self.entry (λ v. v ≡ value)) }
         ensures* writes_back { sem 𝓛 (entry_lends_ok self.entry result) }
     {
         match self {
@@ -197,7 +197,7 @@ impl<'a> Entry<'a> {
         requires { entry_value self ≡ None → F.pre value }
         ensures value { IfOk result (HasOrMakes self.entry (F.post value)) }
         ensures absent { OnErr result (entry_value self.entry ≡ None) }
-        ensures handed_back { IfErr result (HandsBackMade self.entry (F.post value)) }
+        ensures handed_back { IfErr result (HandsBack self.entry (F.post value)) }
         ensures* writes_back { sem 𝓛 (entry_lends_ok self.entry result) }
     {
         match self {

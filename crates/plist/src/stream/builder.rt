@@ -5,7 +5,7 @@ ghost use Rattle.plist_base.specs.Events.{event_of};
 ghost use Rattle.plist_base.specs.Outcomes.{IfFault};
 ghost use Rattle.plist_base.specs.Writing.{answer_of};
 ghost use Rattle.plist.specs.Building.{IsNested, IsNested-prop, IsUnfinished, nothing_built};
-ghost use Rattle.plist.specs.UnfinishedValues.{unfinished_of};
+ghost use Rattle.plist.specs.UnfinishedValues.{AddsEvent, unfinished_of};
 
 use crate::Value;
 use crate::unfinished::UnfinishedValue;
@@ -29,8 +29,8 @@ pub struct Builder {
 }
 
 impl Builder {
-    ghost use Rattle.plist.specs.Builder.{BuilderAddsEvent, HasAllEventsOf, IsBuilt, IsBuildingStep, RefusesUnlessFailed, RefusesWith, TakesItem, built_of};
-    ghost use Rattle.plist.specs.Collecting.{item_by};
+    ghost use Rattle.plist.specs.Builder.{HasAllEventsOf, IsBuilt, IsBuildingStep, RefusesWith, built_of};
+    ghost use Rattle.plist.specs.Collecting.{TakesOne, item_by};
 
     /// Creates a builder without events.
     pub fn new(alloc: Global) -> Builder
@@ -46,8 +46,10 @@ impl Builder {
     // Adds an event.
     pub(crate) fn take(&mut self, event: Event<'_>) -> Result<(), Error>
         ensures step { IsBuildingStep self.old (event_of event.entry) (answer_of result) self.new }
-        ensures added { OnOk result (BuilderAddsEvent self.old (event_of event.entry) self.new) }
-        ensures refused { RefusesUnlessFailed self.old (Ok (event_of event.entry)) result }
+        ensures added { OnOk result (AddsEvent self.old.unfinished (event_of event.entry)
+            self.new.unfinished) }
+        ensures refused { (built_of self.old).failed ≡ false
+            → RefusesWith self.old (Ok (event_of event.entry)) result }
     {
         if self.failed {
             return Err(ErrorKind::WriterFailed.without_position());
@@ -69,7 +71,8 @@ impl Builder {
     // Adds an item's event, or returns its error.
     pub(crate) fn take_item<E: AnyEvent>(&mut self, item: Result<E, Error>) -> Result<(), Error>
         requires { (built_of self.old).failed ≡ false }
-        ensures taken { OnOk result (TakesItem self.old (item_by E.plain item) self.new) }
+        ensures taken { OnOk result (TakesOne (built_of self.old) (item_by E.plain item)
+            (built_of self.new)) }
         ensures refused { RefusesWith self.old (item_by E.plain item) result }
     {
         let event = item?;
@@ -109,7 +112,8 @@ impl Builder {
 /// An [`Event`] of any lifetime.
 pub trait AnyEvent: Drop {
     ghost use Rattle.plist_base.specs.Events.{PlainEvent};
-    ghost use Rattle.plist.specs.Builder.{RefusesWith, TakesItem, built_of};
+    ghost use Rattle.plist.specs.Builder.{RefusesWith, built_of};
+    ghost use Rattle.plist.specs.Collecting.{TakesOne};
 
     ghost plain: { Self → PlainEvent };
 
@@ -120,7 +124,8 @@ pub trait AnyEvent: Drop {
     /// The errors are those of the builder's `write`.
     fn write_to(self, builder: &mut Builder) -> Result<(), Error>
         requires { (built_of builder.old).failed ≡ false }
-        ensures taken { OnOk result (TakesItem builder.old (Ok (plain self)) builder.new) }
+        ensures taken { OnOk result (TakesOne (built_of builder.old) (Ok (plain self))
+            (built_of builder.new)) }
         ensures refused { RefusesWith builder.old (Ok (plain self)) result };
 }
 

@@ -21,11 +21,6 @@ use Rattle.plist_keyed.specs.inner.Walks.{Step, events_given, given_by, steps_fr
 abbrev pub Skips : (before after : List Step) → Type 0
 Skips before after = (given_by before ≡ given_by after) × (length after < length before)
 
--- the steps that are done yield this event, and nothing else
-abbrev pub GivesEventFirst : (before : List Step) → PlainEvent → (after : List Step) → Type 0
-GivesEventFirst before event after =
-    (given_by before ≡ Ok event ∷ given_by after) × (length after < length before)
-
 module _ (objects : List (List PlainEvent)) where
   -- the remaining steps of the levels: those of the remaining events of the innermost one, its end,
   -- and the remaining steps of the others
@@ -72,7 +67,8 @@ remaining_from_event walk event =
 -- a step is done, or memory ran out in it
 abbrev pub Yields : (before : List Step) → Result WalkStep Error → (after : List Step) → Type 0
 Yields before (Ok walk_step.End) after = (before ≡ []) × (after ≡ [])
-Yields before (Ok (walk_step.Event event)) after = GivesEventFirst before (event_of event) after
+Yields before (Ok (walk_step.Event event)) after =
+    (given_by before ≡ Ok (event_of event) ∷ given_by after) × (length after < length before)
 Yields before (Ok walk_step.Skip) after = Skips before after
 Yields before (Err error) after =
     (length after < length before) × (fault_of error ≡ fault_without_offset OutOfMemory)

@@ -6,7 +6,7 @@ use Rattle.std.specs.Option.{option_map_or}
 use Rattle.plist_base.specs.Events.{PlainEvent, ScalarEvent}
 use Rattle.plist_keyed.specs.declared.error.WalkError.{WalkError}
 use Rattle.plist_keyed.specs.Archives.{ArchiveFault, UidOutOfRange, RecursiveUid, number_of_uid}
-use Rattle.plist_keyed.specs.Errors.{MatchWalkError}
+use Rattle.plist_keyed.specs.Errors.{MatchError, error_of_walk}
 
 -- an event, or the fault that replaces one
 abbrev pub Given : Type 0
@@ -79,5 +79,5 @@ IsFaultless steps = (events : List PlainEvent) × (given_by steps ≡ map Ok eve
 -- the error is the first fault, or memory ran out
 abbrev pub IsFirstFaultOf : (steps : List Step) → WalkError → Type 0
 IsFirstFaultOf steps error =
-    MatchWalkError error ⊤ (λ fault. (events : List PlainEvent) × (more : List Given)
+    MatchError (error_of_walk error) ⊥ ⊤ (λ fault. (events : List PlainEvent) × (more : List Given)
     × (given_by steps ≡ map Ok events ++ Err fault ∷ more))

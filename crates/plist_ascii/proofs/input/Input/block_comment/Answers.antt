@@ -1,10 +1,7 @@
 use Rattle.std.proofs.Common.{arith, ◌+◌, ◌∙◌}
 use Rattle.plist_ascii.specs.Taken.{run}
-use Rattle.plist_ascii.proofs.Loops.{since_start, since_on, is_star, star_closes, star_opens, star_misses, commenting_start, commenting_more, commenting_ends}
+use Rattle.plist_ascii.proofs.Loops.{since_on, is_star, star_closes, star_opens, star_misses, commenting_more, commenting_ends}
 use Rattle.plist_ascii.proofs.input.Input.block_comment.Goals as goal
-
-pub stars-init : goal.stars-init
-stars-init g c = since_start (λ xs. commenting_start xs _)
 
 pub stars-preserved : goal.stars-preserved
 stars-preserved g c =

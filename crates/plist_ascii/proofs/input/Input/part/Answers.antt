@@ -1,19 +1,13 @@
 use Rattle.std.proofs.Common.{ap, Some, ◌∙◌, ◌+◌, ◌++◌, [], arith, take, drop}
 use Rattle.std.proofs.lemmas.List.{drop-drop}
 use Rattle.plist_ascii.specs.Taken.{run}
-use Rattle.plist_ascii.specs.Quoted.{ends_run}
+use Rattle.plist_ascii.specs.Quoted.{ends_run, quoted_by}
 use Rattle.plist_ascii.specs.inner.Inputs.{FailsAfter}
-use Rattle.plist_ascii.specs.inner.Parts.{escaped_bytes, PartFails}
+use Rattle.plist_ascii.specs.inner.Parts.{escaped_bytes}
 use Rattle.plist_ascii.specs.inner.TokenFaults.{kind_in_bytes}
-use Rattle.plist_ascii.proofs.Answering.{passed_on, some_same, outside_fails}
+use Rattle.plist_ascii.proofs.Answering.{passed_on, some_same}
 use Rattle.plist_ascii.proofs.Quotes.{part_ends, part_goes_on, text_closes, text_goes_on}
 use Rattle.plist_ascii.proofs.input.Input.part.Goals as goal
-
-pub returns-in_err-take_run-clause-fault : goal.returns-in_err-take_run-clause-fault
-returns-in_err-take_run-clause-fault g c =
-    passed_on (FailsAfter g.R.ByteReader.remaining (PartFails c.args.quote) c.args.self.now
-    c.take_run.new.self) _ _ c.from_residual.ensures.1
-    (c.in_err-take_run.ensures.place, outside_fails _ _ c.in_err-take_run.ensures.fault)
 
 pub returns-in-None-clause-value : goal.returns-in-None-clause-value
 returns-in-None-clause-value g c = λ xs e.
@@ -23,9 +17,7 @@ returns-in-None-clause-value g c = λ xs e.
     let ok = rw c.in-None.is at c.in_ok-piece.ensures.value in
     let t = ok _ r.1 in (
       m + t.0,
-      take m xs ++ [],
-      part_ends _ t.0 xs _ t.1,
-      text_closes _ _ _ r.0,
+      (take m xs ++ [], part_ends _ t.0 xs _ t.1, text_closes _ _ _ r.0),
       cc (drop-drop t.0 m xs),
       omega (arith, t.3, r.2),
     )
@@ -40,9 +32,11 @@ returns-in_ok-push_escaped-in-Some-clause-value g c = λ xs e.
     let t = ok (drop m xs) r.1 in
     let piece = escaped_bytes c.in-Some.piece in (
       m + t.0,
-      take m xs ++ piece,
-      part_goes_on quote t.0 xs piece t.1,
-      text_goes_on _ _ _ _ _ r.0 c.in_ok-push_escaped-in-Some.ensures.value,
+      (
+        take m xs ++ piece,
+        part_goes_on quote t.0 xs piece t.1,
+        text_goes_on _ _ _ _ _ r.0 c.in_ok-push_escaped-in-Some.ensures.value,
+      ),
       t.2 ∙ ap Some (drop-drop t.0 m xs),
       omega (arith, t.3, r.2),
     )
@@ -50,7 +44,7 @@ returns-in_ok-push_escaped-in-Some-clause-value g c = λ xs e.
 pub returns-in_err-piece-clause-fault : goal.returns-in_err-piece-clause-fault
 returns-in_err-piece-clause-fault g c =
     let b = c.in_err-piece.ensures.fault in
-    passed_on (FailsAfter g.R.ByteReader.remaining (PartFails c.args.quote) c.args.self.now
+    passed_on (FailsAfter g.R.ByteReader.remaining (quoted_by c.args.quote) c.args.self.now
     c.run_end.new.self) _ _ c.from_residual-in_err-piece.ensures.1 (
       omega (arith, b.0, c.in_ok-take_run.ensures.place),
       some_same (kind_in_bytes c.in_err-piece.field-0.0) _ _ (λ kind k xs e.

@@ -3,12 +3,9 @@ use Rattle.plist_ascii.specs.Quoted.{quoted}
 use Rattle.plist_ascii.specs.inner.TokenFaults.{kind_in_bytes}
 use Rattle.std.specs.Prelude.{vec_items, Err}
 use Rattle.plist_ascii.proofs.Answering.{gives_passed, some_by}
-use Rattle.plist_ascii.proofs.Loops.{since_start, since_on}
-use Rattle.plist_ascii.proofs.Quotes.{quoting_start, quoting_more, quoting_ends}
+use Rattle.plist_ascii.proofs.Loops.{since_on}
+use Rattle.plist_ascii.proofs.Quotes.{quoting_more, quoting_ends}
 use Rattle.plist_ascii.proofs.input.Input.quoted.Goals as goal
-
-pub parts-init : goal.parts-init
-parts-init g c = since_start (λ xs. rw c.new-text.ensures.items (quoting_start _ xs _))
 
 pub returns-then-branch-clause-answers : goal.returns-then-branch-clause-answers
 returns-then-branch-clause-answers g c =
@@ -17,7 +14,7 @@ returns-then-branch-clause-answers g c =
       λ xs e.
           let i = c.parts.invariant.goes xs e in
           let t = ok i.0 i.1 in
-          quoting_ends _ _ i.2 t.0 t.5 t.2 (ap Ok (sym t.3)) t.4,
+          quoting_ends _ _ i.2 t.0 t.3 t.1.1 (ap Ok (sym t.1.2)) t.2,
     )
 
 pub parts-preserved : goal.parts-preserved
@@ -25,7 +22,8 @@ parts-preserved g c =
     let ok = rw c.if-branch.false at c.in_ok-part.ensures.value in
     since_on c.parts.invariant c.in_ok-part.ensures.failures
     (omega (arith, c.in_ok-part.ensures.rises.0))
-    (λ xs ys i u. let t = ok ys u in (_, t.4, quoting_more _ _ i t.0 t.5 t.1 t.2 t.3))
+    (λ xs ys i u.
+    let t = ok ys u in (_, t.2, quoting_more _ _ i t.0 t.3 t.1.0 t.1.1 t.1.2))
 
 pub returns-in_err-part-clause-answers : goal.returns-in_err-part-clause-answers
 returns-in_err-part-clause-answers g c =

@@ -4,7 +4,7 @@ use Rattle.plist_ascii.specs.Escapes.{escape}
 use Rattle.plist_ascii.proofs.Answering.{passed_on, some_from}
 use Rattle.plist_ascii.proofs.Quotes.{end_goes_on, end_fails, drop_past}
 use Rattle.plist_ascii.specs.inner.Inputs.{FailsAfter}
-use Rattle.plist_ascii.specs.inner.Parts.{EndFails}
+use Rattle.plist_ascii.specs.Quoted.{run_end}
 use Rattle.plist_ascii.specs.inner.TokenFaults.{kind_in_bytes}
 use Rattle.plist_ascii.proofs.input.Input.run_end.Goals as goal
 
@@ -20,18 +20,11 @@ returns-clause-value g c = λ xs e.
       omega (arith, k.2, p.0),
     )
 
-pub returns-clause-rises : goal.returns-clause-rises
-returns-clause-rises g c = (
-  omega (arith, c.in_ok-expect_byte.ensures.place.0, c.in_ok-piece.ensures.answers.0),
-  omega
-      (arith, c.in_ok-expect_byte.ensures.place.0, c.in_ok-expect_byte.ensures.place.1),
-)
-
 pub returns-in_err-piece-clause-fault : goal.returns-in_err-piece-clause-fault
 returns-in_err-piece-clause-fault g c =
     let b = c.in_err-piece.ensures.answers in
     let p = c.in_ok-expect_byte.ensures.place in
-    passed_on (FailsAfter g.R.ByteReader.remaining (EndFails c.args.quote) c.args.self.now
+    passed_on (FailsAfter g.R.ByteReader.remaining (run_end c.args.quote) c.args.self.now
     c.escape.new.self) _ _ c.from_residual-in_err-piece.ensures.1 (
       omega (arith, b.0, p.0),
       some_from (kind_in_bytes c.in_err-piece.field-0.0) _ _ (λ kind k xs e.

@@ -3,12 +3,6 @@ use Rattle.plist_ascii.proofs.Unread.{none_stops}
 use Rattle.plist_ascii.proofs.Loops.{since_on, runs_part, runs_end}
 use Rattle.plist_ascii.proofs.input.Input.skip_run.Goals as goal
 
-pub run-smaller : goal.run-smaller
-run-smaller g c =
-    let some = rw c.in-Some.is at c.in_ok-_byte.ensures.hand in
-    let all = c.skip_part.ensures.whole c.if-not-skip_part.false in
-    omega (arith, some, all.0, all.1, c.in_ok-_byte.ensures.place)
-
 pub run-preserved : goal.run-preserved
 run-preserved g c =
     let took = c.skip_part.ensures in

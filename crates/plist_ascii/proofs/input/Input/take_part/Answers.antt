@@ -1,5 +1,5 @@
 use Rattle.std.proofs.Common.{take, ◌++◌, ◌∙◌, ap}
-use Rattle.plist_ascii.proofs.Unread.{part_taken, stop_at_hand, all_taken, drops_known}
+use Rattle.plist_ascii.proofs.Unread.{part_taken, stop_at_hand, drops_known}
 use Rattle.plist_ascii.proofs.input.Input.take_part.Goals as goal
 
 pub returns-clause-bytes : goal.returns-clause-bytes
@@ -22,9 +22,3 @@ returns-clause-end g c = λ other xs e ys f.
     drops_known _ _ _ ys (c.take_first.ensures.bytes xs e) f
     (stop_at_hand _ _ _ h.0 xs _ c.at_hand-bytes.ensures.hand c.run_length-count.ensures.run
     c.run_length-count.ensures.within h.1 other)
-
-pub returns-clause-whole : goal.returns-clause-whole
-returns-clause-whole g c = λ all. (
-  all_taken _ _ _ _ _ c.at_hand-bytes.ensures.hand c.take_first.ensures.place all,
-  c.take_first.ensures.fits,
-)

@@ -3,12 +3,6 @@ use Rattle.plist_ascii.proofs.Unread.{none_stops}
 use Rattle.plist_ascii.proofs.Loops.{added, since_on, runs_part, runs_end}
 use Rattle.plist_ascii.proofs.input.Input.take_run.Goals as goal
 
-pub run-smaller : goal.run-smaller
-run-smaller g c =
-    let some = rw c.in-Some.is at c.in_ok-_byte.ensures.hand in
-    let all = c.in_ok-take_part-in-Some.ensures.whole c.if-not-branch.false in
-    omega (arith, some, all.0, all.1, c.in_ok-_byte.ensures.place)
-
 pub run-preserved : goal.run-preserved
 run-preserved g c =
     let took = c.in_ok-take_part-in-Some.ensures in

@@ -1,7 +1,7 @@
 use Rattle.std.proofs.Common.{Some, Ok, arith, refl}
 use Rattle.std.specs.declared.borrow.CowStr.TheVariants.{Borrowed}
 use Rattle.plist_base.specs.declared.event.Event.TheVariants.{String}
-use Rattle.plist_ascii.proofs.BareFronts.{lent_falls, lent_gives, some_going}
+use Rattle.plist_ascii.proofs.FrontTexts.{lent_falls, lent_gives, some_going}
 use Rattle.plist_ascii.proofs.reader.AsciiReader.hand_over.Goals as goal
 
 pub returns-clause-turn : goal.returns-clause-turn

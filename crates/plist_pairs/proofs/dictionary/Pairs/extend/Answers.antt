@@ -1,14 +1,9 @@
-use Rattle.std.proofs.Common.{refl, ◌∙◌, subst, sym, String, Global}
+use Rattle.std.proofs.Common.{◌∙◌, subst, sym, String, Global}
 use Rattle.std.proofs.lemmas.Result.{err_from_is_err_and}
 use Rattle.std.proofs.iter.Next as it
 use Rattle.plist_pairs.specs.Bulk.{ExtendsBy}
 use Rattle.plist_pairs.proofs.Inserts.{inserted-more}
 use Rattle.plist_pairs.proofs.dictionary.Pairs.extend.Goals as goal
-
-pub loop-key-init : goal.loop-key-init
-loop-key-init g c =
-    let asked = c.requires.asked _ c.into_iter-rest.ensures.into_iter_gives in
-    it.begun asked.0 asked.1 refl
 
 pub loop-key-preserved : goal.loop-key-preserved
 loop-key-preserved g c =
@@ -36,12 +31,4 @@ returns-in_err-set-clause-pairs g c =
             c.in_err-set.ensures.unchanged ∙ kept.holds,
             rw c.in_err-set.ensures.unchanged c.in_err-set.ensures.absent,
           ),
-    )
-
-pub returns-clause-pairs : goal.returns-clause-pairs
-returns-clause-pairs g c =
-    let kept = c.loop-key.invariant in (
-      c.into_iter-rest.result,
-      c.into_iter-rest.ensures.into_iter_gives,
-      (kept.seen, it.drained kept c.in_default.is c.next.ensures.steps, kept.holds),
     )

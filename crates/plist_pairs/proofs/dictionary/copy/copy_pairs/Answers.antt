@@ -1,15 +1,11 @@
-use Rattle.std.proofs.Common.{◌≡◌, ◌+◌, ℕ, suc, List, take, string_bytes, sym, ap, subst, ◌∙◌, arith, bytes_eq, take_all}
+use Rattle.std.proofs.Common.{◌≡◌, ◌+◌, suc, take, string_bytes, sym, ap, subst, ◌∙◌, arith, bytes_eq}
 use Rattle.std.specs.List.{IsDistinct}
-use Rattle.std.proofs.lemmas.List.{length-map}
 use Rattle.std.proofs.lemmas.Map.Made.{keys_of-map_values}
 use Rattle.indexmap.specs.IndexMap.{insert_entry}
 use Rattle.plist_pairs.specs.Copies.{with_shown}
 use Rattle.plist_pairs.proofs.DistinctKeys.{values-insert, next-last}
 use Rattle.plist_pairs.proofs.PairColumns.{get-map}
 use Rattle.plist_pairs.proofs.dictionary.copy.copy_pairs.Goals as goal
-
-pub loop-i-init : goal.loop-i-init
-loop-i-init g c = ap (with_shown g.V.TryCopy.shown) c.requires
 
 pub loop-i-preserved : goal.loop-i-preserved
 loop-i-preserved g c =
@@ -30,15 +26,3 @@ loop-i-preserved g c =
     (subst (IsDistinct _) (sym (keys_of-map_values _ ps)) c.pair_count-count.ensures.distinct)
     (get-map _ ps i (k, v) c.pair_at.ensures)
     ∙ ap (λ n. take n (with_shown shown ps)) one
-
-pub returns-clause-copy : goal.returns-clause-copy
-returns-clause-copy g c =
-    let shown = g.V.TryCopy.shown in
-    let ps = c.args.pairs.now in
-    c.loop-i.invariant ∙ take_all c.loop-i.i (with_shown shown ps)
-    (omega (
-      arith,
-      c.loop-i-test.false,
-      c.pair_count-count.ensures.count,
-      length-map {B = List ℕ × g.V.TryCopy.View} ps (λ p. (p.0, shown p.1)),
-    ))

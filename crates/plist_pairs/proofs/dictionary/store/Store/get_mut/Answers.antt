@@ -1,16 +1,9 @@
-use Rattle.std.proofs.Common.{sym, ap, ◌∙◌, arith, inr, bytes_eq}
+use Rattle.std.proofs.Common.{sym, ap, ◌∙◌, arith, bytes_eq}
 use Rattle.std.specs.Option.{ghost_name_of}
 use borrow.Follows.Closed.{read_of}
 use Rattle.std.specs.Map.{lookup, set_value}
-use Rattle.plist_pairs.proofs.PairColumns.{found_value, lost, set_rows, lent_item}
+use Rattle.plist_pairs.proofs.PairColumns.{found_value, set_rows, lent_item}
 use Rattle.plist_pairs.proofs.dictionary.store.Store.get_mut.Goals as goal
-
-pub returns-in-None : goal.returns-in-None
-returns-in-None g c = (
-  ap inr c.self.view_is,
-  sym (lost _ _ c.self.invariant.0 (bytes_eq c.args.key.now) c.in-None.ensures.index).value
-      ∙ ap (lookup (bytes_eq c.args.key.now)) c.self.view_is,
-)
 
 pub returns-in-Some : goal.returns-in-Some
 returns-in-Some g c =

@@ -1,20 +1,33 @@
--- Bare strings that end among the bytes at hand.
-use Rattle.std.specs.Prelude.{◌≡◌, ℕ, ◌+◌, ◌<◌, Bool, not, List, [], ◌∷◌, length, drop, Option, Some, Ok}
+-- Strings that end among the bytes at hand.
+use Rattle.std.specs.Prelude.{◌≡◌, ℕ, ◌+◌, ◌<◌, Bool, not, List, [], ◌∷◌, ◌++◌, length, drop, slice_get, Option, Some, Ok}
 use Rattle.plist_base.specs.Events.{ScalarEvent}
 use Rattle.plist_base.specs.Trees.{String}
 use Rattle.plist_ascii.specs.declared.input.Input.{Input}
 use Rattle.plist_ascii.specs.declared.stop.Stop.{Stop}
 use Rattle.plist_ascii.specs.declared.token.Lead.TheVariants as lead
 use Rattle.plist_ascii.specs.Ascii.{is_blank, lead_of, token_by}
-use Rattle.plist_ascii.specs.Taken.{run}
+use Rattle.plist_ascii.specs.Taken.{past_one, run, taken}
+use Rattle.plist_ascii.specs.Quoted.{ends_run}
 use Rattle.plist_ascii.specs.Unread.{IfKnown, stops, unread}
 
 -- the first n bytes are a bare string, and more bytes follow
 abbrev pub IsBareFront : (stops : ℕ → Bool) → List ℕ → ℕ → Type 0
 IsBareFront stops [] n = ⊥
 IsBareFront stops (c ∷ bytes) n =
-    (lead_of c ≡ lead.Bare) × (n ≡ 1 + run stops bytes)
-    × (run stops bytes < length bytes)
+    (lead_of c ≡ lead.Bare) × (n ≡ 1 + run stops bytes) × (run stops bytes < length bytes)
+
+-- the bytes begin with a quoted string, which has n bytes between its quotes and no escape
+abbrev pub IsQuotedFront : List ℕ → ℕ → Type 0
+IsQuotedFront [] n = ⊥
+IsQuotedFront (c ∷ bytes) n =
+    (lead_of c ≡ lead.Quote) × (n ≡ run (ends_run c) bytes) × (slice_get bytes n ≡ Some c)
+
+-- the first n bytes are a token, which is this string, whatever follows them
+abbrev pub BeginWithText : (stops : ℕ → Bool) → List ℕ → (n : ℕ) → (text : List ℕ) → Type 0
+BeginWithText stops [] n text = ⊥
+BeginWithText stops (c ∷ bytes) n text =
+    (more : List ℕ) → past_one (token_by stops (lead_of c) c (bytes ++ more))
+    ≡ taken n (Ok (Some (ScalarEvent (String text))))
 
 -- the first `count` bytes are blanks, if any, and then a token, which is this string
 pub record LeadsToText (stops : ℕ → Bool) (bytes : List ℕ) (count : ℕ) (text : List ℕ) : Type 0 where

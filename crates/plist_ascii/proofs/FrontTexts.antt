@@ -1,27 +1,29 @@
--- Bare strings that end among the bytes at hand.
-use Rattle.std.proofs.Common.{◌≡◌, ℕ, suc, ◌+◌, ◌-◌, ◌^◌, ◌<◌, ◌≤◌, ◌≢◌, Bool, true, false, cond, List, [], ◌∷◌, ◌++◌, length, take, drop, Option, Some, Ok, None, refl, sym, ap, ◌∙◌, subst, arith, length-drop, length-append, length-take-le}
+-- Strings that end among the bytes at hand.
+use Rattle.std.proofs.Common.{◌≡◌, ℕ, zero, suc, ◌+◌, ◌-◌, ◌^◌, ◌<◌, ◌≤◌, Bool, true, false, List, [], ◌∷◌, ◌++◌, length, take, drop, Option, Some, Ok, None, refl, sym, ap, ◌∙◌, subst, append-nil, arith, length-drop}
 use Rattle.std.proofs.lemmas.List.{take-append-le, drop-append-le}
 use Rattle.std.specs.Str.{is_utf8}
-use Rattle.std.specs.Prelude.{not}
+use Rattle.std.specs.Prelude.{not, slice_get}
 use Rattle.plist_base.specs.declared.event.Event.{Event}
 use Rattle.plist_base.specs.Events.{Item, ScalarEvent, event_of}
 use Rattle.plist_base.specs.Trees.{String}
 use Rattle.plist_base.specs.IntegerText.{integer_of_text}
 use Rattle.plist_ascii.specs.declared.stop.Stop.{Stop}
 use Rattle.plist_ascii.specs.declared.stop.Stop.TheVariants as stop
-use Rattle.plist_ascii.specs.declared.token.Lead.TheVariants as lead
-use Rattle.plist_ascii.specs.Ascii.{is_blank, lead_of, token_by, placed_items}
+use Rattle.plist_ascii.specs.Ascii.{is_blank, lead_of, token_by}
 use Rattle.plist_ascii.specs.declared.input.Input.{Input}
 use Rattle.plist_ascii.specs.declared.reader.AsciiReader.{AsciiReader}
 use Rattle.plist_ascii.specs.AsciiReader.{BeginsWithItem, GivesAscii, bytes_to_come}
 use Rattle.plist_ascii.specs.Kinds.{IfBracket, IsAsciiEvent}
-use Rattle.plist_ascii.specs.Taken.{run}
-use Rattle.plist_ascii.specs.Texts.{bare, bare_event, number_or_text}
-use Rattle.plist_ascii.specs.Unread.{stops, unread}
+use Rattle.plist_ascii.specs.Taken.{Taken, past_one, run, taken}
+use Rattle.plist_ascii.specs.Quoted.{ends_run, quoted, quoted_outcome, run_end}
+use Rattle.plist_ascii.specs.Texts.{bare_event, number_or_text, quoted_event}
+use Rattle.plist_ascii.specs.Unread.{stops}
 use Rattle.plist_ascii.specs.inner.Inputs.{DropsFirst, hand_of}
-use Rattle.plist_ascii.specs.inner.BareFronts.{IsAhead, IsBareFront, LeadsToText}
+use Rattle.plist_ascii.specs.inner.FrontTexts.{BeginWithText, IsAhead, IsBareFront, IsQuotedFront, LeadsToText}
 use Rattle.plist_ascii.proofs.Items.{going_start, going_blanks, going_event}
 use Rattle.plist_ascii.proofs.Unread.{ended_hand}
+use Rattle.std.proofs.lemmas.Bool.{eq-eqb}
+use Rattle.plist_ascii.proofs.Quotes.{part_ends, quoted_opens}
 use Rattle.plist_ascii.proofs.Texts.{number_is_text, text_gives}
 
 -- a run that ends among the first bytes has the same length in all bytes
@@ -47,44 +49,106 @@ bare_means text utf8 none =
     (text_gives text (number_or_text text (integer_of_text text)) (ScalarEvent (String text)) utf8
     (ap (λ n. ScalarEvent (number_or_text text n)) (sym none)) (number_is_text text _)).0
 
+-- a bare string is the first token, whatever follows it
+pub bare_begins : (ends : ℕ → Bool) (bytes : List ℕ) (n : ℕ) (text : List ℕ)
+    → IsBareFront ends bytes n → text ≡ take n bytes → is_utf8 text ≡ true
+    → integer_of_text text ≡ None → BeginWithText ends bytes n text
+bare_begins ends [] n text begins is utf8 none = absurd begins
+bare_begins ends (c ∷ cs) n text begins is utf8 none = λ more.
+    let m = run ends cs in
+    let less : m < length cs = begins.2 in
+    let le : m ≤ length cs = omega arith in
+    let size : n ≡ suc m = let sum = begins.1 in omega arith in
+    let same-text : c ∷ take m cs ≡ text = sym (is ∙ ap (λ k. take k (c ∷ cs)) size) in
+    ap (λ l. past_one (token_by ends l c (cs ++ more))) begins.0
+    ∙ ap (λ k. taken (suc k) (bare_event (c ∷ take k (cs ++ more)))) (run_front ends cs more less)
+    ∙ ap (λ l. taken (suc m) (bare_event (c ∷ l))) (take-append-le m cs more le)
+    ∙ ap (λ l. taken (suc m) (bare_event l)) same-text
+    ∙ ap (taken (suc m)) (bare_means text utf8 none)
+    ∙ ap (λ k. taken k (Ok (Some (ScalarEvent (String text))))) (sym size)
+
+-- the byte at an index is the first of those from there on
+get_drops : (c n : ℕ) (cs : List ℕ) → slice_get cs n ≡ Some c
+    → (n < length cs) × ((ds : List ℕ) × (drop n cs ≡ c ∷ ds))
+get_drops c n [] is = absurd (cc)
+get_drops c zero (d ∷ cs) is =
+    let same : d ≡ c = cc in (omega arith, (cs, ap (λ b. b ∷ cs) same))
+get_drops c (suc n) (d ∷ cs) is =
+    let h = get_drops c n cs is in (omega (arith, h.0), h.1)
+
+-- the closing quote ends the string
+closing : (c : ℕ) (more : List ℕ → Taken (List ℕ)) (xs ys : List ℕ) → xs ≡ c ∷ ys
+    → run_end c more xs ≡ taken 1 (Ok [])
+closing c more xs ys e = rw (e, eq-eqb c c refl) refl
+
+-- the meaning of a quoted string
+quoted_is : (text : List ℕ) → is_utf8 text ≡ true
+    → quoted_event text ≡ Ok (Some (ScalarEvent (String text)))
+unfolding quoted_event
+quoted_is text utf8 = rw utf8 refl
+
+-- a quoted string without escapes is the first token, whatever follows it
+pub quoted_begins : (bytes : List ℕ) (n count : ℕ) (text : List ℕ) → IsQuotedFront bytes n
+    → count ≡ n + 2 → text ≡ take n (drop 1 bytes) → is_utf8 text ≡ true → (ends : ℕ → Bool)
+    → BeginWithText ends bytes count text
+quoted_begins [] n count text begins size is utf8 ends = absurd begins
+quoted_begins (c ∷ cs) n count text begins size is utf8 ends = λ more.
+    let ys = cs ++ more in
+    let m = run (ends_run c) ys in
+    let at = get_drops c n cs begins.2 in
+    let le : n ≤ length cs = let less = at.0 in omega arith in
+    let same : m ≡ n =
+    run_front (ends_run c) cs more (subst (λ k. k < length cs) begins.1 at.0) ∙ sym begins.1 in
+    let rest : drop n ys ≡ c ∷ (at.1.0 ++ more) =
+    drop-append-le n cs more le ∙ ap (λ l. l ++ more) at.1.1 in
+    let closes : quoted c ys ≡ taken (m + 1) (Ok (take m ys ++ [])) =
+    quoted_opens c ys ∙ part_ends c 1 ys (Ok []) (λ k. closing c k (drop m ys) (at.1.0 ++ more)
+    (ap (λ k. drop k ys) same ∙ rest)) (quoted c) in
+    let all : suc (m + 1) ≡ count = omega arith in
+    let text-is : take m ys ++ [] ≡ text =
+    append-nil (take m ys) ∙ ap (λ k. take k ys) same ∙ take-append-le n cs more le ∙ sym is in
+    ap (λ l. past_one (token_by ends l c ys)) begins.0
+    ∙ ap (λ t. past_one (taken t.bytes (quoted_outcome t.gives))) closes
+    ∙ ap (λ k. taken k (quoted_event (take m ys ++ []))) all
+    ∙ ap (λ l. taken count (quoted_event l)) text-is
+    ∙ ap (taken count) (quoted_is text utf8)
+
+-- a string has a byte at least
+pub begins_some : (ends : ℕ → Bool) (bytes : List ℕ) (n : ℕ) (text : List ℕ)
+    → BeginWithText ends bytes n text → 0 < n
+begins_some ends [] n text begins = absurd begins
+begins_some ends (c ∷ cs) n text begins =
+    let size : suc (token_by ends (lead_of c) c (cs ++ [])).bytes ≡ n =
+    ap (λ t. t.bytes) (begins []) in
+    omega (arith, size)
+
 -- the string is the first token of all bytes that remain
-pub lent_leads : (ends : Stop) (bytes hand rest xs front : List ℕ) (blanks n count : ℕ)
+pub front_leads : (ends : Stop) (bytes hand rest xs front : List ℕ) (blanks n count : ℕ)
     (text : List ℕ) → bytes ≡ hand → xs ≡ hand ++ rest → blanks ≡ run (stops stop.Lead) bytes
-    → front ≡ drop blanks bytes → IsBareFront (stops ends) front n → text ≡ take n front
-    → is_utf8 text ≡ true → integer_of_text text ≡ None → count ≡ blanks + n → LeadsToText (stops ends) xs count text
-lent_leads ends bytes hand rest xs [] blanks n count text same all blank dropped begins is utf8 none to =
+    → front ≡ drop blanks bytes → BeginWithText (stops ends) front n text → count ≡ blanks + n
+    → LeadsToText (stops ends) xs count text
+front_leads ends bytes hand rest xs [] blanks n count text same all blank dropped begins to =
     absurd begins
-lent_leads ends bytes hand rest xs (c ∷ cs) blanks n count text same all blank dropped begins is utf8 none to =
-    let m = run (stops ends) cs in
+front_leads ends bytes hand rest xs (c ∷ cs) blanks n count text same all blank dropped begins to =
+    let is = begins rest in
     let some : length (drop blanks bytes) ≡ suc (length cs) = ap length (sym dropped) in
     let less : blanks < length bytes = omega (arith, length-drop blanks bytes) in
     let le : blanks ≤ length bytes = omega arith in
     let whole : xs ≡ bytes ++ rest = rw (← same) at all in
-    let more = cs ++ rest in
-    let after : drop blanks xs ≡ c ∷ more =
+    let after : drop blanks xs ≡ c ∷ (cs ++ rest) =
     rw whole (drop-append-le blanks bytes rest le ∙ ap (λ l. l ++ rest) (sym dropped)) in
-    let less-m : m < length cs = begins.2 in
-    let count-more : run (stops ends) more ≡ m = run_front (stops ends) cs rest less-m in
-    let le-m : m ≤ length cs = omega arith in
-    let one : 1 + m ≡ suc m = omega arith in
-    let same-text : text ≡ c ∷ take m cs = is ∙ ap (λ k. take k (c ∷ cs)) (begins.1 ∙ one) in
-    let cut : take m more ≡ take m cs = take-append-le m cs rest le-m in
-    let taken-text : c ∷ take (run (stops ends) more) more ≡ text =
-    ap (λ k. c ∷ take k more) count-more ∙ ap (λ l. c ∷ l) cut ∙ sym same-text in
-    let token : token_by (stops ends) (lead_of c) c more ≡ bare (stops ends) c more =
-    ap (λ l. token_by (stops ends) l c more) begins.0 in
     let is-blank : blanks ≡ run (stops stop.Lead) xs =
     blank
     ∙ sym (rw whole
     (run_front (stops stop.Lead) bytes rest (subst (λ k. k < length bytes) blank less))) in
-    let all-bytes : (token_by (stops ends) (lead_of c) c more).bytes ≡ m =
-    ap (λ t. t.bytes) token ∙ count-more in
+    let size : suc (token_by (stops ends) (lead_of c) c (cs ++ rest)).bytes ≡ n =
+    ap (λ t. t.bytes) is in
     record {
       byte = c;
-      rest = more;
-      next = subst (λ k. drop k xs ≡ c ∷ more) is-blank after;
-      means = ap (λ t. t.gives) token ∙ ap bare_event taken-text ∙ bare_means text utf8 none;
-      ends = let size : n ≡ 1 + m = begins.1 in omega arith;
+      rest = cs ++ rest;
+      next = subst (λ k. drop k xs ≡ c ∷ (cs ++ rest)) is-blank after;
+      means = ap (λ t. t.gives) is;
+      ends = omega arith;
     }
 
 -- the string is the first item, and the others remain after it

@@ -1,0 +1,13 @@
+use Rattle.std.proofs.Common.{subst, sym}
+use Rattle.std.proofs.lemmas.Str.{is_utf8-from_IsUtf8}
+use Rattle.std.specs.Str.{IsUtf8}
+use Rattle.plist_ascii.specs.Unread.{stops}
+use Rattle.plist_ascii.proofs.FrontTexts.{bare_begins}
+use Rattle.plist_ascii.proofs.lent.bare_front.Goals as goal
+
+pub returns-else-may_be_number-clause-text : goal.returns-else-may_be_number-clause-text
+returns-else-may_be_number-clause-text c =
+    let text = c.in-Ok.ensures.cases in
+    bare_begins (stops c.args.stop) c.args.bytes.now c.in_ok-length.length c.in-Ok.text.now
+    c.in_ok-length.ensures.front text.0 (is_utf8-from_IsUtf8 _ (subst IsUtf8 (sym text.0) text.1))
+    (c.may_be_number.ensures c.if-may_be_number.false)
