@@ -189,11 +189,11 @@ module _ {scalars : List PlainEvent} {es : List EventEntry} {unclosed : List ℕ
 
   -- an end is appended, which closes the innermost start
   module _ (start : ℕ) (outer : List ℕ) (is : unclosed ≡ outer ++ start ∷ []) where
-    innermost : unclosed_after events ≡ start ∷ reverse outer
-    innermost = cc (reverse-append outer (start ∷ []))
+    pub unclosed_is : unclosed_after events ≡ start ∷ reverse outer
+    unclosed_is = cc (reverse-append outer (start ∷ []))
 
-    was_start : opened.is_start (event_at events start) ≡ true
-    was_start = innermost_starts _ _ (reverse outer) innermost
+    pub was_start : opened.is_start (event_at events start) ≡ true
+    was_start = innermost_starts _ _ (reverse outer) unclosed_is
 
     pub start_within : start < length es
     start_within = omega (arith, below opened.is_start events start refl was_start, long)
@@ -257,8 +257,8 @@ module _ {scalars : List PlainEvent} {es : List EventEntry} {unclosed : List ℕ
         (λ d. closing_same (is_sound scalars) (λ m n. refl) (λ m n. refl)
         ∙ sound_ended start within)
         (λ d. sound_ended p (omega (arith, lt, length-set ended start closing))))
-        (sym (ap without_innermost innermost))
-        (λ p lt. rw innermost (at_set ended start closing entry.End p
+        (sym (ap without_innermost unclosed_is))
+        (λ p lt. rw unclosed_is (at_set ended start closing entry.End p
         (λ d. index_after_entry p d ≡ (if eqb p start then length es + 1 else index_after_at es p)) within
         (λ d. ap (λ k. index_after_entry k closing) d
         ∙ closing_behind (entry_at ended start) (length es + 1) (sound_ended start within)

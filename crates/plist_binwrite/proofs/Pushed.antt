@@ -42,11 +42,3 @@ wide_is n h =
       high_zero 9 n (omega arith),
       high_zero 8 n (omega arith),
     ) refl
-
-pub integer_wide : (z : ℤ) (n : ℕ) → pos n ≡ z → pos (2 ^ 63) ≤ℤ z
-    → 0x14 ∷ big_endian 16 n ≡ integer_form z
-integer_wide (pos m) n e h =
-    let same : n ≡ m = omega (arith, ints) in
-    let large : 2 ^ 63 ≤ m = omega (arith, ints) in
-    rw (same, le-ltb m _ large) refl
-integer_wide (negsuc m) n e h = absurd (omega (arith, ints))

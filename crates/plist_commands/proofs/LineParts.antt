@@ -61,22 +61,3 @@ module _ {W : Type 0} {contents : W → Option (List ℕ)} (n : Notation) (size 
       rest_put rest answer at is now =
           subst (λ l. PutsBytes contents a l (answer_of answer) c)
           (blocks_end n size count bytes [] _ _ rest i at refl is refl) (puts_then so_far now)
-
--- the parts together are the line of a string, or that of data
-pub text_line : (text bytes : List ℕ) → bytes ≡ text
-    → codes "String \"" ++ escaped_text bytes ++ codes "\"\n" ≡ line_of (ScalarEvent (String text))
-text_line text bytes is =
-    sym (append_assoc (codes "String \"" ++ escaped_text bytes) (codes "\"") (codes "\n"))
-    ∙ ap (λ l. line_of (ScalarEvent (String l))) is
-
-pub data_line : (bytes : List ℕ) → (length bytes == 0) ≡ false
-    → codes "Data " ++ hexadecimal bytes ++ codes "\n" ≡ line_of (ScalarEvent (Data bytes))
-data_line [] some = absurd (true≢false some)
-data_line (byte ∷ bytes) some = refl
-
-pub no_data_line : (bytes : List ℕ) → (length bytes == 0) ≡ true
-    → codes "Data" ++ hexadecimal bytes ++ codes "\n" ≡ line_of (ScalarEvent (Data bytes))
-no_data_line [] none = refl
-no_data_line (byte ∷ bytes) none =
-    let no : suc (length bytes) ≡ 0 = (Decides-eqb (length (byte ∷ bytes)) 0).0 none in
-    absurd (omega (arith, no))

@@ -8,11 +8,6 @@ use Rattle.plist_base.specs.Sources.{CountsIo, Rises}
 use Rattle.plist_base.proofs.Refusals.{MatchFault-all, MatchFault-at, MatchFault-weaker}
 use Rattle.plist_commands.specs.Printing.{CountsReads, IsWriterError, PrintsUntil}
 
--- a fact about an error is true of the result that passes it on
-pub on_err_of : {T E P : Type 0} (answer : Result T E) → P → OnErr answer P
-on_err_of (Ok value) p = tt
-on_err_of (Err error) p = p
-
 -- ---- a failed write or allocation
 
 pub device_own : (error : Error) → fault_of error ≡ fault_without_offset Io → IsWriterError error

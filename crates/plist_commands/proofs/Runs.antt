@@ -57,18 +57,6 @@ front_kept : (old now after : Option (List ℕ)) (bytes : List ℕ) → AppendsP
 front_kept old now after bytes (sent, rest, appended, is) kept =
     (sent, rest, appends_kept old now after sent appended kept, is)
 
--- an error of the writer is `Io` or `OutOfMemory`, without an offset
-own_fault : (fault : Fault) → IsWriterFault fault
-    → (fault ≡ fault_without_offset Io) ⊎ (fault ≡ fault_without_offset OutOfMemory)
-own_fault fault (none, own) = by fault.kind fault.offset none own
-  where
-    by : (kind : FaultKind) (offset : Option ℕ) → offset ≡ None → IsIoOrMemory kind
-        → (◌≡◌ {A = Fault} (record { kind = kind; offset = offset }) (fault_without_offset Io))
-        ⊎ (◌≡◌ {A = Fault} (record { kind = kind; offset = offset }) (fault_without_offset OutOfMemory))
-    by Io offset none own = inl (rw none refl)
-    by OutOfMemory offset none own = inr (rw none refl)
-    by kind offset none own = absurd own
-
 -- some events were yielded, whose lines were written or are pending
 abbrev pub HasRun : {I : Type 0} (yields : I → PlainItem → I → Type 0) (old now : I)
     → (before after : Option (List ℕ)) → (held : List ℕ) → Type 0

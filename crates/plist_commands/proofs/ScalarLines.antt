@@ -11,18 +11,6 @@ use Rattle.plist_commands.specs.EscapedLines.{hexadecimal, stands_for_itself, es
 
 -- ---- a date with a fraction
 
-date_fractional : (bytes : List ℕ) (second : ℤ) → second_of_bytes bytes ≡ Some second
-    → has_fraction (real_bits bytes) ≡ true
-    → signed_decimal second ++ (codes " " ++ hexadecimal bytes) ≡ text_of_date bytes
-date_fractional bytes second is fraction = rw (is, fraction) refl
-
-pub fraction_sent : (line with_second with_blank last bytes : List ℕ) (second : ℤ)
-    → second_of_bytes bytes ≡ Some second → has_fraction (real_bits bytes) ≡ true
-    → with_second ≡ line ++ signed_decimal second → with_blank ≡ with_second ++ codes " "
-    → last ≡ with_blank ++ hexadecimal bytes → last ≡ line ++ text_of_date bytes
-fraction_sent line with_second with_blank last bytes second is fraction a b c =
-    rw (c, b, a, ← date_fractional bytes second is fraction) (simp append_assoc)
-
 -- ---- strings whose bytes are printed as they are
 
 -- a byte that passes each of the four comparisons

@@ -8,7 +8,7 @@ pub invariant_of-self : goal.invariant_of-self
 invariant_of-self c =
     let s = c.args.self.now in
     record {
-      kept = either c.push.result (λ l. IsValidTable (scalars_of s) l s.unclosed.items)
+      kept = either c.push.result (λ l. IsValidTable (scalars_of s) l s.unclosed)
           c.push.ensures.pushed c.push.ensures.unchanged
           (kept_scalar s.kept _ (sym (append-nil (scalars_of s))) _ c.requires
           (leaf_stored (scalars_of s) _ c.requires) s.kept.apart (λ j lt. inl lt))
