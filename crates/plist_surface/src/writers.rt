@@ -69,7 +69,7 @@ pub fn shared(alloc: Global) -> Result<Vec<u8>, Error> {
 
 // Writes the object of a Boolean by itself.
 pub fn put_true(sink: &mut Sink<'_, Vec<u8>>) -> Result<(), Error> {
-    forms::put_boolean(sink, true)
+    forms::put_scalar(sink, forms::ScalarRef::Boolean(true))
 }
 
 // Prints a line with a name and bytes in hexadecimal.
