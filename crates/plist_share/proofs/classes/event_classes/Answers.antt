@@ -1,4 +1,4 @@
-use Rattle.std.proofs.Common.{◌≡◌, ◌<◌, ◌++◌, ◌∷◌, [], ℕ, length, ap, arith, length-append, subst, sym, ◌∙◌}
+use Rattle.std.proofs.Common.{◌≡◌, ◌∷◌, [], ℕ, length, ap, arith, length-append, subst, sym, ◌∙◌}
 use Rattle.plist_binwrite.specs.EventClasses.{class_of}
 use Rattle.plist_binwrite.specs.EventTable.{nth_number}
 use Rattle.plist_binwrite.specs.declared.classes.Classes.TheVariants.{EqualScalars}

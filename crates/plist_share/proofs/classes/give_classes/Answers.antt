@@ -13,8 +13,8 @@ back-init c = record {
   apart = c.requires.apart;
 }
 
-pub returns-in-Some-clause-classes : goal.returns-in-Some-clause-classes
-returns-in-Some-clause-classes c =
+pub returns-in-Some : goal.returns-in-Some
+returns-in-Some c =
     let have = c.back.invariant.have in
     let long = c.back.invariant.long in
     record {

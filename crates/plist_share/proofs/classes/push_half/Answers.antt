@@ -29,7 +29,7 @@ get-requires c =
 pub loop-child-preserved : goal.loop-child-preserved
 loop-child-preserved c = record {
   pushed = ap (λ l. l ++ map (nth_number c.args.classes.now) (indices_left c.next.new.self))
-      (c.in_ok-push_index.ensures.pushed
+      (c.in_ok-push.ensures.items
       ∙ ap (λ n. c.loop-child.found.items ++ n ∷ []) c.get.ensures)
       ∙ append_assoc c.loop-child.found.items (nth_number c.args.classes.now c.in-Some.child ∷ []) _
       ∙ ap (λ l. c.loop-child.found.items ++ map (nth_number c.args.classes.now) l)
@@ -38,11 +38,11 @@ loop-child-preserved c = record {
   items = (items (goal.at.loop-child-preserved c).In-Some).1;
 }
 
-pub returns-clause-pushed : goal.returns-clause-pushed
-returns-clause-pushed c =
+pub returns : goal.returns
+returns c =
     let class = nth_number c.args.classes.now in
     sym (append-nil c.loop-child.found.items)
     ∙ ap (λ l. c.loop-child.found.items ++ map class l) (sym c.in-None.ensures.steps.0)
     ∙ c.loop-child.invariant.pushed
     ∙ ap (λ l. c.args.found.now.items ++ map class l)
-    (begun (goal.at.returns-clause-pushed c).After-into_iter-child-iterator)
+    (begun (goal.at.returns c).After-into_iter-child-iterator)

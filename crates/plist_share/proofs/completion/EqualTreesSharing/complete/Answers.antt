@@ -24,5 +24,4 @@ returns g c =
 pub returns-in_err-found : goal.returns-in_err-found
 returns-in_err-found g c =
     let p = err_from_is_err_and c.from_residual.result c.from_residual.ensures.1 in
-    rw (p.1, p.2) (sends_nothing _ c.args.events.now _ _ _
-    c.in_err-found.ensures.memory (search rules))
+    rw p.1 (sends_nothing _ c.args.events.now _ _ _ p.2 (search rules))
