@@ -11,14 +11,13 @@ use Rattle.plist_commands.specs.declared.convert.Streamed.TheVariants.{NeedsValu
 use Rattle.plist_commands.specs.Converting.{IfOkIs}
 use Rattle.plist_base.specs.declared.error.Error.{Error}
 use Rattle.plist_base.specs.Events.{PlainEvent}
-use Rattle.plist_base.specs.Faults.{Fault, FaultKind, Io, IsIo, IsIoOrMemory, MatchFault, OutOfMemory, error_kind_of, fault_without_offset, fault_of, kind_of, offset_of}
+use Rattle.plist_base.specs.Faults.{FaultKind, Io, IsIo, MatchFault, OutOfMemory, error_kind_of, fault_without_offset, fault_of, kind_of, offset_of}
 use Rattle.plist_base.specs.Prefixes.{AppendsPrefix}
 use Rattle.plist_base.specs.Sinks.{WritesBut}
 use Rattle.plist_base.specs.Visits.{YieldsAll, PlainItem}
 use Rattle.plist_base.proofs.WriterBytes.{Appends-at}
 use Rattle.plist_base.proofs.Visits.{given_more}
 use Rattle.plist_commands.specs.EscapedLines.{line_of, lines_of_events}
-use Rattle.plist_commands.specs.Printing.{IsWriterFault}
 use Rattle.plist_commands.specs.ReaderRuns.{ComesOfReading, BuffersRun, PrintsRun}
 
 lines_more : (events : List PlainEvent) (event : PlainEvent)

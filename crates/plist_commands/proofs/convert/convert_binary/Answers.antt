@@ -5,22 +5,12 @@ use Rattle.plist_commands.proofs.Streaming.{not_read}
 use Rattle.plist_commands.proofs.convert.convert_binary.Goals as goal
 
 pub send_events-requires : goal.send_events-requires
-send_events-requires g c = (c.in_ok-collect_source.ensures.held c.if-not-branch.false).0
+send_events-requires g c = (c.in_ok-collect_source.ensures.collects.held c.if-not-branch.false).0
 
-pub returns-clause-sent : goal.returns-clause-sent
-returns-clause-sent g c =
-    c.send_events.ensures.sent (g.S.Source.known c.args.source)
-    (c.in_ok-collect_source.ensures.held c.if-not-branch.false)
-
-pub returns-clause-left : goal.returns-clause-left
-returns-clause-left g c =
-    c.send_events.ensures.left (g.S.Source.known c.args.source)
-    (c.in_ok-collect_source.ensures.held c.if-not-branch.false)
-
-pub returns-clause-refused : goal.returns-clause-refused
-returns-clause-refused g c =
-    c.send_events.ensures.refused (g.S.Source.known c.args.source)
-    (c.in_ok-collect_source.ensures.held c.if-not-branch.false)
+pub returns-clause-converts : goal.returns-clause-converts
+returns-clause-converts g c =
+    c.send_events.ensures.converts (g.S.Source.known c.args.source)
+    (c.in_ok-collect_source.ensures.collects.held c.if-not-branch.false)
 
 pub returns-clause-answers : goal.returns-clause-answers
 returns-clause-answers g c = (
@@ -39,9 +29,13 @@ returns-then-not-branch-clause-answers g c = (
   ends_left _ c.in_ok-collect_source.field-0 c.if-not-branch.true,
 )
 
-pub returns-then-not-branch-clause-left : goal.returns-then-not-branch-clause-left
-returns-then-not-branch-clause-left g c = λ e. (
-  refl,
-  not_read (g.S.Source.known c.args.source)
-      (c.in_ok-collect_source.ensures.none c.if-not-branch.true),
-)
+pub returns-then-not-branch-clause-converts : goal.returns-then-not-branch-clause-converts
+returns-then-not-branch-clause-converts g c = record {
+  sent = λ e. absurd (cc);
+  left = λ e. (
+    refl,
+    not_read (g.S.Source.known c.args.source)
+        (c.in_ok-collect_source.ensures.collects.none c.if-not-branch.true),
+  );
+  refused = tt;
+}
