@@ -97,17 +97,18 @@ entries_more (k ∷ kinds) [] e same = absurd (omega arith)
 entries_more (k ∷ kinds) (n ∷ numbers) e same =
     ap (λ l. entry_of k n ∷ l) (entries_more kinds _ e (omega (arith, same)))
 
--- setting a kind and a number sets an entry
-pub entries_set : (kinds : List EventShape) (numbers : List ℕ) (p : ℕ) (e : EventEntry)
-    → entries_from (set kinds p (kind_in e)) (set numbers p (number_in e))
-    ≡ set (entries_from kinds numbers) p e
-entries_set [] numbers p e = refl
-entries_set (k ∷ kinds) [] zero e = refl
-entries_set (k ∷ kinds) [] (suc p) e = refl
-entries_set (k ∷ kinds) (n ∷ numbers) zero e =
-    ap (λ d. d ∷ entries_from _ _) (same_entry e)
-entries_set (k ∷ kinds) (n ∷ numbers) (suc p) e =
-    ap (λ l. entry_of k n ∷ l) (entries_set kinds numbers p e)
+-- setting a number sets the number of an entry
+pub number_set : (kinds : List EventShape) (numbers : List ℕ) (p n : ℕ)
+    → entries_from kinds (set numbers p n)
+    ≡ set (entries_from kinds numbers) p
+    (entry_of (kind_in (entry_at (entries_from kinds numbers) p)) n)
+number_set [] numbers p n = refl
+number_set (k ∷ kinds) [] zero n = refl
+number_set (k ∷ kinds) [] (suc p) n = refl
+number_set (k ∷ kinds) (m ∷ numbers) zero n =
+    ap (λ j. entry_of j n ∷ entries_from kinds numbers) (sym (same_kind k m))
+number_set (k ∷ kinds) (m ∷ numbers) (suc p) n =
+    ap (λ l. entry_of k m ∷ l) (number_set kinds numbers p n)
 
 -- the first kinds and numbers are those of the first entries
 pub entries_first : (count : ℕ) (kinds : List EventShape) (numbers : List ℕ)

@@ -250,6 +250,20 @@ module _ {scalars : List PlainEvent} {es : List EventEntry} {unclosed : List ℕ
         ≡ false = rw f.1 refl in cc
     closing_behind entry.End n h s = cc
 
+    start_of : (e : EventEntry) → is_sound scalars e ≡ true
+        → opened.is_start (event_of_entry scalars e) ≡ true → is_start e ≡ true
+    start_of (entry.Scalar i) h s =
+        let f = leaf_is _ h in
+        let never : opened.is_start (without_length (event_at scalars i))
+        ≡ false = rw f.1 refl in cc
+    start_of entry.End h s = cc
+    start_of e h s = refl
+
+    pub start_stored : is_start (entry_at es start) ≡ true
+    start_stored =
+        start_of (entry_at es start) (t.sound start start_within)
+        (ap opened.is_start (sym (shown_at start start_within)) ∙ was_start)
+
     entries_end : AreEntriesOf scalars (ended_at es start) outer
     entries_end =
         entries_by (ended_at es start) outer EndCollection end_shown

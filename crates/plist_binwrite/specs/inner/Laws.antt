@@ -1,5 +1,5 @@
 -- Each call of a `FileWriter` satisfies the laws of `Writer`.
-use Rattle.std.proofs.Common.{◌≡◌, ◌⊎◌, inl, inr, Bool, true, false, List, [], ◌∷◌, ◌++◌, Ok, Err, MatchBool, ap, ◌∙◌, map}
+use Rattle.std.proofs.Common.{◌≡◌, ◌⊎◌, inl, inr, Bool, true, false, [], ◌∷◌, ◌++◌, Ok, Err, MatchBool, ap, ◌∙◌, map}
 use Rattle.std.specs.declared.io.traits.Write.{Ghosts}
 use Rattle.plist_base.specs.Bracketing.{without_length}
 use Rattle.plist_base.specs.Events.{PlainEvent}

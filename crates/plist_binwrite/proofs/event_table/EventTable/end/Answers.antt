@@ -1,11 +1,16 @@
 use Rattle.std.proofs.Common.{[], refl, subst}
 use Rattle.plist_binwrite.specs.EventTable.{scalars_of}
 use Rattle.plist_binwrite.specs.inner.Entries.{IsValidTable}
-use Rattle.plist_binwrite.proofs.HeldEntries.{start_within, end_shown, kept_end, kept_stray, either, either_few}
+use Rattle.plist_binwrite.proofs.HeldEntries.{start_stored, start_within, end_shown, kept_end, kept_stray, either, either_few}
 use Rattle.plist_binwrite.proofs.event_table.EventTable.end.Goals as goal
 
-pub close-requires : goal.close-requires
-close-requires c = start_within c.args.self.now.kept.entries_are _ _ c.in-Some.ensures.some
+pub close-requires-clause-within : goal.close-requires-clause-within
+close-requires-clause-within c =
+    start_within c.args.self.now.kept.entries_are _ _ c.in-Some.ensures.some
+
+pub close-requires-clause-starts : goal.close-requires-clause-starts
+close-requires-clause-starts c =
+    start_stored c.args.self.now.kept.entries_are _ _ c.in-Some.ensures.some
 
 pub invariant_of-self-in-Some : goal.invariant_of-self-in-Some
 invariant_of-self-in-Some c = record {
