@@ -6,9 +6,6 @@ use Rattle.plist_binwrite.proofs.Outgoing.{one_part, all_parts}
 use Rattle.plist_binwrite.proofs.forms.put_numbers.Goals as goal
 use Rattle.plist_binwrite.proofs.forms.put_numbers.Goals.{then-not-try_put_number+in_ok-put_number, else-not-try_put_number}
 
-pub loop-index-init : goal.loop-index-init
-loop-index-init g c = puts_none
-
 pub loop-index-preserved : goal.loop-index-preserved
 loop-index-preserved g c =
     puts_as (one_part (big_endian c.args.width) c.args.list.now c.loop-index.index

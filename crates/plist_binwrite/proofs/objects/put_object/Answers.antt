@@ -13,10 +13,6 @@ returns-in-StartDictionary g c =
     of_dictionary c.kind_at.ensures _ c.in-StartDictionary.is
     (λ ms s. puts_as (dictionary_is c.args.given.now c.args.plan.now s) c.put_collection-in-StartDictionary.ensures)
 
-pub returns-in-Some : goal.returns-in-Some
-returns-in-Some g c =
-    of_scalar c.kind_at.ensures _ c.in-Scalar.is _ c.in-Some.ensures.some c.put_scalar.ensures
-
 pub returns-in-None : goal.returns-in-None
 returns-in-None g c =
     of_nothing c.kind_at.ensures _ c.in-Scalar.is (c.in-None.ensures.none refl)

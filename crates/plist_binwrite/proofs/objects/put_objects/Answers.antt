@@ -8,15 +8,6 @@ use Rattle.plist_binwrite.proofs.TreeObjects.{scalar_there}
 use Rattle.plist_binwrite.proofs.objects.put_objects.Goals as goal
 use Rattle.plist_binwrite.proofs.objects.put_objects.Goals.{then-not-try_put_object+in_ok-put_object, else-not-try_put_object}
 
-pub loop-index-init : goal.loop-index-init
-loop-index-init g c = λ objects d. puts_none
-
-pub first-first-requires : goal.first-first-requires
-first-first-requires g c =
-    let below = c.requires.order c.loop-index.index
-    (omega (arith, c.len-index-end.ensures)) in
-    omega arith
-
 pub loop-index-preserved : goal.loop-index-preserved
 loop-index-preserved g c = λ objects d.
     let plan = c.args.plan.now in

@@ -15,10 +15,3 @@ invariant_of-self c =
           s.kept;
       few = either_few c.push.result _ _ c.push.ensures.small c.push.ensures.unchanged s.few;
     }
-
-pub returns-clause-events : goal.returns-clause-events
-returns-clause-events c =
-    let s = c.args.self.now in
-    rw c.in_ok-push.ensures.pushed
-    (scalar_shown s.kept _ (sym (append-nil (scalars_of s))) _ c.requires
-    (leaf_stored (scalars_of s) _ c.requires))

@@ -15,10 +15,6 @@ returns-then-not-begins_collection-clause-numbered c =
     let none = c.if-not-begins_collection.ensures refl in
     (subst (AllByRecursion _) (sym (none Keys)) tt, subst (AllByRecursion _) (sym (none Values)) tt)
 
-pub returns-clause-keeps : goal.returns-clause-keeps
-returns-clause-keeps c =
-    keeps_then c.in_ok-number_half.ensures.keeps c.in_ok-number_half-2.ensures.keeps
-
 pub returns-clause-numbered : goal.returns-clause-numbered
 returns-clause-numbered c =
     let values = c.in_ok-number_half-2.ensures in

@@ -20,9 +20,3 @@ returns-in_err-complete g c =
     let p = err_from_is_err_and c.from_residual.result c.from_residual.ensures.1 in
     rw (p.1, p.2) (takes_unsent c.args.self.now _ (event_of c.args.event) (search rules) (plain_events c.events.result.now)
     t.0 (c.events.ensures ∙ t.1.0) _ refl c.in_err-complete.ensures)
-
-pub returns-in_ok-complete : goal.returns-in_ok-complete
-returns-in_ok-complete g c =
-    let t = c.in-Ok.ensures.taken in
-    takes_whole _ _ _ (search rules) _
-    t.0 (c.events.ensures ∙ t.1.0) refl c.clear.ensures.events c.in_ok-complete.ensures
