@@ -41,9 +41,6 @@ loop-key-init c =
           (keys_leaves ms _ (occurs_pairs s));
     }
 
-pub scalar_index-requires : goal.scalar_index-requires
-scalar_index-requires c = (items (goal.at.scalar_index-requires c).In-Some).0.0
-
 pub stamp-requires : goal.stamp-requires
 stamp-requires c =
     omega (
@@ -99,11 +96,3 @@ returns-clause-repeats c = λ ms s.
     let is = begun a.After-into_iter-key-iterator ∙ keys_are_in _ (Dictionary ms) c.args.start s in
     differ_down ms _ (occurs_pairs s) (subst (Differ _) is
     (tells_end (subst (Tells _ _ _ _ _) c.in-None.ensures.steps.0 c.loop-key.invariant.tells)))
-
-pub returns-in_default-clause-repeats : goal.returns-in_default-clause-repeats
-returns-in_default-clause-repeats c = λ ms s.
-    absurd (c.in_default.not-StartDictionary
-    (c.kind_at.ensures ∙ ap shape_of (starts_dictionary s)))
-
-pub returns-in_default-clause-newer : goal.returns-in_default-clause-newer
-returns-in_default-clause-newer c = λ i h. omega (arith, c.requires.older i h)

@@ -1,4 +1,3 @@
-use Rattle.std.proofs.lemmas.Option.{slice_get_within}
 use Rattle.plist_binwrite.proofs.Keyed.{key_at, keys_kept, keys_apart, keys_grow}
 use Rattle.plist_share.specs.inner.Nodes.{node_of}
 use Rattle.plist_share.proofs.Alike.{same, same_key, key_same}
@@ -9,12 +8,6 @@ returns-in-Ok-clause-stored c =
     let h = c.in-Ok.ensures.stored in
     key_at same _ _ c.in-Ok.index c.args.collection h.0
     (same_key c.args.collection h.0) h.1 h.2
-
-pub returns-in-Ok-clause-below : goal.returns-in-Ok-clause-below
-returns-in-Ok-clause-below c =
-    let h = c.in-Ok.ensures.stored in
-    slice_get_within _ _ _ (key_at same _ _ c.in-Ok.index
-    c.args.collection h.0 (same_key c.args.collection h.0) h.1 h.2)
 
 pub returns-in-Ok-clause-extends : goal.returns-in-Ok-clause-extends
 returns-in-Ok-clause-extends c = record {

@@ -27,12 +27,6 @@ positive c =
     c.place_or_greatest.ensures.positive
     (end_positive _ of.objects _ _ (c.requires.layout.laid of.objects of.describes).end)
 
-pub returns-clause-keeps : goal.returns-clause-keeps
-returns-clause-keeps c =
-    let a = (goal.at.returns-clause-keeps c).In_ok-set in
-    rw (c.in_ok-set.ensures.set, c.number-number.ensures)
-    (keeps_more (number a) _ c.requires.layout.order (below a) (none a) (positive a))
-
 pub returns-clause-marked : goal.returns-clause-marked
 returns-clause-marked c =
     let a = (goal.at.returns-clause-marked c).In_ok-set in
