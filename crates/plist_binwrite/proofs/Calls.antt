@@ -1,5 +1,5 @@
 -- The paths through a call of a writer.
-use Rattle.std.proofs.Common.{◌≡◌, inl, ℕ, Bool, true, false, MatchBool, List, [], ◌∷◌, ◌++◌, Option, Ok, Err, refl}
+use Rattle.std.proofs.Common.{◌≡◌, ℕ, Bool, true, false, MatchBool, List, [], ◌∷◌, ◌++◌, Option, Err, refl}
 use Rattle.std.proofs.Props.{props}
 use Rattle.std.specs.declared.io.traits.Write.{Ghosts}
 use mathlib.Core.HLevel.{is_prop→PathP}
@@ -65,12 +65,6 @@ module _ {W S : Type 0} {g : Ghosts W} {h : SharingGhosts S} (before after : Fil
           failing h.kind g.contents fault.kind (open_events before ++ event ∷ [])
               (sink_of before) (sink_of after) _ _ (can, lost, s.1) s.1,
         )
-
-    pub takes_whole : failed_of after ≡ false → open_events after ≡ []
-        → SendsAs h.kind g.contents events (Ok tt) (sink_of before) (sink_of after)
-        → Does (Ok tt)
-    takes_whole on none sends =
-        still _ _ _ up (can, on, inl (sent (Ok tt) sends, none))
 
 -- a writer is unchanged if its buffered events are
 pub same_state : {W S : Type 0} {g : Ghosts W} {h : SharingGhosts S}

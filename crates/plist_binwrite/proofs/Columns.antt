@@ -65,17 +65,6 @@ number_read kinds numbers p same =
     ap (λ k. entry_of k (get_or numbers p 0))
     (ap kind_in there ∙ same_kind (get_or kinds p shape.EndCollection) (get_or numbers p 0)) ∙ sym there
 
--- an entry is equal to the one that is made of the kind and the number that were read
-pub of_kind : {A : Type 0} (f : EventEntry → A) (e : EventEntry) {k read : EventShape} → read ≡ k
-    → read ≡ kind_in e
-    → f (entry_of k (number_in e)) ≡ f e
-of_kind f e is given = rw (sym is ∙ given) (ap f (same_entry e))
-
-pub of_number : {A : Type 0} (f : EventEntry → A) {e : EventEntry} {k read : EventShape} (n : ℕ)
-    → read ≡ k
-    → read ≡ kind_in e → entry_of (kind_in e) n ≡ e → f (entry_of k n) ≡ f e
-of_number f n is given number = rw (sym is ∙ given) (ap f number)
-
 -- the scalar that an entry refers to
 pub named : (e : EventEntry) (k : ℕ) → scalar_named e ≡ Some k → e ≡ entry.Scalar k
 named entry.End k is = cc

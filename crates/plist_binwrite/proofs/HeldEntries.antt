@@ -10,12 +10,12 @@ use Rattle.std.proofs.lemmas.Option.{get_or_from_slice_get, slice_get-get_or}
 use Rattle.std.specs.List.{list_any}
 use Rattle.std.specs.Prelude.{◌||◌}
 use Rattle.plist_base.specs.Bracketing.{without_length}
-use Rattle.plist_base.specs.Events.{PlainEvent, EndCollection, ScalarEvent, shape_of}
+use Rattle.plist_base.specs.Events.{PlainEvent, EndCollection, ScalarEvent}
 use Rattle.plist_base.specs.Trees.{Scalar}
 use Rattle.plist_binwrite.specs.declared.entries.EventEntry.{EventEntry}
 use Rattle.plist_binwrite.specs.declared.entries.EventEntry.TheVariants as entry
 use Rattle.plist_binwrite.specs.EventTable.{event_at}
-use Rattle.plist_binwrite.specs.inner.Columns.{kind_in, scalar_named}
+use Rattle.plist_binwrite.specs.inner.Columns.{scalar_named}
 use Rattle.plist_binwrite.specs.inner.Entries.{AreDistinct, is_leaf, entry_at, event_of_entry, events_of_entries, is_sound, is_start, index_after_entry, index_after_at, closed_at, ended_at, names, AreEntriesOf, IsValidTable}
 use Rattle.plist_binwrite.specs.inner.UnclosedStarts.{unclosed_after_event, unclosed_after, skip_after_event, skip_after, without_innermost}
 use Rattle.plist_binwrite.proofs.Changes.{at_set, at_more}
@@ -86,21 +86,6 @@ module _ (old more : List PlainEvent) where
       ∷ shown_kept es (λ p lt. sound (suc p) (omega (arith, lt))) i
 
 -- ---- one more event
-
-pub entries_none : AreEntriesOf [] [] []
-entries_none = record {
-  sound = λ p lt. absurd (omega (arith, lt));
-  starts = refl;
-  skips = λ p lt. absurd (omega (arith, lt));
-}
-
-pub kept_none : (scalars : List PlainEvent) (es : List EventEntry) (unclosed : List ℕ) → scalars ≡ []
-    → es ≡ [] → unclosed ≡ [] → IsValidTable scalars es unclosed
-kept_none scalars es unclosed p q r = rw (p, q, r) (record {
-  apart = λ i j k p q. cc;
-  used = λ i lt. absurd (omega (arith, lt));
-  entries_are = entries_none;
-})
 
 module _ {scalars : List PlainEvent} {es : List EventEntry} {unclosed : List ℕ}
     (t : AreEntriesOf scalars es unclosed) where
@@ -372,16 +357,6 @@ module _ {scalars : List PlainEvent} {es : List EventEntry} {unclosed : List ℕ
     there : event_at (events_of_entries scalars es) index ≡ event_of_entry scalars (entry_at es index)
     there = shown_at kept.entries_are _ lt
 
-    kind_shown : (e : EventEntry) → is_sound scalars e ≡ true
-        → shape_of (event_of_entry scalars e) ≡ kind_in e
-    kind_shown (entry.Scalar i) h = let f = leaf_is _ h in rw f.1 refl
-    kind_shown e h = refl
-
-    pub kind_held : kind_in (entry_at es index)
-        ≡ shape_of (event_at (events_of_entries scalars es) index)
-    kind_held =
-        sym (ap shape_of there ∙ kind_shown _ (kept.entries_are.sound _ lt))
-
     pub no_scalar : scalar_named (entry_at es index) ≡ None
         → is_leaf (event_at (events_of_entries scalars es) index) ≡ false
     no_scalar none = ap is_leaf there ∙ unnamed scalars (entry_at es index) none
@@ -399,6 +374,3 @@ module _ {scalars : List PlainEvent} {es : List EventEntry} {unclosed : List ℕ
 
       pub scalar_is_leaf : is_leaf (event_at (events_of_entries scalars es) index) ≡ true
       scalar_is_leaf = ap is_leaf stored ∙ leaf_here
-
-    pub behind_skips : index_after_at es index ≡ skip_after (events_of_entries scalars es) index
-    behind_skips = kept.entries_are.skips index lt

@@ -124,11 +124,6 @@ module _ {es : List PlainEvent} {k : EventShape} {p : ℕ} (at : k ≡ shape_of 
     neither h (Array ts) s = absurd ((no_start other).0 (cc (starts_array s)))
     neither h (Dictionary ms) s = absurd ((no_start other).1 (cc (starts_dictionary s)))
 
-    pub of_scalar : (x : Scalar) → event_at es p ≡ ScalarEvent x → P (Leaf x)
-        → (t : Tree) → OccursAt es t p → P t
-    of_scalar x is h =
-        neither (λ y single. let same : x ≡ y = cc in subst (λ z. P (Leaf z)) same h)
-
     -- neither a collection nor a scalar is at this index
     pub of_nothing : is_leaf (event_at es p) ≡ false → (t : Tree) → OccursAt es t p → P t
     of_nothing n = neither (λ x single. cc (ap is_leaf single))

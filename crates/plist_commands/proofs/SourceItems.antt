@@ -109,27 +109,6 @@ pub events_come : (old : Events) (item : PlainItem) (new : Events)
 events_come old item new (given, yields, is) =
     (map Ok (remaining_events new), refl, rw is (events_given old given new yields))
 
-events_error : (given : Option (Result Event Error)) (error : Error) (old new : Events)
-    → ◌≡◌ {A = PlainItem} (Some (Err error)) (plain_item given) → GivesEvent old given new
-    → fault_of error ≡ fault_without_offset OutOfMemory
-events_error None error old new is h = absurd (cc)
-events_error (Some (Ok event)) error old new is h = absurd (cc)
-events_error (Some (Err other)) error old new is h =
-    let same : error ≡ other = cc in ap fault_of same ∙ h.0
-
--- each error of printing a value's events is one of the writer
-pub value_error : (old new : Events) (answer : Result (Unit {0}) Error)
-    (before after : Option (List ℕ)) → PrintsRun (YieldsPlain GivesEvent) old answer new before after
-    → IfErr answer IsWriterError
-value_error old new (Ok done) before after run = tt
-value_error old new (Err error) before after
-    (events, left, through, inl ((given, yields, is), sent)) =
-    memory_own error (events_error given error left new is yields)
-value_error old new (Err error) before after (events, left, through, inr (inl (io, asked), front)) =
-    device_own error io
-value_error old new (Err error) before after
-    (events, left, through, inr (inr (memory, same), front)) = memory_own error memory
-
 -- ---- all items
 
 lines_front : (events : List PlainEvent) (rest : List Item)

@@ -1,5 +1,4 @@
-use Rattle.std.proofs.Common.{refl}
-use Rattle.plist_base.proofs.SinkSteps.{puts_pending, puts_refused, puts_then}
+use Rattle.plist_base.proofs.SinkSteps.{puts_refused}
 use Rattle.plist_binwrite.proofs.forms.put_length.Goals as goal
 
 pub returns-in_err-make_room : goal.returns-in_err-make_room

@@ -1,7 +1,7 @@
 use Rattle.std.proofs.Common.{arith}
 use Rattle.std.proofs.lemmas.List.{take_all}
 use Rattle.plist_binwrite.specs.Forms.{big_endian}
-use Rattle.plist_base.proofs.SinkSteps.{puts_after, puts_none, puts_then, puts_refused, puts_as}
+use Rattle.plist_base.proofs.SinkSteps.{puts_after, puts_then, puts_refused, puts_as}
 use Rattle.plist_binwrite.proofs.Outgoing.{one_part, all_parts}
 use Rattle.plist_binwrite.proofs.forms.put_numbers.Goals as goal
 use Rattle.plist_binwrite.proofs.forms.put_numbers.Goals.{then-not-try_put_number+in_ok-put_number, else-not-try_put_number}

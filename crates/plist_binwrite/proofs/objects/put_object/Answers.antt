@@ -1,6 +1,6 @@
 use Rattle.std.proofs.Common.{refl}
 use Rattle.plist_base.proofs.SinkSteps.{puts_as}
-use Rattle.plist_binwrite.proofs.TreeObjects.{array_is, dictionary_is, of_array, of_dictionary, of_nothing, of_scalar}
+use Rattle.plist_binwrite.proofs.TreeObjects.{array_is, dictionary_is, of_array, of_dictionary, of_nothing}
 use Rattle.plist_binwrite.proofs.objects.put_object.Goals as goal
 
 pub returns-in-StartArray : goal.returns-in-StartArray

@@ -1,7 +1,7 @@
 use Rattle.std.proofs.Common.{◌<◌, ◌∙◌, length, ap, arith, sym}
 use Rattle.std.proofs.lemmas.List.{take_all}
 use Rattle.plist_binwrite.specs.Forms.{form}
-use Rattle.plist_base.proofs.SinkSteps.{puts_after, puts_none, puts_then, puts_refused, puts_as}
+use Rattle.plist_base.proofs.SinkSteps.{puts_after, puts_then, puts_refused, puts_as}
 use Rattle.plist_binwrite.proofs.Outgoing.{one_part, all_parts}
 use Rattle.plist_binwrite.proofs.Placing.{described}
 use Rattle.plist_binwrite.proofs.TreeObjects.{scalar_there}

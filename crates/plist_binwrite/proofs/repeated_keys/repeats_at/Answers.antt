@@ -3,7 +3,6 @@ use Rattle.std.specs.List.{AllByRecursion}
 use Rattle.std.proofs.lemmas.List.{length-set}
 use Rattle.std.proofs.lemmas.Option.{slice_get_within}
 use Rattle.plist_base.specs.Trees.{Dictionary}
-use Rattle.plist_base.specs.Events.{shape_of}
 use Rattle.plist_binwrite.specs.Children.{half_of, indices_left}
 use Rattle.plist_binwrite.specs.EventTable.{plain_events, event_at, scalars_of, HasItem}
 use Rattle.plist_binwrite.specs.declared.children.Half.TheVariants.{Keys}
@@ -11,7 +10,6 @@ use Rattle.plist_binwrite.specs.inner.Entries.{is_leaf}
 use Rattle.plist_binwrite.proofs.ChildIndices.{are_items, keys_are_in}
 use Rattle.plist_binwrite.proofs.KeyStamps.{Differ, Tells, below_set, differ_down, differ_up, keys_leaves, tells_end, tells_next, tells_repeats, tells_start}
 use Rattle.plist_binwrite.proofs.Occurring.{occurs_pairs}
-use Rattle.plist_binwrite.proofs.Skipping.{starts_dictionary}
 use Rattle.plist_binwrite.proofs.repeated_keys.repeats_at.Goals as goal
 use Rattle.plist_binwrite.proofs.repeated_keys.repeats_at.Goals.{After-into_iter-key-iterator as Begun, In-Some as Next}
 

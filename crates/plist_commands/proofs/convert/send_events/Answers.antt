@@ -1,6 +1,6 @@
-use Rattle.std.proofs.Common.{ap, inr, Ok, Err, refl, subst, sym, ◌∙◌, true≢false}
+use Rattle.std.proofs.Common.{inr, Ok, Err, refl, subst, sym, ◌∙◌, true≢false}
 use Rattle.std.proofs.lemmas.Result.{err_from_is_err_and}
-use Rattle.plist_base.specs.Faults.{Fault, fault_of}
+use Rattle.plist_base.specs.Faults.{fault_of}
 use Rattle.plist_binwrite.specs.EventTable.{plain_events}
 use Rattle.plist_binwrite.specs.Sending.{Sends}
 use Rattle.plist_commands.proofs.Streaming.{not_direct, sends_read}
@@ -42,11 +42,6 @@ returns-in_err-complete-clause-converts g c =
           (λ tree alike. (c.in_ok-repeats_key.ensures.once tree alike).0 c.if-branch.false)
           c.in_err-complete.ensures);
     })
-
-pub returns-in_err-repeats_key-clause-without_offset : goal.returns-in_err-repeats_key-clause-without_offset
-returns-in_err-repeats_key-clause-without_offset g c =
-    let f = err_from_is_err_and c.from_residual.result c.from_residual.ensures.1 in
-    rw (f.1, f.2) (ap (λ (fault : Fault). fault.offset) c.in_err-repeats_key.ensures.memory)
 
 pub returns-clause-wrote : goal.returns-clause-wrote
 returns-clause-wrote g c = λ e.

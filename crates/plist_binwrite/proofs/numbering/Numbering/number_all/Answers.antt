@@ -1,4 +1,4 @@
-use Rattle.std.proofs.Common.{◌∙◌, length, ap, arith, below_more, subst}
+use Rattle.std.proofs.Common.{arith, below_more, subst}
 use Rattle.std.specs.List.{AllByRecursion}
 use Rattle.plist_binwrite.specs.EventClasses.{events_in}
 use Rattle.plist_binwrite.specs.inner.Planning.{stored_number}
