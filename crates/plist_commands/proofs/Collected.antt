@@ -18,7 +18,7 @@ use Rattle.plist.specs.ValueOfItems.{IsReadIfKnown}
 use Rattle.plist_base.specs.declared.source.Source.{Ghosts}
 use Rattle.plist_binread.specs.BinaryReader.{binary_source}
 use Rattle.plist_reader.specs.Reader.{BinaryReaderOf}
-use Rattle.plist_commands.specs.Converting.{Collects, items_left}
+use Rattle.plist_commands.specs.Converting.{CollectsItems, items_left}
 use Rattle.plist_commands.specs.declared.collector.Collector.{Collector}
 use Rattle.plist_commands.specs.declared.collector.StopReason.{StopReason}
 use Rattle.plist_commands.specs.declared.collector.StopReason.TheVariants.{Failed, Misplaced, Paused}
@@ -43,7 +43,7 @@ module _ {I : Type 0} (gives : I → PlainItem → I → Type 0) (coming : I →
     (failures : I → ℕ) where
   -- what is true after a visit
   pub record Concludes (old : I) (answer : Result Bool Error) (new : I × Collector) : Type 0 where
-    pub collects : Collects (coming old) answer (collected new.1)
+    pub collects : CollectsItems (coming old) answer (collected new.1)
     pub ran : BuffersRun gives old answer new.0 (collected new.1)
     pub counted : CountsReads answer (failures old) (failures new.0)
 

@@ -20,7 +20,7 @@ use Rattle.plist.specs.declared.stream.events.Events.{Events}
 use Rattle.plist_commands.specs.Converting.{items_left}
 use Rattle.plist_commands.specs.EscapedLines.{first_fault, lines_of, lines_of_events}
 use Rattle.plist_commands.specs.Items.{ComesIfKnown, GivesNext, failures_if_held, failures_in, items_of_events}
-use Rattle.plist_commands.specs.Printing.{CountsReads, IsWriterError, Prints, PrintsAll, PrintsUntil}
+use Rattle.plist_commands.specs.Printing.{CountsReads, IsWriterError, PrintsKnown, PrintsAll, PrintsUntil}
 use Rattle.plist_commands.specs.ReaderRuns.{IsAskedOnce, PrintsRun, StepsBinary, StepsReader, StopsPrinting}
 use Rattle.plist_base.proofs.SinkSteps.{prefix_more}
 use Rattle.plist_commands.proofs.PendingBytes.{device_own, fault_counts, memory_own, own_counts, own_ends}
@@ -144,7 +144,7 @@ prints_all : (items : Option (List Item)) (answer : Result (Unit {0}) Error)
     (before after : Option (List ℕ)) → OnOk answer (IfSome items (λ all. PrintsAll all before after))
     → IfErr answer (λ error. IfSome items (λ all. PrintsUntil error all before after))
     → IfSome items (λ all. AppendsPrefix before after (lines_of all))
-    → IfSome items (λ all. Prints all answer before after)
+    → IfSome items (λ all. PrintsKnown all answer before after)
 prints_all None answer before after printed refused prefix = tt
 prints_all (Some all) answer before after printed refused prefix =
     record { printed = printed; refused = refused; prefix = prefix }
@@ -216,7 +216,7 @@ module _ {I : Type 0} (yields : I → PlainItem → I → Type 0) (coming : I �
 
   pub run_prints : (old new : I) (answer : Result (Unit {0}) Error)
       (before after : Option (List ℕ)) → PrintsRun yields old answer new before after
-      → IfSome (coming old) (λ all. Prints all answer before after)
+      → IfSome (coming old) (λ all. PrintsKnown all answer before after)
   run_prints old new answer before after run =
       prints_all (coming old) answer before after (run_printed old new answer before after run)
       (run_until old new answer before after run) (run_front old new answer before after run)

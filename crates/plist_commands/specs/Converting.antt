@@ -92,7 +92,7 @@ AreNoTree items = IfSome items (λ all. (tree : Tree) → AreItemsOfTree all tre
 
 -- What collecting items does. If it returns `true`, the buffered events are those of their tree. If it
 -- returns `false`, they aren't the items of a tree. If it fails, so does reading a value of them.
-pub record Collects (items : Option (List Item)) (answer : Result Bool Error) (events : List PlainEvent)
+pub record CollectsItems (items : Option (List Item)) (answer : Result Bool Error) (events : List PlainEvent)
     : Type 0 where
   pub held : IfOkIs answer true (HoldsTree items events)
   pub none : IfOkIs answer false (AreNoTree items)

@@ -29,7 +29,7 @@ PrintsUntil error items old new =
 -- What printing items does. If it succeeds, they have no fault, and all lines were written. Otherwise
 -- the error is the first fault, and all lines before it were written. In any case a prefix of their
 -- lines was written.
-pub record Prints (items : List Item) (answer : Result (Unit {0}) Error)
+pub record PrintsKnown (items : List Item) (answer : Result (Unit {0}) Error)
     (old new : Option (List ℕ)) : Type 0 where
   pub printed : OnOk answer (PrintsAll items old new)
   pub refused : IfErr answer (λ error. PrintsUntil error items old new)

@@ -6,7 +6,7 @@ ghost use Rattle.plist_commands.specs.Commands.{Answered};
 ghost use Rattle.plist_commands.specs.Failures.{PlainFailure, plain_failure_of, failure_text};
 ghost use Rattle.plist_commands.specs.Converting.{IfOkIs, LeavesToValue, SendsBytes};
 ghost use Rattle.plist_commands.specs.Messages.{Fault, Usage};
-ghost use Rattle.plist_commands.specs.Printing.{Prints};
+ghost use Rattle.plist_commands.specs.Printing.{PrintsKnown};
 ghost use Rattle.plist_commands.specs.declared.convert.Streamed.TheVariants.{NeedsValue, Sent};
 ghost use Rattle.plist_format.specs.Unfolding.{items_of_file};
 
@@ -25,7 +25,7 @@ use std::io::Write;
 ///
 /// The first fault, or `OutOfMemory` if an allocation fails.
 pub fn print_bytes(alloc: Global, bytes: &[u8], out: &mut Vec<u8>) -> Result<(), Error>
-    ensures { Prints (items_of_file bytes.now) result (Some out.old.items) (Some out.new.items) }
+    ensures { PrintsKnown (items_of_file bytes.now) result (Some out.old.items) (Some out.new.items) }
 {
     print_events(alloc, bytes, out)
 }

@@ -6,7 +6,7 @@ ghost use Rattle.plist_base.specs.Faults.{offset_of};
 ghost use Rattle.plist_binwrite.specs.EventBuffers.{buffered_events};
 ghost use Rattle.plist_binwrite.specs.Sending.{Sends};
 ghost use Rattle.plist_reader.specs.Formats.{format_of};
-ghost use Rattle.plist_commands.specs.Converting.{Collects, Converts, IfOkIs, ForBytesOf, items_of_known};
+ghost use Rattle.plist_commands.specs.Converting.{CollectsItems, Converts, IfOkIs, ForBytesOf, items_of_known};
 ghost use Rattle.plist_commands.specs.Holding.{IsEmpty, collected, is_complete};
 ghost use Rattle.plist_commands.specs.ReaderRuns.{ConvertsSource, HoldsBinary, HoldsOther, ReadsSource};
 ghost use Rattle.plist_commands.specs.declared.convert.Streamed.TheVariants.{Sent};
@@ -44,7 +44,7 @@ fn collect_binary<S: Source>(
 ) -> Result<bool, Error>
     requires empty { IsEmpty (is_complete collector.old) (collected collector.old) }
     requires binary { IfSome (S.known source) (λ bytes. Format.Binary ≡ format_of bytes) }
-    ensures collects { Collects (items_of_known (S.known source)) result
+    ensures collects { CollectsItems (items_of_known (S.known source)) result
         (collected collector.new) }
     ensures answers { HoldsBinary S.known S.failures source result (collected collector.new) }
 {
@@ -68,7 +68,7 @@ fn collect_other<S: Source>(
     collector: &mut Collector,
 ) -> Result<bool, Error>
     requires empty { IsEmpty (is_complete collector.old) (collected collector.old) }
-    ensures collects { Collects (items_of_known (S.known source)) result
+    ensures collects { CollectsItems (items_of_known (S.known source)) result
         (collected collector.new) }
     ensures answers { HoldsOther S.known S.failures source result (collected collector.new) }
 {
@@ -86,7 +86,7 @@ fn collect_source<S: Source>(
     collector: &mut Collector,
 ) -> Result<bool, Error>
     requires empty { IsEmpty (is_complete collector.old) (collected collector.old) }
-    ensures collects { Collects (items_of_known (S.known source)) result
+    ensures collects { CollectsItems (items_of_known (S.known source)) result
         (collected collector.new) }
     ensures answers { ReadsSource S.known S.failures source result (collected collector.new) }
 {

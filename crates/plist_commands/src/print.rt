@@ -8,7 +8,7 @@ ghost use Rattle.plist_binread.specs.BinaryReader.{binary_source};
 ghost use Rattle.plist_format.specs.Unfolding.{items_of_file};
 ghost use Rattle.plist_commands.specs.Converting.{items_left};
 ghost use Rattle.plist_commands.specs.EscapedLines.{event_of_short, in_notation};
-ghost use Rattle.plist_commands.specs.Printing.{CountsReadsOf, IsWriterError, Prints, PrintsValue, SendsPrefixOfValue};
+ghost use Rattle.plist_commands.specs.Printing.{CountsReadsOf, IsWriterError, PrintsKnown, PrintsValue, SendsPrefixOfValue};
 ghost use Rattle.plist_commands.specs.ReaderRuns.{PrintsReader, PrintsRun, PrintsSource};
 
 use crate::lines::{
@@ -388,7 +388,7 @@ pub fn print_reader<S: Source, W: Write>(
     writer: &mut W,
 ) -> Result<(), Error>
     ensures printed { IfSome (items_left S.known reader.old)
-        (λ items. Prints items result (W.contents writer.old) (W.contents writer.new)) }
+        (λ items. PrintsKnown items result (W.contents writer.old) (W.contents writer.new)) }
     ensures answers { PrintsReader reader.old result reader.new
         (W.contents writer.old) (W.contents writer.new) }
     ensures unchanged { S.known (binary_source reader.new) ≡ S.known (binary_source reader.old) }
@@ -411,7 +411,7 @@ pub fn print_events<S: Source, W: Write>(
     source: S,
     writer: &mut W,
 ) -> Result<(), Error>
-    ensures printed { IfSome (S.known source) (λ bytes. Prints (items_of_file bytes) result
+    ensures printed { IfSome (S.known source) (λ bytes. PrintsKnown (items_of_file bytes) result
         (W.contents writer.old) (W.contents writer.new)) }
     ensures answers { PrintsSource S.known S.failures source result (W.contents writer.old)
         (W.contents writer.new) }

@@ -1,6 +1,6 @@
 use Rattle.std.proofs.Common.{◌≡◌, ap, subst, true}
 use Rattle.plist_binread.specs.BinaryReader.{binary_source, items_to_come}
-use Rattle.plist_commands.specs.Converting.{Collects, items_left, items_of_known}
+use Rattle.plist_commands.specs.Converting.{CollectsItems, items_left, items_of_known}
 use Rattle.plist_commands.specs.Holding.{collected}
 use Rattle.plist_commands.specs.ReaderRuns.{StepsBinary}
 use Rattle.plist_commands.proofs.Collected.{Concludes, binary_once, binary_twice}
@@ -46,7 +46,7 @@ pub returns-then-not-has_paused-clause-collects : goal.returns-then-not-has_paus
 returns-then-not-has_paused-clause-collects g c =
     let t = goal.at.returns-then-not-has_paused-clause-collects g c in
     rw c.answer.ensures.held
-    (subst (λ items. Collects items c.answer.result (collected c.visit-first.new.visitor))
+    (subst (λ items. CollectsItems items c.answer.result (collected c.visit-first.new.visitor))
     (same_items g t.After-visit-first) (after_first g t.After-answer).collects)
 
 pub returns-then-not-has_paused-clause-answers : goal.returns-then-not-has_paused-clause-answers
@@ -65,7 +65,7 @@ pub returns-clause-collects : goal.returns-clause-collects
 returns-clause-collects g c =
     let t = goal.at.returns-clause-collects g c in
     rw c.answer-2.ensures.held
-    (subst (λ items. Collects items c.answer-2.result (collected c.visit-others.new.visitor))
+    (subst (λ items. CollectsItems items c.answer-2.result (collected c.visit-others.new.visitor))
     (same_items g t.After-visit-first) (after_others g t.After-answer-2).collects)
 
 pub returns-clause-answers : goal.returns-clause-answers

@@ -1,7 +1,7 @@
 use Rattle.std.proofs.Common.{ap, false, inl, refl, subst}
 use Rattle.std.specs.Prelude.{is_some}
 use Rattle.plist_reader.specs.Reader.{reader_items}
-use Rattle.plist_commands.specs.Converting.{Collects}
+use Rattle.plist_commands.specs.Converting.{CollectsItems}
 use Rattle.plist_commands.specs.Items.{failures_in}
 use Rattle.plist_commands.specs.Holding.{collected}
 use Rattle.plist_commands.specs.ReaderRuns.{StepsReader}
@@ -32,7 +32,7 @@ pub returns-clause-collects : goal.returns-clause-collects
 returns-clause-collects g c =
     let t = (goal.at.returns-clause-collects g c).After-answer in
     rw c.answer.ensures.held
-    (subst (λ items. Collects items c.answer.result (collected c.visit-visited.new.visitor))
+    (subst (λ items. CollectsItems items c.answer.result (collected c.visit-visited.new.visitor))
     c.new-reader.ensures.items (known g t).collects)
 
 pub returns-clause-answers : goal.returns-clause-answers
