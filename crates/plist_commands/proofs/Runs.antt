@@ -236,5 +236,3 @@ module _ {I : Type 0} (yields : I → PlainItem → I → Type 0) where
       → HasHeld yields old now held → yields now None new → BuffersRun yields old (Ok whole) new held
   held_whole old now new held whole (events, through, is) step =
       (events, now, through, (inl step, λ _. (step, is)))
-
--- ---- the result of a conversion

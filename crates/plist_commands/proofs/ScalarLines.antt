@@ -7,8 +7,6 @@ use Rattle.plist_base.specs.ByteTests.{EachByte}
 use Rattle.plist_base.proofs.ByteBlocks.{mask_left, mask_right, none_left, none_right}
 use Rattle.plist_commands.specs.EscapedLines.{stands_for_itself, escaped_text}
 
--- ---- a date with a fraction
-
 -- ---- strings whose bytes are printed as they are
 
 -- a byte that passes each of the four comparisons
