@@ -5,7 +5,7 @@ ghost use Rattle.plist_base.specs.Sinks.{Puts, buffered, room};
 ghost use Rattle.plist_binwrite.specs.Forms.{data_form, scalar_form, text_form};
 ghost use Rattle.plist_binwrite.specs.StoredScalars.{scalar_of_ref};
 
-use crate::forms::{make_room, put_counted};
+use crate::forms::{put_boolean, put_data, put_date, put_integer, put_real, put_uid};
 use crate::push::{push_boolean, push_date, push_integer, push_length, push_real, push_uid};
 use crate::stored_scalar::ScalarRef;
 use crate::text::{is_ascii_text, put_text};
@@ -71,15 +71,13 @@ pub fn push_scalar(buffer: &mut FixedBuffer, scalar: ScalarRef<'_>) -> bool
 pub fn put_scalar<W: Write>(sink: &mut Sink<'_, W>, scalar: ScalarRef<'_>) -> Result<(), Error>
     ensures { Puts W.contents sink.old (scalar_form (scalar_of_ref scalar.entry)) result sink.new }
 {
-    make_room(sink)?;
     match scalar {
-        ScalarRef::String(text) => return put_text(sink, text),
-        ScalarRef::Data(bytes) => return put_counted(sink, CountedKind::Data, bytes),
-        ScalarRef::Boolean(value) => push_boolean(sink.buffer, value),
-        ScalarRef::Date(date) => push_date(sink.buffer, date),
-        ScalarRef::Integer(value) => push_integer(sink.buffer, value),
-        ScalarRef::Real(bits) => push_real(sink.buffer, bits),
-        ScalarRef::Uid(uid) => push_uid(sink.buffer, uid),
+        ScalarRef::Boolean(value) => put_boolean(sink, value),
+        ScalarRef::Data(bytes) => put_data(sink, bytes),
+        ScalarRef::Date(date) => put_date(sink, date),
+        ScalarRef::Integer(value) => put_integer(sink, value),
+        ScalarRef::Real(bits) => put_real(sink, bits),
+        ScalarRef::String(text) => put_text(sink, text),
+        ScalarRef::Uid(uid) => put_uid(sink, uid),
     }
-    Ok(())
 }

@@ -2,10 +2,10 @@
 
 ghost use Rattle.std.specs.Prelude.{◌≡◌, Ok, true, false, length};
 ghost use Rattle.std.specs.Char.Escape.{encode_utf16};
-ghost use Rattle.plist_binwrite.specs.Forms.{units_of, is_ascii_text, text_form, char_units, text_units};
+ghost use Rattle.plist_binwrite.specs.Forms.{units_of, is_ascii_text, text_form, ascii_form, char_units, text_units, wide_form};
 ghost use Rattle.plist_base.specs.Sinks.{Puts, PutsBytes, PutsNothing};
 
-use crate::forms::{CountedKind, put_counted, put_length, put_number, try_put_number};
+use crate::forms::{CountedKind, put_length, put_number, try_put_number};
 use plist_base::{Error, Sink};
 use std::io::Write;
 
@@ -77,14 +77,30 @@ pub fn is_ascii_text(text: &str) -> bool
     greatest < 128
 }
 
+fn put_ascii<W: Write>(sink: &mut Sink<'_, W>, text: &str) -> Result<(), Error>
+    ensures { Puts W.contents sink.old (ascii_form text.now) result sink.new }
+{
+    let count = text.len();
+    put_length(sink, CountedKind::Text, count as u64)?;
+    sink.put(text.as_bytes())
+}
+
+fn put_wide<W: Write>(sink: &mut Sink<'_, W>, text: &str) -> Result<(), Error>
+    ensures { Puts W.contents sink.old (wide_form text.now) result sink.new }
+{
+    let count = count_units(text);
+    put_length(sink, CountedKind::WideText, count as u64)?;
+    put_units(sink, text)
+}
+
 /// Puts a string: its bytes if all of them are ASCII, and otherwise its UTF-16 units. An error is
 /// that of [`Sink::put`].
 pub fn put_text<W: Write>(sink: &mut Sink<'_, W>, text: &str) -> Result<(), Error>
     ensures { Puts W.contents sink.old (text_form text.now) result sink.new }
 {
     if is_ascii_text(text) {
-        return put_counted(sink, CountedKind::Text, text.as_bytes());
+        put_ascii(sink, text)
+    } else {
+        put_wide(sink, text)
     }
-    put_length(sink, CountedKind::WideText, count_units(text) as u64)?;
-    put_units(sink, text)
 }

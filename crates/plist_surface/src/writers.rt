@@ -67,9 +67,9 @@ pub fn shared(alloc: Global) -> Result<Vec<u8>, Error> {
     Ok(writer.into_inner())
 }
 
-// Writes the object of a string by itself.
-pub fn put_name(sink: &mut Sink<'_, Vec<u8>>) -> Result<(), Error> {
-    forms::put_text(sink, "name")
+// Writes the object of a Boolean by itself.
+pub fn put_true(sink: &mut Sink<'_, Vec<u8>>) -> Result<(), Error> {
+    forms::put_boolean(sink, true)
 }
 
 // Prints a line with a name and bytes in hexadecimal.

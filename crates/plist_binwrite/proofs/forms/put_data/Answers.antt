@@ -1,5 +1,5 @@
 use Rattle.plist_base.proofs.SinkSteps.{puts_then, puts_refused}
-use Rattle.plist_binwrite.proofs.forms.put_counted.Goals as goal
+use Rattle.plist_binwrite.proofs.forms.put_data.Goals as goal
 
 pub returns-in_err-put_length : goal.returns-in_err-put_length
 returns-in_err-put_length g c =
