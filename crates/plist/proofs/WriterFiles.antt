@@ -1,5 +1,5 @@
 -- What is written by a writer of files that took all events of a tree.
-use Rattle.std.proofs.Common.{◌≡◌, ◌⊎◌, inl, inr, ℕ, false, List, [], ◌∷◌, ◌++◌, Option, Ok, refl, sym, ap, ◌∙◌, subst, append_assoc, map}
+use Rattle.std.proofs.Common.{◌≡◌, ◌⊎◌, inl, inr, ℕ, false, List, [], ◌∷◌, ◌++◌, Ok, refl, sym, ap, ◌∙◌, subst, append_assoc, map}
 use Rattle.std.proofs.iter.Next as it
 use Rattle.std.specs.Io.KnownBytes.{Appends}
 use Rattle.std.specs.declared.io.traits.Write.{Ghosts}
@@ -19,10 +19,9 @@ begins (Leaf scalar) = (_, _, refl)
 begins (Array items) = (_, _, refl)
 begins (Dictionary pairs) = (_, _, refl)
 
-module _ {W S : Type 0} {g : Ghosts W} {h : SharingGhosts S} (IsFile : Tree → List ℕ → Type 0)
-    (size : Tree → ℕ) (contents : W → Option (List ℕ)) (tree : Tree) where
+module _ {W S : Type 0} {g : Ghosts W} {h : SharingGhosts S} (tree : Tree) where
   abbrev Step : FileWriter W S g h → PlainEvent → Answer → FileWriter W S g h → Type 0
-  Step before event answer after = IsWriterStep IsFile size contents before event answer after
+  Step before event answer after = IsWriterStep before event answer after
 
   -- these events are buffered, and nothing was written
   abbrev IsHolding : (start : W) → List PlainEvent → FileWriter W S g h → Type 0
@@ -31,11 +30,12 @@ module _ {W S : Type 0} {g : Ghosts W} {h : SharingGhosts S} (IsFile : Tree → 
 
   abbrev SendsFrom : (start : W) → FileWriter W S g h → Type 0
   SendsFrom start after =
-      (file : List ℕ) × IsFile tree file × Appends (contents start) (contents (sink_of after)) file
+      (file : List ℕ) × h.kind.IsFile tree file
+      × Appends (g.contents start) (g.contents (sink_of after)) file
 
   took : (before after : FileWriter W S g h) (event : PlainEvent) → failed_of before ≡ false
       → Step before event (Ok tt) after
-      → TakesEvent IsFile size contents before event (Ok tt) after
+      → TakesEvent before event (Ok tt) after
   took before after event fine step = it.if_no _ _ fine step
 
   sent : (start : W) (done : List PlainEvent) (e : PlainEvent) (events : List PlainEvent)
@@ -48,13 +48,13 @@ module _ {W S : Type 0} {g : Ghosts W} {h : SharingGhosts S} (IsFile : Tree → 
       all : AreAlike (open_events before ++ e ∷ []) (bracketing tree)
       all = alike_with (open_events before) done (e ∷ []) alike ∙ ap (map without_length) (sym is)
 
-      last : Completes IsFile size contents before e between
-          ⊎ Holds IsFile size contents before e between → SendsFrom start after
+      last : Completes before e between
+          ⊎ Holds before e between → SendsFrom start after
       last (inl (went, none)) = (
         went.0,
         went.1.1 tree all,
-        subst (λ w. Appends (contents w) (contents (sink_of after)) went.0) inner
-            (subst (λ w. Appends (contents (sink_of before)) (contents (sink_of w)) went.0) ends
+        subst (λ w. Appends (g.contents w) (g.contents (sink_of after)) went.0) inner
+            (subst (λ w. Appends (g.contents (sink_of before)) (g.contents (sink_of w)) went.0) ends
             went.2),
       )
       last (inr (unwhole, held, same)) = absurd (unwhole (tree, all))
@@ -78,8 +78,8 @@ module _ {W S : Type 0} {g : Ghosts W} {h : SharingGhosts S} (IsFile : Tree → 
             ∙ ap (map without_length) (sym is),
       )
 
-      next : Completes IsFile size contents before e between
-          ⊎ Holds IsFile size contents before e between
+      next : Completes before e between
+          ⊎ Holds before e between
           → (open_events between ≡ open_events before ++ without_length e ∷ []
           → sink_of between ≡ sink_of before → SendsFrom start after) → SendsFrom start after
       next (inl (went, none)) go = absurd (went.1.0.1 d behind)

@@ -41,7 +41,7 @@ pub fn value_again(alloc: Global, value: &Value) -> Result<Value, Error>
 /// Returns the file that a new writer writes for a value's events. `S` decides which objects are
 /// shared.
 pub fn file_by_events<S: Sharing>(alloc: Global, value: &Value) -> Result<Vec<u8>, Error>
-    ensures file { IfOk result (λ file. S.IsFile (tree_of value.now) file.items) }
+    ensures file { IfOk result (λ file. S.kind.IsFile (tree_of value.now) file.items) }
 {
     let mut writer = FileWriter::<Vec<u8>, S>::new(alloc, Vec::new(alloc));
     write_value(alloc, value, &mut writer)?;

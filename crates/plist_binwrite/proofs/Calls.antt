@@ -1,15 +1,14 @@
 -- The paths through a call of a writer.
-use Rattle.std.proofs.Common.{◌≡◌, inl, ℕ, Bool, true, false, MatchBool, List, [], ◌∷◌, ◌++◌, Option, Ok, Err, refl}
+use Rattle.std.proofs.Common.{◌≡◌, ℕ, Bool, true, false, MatchBool, List, [], ◌∷◌, ◌++◌, Option, Err, refl}
 use Rattle.std.proofs.Props.{props}
 use Rattle.std.specs.declared.io.traits.Write.{Ghosts}
 use mathlib.Core.HLevel.{is_prop→PathP}
 use Rattle.plist_base.specs.Bracketing.{without_length, AreAlike, CanContinue}
 use Rattle.plist_base.specs.Events.{PlainEvent}
 use Rattle.plist_base.specs.Faults.{FaultKind, Fault, Io, OutOfMemory, PlistTooLarge}
-use Rattle.plist_base.specs.Trees.{Tree}
 use Rattle.plist_base.specs.Writing.{Answer, MatchKind}
 use Rattle.plist_base.proofs.Grammar.{alike_last}
-use Rattle.plist_binwrite.specs.SendingAs.{SendsAs, FailsAs}
+use Rattle.plist_binwrite.specs.SendingAs.{FileKind, SendsAs, FailsAs}
 use Rattle.plist_binwrite.specs.declared.event_buffer.EventBuffer.{EventBuffer}
 use Rattle.plist_binwrite.specs.EventBuffers.{is_whole, misplaced_fault}
 use Rattle.plist_binwrite.specs.declared.sharing.Sharing.{Ghosts as SharingGhosts}
@@ -26,53 +25,46 @@ last_alike : (held events : List PlainEvent) (event : PlainEvent)
     → events ≡ held ++ without_length event ∷ [] → AreAlike events (held ++ event ∷ [])
 last_alike held events event is = cc (alike_last held event)
 
-module _ {W : Type 0} (IsFile : Tree → List ℕ → Type 0) (size : Tree → ℕ)
-    (contents : W → Option (List ℕ)) where
+module _ {W : Type 0} (files : FileKind) (contents : W → Option (List ℕ)) where
   -- after an error of writing the file, the writer has failed
   failing : (kind : FaultKind) (events : List PlainEvent) (old new : W) (refused lost : Type 0)
-      → lost → FailsAs IsFile size contents kind events old new → MatchKind kind refused lost ⊥
+      → lost → FailsAs files contents kind events old new → MatchKind kind refused lost ⊥
   failing Io events old new refused lost f h = f
   failing PlistTooLarge events old new refused lost f h = f
   failing OutOfMemory events old new refused lost f h = f
   failing kind events old new refused lost f h = absurd h
 
-  module _ {S : Type 0} {g : Ghosts W} {h : SharingGhosts S} (before after : FileWriter W S g h)
-      (event : PlainEvent) (up : failed_of before ≡ false) where
-    abbrev Does : Answer → Type 0
-    Does answer = IsWriterStep IsFile size contents before event answer after
+module _ {W S : Type 0} {g : Ghosts W} {h : SharingGhosts S} (before after : FileWriter W S g h)
+    (event : PlainEvent) (up : failed_of before ≡ false) where
+  abbrev Does : Answer → Type 0
+  Does answer = IsWriterStep before event answer after
 
-    pub takes_refused : (fault : Fault) → (CanContinue (open_events before) event → ⊥)
-        → fault ≡ misplaced_fault (open_events before) event → after ≡ before → Does (Err fault)
-    takes_refused fault none is same =
-        still _ _ _ up (rw is (refl, (none, refl, same)))
+  pub takes_refused : (fault : Fault) → (CanContinue (open_events before) event → ⊥)
+      → fault ≡ misplaced_fault (open_events before) event → after ≡ before → Does (Err fault)
+  takes_refused fault none is same =
+      still _ _ _ up (rw is (refl, (none, refl, same)))
 
-    module _ (events : List PlainEvent) (can : CanContinue (open_events before) event)
-        (are : events ≡ open_events before ++ without_length event ∷ []) where
-      -- writing a file doesn't depend on the lengths of starts
-      sent : (answer : Answer)
-          → SendsAs IsFile size contents events answer (sink_of before) (sink_of after)
-          → SendsAs IsFile size contents (open_events before ++ event ∷ []) answer (sink_of before)
-          (sink_of after)
-      sent answer =
-          sends_as _ _ _ _ _ _
-          (last_alike _ _ _ are) (λ t alike file of. of) (λ t alike. refl) _ _ _ _
+  module _ (events : List PlainEvent) (can : CanContinue (open_events before) event)
+      (are : events ≡ open_events before ++ without_length event ∷ []) where
+    -- writing a file doesn't depend on the lengths of starts
+    sent : (answer : Answer)
+        → SendsAs h.kind g.contents events answer (sink_of before) (sink_of after)
+        → SendsAs h.kind g.contents (open_events before ++ event ∷ []) answer (sink_of before)
+        (sink_of after)
+    sent answer =
+        sends_as _ _ _ _
+        (last_alike _ _ _ are) (λ t alike file of. of) (λ t alike. refl) _ _ _ _
 
-      pub takes_unsent : (fault : Fault) → failed_of after ≡ true
-          → SendsAs IsFile size contents events (Err fault) (sink_of before) (sink_of after)
-          → Does (Err fault)
-      takes_unsent fault lost sends =
-          let s = sent (Err fault) sends in
-          still (failed_of before) _ _ up (
-            s.0,
-            failing fault.kind (open_events before ++ event ∷ [])
-                (sink_of before) (sink_of after) _ _ (can, lost, s.1) s.1,
-          )
-
-      pub takes_whole : failed_of after ≡ false → open_events after ≡ []
-          → SendsAs IsFile size contents events (Ok tt) (sink_of before) (sink_of after)
-          → Does (Ok tt)
-      takes_whole on none sends =
-          still _ _ _ up (can, on, inl (sent (Ok tt) sends, none))
+    pub takes_unsent : (fault : Fault) → failed_of after ≡ true
+        → SendsAs h.kind g.contents events (Err fault) (sink_of before) (sink_of after)
+        → Does (Err fault)
+    takes_unsent fault lost sends =
+        let s = sent (Err fault) sends in
+        still (failed_of before) _ _ up (
+          s.0,
+          failing h.kind g.contents fault.kind (open_events before ++ event ∷ [])
+              (sink_of before) (sink_of after) _ _ (can, lost, s.1) s.1,
+        )
 
 -- a writer is unchanged if its buffered events are
 pub same_state : {W S : Type 0} {g : Ghosts W} {h : SharingGhosts S}

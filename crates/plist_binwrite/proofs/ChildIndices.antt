@@ -64,16 +64,6 @@ module _ (child : Child) (es : List PlainEvent) where
   none_left q h =
       enough (length es) (suc (length es)) q (omega arith) (omega arith) ∙ rw h refl
 
-  pub none_whole : (q : ℕ) → is_end (event_at es (last_at child q)) ≡ true
-      → children_from child es q ≡ []
-  none_whole q h =
-      enough (length es) (suc (length es)) q (omega arith) (omega arith)
-      ∙ by _ _ _ h
-    where
-      by : (b c : Bool) (l : List ℕ) → c ≡ true → (if b then [] else (if c then [] else l)) ≡ []
-      by true c l h = refl
-      by false c l h = rw h refl
-
   -- otherwise the next child precedes those that are left after it
   pub one_left : (q : ℕ) → is_end (event_at es q) ≡ false
       → is_end (event_at es (last_at child q)) ≡ false

@@ -65,17 +65,6 @@ number_read kinds numbers p same =
     ap (λ k. entry_of k (get_or numbers p 0))
     (ap kind_in there ∙ same_kind (get_or kinds p shape.EndCollection) (get_or numbers p 0)) ∙ sym there
 
--- an entry is equal to the one that is made of the kind and the number that were read
-pub of_kind : {A : Type 0} (f : EventEntry → A) (e : EventEntry) {k read : EventShape} → read ≡ k
-    → read ≡ kind_in e
-    → f (entry_of k (number_in e)) ≡ f e
-of_kind f e is given = rw (sym is ∙ given) (ap f (same_entry e))
-
-pub of_number : {A : Type 0} (f : EventEntry → A) {e : EventEntry} {k read : EventShape} (n : ℕ)
-    → read ≡ k
-    → read ≡ kind_in e → entry_of (kind_in e) n ≡ e → f (entry_of k n) ≡ f e
-of_number f n is given number = rw (sym is ∙ given) (ap f number)
-
 -- the scalar that an entry refers to
 pub named : (e : EventEntry) (k : ℕ) → scalar_named e ≡ Some k → e ≡ entry.Scalar k
 named entry.End k is = cc
@@ -97,17 +86,18 @@ entries_more (k ∷ kinds) [] e same = absurd (omega arith)
 entries_more (k ∷ kinds) (n ∷ numbers) e same =
     ap (λ l. entry_of k n ∷ l) (entries_more kinds _ e (omega (arith, same)))
 
--- setting a kind and a number sets an entry
-pub entries_set : (kinds : List EventShape) (numbers : List ℕ) (p : ℕ) (e : EventEntry)
-    → entries_from (set kinds p (kind_in e)) (set numbers p (number_in e))
-    ≡ set (entries_from kinds numbers) p e
-entries_set [] numbers p e = refl
-entries_set (k ∷ kinds) [] zero e = refl
-entries_set (k ∷ kinds) [] (suc p) e = refl
-entries_set (k ∷ kinds) (n ∷ numbers) zero e =
-    ap (λ d. d ∷ entries_from _ _) (same_entry e)
-entries_set (k ∷ kinds) (n ∷ numbers) (suc p) e =
-    ap (λ l. entry_of k n ∷ l) (entries_set kinds numbers p e)
+-- setting a number sets the number of an entry
+pub number_set : (kinds : List EventShape) (numbers : List ℕ) (p n : ℕ)
+    → entries_from kinds (set numbers p n)
+    ≡ set (entries_from kinds numbers) p
+    (entry_of (kind_in (entry_at (entries_from kinds numbers) p)) n)
+number_set [] numbers p n = refl
+number_set (k ∷ kinds) [] zero n = refl
+number_set (k ∷ kinds) [] (suc p) n = refl
+number_set (k ∷ kinds) (m ∷ numbers) zero n =
+    ap (λ j. entry_of j n ∷ entries_from kinds numbers) (sym (same_kind k m))
+number_set (k ∷ kinds) (m ∷ numbers) (suc p) n =
+    ap (λ l. entry_of k m ∷ l) (number_set kinds numbers p n)
 
 -- the first kinds and numbers are those of the first entries
 pub entries_first : (count : ℕ) (kinds : List EventShape) (numbers : List ℕ)

@@ -10,12 +10,12 @@ use Rattle.std.proofs.lemmas.Option.{get_or_from_slice_get, slice_get-get_or}
 use Rattle.std.specs.List.{list_any}
 use Rattle.std.specs.Prelude.{◌||◌}
 use Rattle.plist_base.specs.Bracketing.{without_length}
-use Rattle.plist_base.specs.Events.{PlainEvent, EndCollection, ScalarEvent, shape_of}
+use Rattle.plist_base.specs.Events.{PlainEvent, EndCollection, ScalarEvent}
 use Rattle.plist_base.specs.Trees.{Scalar}
 use Rattle.plist_binwrite.specs.declared.entries.EventEntry.{EventEntry}
 use Rattle.plist_binwrite.specs.declared.entries.EventEntry.TheVariants as entry
 use Rattle.plist_binwrite.specs.EventTable.{event_at}
-use Rattle.plist_binwrite.specs.inner.Columns.{kind_in, scalar_named}
+use Rattle.plist_binwrite.specs.inner.Columns.{scalar_named}
 use Rattle.plist_binwrite.specs.inner.Entries.{AreDistinct, is_leaf, entry_at, event_of_entry, events_of_entries, is_sound, is_start, index_after_entry, index_after_at, closed_at, ended_at, names, AreEntriesOf, IsValidTable}
 use Rattle.plist_binwrite.specs.inner.UnclosedStarts.{unclosed_after_event, unclosed_after, skip_after_event, skip_after, without_innermost}
 use Rattle.plist_binwrite.proofs.Changes.{at_set, at_more}
@@ -86,21 +86,6 @@ module _ (old more : List PlainEvent) where
       ∷ shown_kept es (λ p lt. sound (suc p) (omega (arith, lt))) i
 
 -- ---- one more event
-
-pub entries_none : AreEntriesOf [] [] []
-entries_none = record {
-  sound = λ p lt. absurd (omega (arith, lt));
-  starts = refl;
-  skips = λ p lt. absurd (omega (arith, lt));
-}
-
-pub kept_none : (scalars : List PlainEvent) (es : List EventEntry) (unclosed : List ℕ) → scalars ≡ []
-    → es ≡ [] → unclosed ≡ [] → IsValidTable scalars es unclosed
-kept_none scalars es unclosed p q r = rw (p, q, r) (record {
-  apart = λ i j k p q. cc;
-  used = λ i lt. absurd (omega (arith, lt));
-  entries_are = entries_none;
-})
 
 module _ {scalars : List PlainEvent} {es : List EventEntry} {unclosed : List ℕ}
     (t : AreEntriesOf scalars es unclosed) where
@@ -189,11 +174,11 @@ module _ {scalars : List PlainEvent} {es : List EventEntry} {unclosed : List ℕ
 
   -- an end is appended, which closes the innermost start
   module _ (start : ℕ) (outer : List ℕ) (is : unclosed ≡ outer ++ start ∷ []) where
-    innermost : unclosed_after events ≡ start ∷ reverse outer
-    innermost = cc (reverse-append outer (start ∷ []))
+    pub unclosed_is : unclosed_after events ≡ start ∷ reverse outer
+    unclosed_is = cc (reverse-append outer (start ∷ []))
 
-    was_start : opened.is_start (event_at events start) ≡ true
-    was_start = innermost_starts _ _ (reverse outer) innermost
+    pub was_start : opened.is_start (event_at events start) ≡ true
+    was_start = innermost_starts _ _ (reverse outer) unclosed_is
 
     pub start_within : start < length es
     start_within = omega (arith, below opened.is_start events start refl was_start, long)
@@ -250,6 +235,20 @@ module _ {scalars : List PlainEvent} {es : List EventEntry} {unclosed : List ℕ
         ≡ false = rw f.1 refl in cc
     closing_behind entry.End n h s = cc
 
+    start_of : (e : EventEntry) → is_sound scalars e ≡ true
+        → opened.is_start (event_of_entry scalars e) ≡ true → is_start e ≡ true
+    start_of (entry.Scalar i) h s =
+        let f = leaf_is _ h in
+        let never : opened.is_start (without_length (event_at scalars i))
+        ≡ false = rw f.1 refl in cc
+    start_of entry.End h s = cc
+    start_of e h s = refl
+
+    pub start_stored : is_start (entry_at es start) ≡ true
+    start_stored =
+        start_of (entry_at es start) (t.sound start start_within)
+        (ap opened.is_start (sym (shown_at start start_within)) ∙ was_start)
+
     entries_end : AreEntriesOf scalars (ended_at es start) outer
     entries_end =
         entries_by (ended_at es start) outer EndCollection end_shown
@@ -257,8 +256,8 @@ module _ {scalars : List PlainEvent} {es : List EventEntry} {unclosed : List ℕ
         (λ d. closing_same (is_sound scalars) (λ m n. refl) (λ m n. refl)
         ∙ sound_ended start within)
         (λ d. sound_ended p (omega (arith, lt, length-set ended start closing))))
-        (sym (ap without_innermost innermost))
-        (λ p lt. rw innermost (at_set ended start closing entry.End p
+        (sym (ap without_innermost unclosed_is))
+        (λ p lt. rw unclosed_is (at_set ended start closing entry.End p
         (λ d. index_after_entry p d ≡ (if eqb p start then length es + 1 else index_after_at es p)) within
         (λ d. ap (λ k. index_after_entry k closing) d
         ∙ closing_behind (entry_at ended start) (length es + 1) (sound_ended start within)
@@ -358,16 +357,6 @@ module _ {scalars : List PlainEvent} {es : List EventEntry} {unclosed : List ℕ
     there : event_at (events_of_entries scalars es) index ≡ event_of_entry scalars (entry_at es index)
     there = shown_at kept.entries_are _ lt
 
-    kind_shown : (e : EventEntry) → is_sound scalars e ≡ true
-        → shape_of (event_of_entry scalars e) ≡ kind_in e
-    kind_shown (entry.Scalar i) h = let f = leaf_is _ h in rw f.1 refl
-    kind_shown e h = refl
-
-    pub kind_held : kind_in (entry_at es index)
-        ≡ shape_of (event_at (events_of_entries scalars es) index)
-    kind_held =
-        sym (ap shape_of there ∙ kind_shown _ (kept.entries_are.sound _ lt))
-
     pub no_scalar : scalar_named (entry_at es index) ≡ None
         → is_leaf (event_at (events_of_entries scalars es) index) ≡ false
     no_scalar none = ap is_leaf there ∙ unnamed scalars (entry_at es index) none
@@ -385,6 +374,3 @@ module _ {scalars : List PlainEvent} {es : List EventEntry} {unclosed : List ℕ
 
       pub scalar_is_leaf : is_leaf (event_at (events_of_entries scalars es) index) ≡ true
       scalar_is_leaf = ap is_leaf stored ∙ leaf_here
-
-    pub behind_skips : index_after_at es index ≡ skip_after (events_of_entries scalars es) index
-    behind_skips = kept.entries_are.skips index lt

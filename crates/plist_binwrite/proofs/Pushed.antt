@@ -1,10 +1,9 @@
 -- The bytes of each form of a number or a length.
-use Rattle.std.proofs.Common.{◌≡◌, ℕ, zero, suc, ◌+◌, ◌-◌, ◌*◌, ◌^◌, ◌<◌, ◌≤◌, ℤ, pos, negsuc, ◌≤ℤ◌, List, [], ◌∷◌, ◌++◌, take, drop, refl, arith}
+use Rattle.std.proofs.Common.{◌≡◌, ℕ, zero, suc, ◌+◌, ◌-◌, ◌*◌, ◌^◌, ◌<◌, ◌≤◌, List, [], ◌∷◌, ◌++◌, take, drop, refl, arith}
 use Rattle.std.specs.Int.{byte_at}
 use Rattle.std.proofs.lemmas.Bool.{lt-ltb, le-ltb}
-use Rattle.std.proofs.lemmas.Int.{ints}
 use native.Mathlib.Nat.{div-eq_of_lt}
-use Rattle.plist_binwrite.specs.Forms.{big_endian, doublings, least_width, unsigned_form, integer_form, length_form}
+use Rattle.plist_binwrite.specs.Forms.{big_endian, doublings, least_width, unsigned_form, length_form}
 use Rattle.plist_binwrite.proofs.LeastWidths.{tail_of_digits}
 
 pub length_short : (high count : ℕ) → count < 15 → length_form high count ≡ (high * 16 + count) ∷ []
@@ -42,11 +41,3 @@ wide_is n h =
       high_zero 9 n (omega arith),
       high_zero 8 n (omega arith),
     ) refl
-
-pub integer_wide : (z : ℤ) (n : ℕ) → pos n ≡ z → pos (2 ^ 63) ≤ℤ z
-    → 0x14 ∷ big_endian 16 n ≡ integer_form z
-integer_wide (pos m) n e h =
-    let same : n ≡ m = omega (arith, ints) in
-    let large : 2 ^ 63 ≤ m = omega (arith, ints) in
-    rw (same, le-ltb m _ large) refl
-integer_wide (negsuc m) n e h = absurd (omega (arith, ints))

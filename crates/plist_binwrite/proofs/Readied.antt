@@ -13,7 +13,7 @@ use Rattle.plist_format.specs.Object.{Object, object_in}
 use Rattle.plist_format.specs.Unfolding.{TableEntry, table_of, unfolding_of, until_fault, items_with, items_of_file}
 use Rattle.plist_format.specs.Visits.{visits_of, visits_with, visits}
 use Rattle.plist_format.proofs.Tables.{length-table_of}
-use Rattle.plist_binwrite.specs.Classes.{IsFileBy, count_by, objects_by, size_by, IsOversized, Fits, SendsBy}
+use Rattle.plist_binwrite.specs.Classes.{IsFileBy, count_by, objects_by, size_by, IsOversized, Fits, files_by}
 use Rattle.plist_binwrite.specs.ObjectCounts.{collections_in}
 use Rattle.plist_binwrite.specs.Forms.{form, table_form, AllFit}
 use Rattle.plist_binwrite.specs.EventTable.{Describes}
@@ -48,7 +48,7 @@ use Rattle.plist_base.specs.Sinks.{PutsBytes, pending, written}
 use Rattle.plist_base.proofs.SinkSteps.{sent_part, sent_whole}
 use Rattle.plist_binwrite.specs.inner.Sizing.{ExceedsWith, FitsWith, IsLayout}
 use Rattle.plist_binwrite.specs.Sizes.{IsSizeOrNone, size_with}
-use Rattle.plist_binwrite.specs.SendingAs.{IsFileAs}
+use Rattle.plist_binwrite.specs.SendingAs.{IsFileAs, SendsAs}
 use Rattle.plist_binwrite.proofs.Lengthless.{plain_lengthless}
 
 module _ {es : List PlainEvent} {class : ℕ → ℕ} {by_class firsts : List ℕ}
@@ -284,7 +284,7 @@ module _ {W : Type 0} (contents : W → Option (List ℕ)) (given : Classed) (ol
   of : Numbered (events_in given) (object_number given plan.numbering)
   of = numbered r.numbered.planned
 
-  is_file : IsFileAs (IsFileBy (class_in given)) (size_by (class_in given)) (events_in given)
+  is_file : IsFileAs (files_by (class_in given)) (events_in given)
       (file_of plan of.objects)
   is_file = (
     complete_of_whole (events_in given) whole,
@@ -292,7 +292,7 @@ module _ {W : Type 0} (contents : W → Option (List ℕ)) (given : Classed) (ol
   )
 
   pub plan_sends : (answer : Answer) → SendsPlan contents given plan answer old new
-      → SendsBy (class_in given) contents (events_in given) answer old new
+      → SendsAs (files_by (class_in given)) contents (events_in given) answer old new
   plan_sends (Ok done) s = (file_of plan of.objects, is_file, s of.objects of.describes)
   plan_sends (Err fault) s =
       rw s.0 (refl, (file_of plan of.objects, is_file, s.1 of.objects of.describes))

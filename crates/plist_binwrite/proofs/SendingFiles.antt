@@ -7,14 +7,14 @@ use Rattle.plist_base.specs.Faults.{FaultKind, Fault, Io, OutOfMemory, PlistTooL
 use Rattle.plist_base.specs.Trees.{Tree}
 use Rattle.plist_base.specs.Writing.{Answer}
 use Rattle.plist_base.proofs.Grammar.{complete_of_whole, whole_alike}
-use Rattle.plist_binwrite.specs.Classes.{IsFileBy, SendsBy, size_by}
+use Rattle.plist_binwrite.specs.Classes.{IsFileBy, files_by}
 use Rattle.plist_binwrite.specs.EventClasses.{class_in, events_in}
 use Rattle.plist_binwrite.specs.declared.classes.Classed.{Classed}
 use Rattle.plist_binwrite.specs.inner.PlannedFiles.{IsPlanFault}
 use Rattle.plist_binwrite.specs.Files.{IsFileOf}
 use Rattle.plist_binwrite.specs.EventTable.{plain_events}
-use Rattle.plist_binwrite.specs.SendingAs.{IsFileAs, FailsAs, SendsAs}
-use Rattle.plist_binwrite.specs.Sizes.{file_size}
+use Rattle.plist_binwrite.specs.Sending.{Sends, least_files}
+use Rattle.plist_binwrite.specs.SendingAs.{FileKind, IsFileAs, FailsAs, SendsAs}
 use Rattle.plist_binwrite.specs.inner.Scalars.{AreIdentities}
 use Rattle.plist_binwrite.proofs.Least.{least}
 use Rattle.plist_binwrite.proofs.Owned.{owned_count, owned_size, entered_once}
@@ -22,21 +22,19 @@ use Rattle.plist_binwrite.proofs.Occurring.{occurs_whole}
 use Rattle.plist_binwrite.proofs.Lengthless.{plain_lengthless}
 
 -- a file of one kind is one of another, with its size, for events that are alike
-module _ (One Other : Tree → List ℕ → Type 0) (size other : Tree → ℕ) (xs ys : List PlainEvent)
-    (p : AreAlike xs ys)
-    (to : (tree : Tree) → AreAlike ys (bracketing tree) → (file : List ℕ) → One tree file
-    → Other tree file)
-    (same : (tree : Tree) → AreAlike ys (bracketing tree) → size tree ≡ other tree) where
+module _ (one other : FileKind) (xs ys : List PlainEvent) (p : AreAlike xs ys)
+    (to : (tree : Tree) → AreAlike ys (bracketing tree) → (file : List ℕ)
+    → one.IsFile tree file → other.IsFile tree file)
+    (same : (tree : Tree) → AreAlike ys (bracketing tree) → one.size tree ≡ other.size tree) where
   complete_as : AreComplete xs → AreComplete ys
   complete_as c = complete_of_whole ys (whole_alike xs ys p c.0)
 
-  file_as : (file : List ℕ) → IsFileAs One size xs file
-      → IsFileAs Other other ys file
+  file_as : (file : List ℕ) → IsFileAs one xs file → IsFileAs other ys file
   file_as file of = (complete_as of.0, λ t alike. to t alike _ (of.1 t (cc)))
 
   module _ {W : Type 0} (contents : W → Option (List ℕ)) where
-    fails_as : (kind : FaultKind) (old new : W) → FailsAs One size contents kind xs old new
-        → FailsAs Other other contents kind ys old new
+    fails_as : (kind : FaultKind) (old new : W) → FailsAs one contents kind xs old new
+        → FailsAs other contents kind ys old new
     fails_as Io old new (file, of, front) = (file, file_as file of, front)
     fails_as PlistTooLarge old new (large, kept) = (
       (
@@ -48,15 +46,15 @@ module _ (One Other : Tree → List ℕ → Type 0) (size other : Tree → ℕ) 
     fails_as OutOfMemory old new kept = kept
     fails_as kind old new h = absurd h
 
-    pub sends_as : (answer : Answer) (old new : W) → SendsAs One size contents xs answer old new
-        → SendsAs Other other contents ys answer old new
+    pub sends_as : (answer : Answer) (old new : W) → SendsAs one contents xs answer old new
+        → SendsAs other contents ys answer old new
     sends_as (Ok done) old new (file, of, all) = (file, file_as file of, all)
     sends_as (Err fault) old new (nowhere, fails) = (nowhere, fails_as _ old new fails)
 
 -- if the file can't be planned, nothing is written
 pub sends_nothing : {W : Type 0} (contents : W → Option (List ℕ)) (given : Classed) (fault : Fault)
     (old new : W) → AreTreeEvents (events_in given) → IsPlanFault given fault → new ≡ old
-    → SendsBy (class_in given) contents (events_in given) (Err fault) old new
+    → SendsAs (files_by (class_in given)) contents (events_in given) (Err fault) old new
 sends_nothing contents given fault old new whole (inl is) same = rw is (refl, same)
 sends_nothing contents given fault old new whole (inr large) same = rw large.0 (
   refl,
@@ -87,11 +85,10 @@ owned_file tree file o f = record {
 pub sends_plainly : {W : Type 0} (contents : W → Option (List ℕ))
     (events : EventTable) {class : ℕ → ℕ}
     {count : ℕ} (answer : Answer) (old new : W) → AreIdentities (plain_events events) class count
-    → SendsBy class contents (plain_events events) answer old new
-    → SendsAs IsFileOf file_size contents (plain_events events) answer old new
+    → SendsAs (files_by class) contents (plain_events events) answer old new
+    → Sends contents (plain_events events) answer old new
 sends_plainly contents events {class} {count} answer old new o s =
     let own = λ (tree : Tree) (alike : AreAlike (plain_events events) (bracketing tree)). subst
     (λ es. AreIdentities es class count) (plain_lengthless events tree alike) o in
-    sends_as (IsFileBy class) IsFileOf (size_by class) file_size (plain_events events)
-    (plain_events events) refl (λ tree alike file f. owned_file tree file (own tree alike) f)
+    sends_as (files_by class) least_files (plain_events events) (plain_events events) refl (λ tree alike file f. owned_file tree file (own tree alike) f)
     (λ tree alike. owned_size tree (own tree alike)) contents answer old new s

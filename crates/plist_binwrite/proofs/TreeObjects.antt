@@ -13,7 +13,12 @@ use Rattle.plist_binwrite.specs.EventTable.{is_end, event_at, item_indices, key_
 use Rattle.plist_binwrite.specs.Sizes.{IsSizeOrNone, dictionary_size, marked_size}
 use Rattle.plist_binwrite.specs.Children.{half_of}
 use Rattle.plist_binwrite.specs.declared.children.Half.TheVariants.{Values}
-use Rattle.plist_binwrite.specs.inner.Putting.{collection_form}
+use Rattle.plist_format.specs.declared.marker.CountedKind.TheVariants as counted
+use Rattle.plist_binwrite.specs.EventClasses.{events_in}
+use Rattle.plist_binwrite.specs.declared.classes.Classed.{Classed}
+use Rattle.plist_binwrite.specs.declared.plan.FilePlan.{FilePlan}
+use Rattle.plist_binwrite.specs.inner.Planning.{object_number}
+use Rattle.plist_binwrite.specs.inner.Putting.{collection_form, tree_form}
 use Rattle.plist_binwrite.specs.inner.Entries.{is_leaf}
 use Rattle.plist_binwrite.proofs.Occurring.{occurs_whole, occurs_items, occurs_pairs, occurs_item, occurs_next, occurs_key, occurs_value, occurs_next_pair}
 use Rattle.plist_binwrite.proofs.Skipping.{stands_single, starts_array, starts_dictionary, no_start, begins, occurs_in}
@@ -119,11 +124,6 @@ module _ {es : List PlainEvent} {k : EventShape} {p : ℕ} (at : k ≡ shape_of 
     neither h (Array ts) s = absurd ((no_start other).0 (cc (starts_array s)))
     neither h (Dictionary ms) s = absurd ((no_start other).1 (cc (starts_dictionary s)))
 
-    pub of_scalar : (x : Scalar) → event_at es p ≡ ScalarEvent x → P (Leaf x)
-        → (t : Tree) → OccursAt es t p → P t
-    of_scalar x is h =
-        neither (λ y single. let same : x ≡ y = cc in subst (λ z. P (Leaf z)) same h)
-
     -- neither a collection nor a scalar is at this index
     pub of_nothing : is_leaf (event_at es p) ≡ false → (t : Tree) → OccursAt es t p → P t
     of_nothing n = neither (λ x single. cc (ap is_leaf single))
@@ -154,10 +154,16 @@ module _ (num : ℕ → ℕ) where
   values_are (MemberAnd k t ms) q = ap (λ l. num (q + 1) ∷ l) (values_are ms _)
 
 -- the bytes of a collection are those of its object
-module _ {es : List PlainEvent} (num : ℕ → ℕ) (w : ℕ) {p : ℕ} where
-  pub array_is : {ts : Trees} → OccursAt es (Array ts) p
-      → collection_form num w es 0xa p ≡ form w (object_of num (Array ts) p)
-  array_is {ts} s =
+module _ (given : Classed) (plan : FilePlan) where
+  abbrev es : List PlainEvent
+  es = events_in given
+
+  abbrev num : ℕ → ℕ
+  num = object_number given plan.numbering
+
+  pub array_is : {p : ℕ} {ts : Trees} → OccursAt es (Array ts) p
+      → collection_form given plan counted.Array p ≡ tree_form given plan (Array ts) p
+  array_is {p} {ts} s =
       rw (
         keys_are_in es (Array ts) p s,
         values_are_in es (Array ts) p s,
@@ -165,9 +171,9 @@ module _ {es : List PlainEvent} (num : ℕ → ℕ) (w : ℕ) {p : ℕ} where
         length-map (item_indices ts (p + 1)) num,
       ) refl
 
-  pub dictionary_is : {ms : Members} → OccursAt es (Dictionary ms) p
-      → collection_form num w es 0xd p ≡ form w (object_of num (Dictionary ms) p)
-  dictionary_is {ms} s =
+  pub dictionary_is : {p : ℕ} {ms : Members} → OccursAt es (Dictionary ms) p
+      → collection_form given plan counted.Dictionary p ≡ tree_form given plan (Dictionary ms) p
+  dictionary_is {p} {ms} s =
       rw (
         keys_are_in es (Dictionary ms) p s,
         values_are_in es (Dictionary ms) p s,

@@ -1,14 +1,13 @@
 -- Classes of the indices at which trees begin, and files that have one object for each class.
-use Rattle.std.specs.Prelude.{◌≡◌, ℕ, ◌^◌, ◌<◌, ◌≤◌, Bool, List, length, map, nat_eq, Option}
+use Rattle.std.specs.Prelude.{◌≡◌, ℕ, ◌^◌, ◌<◌, ◌≤◌, Bool, List, length, map, nat_eq}
 use Rattle.std.specs.Set.{unique_keys}
 use Rattle.plist_base.specs.Bracketing.{lengthless}
 use Rattle.plist_base.specs.Events.{PlainEvent}
 use Rattle.plist_base.specs.Trees.{Tree}
-use Rattle.plist_base.specs.Writing.{Answer}
 use Rattle.plist_format.specs.Visits.{visits}
 use Rattle.plist_binwrite.specs.ObjectCounts.{HasObjects, collections_in}
 use Rattle.plist_binwrite.specs.Numberings.{object_of}
-use Rattle.plist_binwrite.specs.SendingAs.{SendsAs}
+use Rattle.plist_binwrite.specs.SendingAs.{FileKind}
 use Rattle.plist_binwrite.specs.Sizes.{total, object_size, size_with}
 use Rattle.plist_binwrite.specs.Occurrences.{OccursAt, positions}
 use Rattle.plist_binwrite.specs.Widths.{reference_width}
@@ -58,6 +57,10 @@ module _ (class : ℕ → ℕ) where
     pub size : length file ≡ size_by tree
     pub fits : size_by tree < 2 ^ 64
 
+  -- the files with one object for each class
+  abbrev pub files_by : FileKind
+  files_by = record { IsFile = IsFileBy; size = size_by }
+
   -- a file of the tree with these events has less than 2^64 bytes
   abbrev pub Fits : List PlainEvent → Type 0
   Fits es = (tree : Tree) → es ≡ lengthless tree → size_by tree < 2 ^ 64
@@ -65,8 +68,3 @@ module _ (class : ℕ → ℕ) where
   -- a file of the tree with these events would have 2^64 bytes or more
   abbrev pub IsOversized : List PlainEvent → Type 0
   IsOversized es = (tree : Tree) → es ≡ lengthless tree → 2 ^ 64 ≤ size_by tree
-
-  -- what writing the file of a tree's events does
-  module _ {W : Type 0} (contents : W → Option (List ℕ)) where
-    abbrev pub SendsBy : List PlainEvent → Answer → (old new : W) → Type 0
-    SendsBy events answer old new = SendsAs IsFileBy size_by contents events answer old new

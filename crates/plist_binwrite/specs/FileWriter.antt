@@ -1,11 +1,10 @@
 -- What a call of `write` does: which events are buffered afterwards, whether the writer has failed,
 -- and what was written.
-use Rattle.std.specs.Prelude.{◌≡◌, ◌⊎◌, ℕ, Bool, true, false, List, [], ◌∷◌, ◌++◌, Option, None, Ok, Err, MatchBool}
+use Rattle.std.specs.Prelude.{◌≡◌, ◌⊎◌, Bool, true, false, List, [], ◌∷◌, ◌++◌, None, Ok, Err, MatchBool}
 use Rattle.std.specs.declared.io.traits.Write.{Ghosts}
 use Rattle.plist_base.specs.Bracketing.{without_length, AreTreeEvents, CanContinue}
 use Rattle.plist_base.specs.Events.{PlainEvent}
 use Rattle.plist_base.specs.Faults.{WriterFailed, fault_without_offset}
-use Rattle.plist_base.specs.Trees.{Tree}
 use Rattle.plist_base.specs.Writing.{Answer, MatchKind}
 use Rattle.plist_binwrite.specs.declared.sharing.Sharing.{Ghosts as SharingGhosts}
 use Rattle.plist_binwrite.specs.declared.writer.FileWriter.{FileWriter}
@@ -26,15 +25,13 @@ failed_of writer = writer.has_failed
 abbrev pub sink_of : {W S : Type 0} {g : Ghosts W} {h : SharingGhosts S} → FileWriter W S g h → W
 sink_of writer = writer.writer
 
--- given which bytes are a file of a tree, and how many bytes such a file has
-module _ {W S : Type 0} {g : Ghosts W} {h : SharingGhosts S} (IsFile : Tree → List ℕ → Type 0)
-    (size : Tree → ℕ) (contents : W → Option (List ℕ)) where
+module _ {W S : Type 0} {g : Ghosts W} {h : SharingGhosts S} where
   -- the buffered events and this one are those of a tree: a file of it was written, and no event is
   -- buffered
   abbrev pub Completes : (before : FileWriter W S g h) → PlainEvent
       → (after : FileWriter W S g h) → Type 0
   Completes before event after =
-      SendsFileAs IsFile size contents (open_events before ++ event ∷ []) (sink_of before)
+      SendsFileAs h.kind g.contents (open_events before ++ event ∷ []) (sink_of before)
       (sink_of after)
       × (open_events after ≡ [])
 
@@ -58,7 +55,7 @@ module _ {W S : Type 0} {g : Ghosts W} {h : SharingGhosts S} (IsFile : Tree → 
       (open_events before) event)
       × (after ≡ before))
       (CanContinue (open_events before) event × (failed_of after ≡ true)
-      × FailsAs IsFile size contents fault.kind (open_events before ++ event ∷ [])
+      × FailsAs h.kind g.contents fault.kind (open_events before ++ event ∷ [])
       (sink_of before) (sink_of after))
       ⊥
 

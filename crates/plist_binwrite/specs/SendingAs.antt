@@ -1,5 +1,4 @@
--- What is written when a property list is complete, given which bytes are a file of a tree, and the
--- size of such a file.
+-- What is written when a property list is complete, given the kind of file.
 use Rattle.std.specs.Prelude.{◌≡◌, ℕ, ◌^◌, ◌≤◌, List, Option, None, Ok, Err}
 use Rattle.std.specs.Io.KnownBytes.{Appends}
 use Rattle.plist_base.specs.Bracketing.{bracketing, AreAlike, AreComplete}
@@ -9,17 +8,23 @@ use Rattle.plist_base.specs.Prefixes.{AppendsPrefix}
 use Rattle.plist_base.specs.Trees.{Tree}
 use Rattle.plist_base.specs.Writing.{Answer}
 
-module _ (IsFile : Tree → List ℕ → Type 0) (size : Tree → ℕ) where
+-- a kind of file: which bytes are a file of a tree, and how many bytes such a file has
+pub record FileKind : Type 1 where
+  pub IsFile : Tree → List ℕ → Type 0
+  pub size : Tree → ℕ
+
+module _ (files : FileKind) where
   -- the events are exactly those of a tree, and this is a file of it
   abbrev pub IsFileAs : List PlainEvent → List ℕ → Type 0
   IsFileAs events file =
-      AreComplete events × ((tree : Tree) → AreAlike events (bracketing tree) → IsFile tree file)
+      AreComplete events
+      × ((tree : Tree) → AreAlike events (bracketing tree) → files.IsFile tree file)
 
   -- the events are exactly those of a tree, and a file of it would have 2^64 bytes or more
   abbrev pub IsTooLarge : List PlainEvent → Type 0
   IsTooLarge events =
       AreComplete events
-      × ((tree : Tree) → AreAlike events (bracketing tree) → 2 ^ 64 ≤ size tree)
+      × ((tree : Tree) → AreAlike events (bracketing tree) → 2 ^ 64 ≤ files.size tree)
 
   module _ {W : Type 0} (contents : W → Option (List ℕ)) where
     -- a file of the tree with these events was written

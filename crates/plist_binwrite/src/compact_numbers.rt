@@ -1,6 +1,6 @@
 //! Lists of numbers. A list stores each number in four bytes until a number doesn't fit.
 
-ghost use Rattle.std.specs.Prelude.{◌≡◌, ◌^◌, ◌<◌, ◌++◌, ◌∷◌, [], length, get_or, replicate, set, take, IfSome, IfOk, OnOk, OnErr, ◌-◌};
+ghost use Rattle.std.specs.Prelude.{◌≡◌, ◌^◌, ◌<◌, ◌++◌, ◌∷◌, [], length, get_or, replicate, set, take, None, IfSome, IfOk, OnOk, OnErr, ◌-◌};
 
 use std::alloc::{AllocError, Global};
 use std::marker::Model;
@@ -97,6 +97,19 @@ impl Numbers {
             return self.narrow.as_slice()[index] as usize;
         }
         self.wide.as_slice()[index - below]
+    }
+
+    /// Returns the last number, or `None` if the list is empty.
+    pub fn last(&self) -> Option<usize>
+        ensures some { IfSome result
+            (λ number. self.now ≡ take (length self.now - 1) self.now ++ number ∷ []) }
+        ensures none { result ≡ None → self.now ≡ [] }
+    {
+        let count = self.len();
+        if count == 0 {
+            return None;
+        }
+        Some(self.get(count - 1))
     }
 
     /// Appends a number. If an allocation fails, nothing changes.

@@ -1,9 +1,9 @@
 //! The entries of buffered events. Each entry has a kind, which takes one byte, and a number, which
 //! takes four bytes as long as the numbers fit.
 
-ghost use Rattle.std.specs.Prelude.{◌≡◌, ◌-◌, ◌^◌, ◌<◌, ◌++◌, ◌∷◌, [], length, set, take, OnOk, OnErr};
+ghost use Rattle.std.specs.Prelude.{◌≡◌, ◌-◌, ◌^◌, ◌<◌, ◌++◌, ◌∷◌, [], length, set, take, true, OnOk, OnErr};
 ghost use Rattle.plist_binwrite.specs.inner.Columns.{entry_of, kind_in, number_in, scalar_named, IsEntryNumber};
-ghost use Rattle.plist_binwrite.specs.inner.Entries.{index_after_at, closed_at, ended_at, entry_at};
+ghost use Rattle.plist_binwrite.specs.inner.Entries.{index_after_at, ended_at, entry_at, is_start};
 
 use crate::compact_numbers::Numbers;
 use plist_base::EventShape;
@@ -45,30 +45,6 @@ fn number_in(entry: EventEntry) -> usize
         EventEntry::Dictionary(behind) => behind,
         EventEntry::Scalar(index) => index,
         EventEntry::End => 0,
-    }
-}
-
-// Returns the entry of this kind with this number, which is ignored for an end.
-fn entry_of(kind: EventShape, number: usize) -> EventEntry
-    ensures { result ≡ entry_of kind number }
-{
-    match kind {
-        EventShape::StartArray => EventEntry::Array(number),
-        EventShape::StartDictionary => EventEntry::Dictionary(number),
-        EventShape::Scalar => EventEntry::Scalar(number),
-        EventShape::EndCollection => EventEntry::End,
-    }
-}
-
-// Returns a start with `behind` as the index after its end. Any other entry is returned unchanged.
-fn closed(entry: EventEntry, behind: usize) -> EventEntry
-    ensures { result ≡ closed_at entry behind }
-{
-    match entry {
-        EventEntry::Array(_) => EventEntry::Array(behind),
-        EventEntry::Dictionary(_) => EventEntry::Dictionary(behind),
-        EventEntry::Scalar(index) => EventEntry::Scalar(index),
-        EventEntry::End => EventEntry::End,
     }
 }
 
@@ -125,14 +101,6 @@ impl Entries {
         self.numbers.get(index)
     }
 
-    // Returns the entry at an index.
-    fn get(&self, index: usize) -> EventEntry
-        requires { index < length self.now }
-        ensures { result ≡ entry_at self.now index }
-    {
-        entry_of(self.kind_at(index), self.number_at(index))
-    }
-
     /// Returns the index after the tree that begins at an index: the stored index for a start, and
     /// the next index for any other entry.
     pub fn behind(&self, index: usize) -> usize
@@ -183,27 +151,28 @@ impl Entries {
         self.numbers.pop();
     }
 
-    // Replaces the entry at an index. If an allocation fails, nothing changes.
-    fn set(&mut self, index: usize, entry: EventEntry) -> Result<(), AllocError>
+    // Replaces the number of the entry at an index. If an allocation fails, nothing changes.
+    fn set_number(&mut self, index: usize, number: usize) -> Result<(), AllocError>
         requires { index < length self.old }
-        ensures set { OnOk result (self.new ≡ set self.old index entry) }
+        ensures set { OnOk result (self.new ≡ set self.old index
+            (entry_of (kind_in (entry_at self.old index)) number)) }
         ensures unchanged { OnErr result (self.new ≡ self.old) }
     {
-        self.numbers.set(index, number_in(entry))?;
-        self.kinds[index] = kind_in(entry);
+        self.numbers.set(index, number)?;
         Ok(())
     }
 
     /// Appends an end, and stores the index after it in the start at index `start`. If an
     /// allocation fails, nothing changes.
     pub fn close(&mut self, start: usize) -> Result<(), AllocError>
-        requires { start < length self.old }
+        requires within { start < length self.old }
+        requires starts { is_start (entry_at self.old start) ≡ true }
         ensures closed { OnOk result (self.new ≡ ended_at self.old start) }
         ensures unchanged { OnErr result (self.new ≡ self.old) }
         ensures small { OnOk result (length self.new < 2 ^ 63) }
     {
         self.push(EventEntry::End)?;
-        match self.set(start, closed(self.get(start), self.len())) {
+        match self.set_number(start, self.len()) {
             Ok(()) => Ok(()),
             Err(error) => {
                 self.pop();

@@ -6,6 +6,7 @@ ghost use Rattle.plist_base.specs.Events.{EndCollection, ScalarEvent, shape_of};
 ghost use Rattle.plist_base.specs.Outcomes.{OnlyMemory};
 ghost use Rattle.plist_binwrite.specs.inner.Entries.{is_leaf, AreValidEntries};
 
+use crate::compact_numbers::Numbers;
 use crate::entries::{Entries, EventEntry};
 use crate::stored_scalar::{ScalarRef, StoredScalar};
 use indexmap::IndexSet;
@@ -21,12 +22,13 @@ use std::borrow::{CowSlice, CowStr};
 pub struct EventTable<'e> {
     scalars: IndexSet<StoredScalar<'e>>,
     entries: Entries,
-    unclosed: Vec<usize>,
+    // The indices of the open starts, the innermost last.
+    unclosed: Numbers,
     // The expected number of different scalars.
     expected: usize,
     // The number of different scalars at which `make_room` next checks whether their table is full.
     full_at: usize,
-    ghost kept: { AreValidEntries scalars.keys entries unclosed.items } by { Prim.hlevel props },
+    ghost kept: { AreValidEntries scalars.keys entries unclosed } by { Prim.hlevel props },
     ghost few: { length entries < 2 ^ 63 },
 }
 
@@ -46,7 +48,7 @@ impl<'e> EventTable<'e> {
         EventTable {
             scalars: IndexSet::new(alloc),
             entries: Entries::new(alloc),
-            unclosed: Vec::new(alloc),
+            unclosed: Numbers::new(alloc),
             expected: 0,
             full_at: 0,
         }
@@ -166,7 +168,7 @@ impl<'e> EventTable<'e> {
         ensures { result ≡ innermost (expected_inside (plain_events self.now)) }
     {
         match self.unclosed.last() {
-            Some(start) => match self.kind_at(*start) {
+            Some(start) => match self.kind_at(start) {
                 EventShape::StartArray => Some(Expect::Items),
                 EventShape::StartDictionary => Some(Expect::Pairs),
                 EventShape::Scalar | EventShape::EndCollection => None,
@@ -182,11 +184,14 @@ impl<'e> EventTable<'e> {
         ensures events { OnOk result (GrowsBy self.old (entry_event self.old entry) self.new) }
         ensures unchanged { OnErr result (plain_events self.new ≡ plain_events self.old) }
     {
-        self.unclosed.reserve(1)?;
-        let index = self.entries.len();
-        self.entries.push(entry)?;
-        self.unclosed.push_reserved(index);
-        Ok(())
+        self.unclosed.push(self.entries.len())?;
+        match self.entries.push(entry) {
+            Ok(()) => Ok(()),
+            Err(error) => {
+                self.unclosed.pop();
+                Err(error)
+            }
+        }
     }
 
     // Appends an end, which closes the innermost open collection, if one is open.
@@ -194,14 +199,12 @@ impl<'e> EventTable<'e> {
         ensures events { OnOk result (GrowsBy self.old EndCollection self.new) }
         ensures unchanged { OnErr result (plain_events self.new ≡ plain_events self.old) }
     {
-        match self.unclosed.pop() {
-            Some(start) => match self.entries.close(start) {
-                Ok(()) => Ok(()),
-                Err(error) => {
-                    self.unclosed.push_reserved(start);
-                    Err(error)
-                }
-            },
+        match self.unclosed.last() {
+            Some(start) => {
+                self.entries.close(start)?;
+                self.unclosed.pop();
+                Ok(())
+            }
             None => {
                 self.entries.push(EventEntry::End)?;
                 Ok(())

@@ -2,13 +2,14 @@
 
 ghost use Rattle.std.specs.Prelude.{◌≡◌, ◌<◌, Ok, length, true, false};
 ghost use Rattle.plist_base.specs.Events.{ScalarEvent};
-ghost use Rattle.plist_base.specs.Sinks.{PutsBytes, PutsNothing};
-ghost use Rattle.plist_base.specs.Trees.{Scalar};
+ghost use Rattle.plist_base.specs.Sinks.{Puts, PutsBytes, PutsNothing};
+ghost use Rattle.plist_base.specs.Trees.{Scalar, Tree};
 ghost use Rattle.plist_binwrite.specs.EventClasses.{events_in};
 ghost use Rattle.plist_binwrite.specs.EventTable.{plain_events, table_event};
 ghost use Rattle.plist_binwrite.specs.Forms.{scalar_form};
+ghost use Rattle.plist_binwrite.specs.Occurrences.{OccursAt};
 ghost use Rattle.plist_binwrite.specs.inner.PlannedFiles.{IsFilePlan};
-ghost use Rattle.plist_binwrite.specs.inner.Putting.{PutsCollection, PutsHalf, PutsObject, PutsObjects};
+ghost use Rattle.plist_binwrite.specs.inner.Putting.{PutsObjects, collection_form, references_of, tree_form};
 
 use crate::children::{Children, Half};
 use crate::classes::Classed;
@@ -30,7 +31,8 @@ fn put_half<W: Write>(
 ) -> Result<(), Error>
     requires plan { IsFilePlan given.now plan.now }
     requires index { index < length (events_in given.now) }
-    ensures { PutsHalf W.contents sink.old given.now plan.now half index result sink.new }
+    ensures { Puts W.contents sink.old (references_of given.now plan.now half index) result
+        sink.new }
 {
     for child in Children::new(given.events, index, half) {
         let number = plan.numbering.number(given, child) as u64;
@@ -51,7 +53,8 @@ fn put_collection<W: Write>(
 ) -> Result<(), Error>
     requires plan { IsFilePlan given.now plan.now }
     requires index { index < length (events_in given.now) }
-    ensures { PutsCollection W.contents sink.old given.now plan.now kind index result sink.new }
+    ensures { Puts W.contents sink.old (collection_form given.now plan.now kind index) result
+        sink.new }
 {
     put_length(
         sink,
@@ -89,7 +92,8 @@ fn put_object<W: Write>(
 ) -> Result<(), Error>
     requires plan { IsFilePlan given.now plan.now }
     requires index { index < length (events_in given.now) }
-    ensures { PutsObject W.contents sink.old given.now plan.now index result sink.new }
+    ensures { (tree : Tree) → OccursAt (events_in given.now) tree index
+        → Puts W.contents sink.old (tree_form given.now plan.now tree index) result sink.new }
 {
     match given.events.kind_at(index) {
         EventShape::StartArray => put_collection(sink, given, plan, index, CountedKind::Array),

@@ -4,12 +4,13 @@ ghost use Rattle.std.specs.Prelude.{◌≡◌, []};
 ghost use Rattle.plist_base.specs.Bracketing.{AreTreeEvents};
 ghost use Rattle.plist_base.specs.Sinks.{IsSameSink, pending};
 ghost use Rattle.plist_base.specs.Writing.{answer_of};
-ghost use Rattle.plist_binwrite.specs.Completing.{SendsByClass};
-ghost use Rattle.plist_binwrite.specs.EventClasses.{IsClassed, events_in};
+ghost use Rattle.plist_binwrite.specs.Classes.{files_by};
+ghost use Rattle.plist_binwrite.specs.EventClasses.{IsClassed, class_in, events_in};
 ghost use Rattle.plist_binwrite.specs.EventTable.{plain_events};
 ghost use Rattle.plist_binwrite.specs.Sending.{Sends};
-ghost use Rattle.plist_binwrite.specs.inner.PlannedFiles.{IsFilePlan};
-ghost use Rattle.plist_binwrite.specs.inner.Putting.{PutsFile, SendsPlanned};
+ghost use Rattle.plist_binwrite.specs.SendingAs.{SendsAs};
+ghost use Rattle.plist_binwrite.specs.inner.PlannedFiles.{IsFilePlan, SendsPlan};
+ghost use Rattle.plist_binwrite.specs.inner.Putting.{PutsFile};
 
 use crate::classes::{Classed, Classes};
 use crate::event_table::EventTable;
@@ -43,8 +44,8 @@ fn send_plan<W: Write>(
 ) -> Result<(), Error>
     requires plan { IsFilePlan given.now plan.now }
     requires empty { pending sink.old ≡ [] }
-    ensures sent { SendsPlanned W.contents given.now plan.now result sink.old.writer.now
-        sink.new.writer.now }
+    ensures sent { SendsPlan W.contents given.now plan.now (answer_of result)
+        sink.old.writer.now sink.new.writer.now }
     ensures same { IsSameSink sink.old sink.new }
 {
     put_file(sink, given, plan)?;
@@ -69,7 +70,8 @@ pub fn complete_by_class<W: Write>(
 ) -> Result<(), Error>
     requires whole { AreTreeEvents (events_in given.now) }
     requires classed { IsClassed given.now }
-    ensures { SendsByClass given.now W.contents result writer.old writer.new }
+    ensures { SendsAs (files_by (class_in given.now)) W.contents (events_in given.now)
+        (answer_of result) writer.old writer.new }
 {
     let mut buffer = FixedBuffer::new(alloc)?;
     let plan = plan_file(alloc, given)?;

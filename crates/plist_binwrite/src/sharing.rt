@@ -1,11 +1,10 @@
 //! Decides which equal trees of a property list share an object of its file.
 
-ghost use Rattle.std.specs.Prelude.{List, ℕ};
 ghost use Rattle.plist_base.specs.Bracketing.{AreTreeEvents};
-ghost use Rattle.plist_base.specs.Trees.{Tree};
-ghost use Rattle.plist_binwrite.specs.Files.{IsFileOf};
+ghost use Rattle.plist_base.specs.Writing.{answer_of};
 ghost use Rattle.plist_binwrite.specs.EventTable.{plain_events};
-ghost use Rattle.plist_binwrite.specs.Sizes.{file_size};
+ghost use Rattle.plist_binwrite.specs.Sending.{least_files};
+ghost use Rattle.plist_binwrite.specs.SendingAs.{FileKind, SendsAs};
 
 use crate::event_table::EventTable;
 use crate::send_file;
@@ -16,12 +15,8 @@ use std::io::Write;
 /// Decides which equal trees of a property list share an object of its file. The trait is sealed,
 /// as [`Writer`](plist_base::Writer) is: only this crate and `plist_share` implement it.
 pub trait Sharing: Sealed + Drop {
-    ghost use Rattle.plist_binwrite.specs.Completing.{SendsHeld};
-
-    /// Says which bytes are a file of a tree.
-    ghost IsFile: { Tree → List ℕ → Type 0 };
-    /// The number of bytes of the file of a tree.
-    ghost size: { Tree → ℕ };
+    /// Says which bytes are a file of a tree, and how many bytes such a file has.
+    ghost kind: { FileKind };
 
     /// Plans the file of a whole property list's events, writes it and flushes the writer. All
     /// memory is allocated before the first byte is written.
@@ -37,7 +32,8 @@ pub trait Sharing: Sealed + Drop {
         writer: &mut W,
     ) -> Result<(), Error>
         requires whole { AreTreeEvents (plain_events events.now) }
-        ensures { SendsHeld IsFile size W.contents events.now result writer.old writer.new };
+        ensures { SendsAs kind W.contents (plain_events events.now) (answer_of result) writer.old
+            writer.new };
 }
 
 /// Equal scalars share an object, and each collection has an object of its own.
@@ -47,9 +43,7 @@ pub struct EqualScalars;
 impl Sealed for EqualScalars {}
 
 impl Sharing for EqualScalars {
-    ghost IsFile = { IsFileOf };
-
-    ghost size = { file_size };
+    ghost kind = { least_files };
 
     fn complete<W: Write>(
         alloc: Global,

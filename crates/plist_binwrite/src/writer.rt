@@ -79,7 +79,7 @@ impl<W: Write, S: Sharing> Writer for FileWriter<W, S> {
 
     ghost failed = { failed_of };
 
-    ghost Step = { IsWriterStep S.IsFile S.size W.contents };
+    ghost Step = { IsWriterStep };
 
     fn write(&mut self, event: Event<'_>) -> Result<(), Error> {
         if self.has_failed {
@@ -105,7 +105,7 @@ impl<W: Write, S: Sharing> Writer for FileWriter<W, S> {
         Ok(())
     }
 
-    ghost law = { takes_law S.IsFile S.size W.contents };
+    ghost law = { takes_law };
 
-    ghost law_of_failed = { takes_failed S.IsFile S.size W.contents };
+    ghost law_of_failed = { takes_failed };
 }

@@ -18,7 +18,7 @@ use Rattle.plist.specs.ValueOfItems.{IsReadIfKnown}
 use Rattle.plist_base.specs.declared.source.Source.{Ghosts}
 use Rattle.plist_binread.specs.BinaryReader.{binary_source}
 use Rattle.plist_reader.specs.Reader.{BinaryReaderOf}
-use Rattle.plist_commands.specs.Converting.{AreNoTree, FindsTree, IfOkIs, IsRefusedFor, items_left}
+use Rattle.plist_commands.specs.Converting.{CollectsItems, items_left}
 use Rattle.plist_commands.specs.declared.collector.Collector.{Collector}
 use Rattle.plist_commands.specs.declared.collector.StopReason.{StopReason}
 use Rattle.plist_commands.specs.declared.collector.StopReason.TheVariants.{Failed, Misplaced, Paused}
@@ -44,9 +44,7 @@ module _ {I : Type 0} (gives : I → PlainItem → I → Type 0) (coming : I →
     (failures : I → ℕ) where
   -- what is true after a visit
   pub record Concludes (old : I) (answer : Result Bool Error) (new : I × Collector) : Type 0 where
-    pub held : FindsTree (coming old) answer (collected new.1)
-    pub none : IfOkIs answer false (AreNoTree (coming old))
-    pub refused : IsRefusedFor (coming old) answer
+    pub collects : CollectsItems (coming old) answer (collected new.1)
     pub ran : BuffersRun gives old answer new.0 (collected new.1)
     pub counted : CountsReads answer (failures old) (failures new.0)
 
@@ -148,14 +146,16 @@ module _ {I : Type 0} (gives : I → PlainItem → I → Type 0) (coming : I →
       let came = came_next (coming first) (coming left.0) (coming new) (collected left.1) None
       held.so_far (comes left.0 None new last) in
       record {
-        held = λ e. let whole = (rw e at held.tested).0 in (
-          whole,
-          IfSome_then (coming first) came
-              (λ all (before, next, took, to, is). held_at_end all before _ took is whole),
-        );
-        none = λ e. IfSome_then (coming first) came (λ all (before, next, took, to, is) tree of.
-            (rw e at held.tested) (whole_at_end all before _ took is tree of));
-        refused = tt;
+        collects = record {
+          held = λ e. let whole = (rw e at held.tested).0 in (
+            whole,
+            IfSome_then (coming first) came
+                (λ all (before, next, took, to, is). held_at_end all before _ took is whole),
+          );
+          none = λ e. IfSome_then (coming first) came (λ all (before, next, took, to, is) tree of.
+              (rw e at held.tested) (whole_at_end all before _ took is tree of));
+          refused = tt;
+        };
         ran = held_whole gives first left.0 new (collected left.1) (is_complete left.1) held.ran last;
         counted = (counts left.0 None new held.open_still last).0 ∙ held.counted;
       }
@@ -178,19 +178,23 @@ module _ {I : Type 0} (gives : I → PlainItem → I → Type 0) (coming : I →
       let came = came_next (coming first) (coming left.0) (coming new.0) (collected left.1)
       (Some (Ok event)) held.so_far (comes left.0 (Some (Ok event)) new.0 last) in
       rw is (record {
-        held = λ e. absurd (cc);
-        none = λ e. IfSome_then (coming first) came (λ all (before, next, took, to, is) tree of.
-            cannot held.tested (goes_on all before _ took next event is tree of));
-        refused = tt;
+        collects = record {
+          held = λ e. absurd (cc);
+          none = λ e. IfSome_then (coming first) came (λ all (before, next, took, to, is) tree of.
+              cannot held.tested (goes_on all before _ took next event is tree of));
+          refused = tt;
+        };
         ran = held_refused gives first left.0 new.0 event (collected left.1) (collected new.1)
             held.ran last;
         counted = (counts left.0 (Some (Ok event)) new.0 held.open_still last).0 ∙ held.counted;
       })
   stops_there first left new event (Failed error) answer held last not_paused memory is =
       rw is (record {
-        held = tt;
-        none = tt;
-        refused = read_without_memory (coming first) error memory;
+        collects = record {
+          held = tt;
+          none = tt;
+          refused = read_without_memory (coming first) error memory;
+        };
         ran = held_stopped gives first left.0 new.0 event (collected left.1) (collected new.1) error
             held.ran last memory;
         counted = own_counts error (failures first) (failures new.0) (memory_own error memory)
@@ -202,13 +206,15 @@ module _ {I : Type 0} (gives : I → PlainItem → I → Type 0) (coming : I →
       → gives left.0 (Some (Err error)) new.0
       → Concludes gives coming failures first (Err error) new
   fails_there first left new error held last = record {
-    held = tt;
-    none = tt;
-    refused = IfSome_then (coming first)
-        (came_next (coming first) (coming left.0) (coming new.0) (collected left.1)
-        (Some (Err error)) held.so_far (comes left.0 (Some (Err error)) new.0 last))
-        (λ all (before, next, took, to, is).
-        took_fault all before _ took next (fault_of error) is);
+    collects = record {
+      held = tt;
+      none = tt;
+      refused = IfSome_then (coming first)
+          (came_next (coming first) (coming left.0) (coming new.0) (collected left.1)
+          (Some (Err error)) held.so_far (comes left.0 (Some (Err error)) new.0 last))
+          (λ all (before, next, took, to, is).
+          took_fault all before _ took next (fault_of error) is);
+    };
     ran = held_faulted gives first left.0 new.0 (collected left.1) (collected new.1) error held.ran
         last;
     counted = fault_counts {A = Unit {0}} error error (failures first) (failures left.0)

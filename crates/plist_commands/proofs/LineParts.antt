@@ -1,19 +1,16 @@
 -- A line whose word, bytes and end are put one after another, and the blocks of its bytes.
-use Rattle.std.proofs.Common.{◌≡◌, ℕ, suc, ◌+◌, ◌*◌, ◌<◌, ◌==◌, true, false, true≢false, List, [], ◌∷◌, ◌++◌, length, get_or, take, drop, Option, Result, Ok, Err, codes, refl, sym, ap, ◌∙◌, subst, append_assoc, arith}
+use Rattle.std.proofs.Common.{◌≡◌, ℕ, ◌+◌, ◌*◌, ◌<◌, List, [], ◌++◌, length, get_or, take, drop, Option, Result, Ok, Err, refl, ap, ◌∙◌, subst}
 use Rattle.std.specs.Prelude.{IsErrAnd}
 use Rattle.std.specs.Simd.{first_chunks}
-use Rattle.std.proofs.lemmas.Bool.Decides.{Decides-eqb}
 use Rattle.std.proofs.lemmas.List.{take-append-drop}
 use Rattle.plist_base.specs.declared.error.Error.{Error}
 use Rattle.plist_base.specs.declared.sink.Sink.{Sink}
-use Rattle.plist_base.specs.Events.{ScalarEvent}
 use Rattle.plist_base.specs.Sinks.{Puts, PutsBytes}
-use Rattle.plist_base.specs.Trees.{Data, String}
 use Rattle.plist_base.specs.Writing.{answer_of}
 use Rattle.plist_base.proofs.SinkSteps.{puts_none, puts_refused, puts_then}
 use Rattle.plist_commands.specs.declared.lines.Notation.{Notation}
 use Rattle.plist_commands.specs.declared.lines.Notation.TheVariants as notation
-use Rattle.plist_commands.specs.EscapedLines.{hexadecimal, line_of, in_notation, escaped_text}
+use Rattle.plist_commands.specs.EscapedLines.{in_notation}
 use Rattle.plist_commands.proofs.Blocks.{block_more, blocks_end, both_noted}
 
 module _ {W : Type 0} {contents : W → Option (List ℕ)} (n : Notation) (size count : ℕ)
@@ -61,22 +58,3 @@ module _ {W : Type 0} {contents : W → Option (List ℕ)} (n : Notation) (size 
       rest_put rest answer at is now =
           subst (λ l. PutsBytes contents a l (answer_of answer) c)
           (blocks_end n size count bytes [] _ _ rest i at refl is refl) (puts_then so_far now)
-
--- the parts together are the line of a string, or that of data
-pub text_line : (text bytes : List ℕ) → bytes ≡ text
-    → codes "String \"" ++ escaped_text bytes ++ codes "\"\n" ≡ line_of (ScalarEvent (String text))
-text_line text bytes is =
-    sym (append_assoc (codes "String \"" ++ escaped_text bytes) (codes "\"") (codes "\n"))
-    ∙ ap (λ l. line_of (ScalarEvent (String l))) is
-
-pub data_line : (bytes : List ℕ) → (length bytes == 0) ≡ false
-    → codes "Data " ++ hexadecimal bytes ++ codes "\n" ≡ line_of (ScalarEvent (Data bytes))
-data_line [] some = absurd (true≢false some)
-data_line (byte ∷ bytes) some = refl
-
-pub no_data_line : (bytes : List ℕ) → (length bytes == 0) ≡ true
-    → codes "Data" ++ hexadecimal bytes ++ codes "\n" ≡ line_of (ScalarEvent (Data bytes))
-no_data_line [] none = refl
-no_data_line (byte ∷ bytes) none =
-    let no : suc (length bytes) ≡ 0 = (Decides-eqb (length (byte ∷ bytes)) 0).0 none in
-    absurd (omega (arith, no))

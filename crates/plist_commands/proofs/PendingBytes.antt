@@ -1,5 +1,5 @@
 -- What was written and how failures are counted after an error.
-use Rattle.std.proofs.Common.{◌≡◌, ℕ, List, ◌⊎◌, inl, inr, Option, None, Some, IfSome, Result, Ok, Err, OnErr, option_map, ap, subst, sym}
+use Rattle.std.proofs.Common.{◌≡◌, ℕ, List, ◌⊎◌, inl, inr, Option, None, Some, IfSome, Err, option_map, ap, subst, sym}
 use Rattle.std.specs.Prelude.{⊤}
 use Rattle.plist_base.specs.declared.error.Error.{Error}
 use Rattle.plist_base.specs.Events.{Item}
@@ -7,11 +7,6 @@ use Rattle.plist_base.specs.Faults.{Fault, FaultKind, Io, MatchFault, OutOfMemor
 use Rattle.plist_base.specs.Sources.{CountsIo, Rises}
 use Rattle.plist_base.proofs.Refusals.{MatchFault-all, MatchFault-at, MatchFault-weaker}
 use Rattle.plist_commands.specs.Printing.{CountsReads, IsWriterError, PrintsUntil}
-
--- a fact about an error is true of the result that passes it on
-pub on_err_of : {T E P : Type 0} (answer : Result T E) → P → OnErr answer P
-on_err_of (Ok value) p = tt
-on_err_of (Err error) p = p
 
 -- ---- a failed write or allocation
 

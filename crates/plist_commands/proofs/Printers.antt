@@ -1,5 +1,5 @@
 -- What is written for the events that a printer takes.
-use Rattle.std.proofs.Common.{◌≡◌, inl, inr, ℕ, List, [], Option, None, Some, Result, Ok, Err, refl, sym, ◌∙◌, append-nil}
+use Rattle.std.proofs.Common.{◌≡◌, ℕ, List, [], Option, None, Some, Result, Ok, Err, sym, ◌∙◌, append-nil}
 use Rattle.std.specs.Io.KnownBytes.{Appends}
 use Rattle.std.specs.Prelude.{IfErr, OnOk}
 use Rattle.plist_base.specs.declared.error.Error.{Error}
@@ -14,7 +14,7 @@ use Rattle.plist_base.proofs.WriterBytes.{Appends-at}
 use Rattle.plist_base.proofs.SinkSteps.{same_itself, same_then}
 use Rattle.plist_base.proofs.Visits.{kept_all}
 use Rattle.plist_commands.specs.declared.print.Printer.{Printer}
-use Rattle.plist_commands.specs.Printers.{FailsAfterLines, IsSamePrinter, PrintsLine, pending_lines, printed}
+use Rattle.plist_commands.specs.Printers.{IsSamePrinter, PrintsLine, pending_lines, printed}
 use Rattle.plist_commands.specs.ReaderRuns.{PrintsRun}
 use Rattle.plist_commands.proofs.Runs.{HasRun, run_more, run_none, run_stopped}
 
@@ -40,21 +40,6 @@ module _ {W : Type 0} (contents : W → Option (List ℕ)) where
     fault = put.follows.0;
     prefix = rw (append-nil (pending old)) at put.follows.1;
   }
-
-  -- the pending lines were written before an error, which is the result
-  pub fails_after : (old new : Sink W) (answer : Result (Unit {0}) Error) (error : Error)
-      → Puts contents old [] answer new → OnOk answer (pending new ≡ []) → answer ≡ Ok tt
-      → FailsAfterLines contents old error error new
-  fails_after old new answer error put none is =
-      let done = empties old new answer put none in
-      record { same = put.same; lines = inl (refl, rw is at done.sent); prefix = done.prefix }
-
-  pub fails_writing : (old new : Sink W) (answer : Result (Unit {0}) Error) (error failure : Error)
-      → Puts contents old [] answer new → OnOk answer (pending new ≡ []) → answer ≡ Err failure
-      → FailsAfterLines contents old error failure new
-  fails_writing old new answer error failure put none is =
-      let done = empties old new answer put none in
-      record { same = put.same; lines = inr (rw is at done.fault); prefix = done.prefix }
 
 module _ {I W : Type 0} (yields : I → PlainItem → I → Type 0) (contents : W → Option (List ℕ)) where
   -- the events that were yielded so far were printed

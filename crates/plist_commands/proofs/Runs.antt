@@ -1,25 +1,20 @@
 -- What is written for the events that were yielded so far, or what is buffered of them.
-use Rattle.std.proofs.Common.{◌≡◌, ◌⊎◌, inl, inr, ℕ, Bool, true, false, true≢false, List, [], ◌∷◌, ◌++◌, Option, None, Some, Result, Ok, Err, IfErr, OnOk, map, refl, sym, ap, ◌∙◌, subst, append_assoc, append-nil}
+use Rattle.std.proofs.Common.{◌≡◌, ◌⊎◌, inl, inr, ℕ, Bool, false, true≢false, List, [], ◌∷◌, ◌++◌, Option, None, Some, Result, Ok, Err, IfErr, OnOk, map, refl, sym, ap, ◌∙◌, subst, append_assoc, append-nil}
 use Rattle.std.specs.Io.KnownBytes.{Appends, Keeps}
 use Rattle.std.specs.Prelude.{IsErrAnd}
 use Rattle.std.proofs.KnownBytes.{Appends-nil, Appends-trans}
 use Rattle.std.proofs.lemmas.List.{map-append}
 use Rattle.plist_base.specs.Bracketing.{without_length}
-use Rattle.plist_base.specs.Sources.{CountsIo, Rises}
-use Rattle.plist_commands.specs.declared.convert.Streamed.{Streamed}
-use Rattle.plist_commands.specs.declared.convert.Streamed.TheVariants.{NeedsValue, Sent}
-use Rattle.plist_commands.specs.Converting.{IfOkIs}
 use Rattle.plist_base.specs.declared.error.Error.{Error}
 use Rattle.plist_base.specs.Events.{PlainEvent}
-use Rattle.plist_base.specs.Faults.{Fault, FaultKind, Io, IsIo, IsIoOrMemory, MatchFault, OutOfMemory, error_kind_of, fault_without_offset, fault_of, kind_of, offset_of}
+use Rattle.plist_base.specs.Faults.{Io, OutOfMemory, fault_without_offset, fault_of}
 use Rattle.plist_base.specs.Prefixes.{AppendsPrefix}
 use Rattle.plist_base.specs.Sinks.{WritesBut}
 use Rattle.plist_base.specs.Visits.{YieldsAll, PlainItem}
 use Rattle.plist_base.proofs.WriterBytes.{Appends-at}
 use Rattle.plist_base.proofs.Visits.{given_more}
 use Rattle.plist_commands.specs.EscapedLines.{line_of, lines_of_events}
-use Rattle.plist_commands.specs.Printing.{IsWriterFault}
-use Rattle.plist_commands.specs.ReaderRuns.{ComesOfReading, BuffersRun, PrintsRun}
+use Rattle.plist_commands.specs.ReaderRuns.{BuffersRun, PrintsRun}
 
 lines_more : (events : List PlainEvent) (event : PlainEvent)
     → lines_of_events (events ++ event ∷ []) ≡ lines_of_events events ++ line_of event
@@ -56,18 +51,6 @@ front_kept : (old now after : Option (List ℕ)) (bytes : List ℕ) → AppendsP
     → Keeps now after → AppendsPrefix old after bytes
 front_kept old now after bytes (sent, rest, appended, is) kept =
     (sent, rest, appends_kept old now after sent appended kept, is)
-
--- an error of the writer is `Io` or `OutOfMemory`, without an offset
-own_fault : (fault : Fault) → IsWriterFault fault
-    → (fault ≡ fault_without_offset Io) ⊎ (fault ≡ fault_without_offset OutOfMemory)
-own_fault fault (none, own) = by fault.kind fault.offset none own
-  where
-    by : (kind : FaultKind) (offset : Option ℕ) → offset ≡ None → IsIoOrMemory kind
-        → (◌≡◌ {A = Fault} (record { kind = kind; offset = offset }) (fault_without_offset Io))
-        ⊎ (◌≡◌ {A = Fault} (record { kind = kind; offset = offset }) (fault_without_offset OutOfMemory))
-    by Io offset none own = inl (rw none refl)
-    by OutOfMemory offset none own = inr (rw none refl)
-    by kind offset none own = absurd own
 
 -- some events were yielded, whose lines were written or are pending
 abbrev pub HasRun : {I : Type 0} (yields : I → PlainItem → I → Type 0) (old now : I)
@@ -253,24 +236,3 @@ module _ {I : Type 0} (yields : I → PlainItem → I → Type 0) where
       → HasHeld yields old now held → yields now None new → BuffersRun yields old (Ok whole) new held
   held_whole old now new held whole (events, through, is) step =
       (events, now, through, (inl step, λ _. (step, is)))
-
--- ---- the result of a conversion
-
-pub io_rises : (error : Error) (old new : ℕ) → IsIo (kind_of (error_kind_of error))
-    → CountsIo error old new → Rises old new
-io_rises error old new io counts = by (kind_of (error_kind_of error)) io counts
-  where
-    by : (kind : FaultKind) → IsIo kind
-        → MatchFault kind (Rises old new) (new ≡ old) (new ≡ old) → Rises old new
-    by Io io counts = counts
-    by kind io counts = absurd io
-
-pub ends_sent : (sent : Type 0) (whole : Bool) (answer : Result Streamed Error) → whole ≡ true
-    → IfOkIs answer Sent sent → IfErr answer (λ error. offset_of error ≡ None)
-    → ComesOfReading sent (Ok whole) answer
-ends_sent sent whole (Ok found) is wrote without_offset = rw is wrote
-ends_sent sent whole (Err error) is wrote without_offset = rw is without_offset
-
-pub ends_left : (sent : Type 0) (whole : Bool) → whole ≡ false
-    → ComesOfReading sent (Ok whole) (Ok NeedsValue)
-ends_left sent whole is = rw is refl

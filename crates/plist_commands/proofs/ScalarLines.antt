@@ -1,27 +1,11 @@
 -- The lines of dates, numbers and strings.
-use Rattle.std.proofs.Common.{◌≡◌, ℕ, ℤ, ◌≤◌, zero, suc, true, false, List, [], ◌∷◌, ◌++◌, length, Some, codes, refl, ap, append_assoc, arith, bit_or, eqb, leb, ltb, eqb-true, eq-eqb, leb-false, ltb-false}
-use Rattle.std.specs.Fmt.{signed_decimal}
+use Rattle.std.proofs.Common.{◌≡◌, ℕ, ◌≤◌, zero, suc, true, false, List, [], ◌∷◌, length, refl, ap, arith, bit_or, eqb, leb, ltb, eqb-true, eq-eqb, leb-false, ltb-false}
 use Rattle.std.proofs.lemmas.Bool.{le-leb}
 use Rattle.std.proofs.lemmas.Nat.{and_le_l, and_le_r}
 use lib.Bits.{or_add_and}
 use Rattle.plist_base.specs.ByteTests.{EachByte}
 use Rattle.plist_base.proofs.ByteBlocks.{mask_left, mask_right, none_left, none_right}
-use Rattle.plist_base.specs.Date.{real_bits, second_of_bytes, has_fraction}
-use Rattle.plist_commands.specs.EscapedLines.{hexadecimal, stands_for_itself, escaped_text, text_of_date}
-
--- ---- a date with a fraction
-
-date_fractional : (bytes : List ℕ) (second : ℤ) → second_of_bytes bytes ≡ Some second
-    → has_fraction (real_bits bytes) ≡ true
-    → signed_decimal second ++ (codes " " ++ hexadecimal bytes) ≡ text_of_date bytes
-date_fractional bytes second is fraction = rw (is, fraction) refl
-
-pub fraction_sent : (line with_second with_blank last bytes : List ℕ) (second : ℤ)
-    → second_of_bytes bytes ≡ Some second → has_fraction (real_bits bytes) ≡ true
-    → with_second ≡ line ++ signed_decimal second → with_blank ≡ with_second ++ codes " "
-    → last ≡ with_blank ++ hexadecimal bytes → last ≡ line ++ text_of_date bytes
-fraction_sent line with_second with_blank last bytes second is fraction a b c =
-    rw (c, b, a, ← date_fractional bytes second is fraction) (simp append_assoc)
+use Rattle.plist_commands.specs.EscapedLines.{stands_for_itself, escaped_text}
 
 -- ---- strings whose bytes are printed as they are
 

@@ -20,7 +20,7 @@ use Rattle.plist.specs.declared.stream.events.Events.{Events}
 use Rattle.plist_commands.specs.Converting.{items_left}
 use Rattle.plist_commands.specs.EscapedLines.{first_fault, lines_of, lines_of_events}
 use Rattle.plist_commands.specs.Items.{ComesIfKnown, GivesNext, failures_if_held, failures_in, items_of_events}
-use Rattle.plist_commands.specs.Printing.{CountsReads, IsWriterError, PrintsAll, PrintsUntil}
+use Rattle.plist_commands.specs.Printing.{CountsReads, IsWriterError, PrintsKnown, PrintsAll, PrintsUntil}
 use Rattle.plist_binread.specs.Advancing.{Steps}
 use Rattle.plist_commands.specs.ReaderRuns.{IsAskedOnce, PrintsRun, StepsReader, StopsPrinting}
 use Rattle.plist_base.proofs.SinkSteps.{prefix_more}
@@ -109,27 +109,6 @@ pub events_come : (old : Events) (item : PlainItem) (new : Events)
 events_come old item new (given, yields, is) =
     (map Ok (remaining_events new), refl, rw is (events_given old given new yields))
 
-events_error : (given : Option (Result Event Error)) (error : Error) (old new : Events)
-    → ◌≡◌ {A = PlainItem} (Some (Err error)) (plain_item given) → GivesEvent old given new
-    → fault_of error ≡ fault_without_offset OutOfMemory
-events_error None error old new is h = absurd (cc)
-events_error (Some (Ok event)) error old new is h = absurd (cc)
-events_error (Some (Err other)) error old new is h =
-    let same : error ≡ other = cc in ap fault_of same ∙ h.0
-
--- each error of printing a value's events is one of the writer
-pub value_error : (old new : Events) (answer : Result (Unit {0}) Error)
-    (before after : Option (List ℕ)) → PrintsRun (YieldsPlain GivesEvent) old answer new before after
-    → IfErr answer IsWriterError
-value_error old new (Ok done) before after run = tt
-value_error old new (Err error) before after
-    (events, left, through, inl ((given, yields, is), sent)) =
-    memory_own error (events_error given error left new is yields)
-value_error old new (Err error) before after (events, left, through, inr (inl (io, asked), front)) =
-    device_own error io
-value_error old new (Err error) before after
-    (events, left, through, inr (inr (memory, same), front)) = memory_own error memory
-
 -- ---- all items
 
 lines_front : (events : List PlainEvent) (rest : List Item)
@@ -160,6 +139,15 @@ stops_own : {I : Type 0} (yields : I → PlainItem → I → Type 0) (error : Er
     → StopsPrinting yields error left new → IsWriterError error
 stops_own yields error left new (inl (io, asked)) = device_own error io
 stops_own yields error left new (inr (memory, same)) = memory_own error memory
+
+prints_all : (items : Option (List Item)) (answer : Result (Unit {0}) Error)
+    (before after : Option (List ℕ)) → OnOk answer (IfSome items (λ all. PrintsAll all before after))
+    → IfErr answer (λ error. IfSome items (λ all. PrintsUntil error all before after))
+    → IfSome items (λ all. AppendsPrefix before after (lines_of all))
+    → IfSome items (λ all. PrintsKnown all answer before after)
+prints_all None answer before after printed refused prefix = tt
+prints_all (Some all) answer before after printed refused prefix =
+    record { printed = printed; refused = refused; prefix = prefix }
 
 module _ {I : Type 0} (yields : I → PlainItem → I → Type 0) (coming : I → Option (List Item))
     (comes : (old : I) (item : PlainItem) (new : I) → yields old item new
@@ -195,7 +183,7 @@ module _ {I : Type 0} (yields : I → PlainItem → I → Type 0) (coming : I �
       ))
   run_printed old new (Err error) before after run = tt
 
-  pub run_until : (old new : I) (answer : Result (Unit {0}) Error)
+  run_until : (old new : I) (answer : Result (Unit {0}) Error)
       (before after : Option (List ℕ)) → PrintsRun yields old answer new before after
       → IfErr answer (λ error. IfSome (coming old) (λ all. PrintsUntil error all before after))
   run_until old new (Ok done) before after run = tt
@@ -225,6 +213,13 @@ module _ {I : Type 0} (yields : I → PlainItem → I → Type 0) (coming : I �
   run_front old new (Err error) before after (events, left, through, inr (stops, front)) =
       IfSome_then (coming old) (all_came old left events through) (λ all (rest, to, is).
       front_of before after events all rest is front)
+
+  pub run_prints : (old new : I) (answer : Result (Unit {0}) Error)
+      (before after : Option (List ℕ)) → PrintsRun yields old answer new before after
+      → IfSome (coming old) (λ all. PrintsKnown all answer before after)
+  run_prints old new answer before after run =
+      prints_all (coming old) answer before after (run_printed old new answer before after run)
+      (run_until old new answer before after run) (run_front old new answer before after run)
 
 -- ---- what a source keeps unchanged
 

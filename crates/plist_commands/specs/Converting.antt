@@ -1,5 +1,5 @@
 -- What is written for a source's property list if no value is made of it.
-use Rattle.std.specs.Prelude.{◌≡◌, ◌⊎◌, ℕ, Bool, true, List, ◌++◌, Option, Result, Ok, Err, IfErr, IfOk, IfSome}
+use Rattle.std.specs.Prelude.{◌≡◌, ◌⊎◌, ℕ, Bool, true, List, false, ◌++◌, Option, Result, Ok, Err, IfErr, IfOk, IfSome}
 use Rattle.std.specs.Option.{option_map}
 use Rattle.plist_base.specs.Bracketing.{bracketing, AreAlike, AreTreeEvents}
 use Rattle.plist_base.specs.declared.error.Error.{Error}
@@ -12,6 +12,8 @@ use Rattle.plist_binread.specs.BinaryReader.{binary_source, items_to_come}
 use Rattle.plist_binread.specs.declared.counter.DecodeCounter.{Ghosts as CounterGhosts}
 use Rattle.plist_binread.specs.declared.reader.BinaryReader.{BinaryReader}
 use Rattle.plist_binwrite.specs.Files.{IsFileOf}
+use Rattle.plist_commands.specs.declared.convert.Streamed.{Streamed}
+use Rattle.plist_commands.specs.declared.convert.Streamed.TheVariants.{NeedsValue, Sent}
 use Rattle.plist_reader.specs.Reader.{items_of_input}
 use Rattle.plist.specs.ValueOfItems.{AreItemsOfTree, IsValueOf, IsReadIfKnown}
 use Rattle.plist.specs.LastWins.{last_wins}
@@ -48,10 +50,6 @@ module _ {W : Type 0} (contents : W → Option (List ℕ)) (known : Option (List
   abbrev pub SendsAll : (old new : W) → Type 0
   SendsAll old new = SendsRead (Ok tt) old new
 
-  -- if the call failed, the error is that of reading or of writing
-  abbrev pub IsStoppedFor : {A : Type 0} → Result A Error → (old new : W) → Type 0
-  IsStoppedFor answer old new = IfErr answer (λ error. IsStopped (fault_of error) old new)
-
 -- these bytes are read as some tree, and a file of it was written
 abbrev pub SendsBytes : (bytes old new : List ℕ) → Type 0
 SendsBytes bytes old new =
@@ -61,6 +59,14 @@ SendsBytes bytes old new =
 -- if the call returned `Ok` with this value, this is true
 abbrev pub IfOkIs : {A E : Type 0} → Result A E → A → Type 0 → Type 0
 IfOkIs answer wanted P = IfOk answer (λ found. found ≡ wanted → P)
+
+-- What converting the bytes does. If it writes a file, that is one of the tree as which they are read. If
+-- it needs a value, nothing was written. If it fails, the error is that of reading or of writing.
+pub record Converts {W : Type 0} (contents : W → Option (List ℕ)) (known : Option (List ℕ))
+    (answer : Result Streamed Error) (old new : W) : Type 0 where
+  pub sent : IfOkIs answer Sent (SendsAll contents known old new)
+  pub left : IfOkIs answer NeedsValue (LeavesToValue known old new)
+  pub refused : IfErr answer (λ error. IsStopped contents known (fault_of error) old new)
 
 -- ---- the buffered events of a reader
 
@@ -76,19 +82,18 @@ HoldsTree items held =
     AreTreeEvents held
     × IfSome items (λ all. (tree : Tree) × AreItemsOfTree all tree × AreAlike held (bracketing tree))
 
--- if the call returned `true`, the buffered events are those of a tree
-abbrev pub FindsTree : (items : Option (List Item)) → Result Bool Error → (held : List PlainEvent)
-    → Type 0
-FindsTree items answer held = IfOkIs answer true (HoldsTree items held)
-
 -- this is true of all known bytes whose items are those of the tree of the buffered events
 abbrev pub ForBytesOf : (held : List PlainEvent) → (Option (List ℕ) → Type 0) → Type 0
 ForBytesOf held P = (known : Option (List ℕ)) → HoldsTree (items_of_known known) held → P known
 
--- if the call failed, the error is the one with which reading a value of the items fails
-abbrev pub IsRefusedFor : {A : Type 0} → (items : Option (List Item)) → Result A Error → Type 0
-IsRefusedFor items answer = IfErr answer (λ error. IsReadIfKnown items (Err (fault_of error)))
-
 -- known items aren't those of a tree
 abbrev pub AreNoTree : (items : Option (List Item)) → Type 0
 AreNoTree items = IfSome items (λ all. (tree : Tree) → AreItemsOfTree all tree → ⊥)
+
+-- What collecting items does. If it returns `true`, the buffered events are those of their tree. If it
+-- returns `false`, they aren't the items of a tree. If it fails, so does reading a value of them.
+pub record CollectsItems (items : Option (List Item)) (answer : Result Bool Error) (events : List PlainEvent)
+    : Type 0 where
+  pub held : IfOkIs answer true (HoldsTree items events)
+  pub none : IfOkIs answer false (AreNoTree items)
+  pub refused : IfErr answer (λ error. IsReadIfKnown items (Err (fault_of error)))

@@ -1,5 +1,5 @@
 -- What printing the items of a file writes, and what it returns.
-use Rattle.std.specs.Prelude.{◌≡◌, ℕ, ◌⊎◌, List, Option, None, Some, ⊤, IfSome, MatchResult, Result}
+use Rattle.std.specs.Prelude.{◌≡◌, ℕ, ◌⊎◌, List, Option, None, Some, ⊤, IfErr, MatchResult, OnOk, Result}
 use Rattle.std.specs.Io.KnownBytes.{Appends}
 use Rattle.plist_base.specs.declared.error.Error.{Error}
 use Rattle.plist_base.specs.Faults.{Fault, MatchFault, IsIoOrMemory, kind_of, error_kind_of, fault_of, offset_of}
@@ -8,7 +8,6 @@ use Rattle.plist_base.specs.Bracketing.{bracketing}
 use Rattle.plist_base.specs.Events.{Item}
 use Rattle.plist_base.specs.Sources.{Rises}
 use Rattle.plist_binread.specs.BinaryReader.{binary_source}
-use Rattle.plist_format.specs.Unfolding.{items_of_file}
 use Rattle.plist_binread.specs.declared.counter.DecodeCounter.{Ghosts as CounterGhosts}
 use Rattle.plist_binread.specs.declared.reader.BinaryReader.{BinaryReader}
 use Rattle.plist_base.specs.Prefixes.{AppendsPrefix}
@@ -27,39 +26,14 @@ PrintsUntil error items old new =
     MatchFault (kind_of (error_kind_of error)) ⊤ ⊤
     ((first_fault items ≡ Some (fault_of error)) × Appends old new (lines_of items))
 
--- what printing items writes, if they are known
-module _ {W : Type 0} (contents : W → Option (List ℕ)) (items : Option (List Item)) (old new : W)
-  where
-    -- the items have no fault, and all lines were written
-    abbrev pub PrintsItems : Type 0
-    PrintsItems = IfSome items (λ all. PrintsAll all (contents old) (contents new))
-
-    -- the error is the first fault, and all lines before it were written
-    abbrev pub PrintsItemsUntil : Error → Type 0
-    PrintsItemsUntil error = IfSome items (λ all. PrintsUntil error all (contents old) (contents new))
-
-    -- a prefix of their lines was written
-    abbrev pub SendsPrefixOfItems : Type 0
-    SendsPrefixOfItems =
-        IfSome items (λ all. AppendsPrefix (contents old) (contents new) (lines_of all))
-
--- what printing all items of a source's file writes, if its bytes are known
-module _ {S W : Type 0} (known : S → Option (List ℕ)) (contents : W → Option (List ℕ)) (source : S)
-    (old new : W) where
-  -- the items have no fault, and all lines were written
-  abbrev pub PrintsFile : Type 0
-  PrintsFile = IfSome (known source) (λ bytes.
-      PrintsAll (items_of_file bytes) (contents old) (contents new))
-
-  -- the error is the first fault, and all lines before it were written
-  abbrev pub PrintsFileUntil : Error → Type 0
-  PrintsFileUntil error = IfSome (known source) (λ bytes.
-      PrintsUntil error (items_of_file bytes) (contents old) (contents new))
-
-  -- a prefix of their lines was written
-  abbrev pub SendsPrefixOfFile : Type 0
-  SendsPrefixOfFile = IfSome (known source) (λ bytes.
-      AppendsPrefix (contents old) (contents new) (lines_of (items_of_file bytes)))
+-- What printing items does. If it succeeds, they have no fault, and all lines were written. Otherwise
+-- the error is the first fault, and all lines before it were written. In any case a prefix of their
+-- lines was written.
+pub record PrintsKnown (items : List Item) (answer : Result (Unit {0}) Error)
+    (old new : Option (List ℕ)) : Type 0 where
+  pub printed : OnOk answer (PrintsAll items old new)
+  pub refused : IfErr answer (λ error. PrintsUntil error items old new)
+  pub prefix : AppendsPrefix old new (lines_of items)
 
 -- what printing the events of a value writes
 module _ {W : Type 0} (contents : W → Option (List ℕ)) (value : Value) (old new : W) where

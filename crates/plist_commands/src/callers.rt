@@ -1,14 +1,12 @@
 //! Proved callers: what the commands write to a vector for known bytes, what is reported if there
 //! are no arguments, and how a run ends.
 
-ghost use Rattle.std.specs.Prelude.{◌≡◌, ◌++◌, Bool, Err, IfErr, IfSome, Ok, OnOk, Some, codes, false, true};
-ghost use Rattle.plist_base.specs.Prefixes.{AppendsPrefix};
+ghost use Rattle.std.specs.Prelude.{◌≡◌, ◌++◌, Bool, Err, IfSome, Ok, Some, codes, false, true};
 ghost use Rattle.plist_commands.specs.Commands.{Answered};
 ghost use Rattle.plist_commands.specs.Failures.{PlainFailure, plain_failure_of, failure_text};
 ghost use Rattle.plist_commands.specs.Converting.{IfOkIs, LeavesToValue, SendsBytes};
-ghost use Rattle.plist_commands.specs.EscapedLines.{lines_of};
 ghost use Rattle.plist_commands.specs.Messages.{Fault, Usage};
-ghost use Rattle.plist_commands.specs.Printing.{PrintsAll, PrintsUntil};
+ghost use Rattle.plist_commands.specs.Printing.{PrintsKnown};
 ghost use Rattle.plist_commands.specs.declared.convert.Streamed.TheVariants.{NeedsValue, Sent};
 ghost use Rattle.plist_format.specs.Unfolding.{items_of_file};
 
@@ -27,12 +25,7 @@ use std::io::Write;
 ///
 /// The first fault, or `OutOfMemory` if an allocation fails.
 pub fn print_bytes(alloc: Global, bytes: &[u8], out: &mut Vec<u8>) -> Result<(), Error>
-    ensures printed { OnOk result
-        (PrintsAll (items_of_file bytes.now) (Some out.old.items) (Some out.new.items)) }
-    ensures refused { IfErr result (λ error.
-        PrintsUntil error (items_of_file bytes.now) (Some out.old.items) (Some out.new.items)) }
-    ensures prefix { AppendsPrefix (Some out.old.items) (Some out.new.items)
-        (lines_of (items_of_file bytes.now)) }
+    ensures { PrintsKnown (items_of_file bytes.now) result (Some out.old.items) (Some out.new.items) }
 {
     print_events(alloc, bytes, out)
 }

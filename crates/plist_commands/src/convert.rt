@@ -1,15 +1,15 @@
 //! Writes a property list in the binary format.
 
-ghost use Rattle.std.specs.Prelude.{◌≡◌, false, IfErr, IfSome, None};
+ghost use Rattle.std.specs.Prelude.{◌≡◌, IfErr, IfSome, None};
 ghost use Rattle.plist_base.specs.Bracketing.{AreTreeEvents};
 ghost use Rattle.plist_base.specs.Faults.{offset_of};
 ghost use Rattle.plist_binwrite.specs.EventBuffers.{buffered_events};
 ghost use Rattle.plist_binwrite.specs.Sending.{Sends};
 ghost use Rattle.plist_reader.specs.Formats.{format_of};
-ghost use Rattle.plist_commands.specs.Converting.{AreNoTree, FindsTree, IfOkIs, IsRefusedFor, IsStoppedFor, LeavesToValue, ForBytesOf, SendsAll, items_of_known};
+ghost use Rattle.plist_commands.specs.Converting.{CollectsItems, Converts, IfOkIs, ForBytesOf, items_of_known};
 ghost use Rattle.plist_commands.specs.Holding.{IsEmpty, collected, is_complete};
 ghost use Rattle.plist_commands.specs.ReaderRuns.{ConvertsSource, HoldsBinary, HoldsOther, ReadsSource};
-ghost use Rattle.plist_commands.specs.declared.convert.Streamed.TheVariants.{NeedsValue, Sent};
+ghost use Rattle.plist_commands.specs.declared.convert.Streamed.TheVariants.{Sent};
 
 use crate::collector::Collector;
 use crate::open::open_source;
@@ -44,10 +44,8 @@ fn collect_binary<S: Source>(
 ) -> Result<bool, Error>
     requires empty { IsEmpty (is_complete collector.old) (collected collector.old) }
     requires binary { IfSome (S.known source) (λ bytes. Format.Binary ≡ format_of bytes) }
-    ensures held { FindsTree (items_of_known (S.known source)) result
+    ensures collects { CollectsItems (items_of_known (S.known source)) result
         (collected collector.new) }
-    ensures none { IfOkIs result false (AreNoTree (items_of_known (S.known source))) }
-    ensures refused { IsRefusedFor (items_of_known (S.known source)) result }
     ensures answers { HoldsBinary S.known S.failures source result (collected collector.new) }
 {
     let mut reader = BinaryReader::new(alloc, source);
@@ -70,10 +68,8 @@ fn collect_other<S: Source>(
     collector: &mut Collector,
 ) -> Result<bool, Error>
     requires empty { IsEmpty (is_complete collector.old) (collected collector.old) }
-    ensures held { FindsTree (items_of_known (S.known source)) result
+    ensures collects { CollectsItems (items_of_known (S.known source)) result
         (collected collector.new) }
-    ensures none { IfOkIs result false (AreNoTree (items_of_known (S.known source))) }
-    ensures refused { IsRefusedFor (items_of_known (S.known source)) result }
     ensures answers { HoldsOther S.known S.failures source result (collected collector.new) }
 {
     let mut reader = Reader::new(alloc, source);
@@ -90,10 +86,8 @@ fn collect_source<S: Source>(
     collector: &mut Collector,
 ) -> Result<bool, Error>
     requires empty { IsEmpty (is_complete collector.old) (collected collector.old) }
-    ensures held { FindsTree (items_of_known (S.known source)) result
+    ensures collects { CollectsItems (items_of_known (S.known source)) result
         (collected collector.new) }
-    ensures none { IfOkIs result false (AreNoTree (items_of_known (S.known source))) }
-    ensures refused { IsRefusedFor (items_of_known (S.known source)) result }
     ensures answers { ReadsSource S.known S.failures source result (collected collector.new) }
 {
     let mut source = source;
@@ -110,12 +104,8 @@ fn send_events<W: Write>(
     writer: &mut W,
 ) -> Result<Streamed, Error>
     requires { AreTreeEvents (buffered_events pending.now) }
-    ensures sent { ForBytesOf (buffered_events pending.now) (λ known. IfOkIs result Sent
-        (SendsAll W.contents known writer.old writer.new)) }
-    ensures left { ForBytesOf (buffered_events pending.now) (λ known. IfOkIs result NeedsValue
-        (LeavesToValue known writer.old writer.new)) }
-    ensures refused { ForBytesOf (buffered_events pending.now)
-        (λ known. IsStoppedFor W.contents known result writer.old writer.new) }
+    ensures converts { ForBytesOf (buffered_events pending.now)
+        (λ known. Converts W.contents known result writer.old writer.new) }
     ensures wrote { IfOkIs result Sent (Sends W.contents (buffered_events pending.now) (Ok tt)
         writer.old writer.new) }
     ensures without_offset { IfErr result (λ error. offset_of error ≡ None) }
@@ -141,11 +131,9 @@ pub fn convert_binary<S: Source, W: Write>(
     source: S,
     writer: &mut W,
 ) -> Result<Streamed, Error>
-    ensures sent { IfOkIs result Sent (SendsAll W.contents (S.known source) writer.old writer.new) }
-    ensures left { IfOkIs result NeedsValue (LeavesToValue (S.known source) writer.old writer.new) }
+    ensures converts { Converts W.contents (S.known source) result writer.old writer.new }
     ensures answers { ConvertsSource S.known S.failures source result
         (λ held. Sends W.contents held (Ok tt) writer.old writer.new) }
-    ensures refused { IsStoppedFor W.contents (S.known source) result writer.old writer.new }
 {
     let mut collector = Collector::new(alloc);
     if !collect_source(alloc, source, &mut collector)? {

@@ -1,13 +1,14 @@
 //! Prints the events of a source.
 
-ghost use Rattle.std.specs.Prelude.{◌≡◌, ◌++◌, ◌+◌, ◌*◌, ◌≤◌, [], Ok, IfErr, OnOk, length};
+ghost use Rattle.std.specs.Prelude.{◌≡◌, ◌++◌, ◌+◌, ◌*◌, ◌≤◌, [], Ok, IfErr, IfSome, OnOk, length};
 ghost use Rattle.plist_base.specs.Events.{ScalarEvent};
 ghost use Rattle.plist_base.specs.Sinks.{Puts, room, sink_capacity};
 ghost use Rattle.plist_base.specs.Trees.{Data, String};
 ghost use Rattle.plist_binread.specs.BinaryReader.{binary_source};
+ghost use Rattle.plist_format.specs.Unfolding.{items_of_file};
 ghost use Rattle.plist_commands.specs.Converting.{items_left};
 ghost use Rattle.plist_commands.specs.EscapedLines.{event_of_short, in_notation};
-ghost use Rattle.plist_commands.specs.Printing.{CountsReadsOf, PrintsFileUntil, PrintsItemsUntil, IsWriterError, PrintsFile, PrintsItems, PrintsValue, SendsPrefixOfFile, SendsPrefixOfItems, SendsPrefixOfValue};
+ghost use Rattle.plist_commands.specs.Printing.{CountsReadsOf, IsWriterError, PrintsKnown, PrintsValue, SendsPrefixOfValue};
 ghost use Rattle.plist_commands.specs.ReaderRuns.{PrintsReader, PrintsRun, PrintsSource};
 
 use crate::lines::{
@@ -386,17 +387,10 @@ pub fn print_reader<S: Source, W: Write>(
     reader: &mut BinaryReader<S>,
     writer: &mut W,
 ) -> Result<(), Error>
-    // Result.
-    ensures printed { OnOk result
-        (PrintsItems W.contents (items_left S.known reader.old) writer.old writer.new) }
+    ensures printed { IfSome (items_left S.known reader.old)
+        (λ items. PrintsKnown items result (W.contents writer.old) (W.contents writer.new)) }
     ensures answers { PrintsReader reader.old result reader.new
         (W.contents writer.old) (W.contents writer.new) }
-    // Errors.
-    ensures refused { IfErr result
-        (PrintsItemsUntil W.contents (items_left S.known reader.old) writer.old writer.new) }
-    // State afterwards.
-    ensures prefix { SendsPrefixOfItems W.contents (items_left S.known reader.old)
-        writer.old writer.new }
     ensures unchanged { S.known (binary_source reader.new) ≡ S.known (binary_source reader.old) }
     ensures failures { CountsReadsOf S.failures reader.old result reader.new }
 {
@@ -417,12 +411,10 @@ pub fn print_events<S: Source, W: Write>(
     source: S,
     writer: &mut W,
 ) -> Result<(), Error>
-    ensures printed { OnOk result (PrintsFile S.known W.contents source writer.old writer.new) }
+    ensures printed { IfSome (S.known source) (λ bytes. PrintsKnown (items_of_file bytes) result
+        (W.contents writer.old) (W.contents writer.new)) }
     ensures answers { PrintsSource S.known S.failures source result (W.contents writer.old)
         (W.contents writer.new) }
-    ensures refused { IfErr result (λ error.
-        PrintsFileUntil S.known W.contents source writer.old writer.new error) }
-    ensures prefix { SendsPrefixOfFile S.known W.contents source writer.old writer.new }
 {
     let mut reader = BinaryReader::new(alloc, source);
     print_reader(alloc, &mut reader, writer)

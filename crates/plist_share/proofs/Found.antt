@@ -23,7 +23,7 @@ use Rattle.plist_binwrite.proofs.TreeObjects.{refs_are, keys_are, values_are}
 use Rattle.plist_binwrite.proofs.Reading.{dictionary_is, length-keys_of, length-values_of}
 use Rattle.plist_binwrite.proofs.Skipping.{stands_single, starts_array, starts_dictionary, occurs_in}
 use Rattle.plist_share.proofs.Classed.{complete}
-use Rattle.plist_share.specs.inner.Nodes.{Node, is_dictionary, IsIndexed, IsClass, HaveTreeClasses, Extends, SeparatesTrees}
+use Rattle.plist_share.specs.inner.Nodes.{Node, is_dictionary, node_at, node_by, IsIndexed, IsClass, HaveTreeClasses, Extends, SeparatesTrees}
 
 -- ---- a dictionary's pairs by their keys and their values, and back
 
@@ -61,7 +61,7 @@ same_halves f g ms p q e = λ i.
 module _ {es : List PlainEvent} {scalar class : ℕ → ℕ} {count : ℕ} {keys : List Node} {from : ℕ}
     (owners : AreIdentities es scalar count) (have : HaveTreeClasses class count scalar es keys from)
     (none : from ≡ 0) where
-  all : (t : Tree) (p : ℕ) → OccursAt es t p → IsClass class count scalar keys t p (class p)
+  all : (t : Tree) (p : ℕ) → OccursAt es t p → IsClass count keys (scalar p) (node_at class t p) (class p)
   all t p s = have.behind t p (omega arith) s
 
   one_scalar : (x y : Scalar) (p q : ℕ) → OccursAt es (Leaf x) p → OccursAt es (Leaf y) q
@@ -163,16 +163,16 @@ module _ (class after : ℕ → ℕ) (lo : ℕ) (agree : (q : ℕ) → lo ≤ q 
   -- a class stays the same if the keys and the classes after it do
   module _ (scalar : ℕ → ℕ) (count : ℕ) (keys new : List Node)
       (kept : (i : ℕ) → i < length keys → slice_get new i ≡ slice_get keys i) where
-    indexed_stays : (b : _) (t : Tree) (p c : ℕ) → lo ≤ p + 1 → IsIndexed class count keys b t p c
-        → IsIndexed after count new b t p c
+    indexed_stays : (b : _) (t : Tree) (p c : ℕ) → lo ≤ p + 1 → IsIndexed count keys (node_by class b t p) c
+        → IsIndexed count new (node_by after b t p) c
     indexed_stays b t p c h k = (
       k.0,
       k.1,
       cc (kept k.0 (slice_get_within keys k.0 _ k.2), children_agree t p h),
     )
 
-    class_stays : (t : Tree) (p c : ℕ) → lo ≤ p + 1 → IsClass class count scalar keys t p c
-        → IsClass after count scalar new t p c
+    class_stays : (t : Tree) (p c : ℕ) → lo ≤ p + 1 → IsClass count keys (scalar p) (node_at class t p) c
+        → IsClass count new (scalar p) (node_at after t p) c
     class_stays (Leaf x) p c h k = k
     class_stays (Array ts) p c h k = indexed_stays false (Array ts) p c h k
     class_stays (Dictionary ms) p c h k = indexed_stays true (Dictionary ms) p c h k
@@ -181,19 +181,19 @@ module _ (es : List PlainEvent) (scalar class : ℕ → ℕ) (count : ℕ) (keys
   -- if a collection begins at an index, its class is one of a collection
   by_collection : (t : Tree) (p c : ℕ) → OccursAt es t p
       → shape_of (event_at es p) ≢ shape.Scalar
-      → IsIndexed class count keys (is_dictionary (shape_of (event_at es p))) t p c
-      → IsClass class count scalar keys t p c
+      → IsIndexed count keys (node_by class (is_dictionary (shape_of (event_at es p))) t p) c
+      → IsClass count keys (scalar p) (node_at class t p) c
   by_collection (Leaf x) p c s k h = absurd (k (ap shape_of (stands_single s)))
   by_collection (Array ts) p c s k h =
-      subst (λ e. IsIndexed class count keys (is_dictionary (shape_of e)) (Array ts) p c)
+      subst (λ e. IsIndexed count keys (node_by class (is_dictionary (shape_of e)) (Array ts) p) c)
       (starts_array s) h
   by_collection (Dictionary ms) p c s k h =
-      subst (λ e. IsIndexed class count keys (is_dictionary (shape_of e)) (Dictionary ms) p c)
+      subst (λ e. IsIndexed count keys (node_by class (is_dictionary (shape_of e)) (Dictionary ms) p) c)
       (starts_dictionary s) h
 
   by_scalar : (t : Tree) (p c : ℕ) → OccursAt es t p → shape_of (event_at es p) ≢ shape.StartArray
       → shape_of (event_at es p) ≢ shape.StartDictionary → c ≡ scalar p
-      → IsClass class count scalar keys t p c
+      → IsClass count keys (scalar p) (node_at class t p) c
   by_scalar (Leaf x) p c s a d h = h
   by_scalar (Array ts) p c s a d h = absurd (a (ap shape_of (starts_array s)))
   by_scalar (Dictionary ms) p c s a d h = absurd (d (ap shape_of (starts_dictionary s)))
@@ -211,12 +211,12 @@ module _ (classes : List ℕ) (p c : ℕ) where
       → Extends keys new → p < length classes → c < count + length new
       → shape_of (event_at es p) ≢ shape.Scalar
       → ((t : Tree) → OccursAt es t p
-      → IsIndexed (nth_number classes) count new
-      (is_dictionary (shape_of (event_at es p))) t p c)
+      → IsIndexed count new
+      (node_by (nth_number classes) (is_dictionary (shape_of (event_at es p))) t p) c)
       → HaveTreeClasses after count scalar es new p
   collection_written {es} {scalar} {count} {keys} {new} old more lt low k this = record {
-    behind = λ t q le s. at_set classes p c 0 q (IsClass after count scalar new t q) lt
-        (λ e. subst (λ r. OccursAt es t r → IsClass after count scalar new t r c) (sym e)
+    behind = λ t q le s. at_set classes p c 0 q (IsClass count new (scalar q) (node_at after t q)) lt
+        (λ e. subst (λ r. OccursAt es t r → IsClass count new (scalar r) (node_at after t r) c) (sym e)
         (λ r. stays new (λ i h. refl) t p c (omega arith)
         (by_collection es scalar (nth_number classes) count new t p c r k (this t r))) s)
         (λ d. stays keys more.keeps t q (nth_number classes q) (omega (arith, le))
@@ -229,8 +229,8 @@ module _ (classes : List ℕ) (p c : ℕ) where
       stays : (keys : List Node)
           → ((i : ℕ) → i < length keys → slice_get new i ≡ slice_get keys i)
           → (t : Tree) (q v : ℕ) → p + 1 ≤ q + 1
-          → IsClass (nth_number classes) count scalar keys t q v
-          → IsClass after count scalar new t q v
+          → IsClass count keys (scalar q) (node_at (nth_number classes) t q) v
+          → IsClass count new (scalar q) (node_at after t q) v
       stays keys kept =
           class_stays (nth_number classes) after (p + 1)
           (λ q h. other q (λ e. absurd (omega arith)))
@@ -249,7 +249,7 @@ pub none_written : {es : List PlainEvent} {scalar class : ℕ → ℕ} {count : 
     → HaveTreeClasses class count scalar es keys p
 none_written {es} {scalar} {class} {count} {keys} p a d old = record {
   behind = λ t q le s. elim (eqb_tells q p) [
-    | inl e ↦ subst (λ r. OccursAt es t r → IsClass class count scalar keys t r (class r)) (sym e.1)
+    | inl e ↦ subst (λ r. OccursAt es t r → IsClass count keys (scalar r) (node_at class t r) (class r)) (sym e.1)
         (λ r. by_scalar es scalar class count keys t p (class p) r a d
         (old.before p (omega arith))) s
     | inr n ↦ old.behind t q (omega (arith, le, n.1)) s

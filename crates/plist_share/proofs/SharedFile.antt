@@ -4,17 +4,16 @@ use Rattle.plist_base.specs.Bracketing.{AreAlike, bracketing}
 use Rattle.plist_base.specs.Faults.{Fault, OutOfMemory, fault_without_offset}
 use Rattle.plist_base.specs.Trees.{Tree}
 use Rattle.plist_base.specs.Writing.{Answer}
-use Rattle.plist_binwrite.specs.Classes.{IsFileBy, size_by, SendsBy}
+use Rattle.plist_binwrite.specs.Classes.{files_by}
 use Rattle.plist_binwrite.specs.declared.event_table.EventTable.{EventTable}
 use Rattle.plist_binwrite.specs.EventTable.{plain_events}
 use Rattle.plist_binwrite.specs.Occurrences.{OccursAt}
+use Rattle.plist_binwrite.specs.SendingAs.{SendsAs}
 use Rattle.plist_binwrite.proofs.SendingFiles.{sends_as}
 use Rattle.plist_binwrite.proofs.Occurring.{occurs_whole}
 use Rattle.plist_binwrite.proofs.Lengthless.{plain_lengthless}
 use Rattle.plist_share.specs.inner.Nodes.{SeparatesTrees}
-use Rattle.plist_share.specs.SharedFiles.{IsSharedFileOf}
-use Rattle.plist_share.specs.SharedSizes.{shared_file_size}
-use Rattle.plist_share.specs.Sharing.{SendsShared}
+use Rattle.plist_share.specs.SharedFiles.{shared_files}
 use Rattle.plist_share.proofs.Shares.{shared_file, size_is}
 
 module _ {W : Type 0} (contents : W → Option (List ℕ)) (events : EventTable) (class : ℕ → ℕ)
@@ -24,11 +23,10 @@ module _ {W : Type 0} (contents : W → Option (List ℕ)) (events : EventTable)
   occurs t alike = occurs_whole (plain_lengthless events t alike)
 
   pub sends_shared : (answer : Answer) (old new : W)
-      → SendsBy class contents (plain_events events) answer old new
-      → SendsShared contents (plain_events events) answer old new
+      → SendsAs (files_by class) contents (plain_events events) answer old new
+      → SendsAs shared_files contents (plain_events events) answer old new
   sends_shared answer old new s =
-      sends_as (IsFileBy class) IsSharedFileOf (size_by class) shared_file_size
-      (plain_events events) (plain_events events) refl
+      sends_as (files_by class) shared_files (plain_events events) (plain_events events) refl
       (λ t alike file f. shared_file (plain_events events) class given t (occurs t alike) file f)
       (λ t alike. size_is (plain_events events) class given t (occurs t alike)) contents answer old
       new s
@@ -36,6 +34,6 @@ module _ {W : Type 0} (contents : W → Option (List ℕ)) (events : EventTable)
 -- if an allocation failed before anything was planned, nothing was written
 pub sends_nothing : {W : Type 0} (contents : W → Option (List ℕ)) (events : EventTable)
     (fault : Fault) (old new : W) → fault ≡ fault_without_offset OutOfMemory → new ≡ old
-    → SendsShared contents (plain_events events) (Err fault) old new
+    → SendsAs shared_files contents (plain_events events) (Err fault) old new
 sends_nothing contents events fault old new is same =
     rw is (refl, same)

@@ -2,5 +2,4 @@ pub mod Distinct
 pub mod SharedSizes
 pub mod SharedFiles
 pub mod Examples
-pub mod Sharing
 pub mod inner

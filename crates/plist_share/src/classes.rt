@@ -1,17 +1,15 @@
 //! Classes of the trees among events: two events have the same class if and only if the same tree
 //! begins at both.
 
-ghost use Rattle.std.specs.Prelude.{◌≡◌, ◌+◌, ◌<◌, length, IfOk, OnOk, ◌++◌, ◌∷◌, []};
-ghost use Rattle.plist_base.specs.Outcomes.{OnlyMemory};
+ghost use Rattle.std.specs.Prelude.{◌≡◌, ◌+◌, ◌<◌, length, IfOk, OnOk};
 ghost use Rattle.plist_base.specs.Events.{shape_of};
 ghost use Rattle.plist_binwrite.specs.Children.{half_of};
-ghost use Rattle.plist_binwrite.specs.Classes.{AreClasses};
-ghost use Rattle.plist_binwrite.specs.EventTable.{plain_events, AllBelow, nth_number, table_event};
+ghost use Rattle.plist_binwrite.specs.EventTable.{plain_events, table_event};
 ghost use Rattle.plist_binwrite.specs.inner.Scalars.{AreDistinct};
-ghost use Rattle.plist_share.specs.inner.Nodes.{AreEventClasses, SeparatesAll, SeparatesTrees, Extends, nodes_seen, AddsClasses, AreClassesWithin, AreClassesFrom, IsClassAt, IsNodeAt, is_dictionary};
+ghost use Rattle.plist_share.specs.inner.Nodes.{AreEventClasses, SeparatesAll, Extends, nodes_seen, AddsClasses, AreClassesWithin, AreClassesFrom, IsClassAt, IsNodeAt, is_dictionary};
 
 use indexmap::IndexSet;
-use plist_base::{Error, ErrorKind, EventShape};
+use plist_base::EventShape;
 use plist_binwrite::EventTable;
 use plist_binwrite::children::{Children, Half};
 use plist_binwrite::classes::{Classed, Classes};
@@ -37,31 +35,18 @@ pub struct Collection {
 }
 
 // Returns the index of a collection in the set, and inserts it if the set contains no equal one.
-fn index_of(seen: &mut IndexSet<Collection>, collection: Collection) -> Result<usize, Error>
+fn index_of(seen: &mut IndexSet<Collection>, collection: Collection) -> Result<usize, AllocError>
     // Result.
     ensures stored { IfOk result (IsNodeAt seen.new.keys collection) }
     ensures below { IfOk result (λ index. index < length (nodes_seen seen.new.keys)) }
-    // Errors.
-    ensures memory { OnlyMemory result }
     // State afterwards.
     ensures extends { OnOk result (Extends (nodes_seen seen.old.keys) (nodes_seen seen.new.keys)) }
     ensures apart { OnOk result (AreDistinct (nodes_seen seen.new.keys)) }
 {
-    let (index, _) = seen.insert_full(collection)?;
-    Ok(index)
-}
-
-// Appends an index.
-//
-// # Errors
-//
-// `OutOfMemory`, without an offset, if the allocation fails.
-fn push_index(indices: &mut Vec<usize>, index: usize) -> Result<(), Error>
-    ensures pushed { OnOk result (indices.new.items ≡ indices.old.items ++ index ∷ []) }
-    ensures memory { OnlyMemory result }
-{
-    indices.push(index)?;
-    Ok(())
+    match seen.insert_full(collection) {
+        Ok((index, _)) => return Ok(index),
+        Err(_) => return Err(AllocError),
+    }
 }
 
 // Appends the classes of one half of the children of the collection that begins at an index.
@@ -71,15 +56,14 @@ fn push_half(
     classes: &Numbers,
     index: usize,
     half: Half,
-) -> Result<(), Error>
+) -> Result<(), AllocError>
     requires index { index < length (plain_events events.now) }
     requires long { length classes.now ≡ length (plain_events events.now) }
-    ensures pushed { OnOk result (AddsClasses found.old classes.now
+    ensures { OnOk result (AddsClasses found.old classes.now
         (half_of (plain_events events.now) half index) found.new) }
-    ensures memory { OnlyMemory result }
 {
     for child in Children::new(events, index, half) {
-        push_index(found, classes.get(child))?;
+        found.push(classes.get(child))?;
     }
     Ok(())
 }
@@ -90,11 +74,10 @@ fn classes_within(
     events: &EventTable<'_>,
     classes: &Numbers,
     index: usize,
-) -> Result<Vec<usize>, Error>
+) -> Result<Vec<usize>, AllocError>
     requires index { index < length (plain_events events.now) }
     requires long { length classes.now ≡ length (plain_events events.now) }
-    ensures classes { IfOk result (AreClassesWithin events.now classes.now index) }
-    ensures memory { OnlyMemory result }
+    ensures { IfOk result (AreClassesWithin events.now classes.now index) }
 {
     let mut found = Vec::new(alloc);
     push_half(&mut found, events, classes, index, Half::Keys)?;
@@ -121,7 +104,7 @@ fn class_of_collection(
     found: &TreeClasses,
     index: usize,
     seen: &mut IndexSet<Collection>,
-) -> Result<usize, Error>
+) -> Result<usize, AllocError>
     requires index { index < length (plain_events events.now) }
     requires long { length found.now.of ≡ length (plain_events events.now) }
     // Result.
@@ -129,8 +112,6 @@ fn class_of_collection(
         index) }
     ensures below { IfOk result (λ class. class < found.now.count
         + length (nodes_seen seen.new.keys)) }
-    // Errors.
-    ensures memory { OnlyMemory result }
     // State afterwards.
     ensures extends { OnOk result (Extends (nodes_seen seen.old.keys) (nodes_seen seen.new.keys)) }
     ensures apart { OnOk result (AreDistinct (nodes_seen seen.new.keys)) }
@@ -153,7 +134,7 @@ fn give_class(
     index: usize,
     found: &mut TreeClasses,
     seen: &mut IndexSet<Collection>,
-) -> Result<(), Error>
+) -> Result<(), AllocError>
     requires index { index < length (plain_events events.now) }
     requires long { length found.old.of ≡ length (plain_events events.now) }
     requires classes { AreClassesFrom events.now found.old.count found.old.of seen.old.keys
@@ -163,7 +144,6 @@ fn give_class(
         seen.new.keys index) }
     ensures long { OnOk result (length found.new.of ≡ length (plain_events events.now)) }
     ensures apart { OnOk result (AreDistinct (nodes_seen seen.new.keys)) }
-    ensures memory { OnlyMemory result }
 {
     match events.kind_at(index) {
         EventShape::Scalar | EventShape::EndCollection => Ok(()),
@@ -182,13 +162,12 @@ fn give_classes(
     events: &EventTable<'_>,
     found: &mut TreeClasses,
     seen: &mut IndexSet<Collection>,
-) -> Result<(), Error>
+) -> Result<(), AllocError>
     requires long { length found.old.of ≡ length (plain_events events.now) }
     requires classes { AreClassesFrom events.now found.old.count found.old.of seen.old.keys
         (length found.old.of) }
     requires apart { AreDistinct (nodes_seen seen.old.keys) }
-    ensures classes { OnOk result (SeparatesAll events.now found.new) }
-    ensures memory { OnlyMemory result }
+    ensures { OnOk result (SeparatesAll events.now found.new) }
 {
     let mut index = found.of.len();
     'back: while index > 0 {
@@ -200,15 +179,14 @@ fn give_classes(
             found.count = count;
             Ok(())
         }
-        None => Err(ErrorKind::OutOfMemory.without_position()),
+        None => Err(AllocError),
     }
 }
 
 // Returns a class for each event: equal scalars share a class, and any other event has its own.
-fn event_classes(alloc: Global, events: &EventTable<'_>) -> Result<TreeClasses, Error>
+fn event_classes(alloc: Global, events: &EventTable<'_>) -> Result<TreeClasses, AllocError>
     ensures long { IfOk result (λ r. length r.of ≡ length (plain_events events.now)) }
     ensures classes { IfOk result (AreEventClasses events.now) }
-    ensures memory { OnlyMemory result }
 {
     let given = Classed {
         events,
@@ -226,30 +204,23 @@ fn event_classes(alloc: Global, events: &EventTable<'_>) -> Result<TreeClasses, 
 
 // Sets the class of each tree. Before the call, equal scalars share a class, and any other event
 // has a class of its own.
-fn give_trees(alloc: Global, events: &EventTable<'_>, found: &mut TreeClasses) -> Result<(), Error>
+fn give_trees(
+    alloc: Global,
+    events: &EventTable<'_>,
+    found: &mut TreeClasses,
+) -> Result<(), AllocError>
     requires long { length found.old.of ≡ length (plain_events events.now) }
     requires classes { AreEventClasses events.now found.old }
-    ensures classes { OnOk result (SeparatesAll events.now found.new) }
-    ensures memory { OnlyMemory result }
+    ensures { OnOk result (SeparatesAll events.now found.new) }
 {
     let mut seen = IndexSet::new(alloc);
     give_classes(alloc, events, found, &mut seen)
 }
 
 /// Returns a class for each event. Two events at which trees begin have the same class if and only
-/// if the trees are equal.
-///
-/// # Errors
-///
-/// `OutOfMemory`, without an offset, if an allocation fails.
-pub fn tree_classes(alloc: Global, events: &EventTable<'_>) -> Result<TreeClasses, Error>
-    // Result.
-    ensures objects { IfOk result (λ r. AreClasses (plain_events events.now) (nth_number r.of)) }
-    ensures trees { IfOk result (λ r. SeparatesTrees (plain_events events.now) (nth_number r.of)) }
-    ensures long { IfOk result (λ r. length r.of ≡ length (plain_events events.now)) }
-    ensures below { IfOk result (λ r. AllBelow r.count r.of) }
-    // Errors.
-    ensures memory { OnlyMemory result }
+/// if the trees are equal. It fails if an allocation fails.
+pub fn tree_classes(alloc: Global, events: &EventTable<'_>) -> Result<TreeClasses, AllocError>
+    ensures { IfOk result (SeparatesAll events.now) }
 {
     let mut found = event_classes(alloc, events)?;
     give_trees(alloc, events, &mut found)?;

@@ -1,7 +1,6 @@
 //! Plans and writes the shared file of a whole property list.
 
-ghost use Rattle.plist_share.specs.SharedFiles.{IsSharedFileOf};
-ghost use Rattle.plist_share.specs.SharedSizes.{shared_file_size};
+ghost use Rattle.plist_share.specs.SharedFiles.{shared_files};
 
 use crate::classes::tree_classes;
 use plist_base::{Error, Sealed};
@@ -17,9 +16,7 @@ pub struct EqualTrees;
 impl Sealed for EqualTrees {}
 
 impl Sharing for EqualTrees {
-    ghost IsFile = { IsSharedFileOf };
-
-    ghost size = { shared_file_size };
+    ghost kind = { shared_files };
 
     fn complete<W: Write>(
         alloc: Global,

@@ -1,10 +1,9 @@
 -- Each call of a `FileWriter` satisfies the laws of `Writer`.
-use Rattle.std.proofs.Common.{◌≡◌, ◌⊎◌, inl, inr, ℕ, Bool, true, false, List, [], ◌∷◌, ◌++◌, Option, Ok, Err, MatchBool, ap, ◌∙◌, map}
+use Rattle.std.proofs.Common.{◌≡◌, ◌⊎◌, inl, inr, Bool, true, false, [], ◌∷◌, ◌++◌, Ok, Err, MatchBool, ap, ◌∙◌, map}
 use Rattle.std.specs.declared.io.traits.Write.{Ghosts}
 use Rattle.plist_base.specs.Bracketing.{without_length}
 use Rattle.plist_base.specs.Events.{PlainEvent}
 use Rattle.plist_base.specs.Faults.{FaultKind, fault_without_offset, UnexpectedEventType, ExpectedEndOfEventStream, Io, OutOfMemory, WriterFailed, PlistTooLarge}
-use Rattle.plist_base.specs.Trees.{Tree}
 use Rattle.plist_base.specs.Writing.{Answer, MatchKind, AnswersByOrder, IsHeldAfter}
 use Rattle.std.proofs.lemmas.Bool.{true≢false, false≢true}
 use Rattle.plist_base.proofs.Grammar.{alike_last, continue_alike}
@@ -32,13 +31,12 @@ match_true : (b : Bool) (x y : Type 0) → b ≡ true → MatchBool b x y → x
 match_true true x y e h = h
 match_true false x y e h = absurd (false≢true e)
 
-module _ {W S : Type 0} {g : Ghosts W} {h : SharingGhosts S} (IsFile : Tree → List ℕ → Type 0)
-    (size : Tree → ℕ) (contents : W → Option (List ℕ)) (before : FileWriter W S g h)
-    (event : PlainEvent) where
+module _ {W S : Type 0} {g : Ghosts W} {h : SharingGhosts S}
+    (before : FileWriter W S g h) (event : PlainEvent) where
   -- after an accepted event, the buffered events are as the law says
   goes_on : (after : FileWriter W S g h)
-      → Completes IsFile size contents before event after
-      ⊎ Holds IsFile size contents before event after
+      → Completes before event after
+      ⊎ Holds before event after
       → IsHeldAfter (open_events before) event (open_events after)
   goes_on after (inl c) = inl c.0.1.0.0
   goes_on after (inr h) =
@@ -47,7 +45,7 @@ module _ {W S : Type 0} {g : Ghosts W} {h : SharingGhosts S} (IsFile : Tree → 
 
   -- what a call of a writer that hasn't failed does satisfies the law
   taken : (answer : Answer) (after : FileWriter W S g h)
-      → TakesEvent IsFile size contents before event answer after
+      → TakesEvent before event answer after
       → AnswersByOrder (open_events before) event answer (open_events after) (failed_of after)
       (after ≡ before)
   taken (Ok done) after t = (t.0, t.1, goes_on after t.2)
@@ -56,13 +54,13 @@ module _ {W S : Type 0} {g : Ghosts W} {h : SharingGhosts S} (IsFile : Tree → 
 
   -- a call of a writer that hasn't failed satisfies the law
   pub takes_law : (answer : Answer) (after : FileWriter W S g h)
-      → IsWriterStep IsFile size contents before event answer after → failed_of before ≡ false
+      → IsWriterStep before event answer after → failed_of before ≡ false
       → AnswersByOrder (open_events before) event answer (open_events after) (failed_of after)
       (after ≡ before)
   takes_law answer after t ok = taken answer after (match_false (failed_of before) _ _ ok t)
 
   -- a writer that has failed returns `WriterFailed` and is unchanged
   pub takes_failed : (answer : Answer) (after : FileWriter W S g h)
-      → IsWriterStep IsFile size contents before event answer after → failed_of before ≡ true
+      → IsWriterStep before event answer after → failed_of before ≡ true
       → (answer ≡ Err (fault_without_offset WriterFailed)) × (after ≡ before)
   takes_failed answer after t failed = match_true (failed_of before) _ _ failed t

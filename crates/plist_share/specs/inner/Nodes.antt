@@ -1,5 +1,5 @@
 -- Collections, described by the classes of their children.
-use Rattle.std.specs.Prelude.{◌≡◌, ◌↔◌, ℕ, ◌+◌, ◌<◌, ◌≤◌, Bool, true, false, List, ◌++◌, length, map, Some, slice_get}
+use Rattle.std.specs.Prelude.{◌≡◌, ◌↔◌, ℕ, ◌+◌, ◌<◌, ◌≤◌, Bool, true, false, List, ◌++◌, length, map, Option, None, Some, slice_get}
 use Rattle.plist_base.specs.Events.{PlainEvent, shape_of}
 use Rattle.plist_base.specs.Trees.{Tree, Leaf, Array, Dictionary}
 use Rattle.std.specs.declared.alloc.Global.{Global}
@@ -35,28 +35,34 @@ pub record Extends (old new : List Node) : Type 0 where
 
 -- ---- the classes of trees
 
-module _ (class : ℕ → ℕ) (count : ℕ) where
-  -- a collection by the classes of its children, a dictionary's keys before its values
-  abbrev pub node_by : (is_dictionary : Bool) → Tree → ℕ → Node
-  node_by is_dictionary t p = (is_dictionary, map class (keys_in t p) ++ map class (values_in t p))
+-- a collection by the classes of its children, a dictionary's keys before its values
+abbrev pub node_by : (class : ℕ → ℕ) → (is_dictionary : Bool) → Tree → ℕ → Node
+node_by class is_dictionary t p =
+    (is_dictionary, map class (keys_in t p) ++ map class (values_in t p))
 
+-- the tree at index p as such a collection, or `None` for a scalar
+abbrev pub node_at : (class : ℕ → ℕ) → Tree → ℕ → Option Node
+node_at class (Leaf x) p = None
+node_at class (Array items) p = Some (node_by class false (Array items) p)
+node_at class (Dictionary pairs) p = Some (node_by class true (Dictionary pairs) p)
+
+module _ (count : ℕ) (nodes : List Node) where
   -- a collection's class: `count` plus its index among the collections found so far
-  abbrev pub IsIndexed : List Node → (is_dictionary : Bool) → Tree → ℕ → ℕ → Type 0
-  IsIndexed keys is_dictionary t p c =
-      (i : ℕ) × (c ≡ count + i) × (slice_get keys i ≡ Some (node_by is_dictionary t p))
+  abbrev pub IsIndexed : Node → ℕ → Type 0
+  IsIndexed node c = (i : ℕ) × (c ≡ count + i) × (slice_get nodes i ≡ Some node)
 
-  module _ (scalar : ℕ → ℕ) where
-    -- the tree at index p has class c, which is `scalar p` for a scalar
-    abbrev pub IsClass : List Node → Tree → ℕ → ℕ → Type 0
-    IsClass keys (Leaf x) p c = c ≡ scalar p
-    IsClass keys (Array items) p c = IsIndexed keys false (Array items) p c
-    IsClass keys (Dictionary pairs) p c = IsIndexed keys true (Dictionary pairs) p c
+  -- the class of a tree: `own` for a scalar, and otherwise that of the collection
+  abbrev pub IsClass : (own : ℕ) → Option Node → ℕ → Type 0
+  IsClass own None c = c ≡ own
+  IsClass own (Some node) c = IsIndexed node c
 
-    -- each tree from index `from` on has its class, and the classes before it are unchanged
-    pub record HaveTreeClasses (es : List PlainEvent) (keys : List Node) (from : ℕ) : Type 0 where
-      pub behind : (t : Tree) (p : ℕ) → from ≤ p → OccursAt es t p → IsClass keys t p (class p)
-      pub before : (p : ℕ) → p < from → class p ≡ scalar p
-      pub below : (p : ℕ) → p < length es → class p < count + length keys
+-- each tree from index `from` on has its class, and the classes before it are those of `scalar`
+pub record HaveTreeClasses (class : ℕ → ℕ) (count : ℕ) (scalar : ℕ → ℕ) (es : List PlainEvent)
+    (nodes : List Node) (from : ℕ) : Type 0 where
+  pub behind : (t : Tree) (p : ℕ) → from ≤ p → OccursAt es t p
+      → IsClass count nodes (scalar p) (node_at class t p) (class p)
+  pub before : (p : ℕ) → p < from → class p ≡ scalar p
+  pub below : (p : ℕ) → p < length es → class p < count + length nodes
 
 -- two indices have the same class if and only if the same tree begins at both
 abbrev pub SeparatesTrees : List PlainEvent → (class : ℕ → ℕ) → Type 0
@@ -91,9 +97,8 @@ is_dictionary shape.EndCollection = false
 abbrev pub IsClassAt : EventTable → (classes : List ℕ) → (base : ℕ) → (seen : List Collection)
     → (index class : ℕ) → Type 0
 IsClassAt held classes base seen index class = (t : Tree) → OccursAt (plain_events held) t index
-    → IsIndexed (nth_number classes) base (nodes_seen seen)
-    (is_dictionary (shape_of (table_event held index)))
-    t index class
+    → IsIndexed base (nodes_seen seen)
+    (node_by (nth_number classes) (is_dictionary (shape_of (table_event held index))) t index) class
 
 -- each tree from index `from` on has its class, and before it only scalars have theirs
 abbrev pub AreClassesFrom : EventTable → (base : ℕ) → (classes : List ℕ) → (seen : List Collection)

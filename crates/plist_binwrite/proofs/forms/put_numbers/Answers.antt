@@ -1,12 +1,9 @@
 use Rattle.std.proofs.Common.{arith}
 use Rattle.std.proofs.lemmas.List.{take_all}
 use Rattle.plist_binwrite.specs.Forms.{big_endian}
-use Rattle.plist_base.proofs.SinkSteps.{puts_none, puts_then, puts_refused, puts_as}
+use Rattle.plist_base.proofs.SinkSteps.{puts_then, puts_refused, puts_as}
 use Rattle.plist_binwrite.proofs.Outgoing.{one_part, all_parts}
 use Rattle.plist_binwrite.proofs.forms.put_numbers.Goals as goal
-
-pub loop-index-init : goal.loop-index-init
-loop-index-init g c = puts_none
 
 pub loop-index-preserved : goal.loop-index-preserved
 loop-index-preserved g c =

@@ -3,9 +3,6 @@ use Rattle.plist_binwrite.proofs.Placing.{in_order}
 use Rattle.plist_binwrite.proofs.PlannedBy.{known_number}
 use Rattle.plist_binwrite.proofs.layout.lay_out.Goals as goal
 
-pub loop-index-init : goal.loop-index-init
-loop-index-init c = (c.in_ok-layout.ensures, λ p h s. absurd (omega (arith, h)))
-
 pub loop-index-preserved : goal.loop-index-preserved
 loop-index-preserved c = (
   c.in_ok-place_here.ensures.layout,

@@ -26,15 +26,6 @@ loop-child-init g c = record {
       (are_items _ c.args.half c.args.index);
 }
 
-pub number-number-requires-clause-index : goal.number-number-requires-clause-index
-number-number-requires-clause-index g c =
-    (items g (goal.at.number-number-requires-clause-index g c).In-Some).0.0
-
-pub number-number-requires-clause-class : goal.number-number-requires-clause-class
-number-number-requires-clause-class g c =
-    c.requires.plan.numbered.planned.numbered.below _
-    (items g (goal.at.number-number-requires-clause-class g c).In-Some).0.0
-
 -- the remaining references, with the next one
 abbrev rest : (g : _) (c : Next g) → List ℕ → List ℕ
 rest g c l = table_form c.args.plan.now.width

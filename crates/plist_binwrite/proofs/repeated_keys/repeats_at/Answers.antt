@@ -3,7 +3,6 @@ use Rattle.std.specs.List.{AllByRecursion}
 use Rattle.std.proofs.lemmas.List.{length-set}
 use Rattle.std.proofs.lemmas.Option.{slice_get_within}
 use Rattle.plist_base.specs.Trees.{Dictionary}
-use Rattle.plist_base.specs.Events.{shape_of}
 use Rattle.plist_binwrite.specs.Children.{half_of, indices_left}
 use Rattle.plist_binwrite.specs.EventTable.{plain_events, event_at, scalars_of, HasItem}
 use Rattle.plist_binwrite.specs.declared.children.Half.TheVariants.{Keys}
@@ -11,7 +10,6 @@ use Rattle.plist_binwrite.specs.inner.Entries.{is_leaf}
 use Rattle.plist_binwrite.proofs.ChildIndices.{are_items, keys_are_in}
 use Rattle.plist_binwrite.proofs.KeyStamps.{Differ, Tells, below_set, differ_down, differ_up, keys_leaves, tells_end, tells_next, tells_repeats, tells_start}
 use Rattle.plist_binwrite.proofs.Occurring.{occurs_pairs}
-use Rattle.plist_binwrite.proofs.Skipping.{starts_dictionary}
 use Rattle.plist_binwrite.proofs.repeated_keys.repeats_at.Goals as goal
 use Rattle.plist_binwrite.proofs.repeated_keys.repeats_at.Goals.{After-into_iter-key-iterator as Begun, In-Some as Next}
 
@@ -40,9 +38,6 @@ loop-key-init c =
           (sym (is ∙ keys_are_in _ (Dictionary ms) c.args.start s))
           (keys_leaves ms _ (occurs_pairs s));
     }
-
-pub scalar_index-requires : goal.scalar_index-requires
-scalar_index-requires c = (items (goal.at.scalar_index-requires c).In-Some).0.0
 
 pub stamp-requires : goal.stamp-requires
 stamp-requires c =
@@ -99,11 +94,3 @@ returns-clause-repeats c = λ ms s.
     let is = begun a.After-into_iter-key-iterator ∙ keys_are_in _ (Dictionary ms) c.args.start s in
     differ_down ms _ (occurs_pairs s) (subst (Differ _) is
     (tells_end (subst (Tells _ _ _ _ _) c.in-None.ensures.steps.0 c.loop-key.invariant.tells)))
-
-pub returns-in_default-clause-repeats : goal.returns-in_default-clause-repeats
-returns-in_default-clause-repeats c = λ ms s.
-    absurd (c.in_default.not-StartDictionary
-    (c.kind_at.ensures ∙ ap shape_of (starts_dictionary s)))
-
-pub returns-in_default-clause-newer : goal.returns-in_default-clause-newer
-returns-in_default-clause-newer c = λ i h. omega (arith, c.requires.older i h)

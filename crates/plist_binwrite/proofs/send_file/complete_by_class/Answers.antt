@@ -1,8 +1,9 @@
 use Rattle.std.proofs.Common.{rules, inl, subst}
 use Rattle.std.proofs.lemmas.Result.{err_from_is_err_and}
 use Rattle.plist_base.specs.Writing.{answer_of}
-use Rattle.plist_binwrite.specs.Classes.{SendsBy}
+use Rattle.plist_binwrite.specs.Classes.{files_by}
 use Rattle.plist_binwrite.specs.EventClasses.{class_in, events_in}
+use Rattle.plist_binwrite.specs.SendingAs.{SendsAs}
 use Rattle.plist_binwrite.proofs.Lengthless.{whole_bracketed}
 use Rattle.plist_binwrite.proofs.Readied.{plan_sends}
 use Rattle.plist_binwrite.proofs.SendingFiles.{sends_nothing}
@@ -14,7 +15,7 @@ plan_file-requires-clause-whole g c = whole_bracketed c.args.given.now.events.no
 pub returns : goal.returns
 returns g c =
     let given = c.args.given.now in
-    subst (λ w. SendsBy (class_in given) g.W.Write.contents (events_in given)
+    subst (λ w. SendsAs (files_by (class_in given)) g.W.Write.contents (events_in given)
     (answer_of c.send_plan.result) c.args.writer.now w)
     (search rules)
     (plan_sends g.W.Write.contents given _ _ c.requires.whole c.in_ok-plan.ensures.plan

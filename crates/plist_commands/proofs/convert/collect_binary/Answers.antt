@@ -1,6 +1,6 @@
-use Rattle.std.proofs.Common.{◌≡◌, ap, false, subst, true}
+use Rattle.std.proofs.Common.{◌≡◌, ap, subst, true}
 use Rattle.plist_binread.specs.BinaryReader.{binary_source, items_to_come}
-use Rattle.plist_commands.specs.Converting.{AreNoTree, FindsTree, IfOkIs, IsRefusedFor, items_left, items_of_known}
+use Rattle.plist_commands.specs.Converting.{CollectsItems, items_left, items_of_known}
 use Rattle.plist_commands.specs.Holding.{collected}
 use Rattle.plist_binread.specs.Advancing.{Steps}
 use Rattle.plist_commands.proofs.Collected.{Concludes, binary_once, binary_twice}
@@ -42,24 +42,12 @@ after_others g c =
     c.expect_scalars.ensures.whole c.expect_scalars.ensures.pauses c.visit-others.ensures
     c.answer-2.ensures.answer
 
-pub returns-then-not-has_paused-clause-held : goal.returns-then-not-has_paused-clause-held
-returns-then-not-has_paused-clause-held g c =
-    let t = goal.at.returns-then-not-has_paused-clause-held g c in
+pub returns-then-not-has_paused-clause-collects : goal.returns-then-not-has_paused-clause-collects
+returns-then-not-has_paused-clause-collects g c =
+    let t = goal.at.returns-then-not-has_paused-clause-collects g c in
     rw c.answer.ensures.held
-    (subst (λ items. FindsTree items c.answer.result (collected c.visit-first.new.visitor))
-    (same_items g t.After-visit-first) (after_first g t.After-answer).held)
-
-pub returns-then-not-has_paused-clause-none : goal.returns-then-not-has_paused-clause-none
-returns-then-not-has_paused-clause-none g c =
-    let t = goal.at.returns-then-not-has_paused-clause-none g c in
-    subst (λ items. IfOkIs c.answer.result false (AreNoTree items))
-    (same_items g t.After-visit-first) (after_first g t.After-answer).none
-
-pub returns-then-not-has_paused-clause-refused : goal.returns-then-not-has_paused-clause-refused
-returns-then-not-has_paused-clause-refused g c =
-    let t = goal.at.returns-then-not-has_paused-clause-refused g c in
-    subst (λ items. IsRefusedFor items c.answer.result) (same_items g t.After-visit-first)
-    (after_first g t.After-answer).refused
+    (subst (λ items. CollectsItems items c.answer.result (collected c.visit-first.new.visitor))
+    (same_items g t.After-visit-first) (after_first g t.After-answer).collects)
 
 pub returns-then-not-has_paused-clause-answers : goal.returns-then-not-has_paused-clause-answers
 returns-then-not-has_paused-clause-answers g c =
@@ -73,24 +61,12 @@ returns-then-not-has_paused-clause-answers g c =
       k.counted,
     )
 
-pub returns-clause-held : goal.returns-clause-held
-returns-clause-held g c =
-    let t = goal.at.returns-clause-held g c in
+pub returns-clause-collects : goal.returns-clause-collects
+returns-clause-collects g c =
+    let t = goal.at.returns-clause-collects g c in
     rw c.answer-2.ensures.held
-    (subst (λ items. FindsTree items c.answer-2.result (collected c.visit-others.new.visitor))
-    (same_items g t.After-visit-first) (after_others g t.After-answer-2).held)
-
-pub returns-clause-none : goal.returns-clause-none
-returns-clause-none g c =
-    let t = goal.at.returns-clause-none g c in
-    subst (λ items. IfOkIs c.answer-2.result false (AreNoTree items))
-    (same_items g t.After-visit-first) (after_others g t.After-answer-2).none
-
-pub returns-clause-refused : goal.returns-clause-refused
-returns-clause-refused g c =
-    let t = goal.at.returns-clause-refused g c in
-    subst (λ items. IsRefusedFor items c.answer-2.result) (same_items g t.After-visit-first)
-    (after_others g t.After-answer-2).refused
+    (subst (λ items. CollectsItems items c.answer-2.result (collected c.visit-others.new.visitor))
+    (same_items g t.After-visit-first) (after_others g t.After-answer-2).collects)
 
 pub returns-clause-answers : goal.returns-clause-answers
 returns-clause-answers g c =

@@ -1,7 +1,7 @@
 use Rattle.std.proofs.Common.{ap, false, inl, refl, subst}
 use Rattle.std.specs.Prelude.{is_some}
 use Rattle.plist_reader.specs.Reader.{reader_items}
-use Rattle.plist_commands.specs.Converting.{AreNoTree, FindsTree, IfOkIs, IsRefusedFor}
+use Rattle.plist_commands.specs.Converting.{CollectsItems}
 use Rattle.plist_commands.specs.Items.{failures_in}
 use Rattle.plist_commands.specs.Holding.{collected}
 use Rattle.plist_commands.specs.ReaderRuns.{StepsReader}
@@ -28,24 +28,12 @@ known g c =
     (ap is_some c.new-reader.ensures.source) c.requires.empty) c.visit-visited.ensures (inl refl)
     c.answer.ensures.answer
 
-pub returns-clause-held : goal.returns-clause-held
-returns-clause-held g c =
-    let t = (goal.at.returns-clause-held g c).After-answer in
+pub returns-clause-collects : goal.returns-clause-collects
+returns-clause-collects g c =
+    let t = (goal.at.returns-clause-collects g c).After-answer in
     rw c.answer.ensures.held
-    (subst (λ items. FindsTree items c.answer.result (collected c.visit-visited.new.visitor))
-    c.new-reader.ensures.items (known g t).held)
-
-pub returns-clause-none : goal.returns-clause-none
-returns-clause-none g c =
-    let t = (goal.at.returns-clause-none g c).After-answer in
-    subst (λ items. IfOkIs c.answer.result false (AreNoTree items)) c.new-reader.ensures.items
-    (known g t).none
-
-pub returns-clause-refused : goal.returns-clause-refused
-returns-clause-refused g c =
-    let t = (goal.at.returns-clause-refused g c).After-answer in
-    subst (λ items. IsRefusedFor items c.answer.result) c.new-reader.ensures.items
-    (known g t).refused
+    (subst (λ items. CollectsItems items c.answer.result (collected c.visit-visited.new.visitor))
+    c.new-reader.ensures.items (known g t).collects)
 
 pub returns-clause-answers : goal.returns-clause-answers
 returns-clause-answers g c =

@@ -1,42 +1,47 @@
-use Rattle.std.proofs.Common.{ap, inr, Ok, Err, refl, subst, sym, ◌∙◌, true≢false}
+use Rattle.std.proofs.Common.{inr, Ok, Err, refl, subst, sym, ◌∙◌, true≢false}
 use Rattle.std.proofs.lemmas.Result.{err_from_is_err_and}
-use Rattle.plist_base.specs.Faults.{Fault, fault_of}
+use Rattle.plist_base.specs.Faults.{fault_of}
 use Rattle.plist_binwrite.specs.EventTable.{plain_events}
 use Rattle.plist_binwrite.specs.Sending.{Sends}
 use Rattle.plist_commands.proofs.Streaming.{not_direct, sends_read}
 use Rattle.plist_commands.proofs.convert.send_events.Goals as goal
 
-pub returns-then-branch-clause-left : goal.returns-then-branch-clause-left
-returns-then-branch-clause-left g c = λ known held e. (
-  refl,
-  not_direct known (plain_events c.events-events.result.now) (rw c.events-events.ensures held)
-      c.in_ok-repeats_key.field-0 c.in_ok-repeats_key.ensures.once
-      (λ is. true≢false (sym c.if-branch.true ∙ is)),
-)
+pub returns-then-branch-clause-converts : goal.returns-then-branch-clause-converts
+returns-then-branch-clause-converts g c = λ known held. record {
+  sent = λ e. absurd (cc);
+  left = λ e. (
+    refl,
+    not_direct known (plain_events c.events-events.result.now) (rw c.events-events.ensures held)
+        c.in_ok-repeats_key.field-0 c.in_ok-repeats_key.ensures.once
+        (λ is. true≢false (sym c.if-branch.true ∙ is)),
+  );
+  refused = tt;
+}
 
-pub returns-clause-sent : goal.returns-clause-sent
-returns-clause-sent g c = λ known held e.
-    sends_read known (plain_events c.events-events.result.now) (rw c.events-events.ensures held)
-    g.W.Write.contents (Ok tt) c.args.writer.now c.complete.new.writer
-    (λ tree alike. (c.in_ok-repeats_key.ensures.once tree alike).0 c.if-branch.false)
-    c.in_ok-complete.ensures
+pub returns-clause-converts : goal.returns-clause-converts
+returns-clause-converts g c = λ known held. record {
+  sent = λ e. sends_read known (plain_events c.events-events.result.now)
+      (rw c.events-events.ensures held) g.W.Write.contents (Ok tt) c.args.writer.now
+      c.complete.new.writer
+      (λ tree alike. (c.in_ok-repeats_key.ensures.once tree alike).0 c.if-branch.false)
+      c.in_ok-complete.ensures;
+  left = λ e. absurd (cc);
+  refused = tt;
+}
 
-pub returns-in_err-complete-clause-refused : goal.returns-in_err-complete-clause-refused
-returns-in_err-complete-clause-refused g c =
+pub returns-in_err-complete-clause-converts : goal.returns-in_err-complete-clause-converts
+returns-in_err-complete-clause-converts g c =
     let f = err_from_is_err_and c.from_residual-in_err-complete.result
     c.from_residual-in_err-complete.ensures.1 in
-    λ known held. rw (f.1, f.2)
-    (inr (sends_read known (plain_events c.events-events.result.now)
-    (rw c.events-events.ensures held)
-    g.W.Write.contents (Err (fault_of c.in_err-complete.field-0.0)) c.args.writer.now
-    c.complete.new.writer
-    (λ tree alike. (c.in_ok-repeats_key.ensures.once tree alike).0 c.if-branch.false)
-    c.in_err-complete.ensures))
-
-pub returns-in_err-repeats_key-clause-without_offset : goal.returns-in_err-repeats_key-clause-without_offset
-returns-in_err-repeats_key-clause-without_offset g c =
-    let f = err_from_is_err_and c.from_residual.result c.from_residual.ensures.1 in
-    rw (f.1, f.2) (ap (λ (fault : Fault). fault.offset) c.in_err-repeats_key.ensures.memory)
+    λ known held. rw (f.1, f.2) (record {
+      sent = tt;
+      left = tt;
+      refused = inr (sends_read known (plain_events c.events-events.result.now)
+          (rw c.events-events.ensures held) g.W.Write.contents
+          (Err (fault_of c.in_err-complete.field-0.0)) c.args.writer.now c.complete.new.writer
+          (λ tree alike. (c.in_ok-repeats_key.ensures.once tree alike).0 c.if-branch.false)
+          c.in_err-complete.ensures);
+    })
 
 pub returns-clause-wrote : goal.returns-clause-wrote
 returns-clause-wrote g c = λ e.

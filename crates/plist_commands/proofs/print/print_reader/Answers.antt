@@ -1,26 +1,12 @@
 use Rattle.plist_binread.specs.BinaryReader.{binary_source}
 use Rattle.plist_commands.specs.Converting.{items_left}
 use Rattle.plist_binread.specs.Advancing.{Steps}
-use Rattle.plist_commands.proofs.SourceItems.{binary_comes, run_counted, run_front, run_printed, run_unchanged, run_until}
+use Rattle.plist_commands.proofs.SourceItems.{binary_comes, run_counted, run_prints, run_unchanged}
 use Rattle.plist_commands.proofs.print.print_reader.Goals as goal
 
 pub returns-clause-printed : goal.returns-clause-printed
 returns-clause-printed g c =
-    run_printed Steps (items_left g.S.Source.known)
-    binary_comes c.args.reader.now c.print_source.new.source
-    c.print_source.result (g.W.Write.contents c.args.writer.now)
-    (g.W.Write.contents c.print_source.new.writer) c.print_source.ensures
-
-pub returns-clause-refused : goal.returns-clause-refused
-returns-clause-refused g c =
-    run_until Steps (items_left g.S.Source.known)
-    binary_comes c.args.reader.now c.print_source.new.source
-    c.print_source.result (g.W.Write.contents c.args.writer.now)
-    (g.W.Write.contents c.print_source.new.writer) c.print_source.ensures
-
-pub returns-clause-prefix : goal.returns-clause-prefix
-returns-clause-prefix g c =
-    run_front Steps (items_left g.S.Source.known)
+    run_prints Steps (items_left g.S.Source.known)
     binary_comes c.args.reader.now c.print_source.new.source
     c.print_source.result (g.W.Write.contents c.args.writer.now)
     (g.W.Write.contents c.print_source.new.writer) c.print_source.ensures

@@ -2,7 +2,7 @@ use Rattle.std.proofs.lemmas.Result.{on_ok_weaker}
 use Rattle.plist_base.specs.Visits.{YieldsPlain}
 use Rattle.plist.specs.Events.{GivesEvent}
 use Rattle.plist_commands.specs.Items.{items_of_events}
-use Rattle.plist_commands.proofs.SourceItems.{events_come, run_front, run_printed, value_error}
+use Rattle.plist_commands.proofs.SourceItems.{events_come, run_front, run_printed}
 use Rattle.plist_commands.proofs.print.print_value.Goals as goal
 
 pub returns-clause-printed : goal.returns-clause-printed
@@ -11,12 +11,6 @@ returns-clause-printed g c =
     (run_printed (YieldsPlain GivesEvent) items_of_events events_come c.events-events.result
     c.print_source.new.source c.print_source.result (g.W.Write.contents c.args.writer.now)
     (g.W.Write.contents c.print_source.new.writer) c.print_source.ensures)
-
-pub returns-clause-fault : goal.returns-clause-fault
-returns-clause-fault g c =
-    value_error c.events-events.result c.print_source.new.source c.print_source.result
-    (g.W.Write.contents c.args.writer.now) (g.W.Write.contents c.print_source.new.writer)
-    c.print_source.ensures
 
 pub returns-clause-prefix : goal.returns-clause-prefix
 returns-clause-prefix g c =

@@ -1,9 +1,6 @@
 use Rattle.std.proofs.Common.{arith, length, ◌/◌}
-use Rattle.plist_commands.proofs.LineParts.{block_put, block_refused, no_block_put, rest_put}
+use Rattle.plist_commands.proofs.LineParts.{block_put, block_refused, rest_put}
 use Rattle.plist_commands.proofs.print.put_blocks.Goals as goal
-
-pub loop-block-init : goal.loop-block-init
-loop-block-init g c = no_block_put c.args.notation 4096 0 c.args.bytes.now
 
 pub loop-block-preserved : goal.loop-block-preserved
 loop-block-preserved g c =

@@ -7,7 +7,7 @@ pub returns-clause-class : goal.returns-clause-class
 returns-clause-class c = λ t s.
     let es = plain_events c.args.events.now in
     let class = nth_number c.args.found.now.of in
-    let is = c.in_ok-children.ensures.classes ∙ (λ i. map class (keys_are_in es t c.args.index s i)
+    let is = c.in_ok-children.ensures ∙ (λ i. map class (keys_are_in es t c.args.index s i)
     ++ map class (values_are_in es t c.args.index s i)) in
     let class : c.in_ok-class.class ≡ c.args.found.now.count + c.in_ok-node.node = search rules in (
       c.in_ok-node.node,

@@ -1,20 +1,11 @@
-use Rattle.std.proofs.Common.{arith, sym, subst}
+use Rattle.std.proofs.Common.{arith}
 use Rattle.std.proofs.lemmas.List.{length-map}
-use Rattle.plist_share.specs.inner.Nodes.{AreClassesFrom, Node, node_of}
+use Rattle.plist_share.specs.inner.Nodes.{Node, node_of}
 use Rattle.plist_share.proofs.Found.{found_classes, separate_trees}
 use Rattle.plist_share.proofs.classes.give_classes.Goals as goal
 
-pub back-init : goal.back-init
-back-init c = record {
-  have = subst (AreClassesFrom c.args.events.now c.args.found.now.count c.args.found.now.of
-      c.args.seen.now.keys) (sym c.len-index.ensures) c.requires.classes;
-  long = c.requires.long;
-  within = omega (arith, c.len-index.ensures, c.requires.long);
-  apart = c.requires.apart;
-}
-
-pub returns-in-Some-clause-classes : goal.returns-in-Some-clause-classes
-returns-in-Some-clause-classes c =
+pub returns-in-Some : goal.returns-in-Some
+returns-in-Some c =
     let have = c.back.invariant.have in
     let long = c.back.invariant.long in
     record {

@@ -1,4 +1,4 @@
-use Rattle.std.proofs.Common.{◌≡◌, ◌++◌, ◌∷◌, [], arith, ap, map, sym, subst, refl, ◌∙◌, append-nil, append_assoc}
+use Rattle.std.proofs.Common.{◌≡◌, ◌++◌, ◌∷◌, ap, map, sym, subst, refl, ◌∙◌, append-nil}
 use Rattle.std.specs.List.{AllByRecursion}
 use Rattle.plist_binwrite.specs.Children.{half_of, indices_left}
 use Rattle.plist_binwrite.specs.EventTable.{plain_events, HasItem, nth_number}
@@ -22,27 +22,11 @@ loop-child-init c = record {
       (are_items _ c.args.half c.args.index);
 }
 
-pub get-requires : goal.get-requires
-get-requires c =
-    omega (arith, (items (goal.at.get-requires c).In-Some).0.0, c.requires.long)
-
-pub loop-child-preserved : goal.loop-child-preserved
-loop-child-preserved c = record {
-  pushed = ap (λ l. l ++ map (nth_number c.args.classes.now) (indices_left c.next.new.self))
-      (c.in_ok-push_index.ensures.pushed
-      ∙ ap (λ n. c.loop-child.found.items ++ n ∷ []) c.get.ensures)
-      ∙ append_assoc c.loop-child.found.items (nth_number c.args.classes.now c.in-Some.child ∷ []) _
-      ∙ ap (λ l. c.loop-child.found.items ++ map (nth_number c.args.classes.now) l)
-      (sym c.in-Some.ensures.steps)
-      ∙ c.loop-child.invariant.pushed;
-  items = (items (goal.at.loop-child-preserved c).In-Some).1;
-}
-
-pub returns-clause-pushed : goal.returns-clause-pushed
-returns-clause-pushed c =
+pub returns : goal.returns
+returns c =
     let class = nth_number c.args.classes.now in
     sym (append-nil c.loop-child.found.items)
     ∙ ap (λ l. c.loop-child.found.items ++ map class l) (sym c.in-None.ensures.steps.0)
     ∙ c.loop-child.invariant.pushed
     ∙ ap (λ l. c.args.found.now.items ++ map class l)
-    (begun (goal.at.returns-clause-pushed c).After-into_iter-child-iterator)
+    (begun (goal.at.returns c).After-into_iter-child-iterator)

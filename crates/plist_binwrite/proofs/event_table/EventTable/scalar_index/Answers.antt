@@ -1,23 +1,12 @@
 use Rattle.std.proofs.Common.{◌≡◌, Option, IfSome, None, Some, refl, sym, ◌∙◌}
 use Rattle.plist_binwrite.proofs.Columns.{named}
-use Rattle.plist_binwrite.proofs.HeldEntries.{lt, no_scalar, scalar_stored, scalar_is_leaf}
+use Rattle.plist_binwrite.proofs.HeldEntries.{scalar_stored}
 use Rattle.plist_binwrite.proofs.event_table.EventTable.scalar_index.Goals as goal
 
 some_of : {A : Type 0} {P : A → Type 0} (o : Option A) → ((a : A) → o ≡ Some a → P a) → IfSome o P
 some_of None f = tt
 some_of (Some a) f = f a refl
 
-pub scalar-requires : goal.scalar-requires
-scalar-requires c = lt c.args.self.now.kept c.requires
-
 pub returns-clause-some : goal.returns-clause-some
 returns-clause-some c = some_of c.scalar.result (λ index is.
     scalar_stored c.args.self.now.kept c.requires (named _ _ (sym c.scalar.ensures ∙ is)))
-
-pub returns-clause-leaf : goal.returns-clause-leaf
-returns-clause-leaf c = some_of c.scalar.result (λ index is.
-    scalar_is_leaf c.args.self.now.kept c.requires (named _ _ (sym c.scalar.ensures ∙ is)))
-
-pub returns-clause-none : goal.returns-clause-none
-returns-clause-none c = λ none.
-    no_scalar c.args.self.now.kept c.requires (sym c.scalar.ensures ∙ none)

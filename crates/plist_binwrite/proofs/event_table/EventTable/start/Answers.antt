@@ -4,17 +4,13 @@ use Rattle.plist_binwrite.specs.inner.Entries.{index_after_entry}
 use Rattle.plist_binwrite.proofs.HeldEntries.{long_shown, kept_start}
 use Rattle.plist_binwrite.proofs.event_table.EventTable.start.Goals as goal
 
-pub invariant_of-self-2 : goal.invariant_of-self-2
-invariant_of-self-2 c =
+pub invariant_of-self-in-Ok : goal.invariant_of-self-in-Ok
+invariant_of-self-in-Ok c =
     let s = c.args.self.now in
     record {
-      kept = rw (
-        c.push_reserved.ensures.items,
-        c.in_ok-reserve.ensures.items,
-        c.len-index.ensures,
-        c.in_ok-push.ensures.pushed,
-      ) (kept_start s.kept c.args.entry c.requires.starts
+      kept = rw (c.in_ok-push.ensures.pushed, c.len.ensures, c.in-Ok.ensures.pushed)
+          (kept_start s.kept c.args.entry c.requires.starts
           (subst (λ n. index_after_entry n c.args.entry ≡ n + 1) (long_shown (scalars_of s) s.entries)
           c.requires.after));
-      few = c.in_ok-push.ensures.small;
+      few = c.in-Ok.ensures.small;
     }

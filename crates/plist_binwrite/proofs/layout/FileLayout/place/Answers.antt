@@ -3,7 +3,7 @@ use Rattle.plist_binwrite.specs.EventTable.{scalars_of}
 use Rattle.plist_binwrite.specs.inner.Planning.{count_of, object_number}
 use Rattle.plist_binwrite.proofs.ClassObjects.{numbered}
 use Rattle.plist_binwrite.proofs.HeldEntries.{long_shown}
-use Rattle.plist_binwrite.proofs.Placing.{end_positive, keeps_more, laid_next, marked_more, not_in_order, order_more, sized}
+use Rattle.plist_binwrite.proofs.Placing.{end_positive, laid_next, marked_more, not_in_order, order_more, sized}
 use Rattle.plist_binwrite.proofs.PlannedBy.{numbers_below}
 use Rattle.plist_binwrite.proofs.TreeObjects.{object_fits}
 use Rattle.plist_binwrite.proofs.layout.FileLayout.place.Goals as goal
@@ -26,12 +26,6 @@ positive c =
     let of = numbered c.requires.numbered.planned in
     c.place_or_greatest.ensures.positive
     (end_positive _ of.objects _ _ (c.requires.layout.laid of.objects of.describes).end)
-
-pub returns-clause-keeps : goal.returns-clause-keeps
-returns-clause-keeps c =
-    let a = (goal.at.returns-clause-keeps c).In_ok-set in
-    rw (c.in_ok-set.ensures.set, c.number-number.ensures)
-    (keeps_more (number a) _ c.requires.layout.order (below a) (none a) (positive a))
 
 pub returns-clause-marked : goal.returns-clause-marked
 returns-clause-marked c =

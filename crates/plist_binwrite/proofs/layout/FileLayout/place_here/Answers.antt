@@ -23,18 +23,3 @@ loop-key-init c =
           (sym (begun (goal.at.loop-key-init c).After-into_iter-key-iterator))
           (are_items _ Keys c.args.index);
     }
-
-pub place-requires-in-loop-key-clause-item : goal.place-requires-in-loop-key-clause-item
-place-requires-in-loop-key-clause-item c =
-    (subst (AllByRecursion (HasItem _)) c.in-Some.ensures.steps c.loop-key.invariant.items).0
-
-pub loop-key-preserved : goal.loop-key-preserved
-loop-key-preserved c =
-    let i = c.loop-key.invariant in
-    let one = c.in_ok-place-in-StartDictionary-2.ensures in
-    record {
-      layout = one.layout;
-      keeps = λ k n. one.keeps k (i.keeps k n);
-      marked = one.keeps _ i.marked;
-      items = (subst (AllByRecursion (HasItem _)) c.in-Some.ensures.steps i.items).1;
-    }

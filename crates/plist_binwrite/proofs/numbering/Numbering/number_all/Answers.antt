@@ -1,4 +1,4 @@
-use Rattle.std.proofs.Common.{◌∙◌, length, ap, arith, below_more, subst}
+use Rattle.std.proofs.Common.{arith, below_more, subst}
 use Rattle.std.specs.List.{AllByRecursion}
 use Rattle.plist_binwrite.specs.EventClasses.{events_in}
 use Rattle.plist_binwrite.specs.inner.Planning.{stored_number}
@@ -38,8 +38,3 @@ returns-clause-all c =
     ))
     t 0 (occurs_whole e)
     (still_numbered c.loop-index.invariant.1 0 c.in_ok-number_one.ensures.numbered))
-
-pub returns-clause-root : goal.returns-clause-root
-returns-clause-root c =
-    let one = c.in_ok-number_one.ensures in
-    c.loop-index.invariant.1.kept 0 one.numbered ∙ one.first (ap length c.requires.none)

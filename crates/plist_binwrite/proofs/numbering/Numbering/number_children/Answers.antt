@@ -1,7 +1,7 @@
 use Rattle.std.proofs.Common.{refl, subst, sym}
 use Rattle.std.specs.List.{AllByRecursion}
 use Rattle.plist_binwrite.specs.declared.children.Half.TheVariants.{Keys, Values}
-use Rattle.plist_binwrite.proofs.PlannedBy.{keeps_self, keeps_then, still_numbered}
+use Rattle.plist_binwrite.proofs.PlannedBy.{keeps_self, still_numbered}
 use Rattle.plist_binwrite.proofs.Uniques.{all_from}
 use Rattle.plist_binwrite.proofs.numbering.Numbering.number_children.Goals as goal
 
@@ -14,10 +14,6 @@ pub returns-then-not-begins_collection-clause-numbered
 returns-then-not-begins_collection-clause-numbered c =
     let none = c.if-not-begins_collection.ensures refl in
     (subst (AllByRecursion _) (sym (none Keys)) tt, subst (AllByRecursion _) (sym (none Values)) tt)
-
-pub returns-clause-keeps : goal.returns-clause-keeps
-returns-clause-keeps c =
-    keeps_then c.in_ok-number_half.ensures.keeps c.in_ok-number_half-2.ensures.keeps
 
 pub returns-clause-numbered : goal.returns-clause-numbered
 returns-clause-numbered c =

@@ -24,10 +24,6 @@ loop-child-init c = record {
       (are_items _ c.args.half c.args.index);
 }
 
-pub number_one-requires-clause-item : goal.number_one-requires-clause-item
-number_one-requires-clause-item c =
-    (subst (AllByRecursion (HasItem _)) c.in-Some.ensures.steps c.loop-child.invariant.items).0
-
 pub loop-child-preserved : goal.loop-child-preserved
 loop-child-preserved c =
     let i = c.loop-child.invariant in

@@ -1,14 +1,9 @@
 use Rattle.std.proofs.Common.{Err, refl}
-use Rattle.plist_base.proofs.SinkSteps.{puts_pending, puts_refused, puts_then}
+use Rattle.plist_base.proofs.SinkSteps.{puts_refused}
 use Rattle.plist_base.specs.Events.{ScalarEvent}
 use Rattle.plist_base.specs.Trees.{Data}
 use Rattle.plist_commands.specs.EscapedLines.{line_of}
 use Rattle.plist_commands.proofs.print.Printer.print_data.Goals as goal
-
-pub returns-in-Continue : goal.returns-in-Continue
-returns-in-Continue g c =
-    puts_then c.in-Continue.ensures.put
-    (puts_pending (record { writer = refl; buffer = refl }) refl c.push_data.ensures)
 
 pub returns-in-Break : goal.returns-in-Break
 returns-in-Break g c =

@@ -1,18 +1,9 @@
-use Rattle.std.proofs.Common.{rules, arith}
+use Rattle.std.proofs.Common.{rules}
 use Rattle.std.proofs.lemmas.Result.{err_from_is_err_and}
 use Rattle.plist_base.specs.Writing.{answer_of}
 use Rattle.plist_binwrite.specs.EventTable.{nth_number}
 use Rattle.plist_share.proofs.SharedFile.{sends_shared, sends_nothing}
 use Rattle.plist_share.proofs.completion.EqualTreesSharing.complete.Goals as goal
-
-pub complete_by_class-requires-clause-classed : goal.complete_by_class-requires-clause-classed
-complete_by_class-requires-clause-classed g c =
-    let found = c.in_ok-found.ensures in
-    record {
-      listed = found.long;
-      below = λ p l. found.below p (omega (arith, found.long, l));
-      objects = found.objects;
-    }
 
 pub returns : goal.returns
 returns g c =
@@ -24,5 +15,4 @@ returns g c =
 pub returns-in_err-found : goal.returns-in_err-found
 returns-in_err-found g c =
     let p = err_from_is_err_and c.from_residual.result c.from_residual.ensures.1 in
-    rw (p.1, p.2) (sends_nothing _ c.args.events.now _ _ _
-    c.in_err-found.ensures.memory (search rules))
+    rw p.1 (sends_nothing _ c.args.events.now _ _ _ p.2 (search rules))
