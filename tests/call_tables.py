@@ -72,7 +72,7 @@ VALUE = {
              [["deep"], {}]],
     "again": "short",
 }
-# without blanks in its texts, so that its words can be told apart
+# its strings have no blanks, so that its words can be separated
 SIMPLE = {"name": "text", "list": [1, True, b"\0\xff", plistlib.UID(4), "é", [["deep"], {}]],
           "again": "text"}
 BINARY = plistlib.dumps(VALUE, fmt=plistlib.FMT_BINARY, sort_keys=False)
@@ -105,11 +105,11 @@ def readers(calls):
     binary = ["BinaryReader", "limited BinaryReader", "seeking BinaryReader",
               "windows BinaryReader", "Reader", "limited Reader"]
     sweep(binary, BINARY, words_of(VALUE), in_binary)
-    # three texts have 39 bytes, and the data has more than one
+    # the budget has 40 bytes: the first three texts have 39, and the data has more than one
     some = words_of(VALUE)
     some = some[:some.index("<" + VALUE["list"][3].hex() + ">")] + [WANT]
     sweep(["budgeted BinaryReader"], BINARY, some, in_binary)
-    # windows that find no memory aren't missed
+    # if the windows can't be allocated, the source reads through those in its struct
     calls.sweep("windows", "", "good", set())
     surrogate = ["[2", "'a'", "InvalidUtf16String (offset 13)"]
     sweep(binary, file_of("a201025161 62d83d0041 080b0d", 3, 18), surrogate, in_binary)
@@ -135,7 +135,7 @@ def visits(calls):
     wants = {"".join(f"{kind} " for kind in kinds[:i]) + WANT
              for i, word in enumerate(words) if in_visit(i, word)}
     calls.sweep("visiting BinaryReader", BINARY, "".join(f"{kind} " for kind in kinds), wants)
-    # a text, data and an integer, each twice: none takes memory
+    # a string, data and an integer, each twice: none of them is copied
     twice = file_of("a6010102020303 5161 420102 1005 080f1114", 4, 22)
     kinds = ["StartArray", "String", "String", "Data", "Data", "Integer", "Integer", "EndCollection"]
     wants = {WANT}
@@ -156,7 +156,7 @@ def writers(calls):
         count = len(words.split(" "))
         wants = {f"{answers}| {FAILED}" for answers in failures(count)}
         calls.sweep("Builder", words, "ok; " * count + "| " + built, wants, stops=True)
-    # the file of an earlier plist stands before
+    # the file of an earlier property list precedes that of these events
     count = len(PAIRS.split(" "))
     wants = {f"{answers}\nok | {TRUE_FILE.hex()}" for answers in failures(count)}
     both = (TRUE_FILE + PAIRS_FILE).hex()
@@ -169,7 +169,8 @@ def writers(calls):
 
 
 def buffers(calls):
-    # five bytes for each event, in rooms that are doubled; room for a thousand different scalars
+    # an event takes five bytes, in lists that grow by doubling; a wrong hint costs no more than the
+    # memory of a thousand scalars
     calls.within("EventBuffer", " ".join(["[", *["true"] * 999]), "held", 12 * 1000)
     calls.within("EventBuffer with a wrong hint", "[ true", "held", 100 * 1000)
 
@@ -191,9 +192,9 @@ def values(calls):
     for name in ("clone of a value", "value_again"):
         calls.sweep(name, simple, f"{simple} | {simple}", {f"{WANT} | {simple}"})
     calls.sweep("try_from_str", "some text", "'some text'", {WANT})
-    # bytes that stood before stay
+    # the writer keeps the bytes that it had before
     calls.sweep("to_writer_binary", PAIRS, "ok | 07" + PAIRS_FILE.hex(), {f"{WANT} | 07"})
-    # where the events find no memory, the builder has got none of them
+    # if memory runs out in the iterator over the events, the builder hasn't failed, but isn't complete
     wants = {f"{WANT} | {FAILED}", f"{WANT} | UnexpectedEndOfEventStream"}
     calls.sweep("write_value to a Builder", simple, f"ok | {simple}", wants)
     sent = "ok | " + PAIRS_FILE.hex()
@@ -209,16 +210,16 @@ def files(calls):
 
 
 def dictionaries(calls):
-    # what stands at a new key behind each call, and what at one that was there
+    # the value of a new key after each call, and that of a key that was there
     inserts = [("insert", "v", "v"), ("or_insert", "v", 2), ("or_insert_with", "v", 2),
                ("insert of an entry", "v", 2), ("set_by_entry", 7, 7), ("set_by_made_entry", 7, 7)]
     for name, added, value in inserts:
-        # but 1, those at which something grows
+        # the sizes at which something grows, and 1
         for size in (0, 1, 4, 8, 9, 16, 18, 32):
             old = {f"k{i}": i for i in range(size)}
             calls.sweep(name, joined(old), "ok | " + joined({**old, "new": added}),
                          {"back new 'v' | " + joined(old)})
-        # a key that is there needs none
+        # a call for a key that is there allocates nothing
         there = {"a": 1, "new": 2}
         calls.still(name, joined(there), "ok | " + joined({**there, "new": value}))
     old = {"a": 1, "b": 2, "p": 3, "q": 4, "r": 5}
@@ -226,7 +227,7 @@ def dictionaries(calls):
     for key in "bcadefg":
         states.append(joined(state))
         state[key] = True
-    # those behind the pair that found no memory aren't asked for
+    # the pairs after the one that couldn't be stored aren't taken from the iterator
     wants = {f"{WANT} {6 - place} | {words}" for place, words in enumerate(states)}
     calls.sweep("extend", joined(old), "ok 0 | " + joined(state), wants)
     made = joined(dict.fromkeys("bcadefg", True))
@@ -341,7 +342,7 @@ def still_writers(calls):
     for name in ("a BinaryWriter", "a SharingWriter"):
         calls.still(f"refused by {name}", "{ 'k' | end", refusal(key, end))
         calls.still(f"refused by {name}", "true | end", refusal(place, end))
-        # what equals one that is held isn't copied, and the room of an earlier plist is kept
+        # a scalar that equals a stored one isn't copied, and the memory of an earlier list is reused
         calls.still(f"taken by {name}", "[ 'x' 'x' 'x' 'x' | 'x'", "ok; ")
         calls.still(f"taken by {name}", "[ 'x' 'y' end | [ 1 2", "ok; ok; ok; ")
     behind = "".join(f"ExpectedEndOfEventStream {{ found: {kind} }}; "

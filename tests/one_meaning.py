@@ -1,17 +1,19 @@
 #!/usr/bin/env python3
 """Each word of specs, and each type that more than one file sees, is defined in one place.
 
-Usage: tests/one_meaning.py [TOP]      status 1, and a line for each word that is defined twice.
+Usage: tests/one_meaning.py [TOP]
+
+Prints a line for each word that is defined twice. The status is 1 if there is such a word.
 A word of specs may have the name of a function: it says what that function returns.
 """
 import collections, pathlib, re, sys
 
 TOP = pathlib.Path(sys.argv[1] if len(sys.argv) > 1 else __file__).resolve()
 TOP = TOP if TOP.is_dir() else TOP.parent.parent
-ASSOCIATED = "the associated type that a trait of std asks for"
+ASSOCIATED = "the associated type that a trait of std requires"
 NAMED = "`plist::dictionary` names that of `plist_pairs`, with its values"
 SEEN = "what contracts see of the type"
-# each with the crates that define it, and what forces them
+# the names that may be defined twice, each with the crates that define it, and the reason
 ALLOWED = {
     "Item": (None, ASSOCIATED), "Err": (None, ASSOCIATED), "Output": (None, ASSOCIATED),
     "IntoIter": ({"plist", "plist_pairs"}, ASSOCIATED), "Iter": ({"plist", "plist_pairs"}, NAMED),
@@ -45,7 +47,7 @@ def types(path):
 places = collections.defaultdict(set)
 for pattern, names in ("crates/*/specs/**/*.antt", words), ("crates/*/src/**/*.rt", types):
     for path in TOP.glob(pattern):
-        # what the kit writes of an `impl Model`, and what the worked examples write files with
+        # skips what the kit makes of an `impl Model`, and the notation of the worked examples
         if "formers" not in path.parts and "Examples" not in path.parts:
             for is_type, name in names(path):
                 for kind in ["type"] * is_type + ["word of specs"] * (names is words):

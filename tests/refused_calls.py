@@ -112,16 +112,16 @@ class Calls:
         found, requests, _ = next(runs)
         self.all["requests"] += requests
         if found != ample:
-            self.bad(f"{call}, with ample memory: {found!r} for {ample!r}")
-        for _ in ("alone", "with all behind it"):
+            self.bad(f"{call}, with enough memory: {found!r} for {ample!r}")
+        for _ in ("alone", "with all later ones"):
             number, count = 0, 0
             while count >= number:
                 number += 1
                 found, count, _ = next(runs)
                 if found == ample:
-                    self.all["as with ample memory"] += count >= number
+                    self.all["as with enough memory"] += count >= number
                 elif count >= number and found in wants and not (stops and count > number):
-                    self.all["want of memory"] += 1
+                    self.all["OutOfMemory"] += 1
                 else:
                     self.bad(f"{call}, request {number} of {requests}: {found!r}")
 
@@ -132,8 +132,8 @@ class Calls:
     def test_still(self, call, runs, ample):
         for found, requests, _ in (next(runs), next(runs)):
             if found != ample or requests:
-                self.bad(f"{call} takes no memory: {found!r} for {ample!r}, {requests} requests")
-        self.all["calls that take no memory"] += 1
+                self.bad(f"{call} must allocate nothing: {found!r} for {ample!r}, {requests} requests")
+        self.all["calls that allocate nothing"] += 1
 
     def bounded(self, name, file, ample):
         """All allocations together must have at most a hundred times as many bytes as the file."""
@@ -144,7 +144,7 @@ class Calls:
         self.most = max(self.most, asked / len(file))
         if found != ample or asked > 100 * len(file):
             self.bad(f"{call}, {len(file)} bytes: {found!r} for {ample!r}, {asked} bytes of memory")
-        self.all["files that lie"] += 1
+        self.all["files with false sizes"] += 1
 
     def within(self, name, given, ample, most):
         """All allocations together must have at most this many bytes."""
@@ -153,8 +153,8 @@ class Calls:
     def test_within(self, call, runs, ample, most):
         found, _, asked = next(runs)
         if found != ample or asked > most:
-            self.bad(f"{call}: {found!r} for {ample!r}, {asked} bytes of memory and not {most}")
-        self.all["calls of little memory"] += 1
+            self.bad(f"{call}: {found!r} for {ample!r}, {asked} bytes of memory, of at most {most}")
+        self.all["calls that allocate little"] += 1
 
     def look_at(self, calls):
         for (call, test), runs in zip(self.tests, calls, strict=True):
@@ -170,7 +170,7 @@ def main():
     with tempfile.TemporaryDirectory() as name:
         output = output_of(pathlib.Path(name), "".join(calls.lines))
     calls.look_at(runs_of(output))
-    print(f"{calls.most:.0f} bytes of memory for each byte of a file that lies, at most")
+    print(f"at most {calls.most:.0f} bytes of memory for each byte of a file with false sizes")
     told = ", ".join(f"{number} {what}" for what, number in sorted(calls.all.items()))
     print(f"{len(calls.names)} kinds of calls: {told}")
     return 1 if calls.all["otherwise"] else 0

@@ -1,7 +1,7 @@
 #!/usr/bin/env python3
 """Lets each allocation of `plist_tool` fail in turn.
 
-The n-th call of malloc, realloc or aligned_alloc returns a null pointer. Then a command has to do what it
+The n-th call of malloc, realloc, aligned_alloc or posix_memalign fails. Then a command has to do what it
 does with enough memory, or to print a prefix of its lines, report `OutOfMemory` and end with status 1;
 `convert` leaves OUT unchanged, or writes all of it. With wrong arguments nothing is printed, the usage is
 reported, and the status is 2.
@@ -81,7 +81,7 @@ def is_want_of_memory(found, ample):
 
 
 def is_usage(driver, words, output):
-    """Whether these arguments are rejected, nothing is printed, and the file is unchanged."""
+    """Returns whether these arguments are rejected, nothing is printed, and the file is unchanged."""
     output.write_bytes(b"an older file")
     found, _ = driver.run(0, words)
     if found == (2, b"", USAGE) and output.read_bytes() == b"an older file":
@@ -110,9 +110,9 @@ def sweep(driver, name, words, output=None):
         if requests < refused and found == ample:
             break
         if found == ample and made() == whole:
-            counts["as with ample memory"] += 1
+            counts["as with enough memory"] += 1
         elif is_want_of_memory(found, ample) and made() == (b"an older file" if output else None):
-            counts["want of memory"] += 1
+            counts["OutOfMemory"] += 1
         else:
             counts["other"] += 1
             print(f"{name}, request {refused}: {found!r}, {made()!r}")
@@ -128,7 +128,7 @@ def main():
         driver, out = Driver(folder), folder / "out.plist"
         text, cut, wide = folder / "text.plist", folder / "cut.plist", folder / "wide.plist"
         text.write_bytes(ASCII)
-        # a line that is longer than what is held back
+        # a line that is longer than the buffer
         wide.write_bytes(plistlib.dumps("x" * 70_000, fmt=plistlib.FMT_BINARY))
         cut.write_bytes(SETTINGS.read_bytes()[:-5])
         bad = sum([

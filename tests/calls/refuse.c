@@ -1,7 +1,8 @@
 /* Lets allocations fail between two marks.
 
    `rt try` links the address sanitizer, whose `malloc` calls the function `__interceptor_malloc` if a
-   program defines it. That can call the sanitizer's own one, whose name has three underscores. */
+   program defines it. The program's function can call the sanitizer's own `malloc`, whose name has
+   three underscores. */
 #include <errno.h>
 #include <stddef.h>
 #include <stdint.h>

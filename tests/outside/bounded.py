@@ -68,7 +68,7 @@ class Starter:
     def run(self, words, room=0, seconds=0, out="/dev/null", err="/dev/null"):
         """Runs a program to its end, with limits of its address space (in KiB) and its processor time.
 
-        A limit of 0 is none. The output is written to `out` and `err`."""
+        A limit of 0 means no limit. The output is written to `out` and `err`."""
         return self.run_all([(words, room, seconds, out, err)])[0]
 
     def run_all(self, runs):

@@ -18,7 +18,7 @@ What another program doesn't support isn't compared with it:
 
 Faults aren't compared, because the other programs disagree about them. These were tried: null and
 fill objects, sets, URLs, a lone surrogate, integers of 16 bytes that don't fit, and dates that are
-not a number or out of range. For this program, plistutil and plser, an ASCII file with bytes above
+not a number or out of range. For `plist_tool`, plistutil and plser, an ASCII file with bytes above
 127 is UTF-8; plistlib rejects it.
 
 Usage: compare.py [--trees N] [FILE ..]      N random trees of each kind, 150 by default
@@ -166,7 +166,7 @@ PROGRAMS = {
 
 # ---- the files
 
-# Scalars that all three programs can say, that plser can't, and that only plistlib can.
+# Scalars that all three programs support, those that plser doesn't, and those that only plistlib does.
 SCALARS = [
     (["plistlib", "plistutil", "plser"], [
         False, True, *(sign * 2**n + d for n in range(63) for sign in (1, -1) for d in (-1, 0)),
@@ -189,7 +189,7 @@ SCALARS = [
 ]
 
 # Objects that no writer here makes: short reals, numbers and lengths in more bytes than they need,
-# Uids of three and five bytes, and a text that could have been one of bytes.
+# Uids of three and five bytes, and a wide string of ASCII characters.
 BY_HAND = [
     b"\x22\x3f\xc0\x00\x00", b"\x22\x3d\xcc\xcc\xcd", b"\x11\x00\x05", b"\x14" + (5).to_bytes(16, "big"),
     b"\x12\xff\xff\xff\xff", b"\x5f\x10\x02ab", b"\x5f\x13" + (2).to_bytes(8, "big") + b"ab",
@@ -244,8 +244,8 @@ def files_of(names, folder, trees):
             yield "plser of others", plser(path, "Binary"), PROGRAMS
 
 
-# Texts that every writer quotes: a bare text of this library goes on past a line end, where others
-# end it.
+# Strings that every writer quotes, since this library, unlike others, doesn't end a bare string at
+# the end of a line.
 PIECES = ["a b", " ", "é ü", "中 文", "tab\t lf\n \"q\" 'q' \\ <&>", "(x, y)", "{k = v;}", "// n", "/* n */"]
 
 

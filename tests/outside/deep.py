@@ -29,7 +29,7 @@ SETTINGS, ARCHIVE = (CRATES.parent / "examples" / name for name in ("settings.pl
 STACK = 8 << 20
 # how many KiB of call stack a run on a few levels may take
 SMALL_STACK, LEVELS = 250, 20
-# what twenty values take one after the other, of which one takes a fifth
+# the address space in which twenty values are made one after the other; each needs a fifth of it
 ROOM = 2 << 30
 
 
@@ -134,7 +134,7 @@ def main():
     def tell(name, right, how):
         nonlocal bad
         bad += not right
-        print(f"{name}: {'' if right else 'OTHERWISE, '}{how}", flush=True)
+        print(f"{name}: {'' if right else 'UNEXPECTED, '}{how}", flush=True)
 
     def expect(name, answer, wanted):
         shown, how = answer

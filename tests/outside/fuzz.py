@@ -26,11 +26,11 @@ import second
 
 PROGRAM = pathlib.Path(__file__).resolve().parents[2] / "crates/plist_tool/out/plist_tool"
 MOST_ITEMS = 3000
-# so many files are run together, each with so much processor time
+# the number of files that are run together, and the processor seconds of each
 BATCH, SECONDS = 100, 60
 
 
-# ---- what has to come
+# ---- the expected results
 
 def told(fault):
     return f"Error: {fault.text}\n".encode() if fault else b""

@@ -6,7 +6,7 @@ do the same with each unmutated file as they do with enough memory. There are tw
 files of some hundred bytes, little more than the program needs to start with its call stack, and one
 for files of some 200 kB. The script finds both first. Half of the larger files run under a lower
 limit, down to the first one, so that allocations fail at different points. Each run must end with
-status 0, 1 or 2, and never by a signal:
+status 0 or 1, and never by a signal:
 
 - With status 0 nothing is printed on standard error; with status 1 one line is, which says what the
   fault is.
@@ -39,13 +39,13 @@ import speed
 OLDER = b"an older file"
 TOLD = re.compile(rb"Error: [^\n]+\n")
 SHORT_OF_MEMORY = b"Error: OutOfMemory"
-# what a file may take that is run with ample memory, in KiB and seconds
+# the limits of a run with enough memory, in KiB and in seconds
 AMPLE, SECONDS = 1 << 20, 20
 MOST_ROOM = 64 << 10
 COMMANDS = ("print", "keyed", "convert")
-# so many files are run together
+# the number of files that are run together
 BATCH = 100
-# what part of the files is large
+# the share of the files that are large
 LARGE = 0.02
 
 
@@ -68,7 +68,7 @@ def archive(chance):
 
 
 def small_files(chance, folder):
-    """Files of some hundred bytes."""
+    """Yields files of some hundred bytes."""
     examples = speed.PLIST_TOOL.parent / "examples"
     yield (examples / "settings.plist").read_bytes()
     yield (examples / "archive.plist").read_bytes()
@@ -78,7 +78,7 @@ def small_files(chance, folder):
 
 
 def large_files():
-    """Files of some 200 kB, with the shapes that `speed.py` measures."""
+    """Yields files of up to some 200 kB: shapes that `speed.py` measures, and two ASCII files."""
     for shape in (speed.integers, speed.distinct_texts, speed.repeated_texts, speed.settings, speed.blobs,
                   speed.settings_by_plistlib):
         yield shape(200_000)
@@ -162,14 +162,14 @@ class Cases:
         if command == "convert":
             faults += fault_of_output(ended, *case.output())
         elif is_short and not self.is_front(case, command, shown):
-            faults.append("no beginning of what is shown with ample memory")
+            faults.append("the output isn't a prefix of that with enough memory")
         for why in faults:
             self.bad += 1
             front, size = case.data[:2000].hex(), len(case.data)
             print(f"{command} under {case.room} KiB: {why}: {ended}, of {size} bytes, {front}", flush=True)
 
     def is_front(self, case, command, shown):
-        """Whether the output is a prefix of that with ample memory. If that isn't enough, returns true."""
+        """Returns whether the output is a prefix of that with enough memory, or true if even that run fails."""
         path, _ = case.told[command]
         whole, error = path.with_suffix(".whole"), path.with_suffix(".fault")
         ended = self.starter.run([speed.PROGRAM, *case.words(command)], AMPLE, SECONDS, whole, error)
@@ -182,9 +182,9 @@ class Cases:
 def fault_of_run(ended, error):
     """Returns what is wrong with the end of a run and with its message."""
     if ended.signal or ended.status not in (0, 1, 2):
-        yield "it didn't end by itself"
+        yield "it ended by a signal, or with another status"
     elif ended.status == 2:
-        yield "its words aren't wrong"
+        yield "status 2, although the arguments are right"
     elif ended.status == 0 and error or ended.status == 1 and not TOLD.fullmatch(error):
         yield f"standard error has {error!r}"
 
@@ -193,13 +193,13 @@ def fault_of_output(ended, after, before):
     """Returns what is wrong with the file that `convert` had to write, or to leave unchanged."""
     if ended.status == 0 and not ended.signal:
         if not is_whole(after):
-            yield f"OUT is no whole file, of {len(after)} bytes"
+            yield f"OUT has {len(after)} bytes, and isn't a complete file"
     elif after != before:
-        yield f"OUT was changed, to {len(after)} bytes"
+        yield f"OUT was changed, and has {len(after)} bytes"
 
 
 def is_whole(data):
-    """Whether these bytes are a complete binary property list."""
+    """Returns whether these bytes are a complete binary property list."""
     try:
         container = second.Container(data)
     except second.Fault:

@@ -84,7 +84,7 @@ def main():
             fine = printed == wanted and ended.status == 0 and beyond <= BEYOND
             bad += not fine
             print(f"| {shape} | {most:,} | {longest:,} | {printed.decode().strip()} | {peak:,} | "
-                  f"{max(beyond, 0):,} | {ended.seconds:.2f} |{'' if fine else ' OTHERWISE'}")
+                  f"{max(beyond, 0):,} | {ended.seconds:.2f} |{'' if fine else ' UNEXPECTED'}")
         starter.close()
     return 1 if bad else 0
 

@@ -61,7 +61,7 @@ def others_of(xml):
 
 
 def from_others(chance, folder):
-    """Yields the files that the other programs that are installed write for a value."""
+    """Yields the files that plistlib and the other installed programs write for a value."""
     value = some_tree(chance)
     yield plistlib.dumps(value, fmt=plistlib.FMT_BINARY, sort_keys=False)
     xml = folder / "value.xml"

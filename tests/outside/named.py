@@ -9,12 +9,12 @@ import re
 import sys
 
 TOP = pathlib.Path(__file__).resolve().parents[2]
-# What each file has without a line `use`.
+# The names that each file has without a `use`.
 PRELUDE = set("""Self Option Some None Result Ok Err Vec String Box Iterator IntoIterator From Into
 Drop Copy Clone PartialEq Eq PartialOrd Ord ExactSizeIterator Fn FnMut FnOnce Default AsRef AsMut
 AllocGlobal HostRuntime Debug Display Hash Send Sync Sized TryFrom TryInto Extend FromIterator
 ToString""".split())
-# What only the crates below implement; `plist_base` has it.
+# The trait that only the crates that `plist` uses can implement. It is in `plist_base`.
 SEALED = {"Sealed"}
 NAME = re.compile(r"\b[A-Z]\w*\b")
 
@@ -109,7 +109,7 @@ def main():
             for it in wanted - known - parameters(head.split("{")[0]) - parameters(signature):
                 missing.add(f"{it}, named by {name}: {' '.join(signature.split())[:100]}")
     for it in sorted(missing):
-        print(f"plist doesn't pass on {it}")
+        print(f"plist doesn't export {it}")
     return 1 if missing else 0
 
 

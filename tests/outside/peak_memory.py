@@ -7,10 +7,11 @@ it is the same for `BinaryReader` alone, which reads the same bytes from memory 
 don't count). The program for this is `tests/outside/items`, which is proved and built in a copy of its
 crates unless ITEMS names it.
 
-The second table is for `convert` and `keyed`, which have no limits: the most memory that a file takes
-for each event and for each byte. If a file takes more than 4 MiB, the command runs again under
-`ulimit -v` of 4 MiB and half its peak. It must then report `OutOfMemory` with status 1, and OUT of
-`convert` must be unchanged. The same is tried under 256 MiB with files that unfold to 2^42 events.
+The second table is for `convert` and `keyed`, which have no limits. It has the peak memory for each
+file: in all, for each event, and for each byte of the file. If a file takes more than 4 MiB, the
+command runs again under `ulimit -v` of 4 MiB plus half its peak. It must then report `OutOfMemory`
+with status 1, and OUT of `convert` must be unchanged. The same is tried under 256 MiB with files that
+unfold to more than 2^42 events.
 
 Usage: peak_memory.py [ITEMS]
 
@@ -32,9 +33,9 @@ OLDER = b"an older file"
 MEGABYTE = 1 << 20
 OBJECT, WINDOWS = 12, 2 * MEGABYTE
 UNBOUNDED, ROOM = 42, 256 << 10
-# the program and its call stack take so many KiB of address space
+# the address space of the program and its call stack, in KiB
 START = 4 << 10
-# no run takes more than so many KiB, whatever it would
+# the limit of the address space of every run, in KiB
 MOST_ROOM = 4 << 20
 
 
@@ -125,13 +126,13 @@ def repeated_keys(count):
 
 
 def archive(depth):
-    """An archive whose objects are arrays of two references to the next one."""
+    """Returns an archive whose objects are arrays of two references to the next one."""
     objects = [[plistlib.UID(number + 1)] * 2 for number in range(depth)] + ["end"]
     return mutations.archive_of(objects, 0)
 
 
 def chain(count):
-    """An archive whose objects are dictionaries that refer to the next one."""
+    """Returns an archive whose objects are dictionaries that refer to the next one."""
     file = speed.File()
     names = [file.text(name) for name in ("$objects", "$top", "root", "next")]
     end, first = file.add(b"\x09"), file.add(b"\x80\0")
@@ -157,7 +158,8 @@ PRINTED = {
     "5,000 texts 8 KiB apart, 10^6 references": lambda: far_apart(5000, 10**6),
 }
 
-# What the commands hold most of: how it is made, and how many events it has or the tree that is printed.
+# Files for which the commands need the most memory: how each is made, and the number of its events, or of
+# those of the tree that is printed.
 CONVERTED = {
     "10^7 references of one byte": (lambda: shared(b"\x09", 10**7), 10**7 + 2),
     "1,000 references to a text of 1 MiB": (lambda: shared(text(MEGABYTE), 1000), 1002),
@@ -221,13 +223,13 @@ class Tables:
               f"| {alone} | {ended.seconds:.2f} | {told} |", flush=True)
 
     def ends_short(self, words, room):
-        """Whether a command reports `OutOfMemory` under a limit, and leaves OUT unchanged."""
+        """Returns how a command ends under a limit. It must report `OutOfMemory`, and leave OUT unchanged."""
         self.target.write_bytes(OLDER)
         ended = self.run(words, room)
         told, left = self.error.read_bytes(), self.target.read_bytes()
         right = ended.status == 1 and told == SHORT_OF_MEMORY and left == OLDER
         self.bad += not right
-        return "OutOfMemory" if right else f"OTHERWISE: {ended}, {told!r}"
+        return "OutOfMemory" if right else f"UNEXPECTED: {ended}, {told!r}"
 
     def held(self, command, name, content, events):
         self.source.write_bytes(content)
@@ -235,8 +237,8 @@ class Tables:
         peak = ended.peak - self.nothing[command]
         if ended.status:
             self.bad += 1
-            name += f", OTHERWISE: {ended}, {self.error.read_bytes()!r}"
-        # what takes less than the start has room in it
+            name += f", UNEXPECTED: {ended}, {self.error.read_bytes()!r}"
+        # a file that takes less than the program alone isn't run again
         short = self.ends_short(self.words(command), START + peak // 2048) if peak > START << 10 else "-"
         print(f"| `{command}`, {name} | {len(content):,} | {events:,} | {peak / 1e6:.1f} MB | {peak / events:.1f} "
               f"| {peak / len(content):,.1f} | {ended.seconds:.2f} | {short} |", flush=True)

@@ -93,7 +93,7 @@ def speed():
                             f'<text class="small" x="{left + unit * value + 5:.1f}" y="{y + bar - 2}">{value:.2f}</text>')
                 described.append(f"{shape}: {label} {value:.2f}")
             y += bar
-    return picture(left + unit + 60, height, "Speed beside the crate", "; ".join(described), "\n".join(lines), body)
+    return picture(left + unit + 60, height, "Speed compared with the crate", "; ".join(described), "\n".join(lines), body)
 
 
 # ---- crates
@@ -150,12 +150,12 @@ def crates_picture():
             style = "main" if {name, it} <= program else "edge"
             body.append(f'<path class="{style}" d="M {x + box / 2} {y + tall} C {x + box / 2} {y + tall + 22}, '
                         f'{u + box / 2} {v - 22}, {u + box / 2} {v}"/>')
-        described.append(f"{name} stands on {', '.join(below[name]) or 'the kit alone'}")
+        described.append(f"{name} uses {', '.join(below[name]) or 'the kit alone'}")
     for name, (x, y) in place.items():
         style = "path" if name in program else "box"
         body.append(f'<rect class="{style}" x="{x}" y="{y}" width="{box}" height="{tall}" rx="6"/>'
                     f'<text x="{x + box / 2}" y="{y + 22}" text-anchor="middle">{name}</text>')
-    return picture(width, height, "The crates and what each stands on", "; ".join(described), source, body)
+    return picture(width, height, "The crates, and which others each uses", "; ".join(described), source, body)
 
 
 def main(words):

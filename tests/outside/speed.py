@@ -1,8 +1,8 @@
 #!/usr/bin/env python3
 """Compares the speed of `plist_tool print` with other programs, on files that it makes.
 
-Each shape of file is made in some sizes. The programs run in turn. The run of each with the least
-processor time (user and system) counts, and its peak memory is printed, too. The other programs are a
+Each shape of file is made in some sizes. The programs run in turn. For each program the least
+processor time (user and system) and the greatest peak memory are printed. The other programs are a
 program over the Rust crate `plist` as Debian packages it (librust-plist-dev, built by cargo from
 tests/outside/peer; it reads the whole file into memory first), Python's plistlib, and plistutil
 (libplist), which converts the file to XML. Programs that aren't installed are left out, and so are
@@ -34,14 +34,14 @@ HERE = pathlib.Path(__file__).resolve().parent
 PLIST_TOOL = HERE.parents[1] / "plist_tool"
 PROGRAM = HERE.parents[1] / "crates/plist_tool/out/plist_tool"
 RUNS = 5
-# a program that takes so few seconds is run so often
+# a program that takes fewer seconds than this is run this many times
 SHORT, SHORT_RUNS = 0.05, 25
 SECONDS = 60
-# so many passes over bytes in memory are timed
+# the number of passes over bytes in memory that are timed
 PASSES = 10
-# a program that takes so many seconds isn't run again
+# a program that takes this many seconds isn't run again
 LONG = 2
-# of fewer objects the memory isn't told: up to 68 MB of windows would count for them
+# for fewer objects the memory of each isn't printed, since up to 68 MB of windows would count
 MANY = 500_000
 
 # ---- the files
@@ -187,7 +187,10 @@ def references_of(content, width):
 
 
 def renumbered(data, are_moved):
-    """Returns the file with random numbers for its objects, which are in that order if they are moved."""
+    """Returns the file with random numbers for its objects.
+
+    If the objects are moved, they are in the order of these numbers.
+    """
     rng, (width, reference) = random.Random(1), data[-26:-24]
     count, root, table = (int.from_bytes(data[i:i + 8], "big") for i in range(len(data) - 24, len(data), 8))
     places = [int.from_bytes(data[i:i + width], "big") for i in range(table, table + count * width, width)]
@@ -211,7 +214,8 @@ def renumbered(data, are_moved):
             + bytes([width, reference]) + numbers)
 
 
-# Those that plistlib made, renumbered where they stand, and in the order of their new numbers.
+# The settings that plistlib made, with other numbers: once in the same order in the file, and once in the
+# order of these numbers.
 def renumbered_settings(size):
     return renumbered(settings_by_plistlib(size), False)
 
@@ -305,7 +309,7 @@ def measure(words):
     """Returns processor seconds and peak memory in bytes, or None if it fails or takes too long.
 
     The memory that the system reports for a child includes that of its parent, so it is read while
-    the child runs, and is 0 where the child was too fast."""
+    the child runs, and is 0 if the child ended too early."""
     start, peak = time.monotonic(), 0
     with open(os.devnull, "wb") as sink:
         child = subprocess.Popen([str(word) for word in words], stdout=sink, stderr=sink)
@@ -387,8 +391,8 @@ def print_growth(points):
 
 
 def print_table(path, sizes, known):
-    # what the program holds beside what it holds of the objects: a file of few, whose events take long
-    # enough for the program to be looked at
+    # the memory that the program needs apart from the objects: that for a file of few objects, whose events
+    # take long enough for the memory to be read
     make(path, "doubling, 2^17 arrays")
     few = best([measure([*known["plist_tool"], path]) for _ in range(RUNS)])
     memory = (few or (0, 0))[1]

@@ -4,7 +4,8 @@
 The program in `tests/outside/sharing` reads a file from memory and passes its events to a writer over
 memory. It is proved and built by the kit's `rt` in a copy of the crates. It runs in turn without a
 writer and with each of the two; the run of each kind with the least processor time (user and system)
-counts. The time of reading alone is subtracted, so the columns are the times of the writers alone.
+counts. The time of reading alone is subtracted, so the times in the table are those of the writers
+alone; the memory is that of the whole run.
 The input files share equal collections, so reading takes little time. The sizes of the rows are those
 of the files that `BinaryWriter` writes.
 
@@ -44,7 +45,7 @@ def repeated_subtrees(size):
         sizes = file.array([file.integer(rng.randrange(100)) for _ in range(4)])
         values = [file.text(f"article {number}"), file.integer(rng.randrange(10_000)), tags, maker, sizes]
         records.append(file.dictionary(list(zip(keys, values))))
-    # a record takes some 96 bytes where nothing is shared
+    # a record takes some 96 bytes if nothing is shared
     return file.bytes(file.array([records[n * 7919 % 1000] for n in range(size // 96)]))
 
 
@@ -72,7 +73,7 @@ def length_of(built, writer, path):
 
 
 def row(name, built, path):
-    """Prints a line of the table, and returns the least seconds of `SharingWriter`."""
+    """Prints a line, and returns the size of the plain file and the seconds of `SharingWriter`."""
     runs = {writer: [] for writer in ("none", "plain", "sharing")}
     for _ in range(RUNS):
         for writer, taken in runs.items():

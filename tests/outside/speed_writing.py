@@ -116,7 +116,7 @@ def main(words):
                 if seconds:
                     grown.setdefault(shape, []).append((path.stat().st_size, seconds))
         for shape in WIDE:
-            # in a process of its own, since what this one holds would count for the programs
+            # in a process of its own, since the memory of this one would count for the programs
             subprocess.run([sys.executable, __file__, "--make", path, shape], check=True)
             row(shape, path, known)
         for size in sizes:
@@ -128,7 +128,7 @@ def main(words):
         crate = dict(known).get("the crate")
         if built:
             print_events(sizes, path, [("BinaryWriter", [built, "plain"]), *([("the crate", [crate[0], "events"])] if crate else [])])
-    print("\nIn brackets: processor time and peak memory of the first program to those of the other. Growth of its time:")
+    print("\nIn brackets: the processor time and the peak memory of the first program, divided by those of the other. Growth of the first program's time:")
     for shape, points in grown.items():
         (small, first), (large, last) = points[0], points[-1]
         if small < large:

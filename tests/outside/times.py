@@ -37,7 +37,7 @@ CHANGES = {
 
 
 def jiffies():
-    """Returns the processor time of the machine that others were given, and all of it."""
+    """Returns the machine's processor time that was given to others, and all of it."""
     numbers = [int(it) for it in open("/proc/stat", encoding="utf-8").readline().split()[1:9]]
     return numbers[7], sum(numbers)
 
@@ -86,7 +86,7 @@ def function(clone):
         run(["rt", "check", "--jobs", "1"], folder)
         text = path.read_text(encoding="utf-8")
         if text.count(old) != 1:
-            sys.exit(f"{path}: the line to change stands there {text.count(old)} times")
+            sys.exit(f"{path}: the line to change occurs {text.count(old)} times")
         path.write_text(text.replace(old, new), encoding="utf-8")
         with Measured(f"{crate}, one function changed"):
             run(["rt", "check", "--jobs", "1"], folder)

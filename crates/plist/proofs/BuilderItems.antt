@@ -123,7 +123,7 @@ ended stops ends items built fault faults.WriterFailed q end (events, is, fine, 
     k = absurd (true≢false (cc))
 ended stops ends items built fault kind q end t o k = absurd k
 
--- the result of `finish`
+-- the result of `finish` is as `IsBuiltFrom` says
 pub finished : (stops ends : Type 0) (items : List Item) (built : Built)
     (result : Result Value Error) → ends → TookAll items built → IfOk result
     (λ value. complete_tree built.unfinished ≡ Some (tree_of value))

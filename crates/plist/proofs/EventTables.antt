@@ -67,7 +67,7 @@ pub wants_memory : {W : Type 0} (contents : W → Option (List ℕ)) (tree : Tre
 wants_memory contents tree fault w is =
     rw is (refl, (tt, refl))
 
--- an I/O error after the whole file was written
+-- an I/O error is possible after the whole file was written
 stops_behind : {W : Type 0} (contents : W → Option (List ℕ)) (tree : Tree) (fault : Fault)
     (old new : W) → SendsTree contents tree (Ok tt) old new → fault ≡ fault_without_offset Io
     → (fault.offset ≡ None) × StopsSending contents fault.kind tree old new

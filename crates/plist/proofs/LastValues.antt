@@ -13,7 +13,8 @@ Key = List ℕ
 
 -- ---- one pair
 
--- k is e or isn't, and q is e or isn't; if q is k, then it is e if and only if k is
+-- `b`, `c` and `d` say whether k is e, q is k, and q is e, where e is the first key. After v is
+-- inserted at k, a look-up of q finds v if q is k, and otherwise what it found before.
 one : (b c d : Bool) (v w : Tree) (l more : Option Tree) → (b ≡ true → c ≡ d) → (c ≡ true → d ≡ b)
     → more ≡ cond c (Some v) l
     → (if b then cond d (Some v) l else cond d (Some w) more)

@@ -125,7 +125,7 @@ module _ {I A : Type 0} (lets : A → List Item → List Item) (may_reach : Faul
       by false (asked, gave, is) = behind asked gave is
 
 module _ {R : Type 0} {g : Ghosts R} (known : R → Option (List ℕ)) (failed : R → ℕ) where
-  -- a reader without limits
+  -- a reader without limits fails only with a fault that `IsReadingFault` allows
   pub reader-tells : (reader : Reader R g) (answer : Result Value Error) → reader_is_limited reader
       ≡ false
       → Collects event_of (Gives known failed) reader (built_tree answer)
@@ -159,7 +159,7 @@ module _ {R : Type 0} {g : Ghosts R} (known : R → Option (List ℕ)) (failed :
       passed within_budget IsBudgetUsedUp (GivesLimited (Gives known failed)) true
       (λ fault reached. subst (IsReadingFault true) (sym reached) (inl (tt, refl))) limit-tells
 
-  -- a reader under limits
+  -- a reader under limits fails only with such a fault, or with that of a limit
   pub limited-tells : (limited : LimitedItems (Reader R g) LimitCounter) (answer : Result Value Error)
       → Collects event_of (GivesLimited (Gives known failed)) limited (built_tree answer)
       → IfErr answer (λ error. IsReadingFault true (fault_of error))
@@ -168,7 +168,7 @@ module _ {R : Type 0} {g : Ghosts R} (known : R → Option (List ℕ)) (failed :
       (λ old item new gives all. tt) (λ old error new gives all. limit-tells old error new gives)
       limited answer tt collects
 
-  -- a reader under limits and within a budget of bytes
+  -- the same is true of a reader under limits and within a budget of bytes
   pub budgeted-tells : (budgeted : LimitedItems (LimitedItems (Reader R g) LimitCounter) ByteBudget)
       (answer : Result Value Error)
       → Collects event_of (GivesWithinBudget (GivesLimited (Gives known failed))) budgeted

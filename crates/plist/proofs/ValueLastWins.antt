@@ -33,7 +33,7 @@ AreThemselves members = last_wins (Dictionary members) ≡ Dictionary members
 abbrev HasItself : dictionary.Dictionary → Type 0
 HasItself d = AreThemselves (members_in d)
 
--- the values and dictionaries of one layer are their own last-value forms
+-- the tree of one layer is its own last-value form
 abbrev Layer : Value-F Value dictionary.Dictionary → Type 0
 Layer x =
     let t = tree_step (map-Value Value dictionary.Dictionary Tree Members tree_of members_in x) in
@@ -65,7 +65,7 @@ rows-itself rows s =
     ap last_values (values-inserts last_wins [] rows ∙ ap last_values s)
     ∙ last-values-once (last_values rows) (once-last rows)
 
--- a layer whose values and dictionaries are their own last-value forms
+-- if the trees of its values and dictionaries are their own last-value forms, so is that of a layer
 layer-of : {V D : Type 0} (y : Value-F V D) (value : V → Value) (pairs : D → dictionary.Dictionary)
     → ((v : V) → IsItself (value v)) → ((d : D) → HasItself (pairs d))
     → Layer (map-Value V D Value dictionary.Dictionary value pairs y)

@@ -43,7 +43,7 @@ abbrev pub text_in : Tree → Option (List ℕ)
 text_in (Leaf (String bytes)) = Some bytes
 text_in tree = None
 
--- an identifier's number
+-- the number of a Uid
 abbrev pub uid_in : Tree → Option ℕ
 uid_in (Leaf (Uid number)) = Some number
 uid_in tree = None

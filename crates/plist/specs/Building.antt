@@ -22,8 +22,8 @@ pub data OpenCollection : Type 0 where
   InDictionary : (pairs : TreePairs) → OpenCollection
   AfterKey : (pairs : TreePairs) → (key : List ℕ) → OpenCollection
 
--- no event yet; within an open collection, and those around it, innermost first; or the complete
--- tree
+-- an unfinished tree: there is no event yet; or a collection is open within others, which are
+-- listed innermost first; or the tree is complete
 pub data Unfinished : Type 0 where
   NotBegun : Unfinished
   Within : OpenCollection → (outer : List OpenCollection) → Unfinished
@@ -82,17 +82,18 @@ events_so_far NotBegun = []
 events_so_far (Within collection outer) = events_around outer ++ events_within collection
 events_so_far (Complete tree) = bracketing tree
 
--- these pairs and the dictionaries in them, with each key in its first position and its last value
+-- these pairs and the dictionaries in them, where each key has its first position and its last
+-- value
 abbrev pub last_wins_in_rows : TreePairs → TreePairs
 last_wins_in_rows rows = last_values (map (λ pair. (pair.0, last_wins pair.1)) rows)
 
--- the open collection, with each key of its complete pairs in its first position and its last value
+-- the open collection, where each key of a complete pair has its first position and its last value
 abbrev pub last_wins_within : OpenCollection → OpenCollection
 last_wins_within (InArray items) = InArray (map last_wins items)
 last_wins_within (InDictionary pairs) = InDictionary (last_wins_in_rows pairs)
 last_wins_within (AfterKey pairs key) = AfterKey (last_wins_in_rows pairs) key
 
--- the unfinished tree, with each key of a complete pair in its first position and its last value
+-- the unfinished tree, where each key of a complete pair has its first position and its last value
 abbrev pub last_wins_so_far : Unfinished → Unfinished
 last_wins_so_far NotBegun = NotBegun
 last_wins_so_far (Within collection outer) =
@@ -100,7 +101,7 @@ last_wins_so_far (Within collection outer) =
 last_wins_so_far (Complete tree) = Complete (last_wins tree)
 
 -- The contents after the event are those of the events before it and of this one, apart from
--- lengths, with each key in its first position and its last value.
+-- lengths, and each key has its first position and its last value.
 abbrev pub IsExtendedBy : (before : Unfinished) → PlainEvent → (after : Unfinished) → Type 0
 IsExtendedBy before event after =
     (taken : Unfinished) × IsNested taken

@@ -22,7 +22,7 @@ abbrev pub built_tree : Result Value Error → Result Tree Fault
 built_tree (Ok value) = Ok (tree_of value)
 built_tree (Err error) = Err (fault_of error)
 
--- the fault of an event that can't come next, and `OutOfMemory` for one that can
+-- the fault is that of an event that can't come next, or `OutOfMemory` for one that can
 abbrev pub IsRefusal : (refusal : Option FaultKind) → Fault → Type 0
 IsRefusal None fault = fault ≡ fault_without_offset OutOfMemory
 IsRefusal (Some kind) fault = fault ≡ fault_without_offset kind

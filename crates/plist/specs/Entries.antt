@@ -45,11 +45,11 @@ abbrev pub entry_value : Entry → Option Value
 entry_value (Occupied o) = slice_get (values_of (pairs_of o.pairs.now)) o.at
 entry_value (Vacant e) = None
 
--- both have the same index in the same dictionary, whose values may differ
+-- both entries have the same index in the same dictionary, whose values may differ
 abbrev pub IsSameEntry : OccupiedEntry → OccupiedEntry → Type 0
 IsSameEntry o p = (p.pairs.ghost_name ≡ o.pairs.ghost_name) × (p.at ≡ o.at)
 
--- the pairs without the key's, at whose index the last pair is now
+-- these are the pairs without the key's pair, to whose index the last pair moves
 abbrev pub IsTaken : Entry → List (List ℕ × Value) → Type 0
 IsTaken (Occupied o) after = IsRemovedAt (pairs_of o.pairs.now) o.at after
 IsTaken (Vacant e) after = after ≡ pairs_of e.pairs.now
@@ -109,8 +109,8 @@ entry_lends_ok e r =
     follows_if the_row value.the_row (entry_ref e).ghost_name (name_if_ok (λ x. x.ghost_name) r)
     (dictionary_with e) (entry_ref e).now
 
--- after the borrow r ends, the entry to which o refers has the last value written through r; its
--- lifetime is the second one in the signature
+-- after the borrow r ends, the entry to which o refers has the last value written through r; the
+-- entry's lifetime is the second one in the signature
 abbrev pub occupied_lends : MutBor OccupiedEntry → MutBor Value → Fml
 occupied_lends o r =
     follows (occupied.the_row (record { mir = named 1; lft = [] })) value.the_row o.ghost_name

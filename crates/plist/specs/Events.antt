@@ -18,7 +18,7 @@ use Rattle.plist.specs.declared.stream.events.Next.{Next}
 use Rattle.plist.specs.declared.stream.events.Next.TheVariants as next
 use Rattle.plist.specs.ValueTrees.{tree_of, tree_pairs}
 
--- the events of the value that is next, or none if no value is next
+-- the events of the value that is next, or an empty list if no value is next
 abbrev pub left_of_value : Option (Bor Value) → List PlainEvent
 left_of_value None = []
 left_of_value (Some value) = bracketing (tree_of value.now)
@@ -71,8 +71,8 @@ ComesNext before (next.Value value) after =
     ≡ bracketing (tree_of value.now) ++ left_of_levels (reverse after.levels.items))
     × (after.value ≡ None)
 
--- the first event of a tree is yielded, and the tree's others remain, before those that remained;
--- or memory runs out at a start
+-- the first event of a tree is yielded, and the tree's other events remain, followed by those that
+-- remained before; or memory runs out at a start
 abbrev pub BeginsValue : Tree → Events → Result Event Error → Events → Type 0
 BeginsValue tree before (Ok given) after =
     (bracketing tree ++ remaining_events before ≡ event_of given ∷ remaining_events after)

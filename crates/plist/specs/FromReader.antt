@@ -30,7 +30,8 @@ IsReadInDialect {R} dialect known failed source answer =
     (reader : Reader R (record { known = known; failures = failed }))
     × IsUnread reader source None dialect × Collects event_of (Gives known failed) reader answer
 
--- the items of an input under these limits, whose strings and data have at most this many bytes
+-- the items of an input under these limits, whose strings and data have at most this many bytes in
+-- all
 abbrev pub budgeted_input : Limits → (bytes : ℕ) → List ℕ → List Item
 budgeted_input limits bytes input = within_bytes bytes (limited_input limits input)
 
@@ -77,7 +78,7 @@ IsReadAsAscii {R} known failed source dialect answer =
 abbrev pub items_of_text : (bare : ℕ → Bool) → List ℕ → List Item
 items_of_text bare bytes = items_of_ascii bare (input_front bytes) 0
 
--- a fault that says that the events aren't those of a value
+-- the fault says that the events aren't those of a value
 abbrev pub IsFaultOfEvents : FaultKind → Type 0
 IsFaultOfEvents (UnexpectedEventType expected found) = ⊤
 IsFaultOfEvents (ExpectedEndOfEventStream found) = ⊤

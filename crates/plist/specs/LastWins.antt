@@ -38,7 +38,7 @@ last_value key [] = None
 last_value key (row ∷ rows) =
     option_or (last_value key rows) (if bytes_eq key row.0 then Some row.1 else None)
 
--- the keys in the order of their first occurrence, each with its last value
+-- the result has the keys in the order of their first occurrence, each with its last value
 abbrev pub AreLastValues : (rows result : TreePairs) → Type 0
 AreLastValues rows result =
     (keys_of result ≡ first_keys (keys_of rows))

@@ -35,7 +35,8 @@ IfEvents P tree =
 abbrev pub AreWithin : Limits → List PlainEvent → Type 0
 AreWithin limits events = length events ≤ limits.items
 
--- there are at most as many events, and their strings and data have at most this many bytes
+-- there are at most as many events as these limits allow, and their strings and data have at most
+-- this many bytes in all
 abbrev pub AreWithinBudget : Limits → (bytes : ℕ) → List PlainEvent → Type 0
 AreWithinBudget limits bytes events = AreWithin limits events × (total_bytes events ≤ bytes)
 

@@ -15,13 +15,14 @@ pub data Contents : Type 0 where
   Items : (items : List Value) → Contents
   Pairs : OpenDictionary → Contents
 
--- a dictionary with its trees; its keys are distinct, so its last values are its pairs
+-- an open dictionary, with each value as its tree; its keys are distinct, so its last values are
+-- its pairs
 abbrev pub open_dictionary : OpenDictionary → OpenCollection
 open_dictionary (run.Pairs pairs) = InDictionary (last_values (tree_pairs (pairs_of pairs)))
 open_dictionary (run.AfterKey pairs key) =
     AfterKey (last_values (tree_pairs (pairs_of pairs))) (string_bytes key)
 
--- an open collection with its trees
+-- an open collection, with each value as its tree
 abbrev pub open_of : Contents → OpenCollection
 open_of (Items items) = InArray (map tree_of items)
 open_of (Pairs dictionary) = open_dictionary dictionary
@@ -46,7 +47,7 @@ HaveContents (level.Dictionary ∷ levels) arrays [] = ⊥
 HaveContents (level.Dictionary ∷ levels) arrays (dictionary ∷ dictionaries) =
     HaveContents levels arrays dictionaries
 
--- the unfinished tree within these collections, innermost first
+-- the unfinished tree that consists of these open collections, innermost first
 abbrev pub within : List Contents → Unfinished
 within [] = NotBegun
 within (contents ∷ outer) = Within (open_of contents) (map open_of outer)

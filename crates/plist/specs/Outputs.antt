@@ -8,8 +8,8 @@ module _ {F : Type 0} (contents : F → Option (List ℕ)) where
   contents_of None = None
   contents_of (Some file) = contents file
 
-  -- if a file is open afterwards, it was created, and the number of bytes that the call returned
-  -- was appended to it
+  -- if a file is open afterwards, it was created, and as many of the bytes as the call returned
+  -- were appended to it
   abbrev pub WritesFirst : {E : Type 0} → Result ℕ E → (bytes : List ℕ) → (now : Option F) → Type 0
   WritesFirst answer bytes now = IfSome now (λ file.
       (made : F) × WriteAppends (contents made) (contents file) answer bytes)

@@ -18,8 +18,8 @@ StopsFile OutOfMemory tree = ⊤
 StopsFile kind tree = ⊥
 
 module _ {W : Type 0} (contents : W → Option (List ℕ)) where
-  -- the only errors: `Io`, after a prefix of a file of the tree was written; and those for which no
-  -- file is made, and the writer is unchanged
+  -- the only errors are `Io`, after a prefix of a file of the tree was written, and those for which
+  -- no file is made and the writer is unchanged
   abbrev pub StopsSending : FaultKind → Tree → (old new : W) → Type 0
   StopsSending Io tree old new =
       (file : List ℕ) × IsFileOf tree file × AppendsPrefix (contents old) (contents new) file

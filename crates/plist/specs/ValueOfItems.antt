@@ -34,8 +34,8 @@ IsFirstFault items fault =
     × IsFaultOfNext held events next fault)
     × ((tree : Tree) → AreItemsOfTree items tree → ⊥)
 
--- The tree whose events the items are, with the last value of each key; or the first fault, or that
--- of the first rejected event, unless it is `Io` or `OutOfMemory`.
+-- The result is the tree whose events the items are, with the last value of each key; or the first
+-- fault, or that of the first rejected event. `Io` and `OutOfMemory` are always possible.
 abbrev pub IsValueOf : List Item → Result Tree Fault → Type 0
 IsValueOf items (Ok tree) = (whole : Tree) × AreItemsOfTree items whole × (tree ≡ last_wins whole)
 IsValueOf items (Err fault) = MatchFault fault.kind ⊤ ⊤ (IsFirstFault items fault)
@@ -79,14 +79,14 @@ AnswersAsForeseen {E} {I} plain next_gives iter answer =
     (coming : I → Option (List Item)) → ForeseesItems plain next_gives coming → IsReadIfKnown
     (coming iter) answer
 
--- for a value that becomes an iterator: the result is built from its items
+-- the result is built from the items of an iterator that `into_iter` of the value returns
 abbrev pub CollectsIterable : {E I J : Type 0} → (becomes : J → I → Type 0) → (plain : E → PlainEvent)
     → (I → Option (Result E Error) → I → Type 0) → J → Result Value Error → Type 0
 CollectsIterable {E} {I} {J} becomes plain next_gives made answer =
     (iter : I) × becomes made iter × Collects plain next_gives iter (built_tree answer)
 
--- for a value that becomes an iterator: if any function predicts its items, the result is their
--- value
+-- if any function predicts the items of an iterator that `into_iter` of the value returns, the
+-- result is their value
 abbrev pub AnswersIterable : {E I J : Type 0} → (becomes : J → I → Type 0) → (plain : E → PlainEvent)
     → (I → Option (Result E Error) → I → Type 0) → J → Result Value Error → Type 0
 AnswersIterable {E} {I} {J} becomes plain next_gives made answer =

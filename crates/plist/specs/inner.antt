@@ -1,4 +1,5 @@
--- What bodies and proofs use, but no public clause.
+-- Definitions that are used by bodies and proofs. Public clauses rely only on `BuilderSteps` and
+-- `DeferredPairs`.
 pub mod BuilderSteps
 pub mod Following
 pub mod Laws

@@ -1,5 +1,5 @@
 //! Proved callers whose proofs cite lemmas of this crate: values that are built from events, files
-//! that are written by a value's events, entries through which values are written, and `==` with
+//! that are written from a value's events, entries through which values are written, and `==` with
 //! its laws. The callers of pairs are in `plist_pairs`, and those whose proofs need only clauses
 //! are in `plist_callers`.
 
@@ -24,7 +24,11 @@ pub use plist_pairs::callers::{insert_each, keep_only, of_list};
 use std::alloc::Global;
 use std::mem;
 
-/// Returns the value of a binary property list, whose reader is made by the caller.
+/// Returns the value of a binary property list, which a [`BinaryReader`] reads.
+///
+/// # Errors
+///
+/// The errors are those of [`Value::from_events`].
 pub fn value_of_binary<R: Source>(alloc: Global, source: R) -> Result<Value, Error>
     ensures value { ReadsItems items_of_file (R.known source) result }
 {
@@ -32,6 +36,10 @@ pub fn value_of_binary<R: Source>(alloc: Global, source: R) -> Result<Value, Err
 }
 
 /// Builds a copy of a value from the value's events.
+///
+/// # Errors
+///
+/// `OutOfMemory`, without an offset, if an allocation fails.
 pub fn value_again(alloc: Global, value: &Value) -> Result<Value, Error>
     ensures value { IsReadBack (tree_of value.now) (built_tree result) }
 {
@@ -40,6 +48,10 @@ pub fn value_again(alloc: Global, value: &Value) -> Result<Value, Error>
 
 /// Returns the file that a new writer writes for a value's events. `S` decides which objects are
 /// shared.
+///
+/// # Errors
+///
+/// The errors are those of [`write_value`].
 pub fn file_by_events<S: Sharing>(alloc: Global, value: &Value) -> Result<Vec<u8>, Error>
     ensures file { IfOk result (λ file. S.kind.IsFile (tree_of value.now) file.items) }
 {
@@ -85,7 +97,8 @@ pub struct Replaced {
     pub next: Value,
 }
 
-/// Sets the value of a key through its entry if the key is there, and then removes the key.
+/// Sets the value of a key through its entry if the key is there, and then removes the key. Returns
+/// the two values, or `None` if the key isn't there.
 pub fn set_and_take(pairs: &mut Dictionary, key: String, value: Value) -> Option<Replaced>
     ensures was { option_map (λ r. r.was) result ≡ lookup (bytes_eq (string_bytes key))
         (pairs_of pairs.old) }
@@ -101,7 +114,8 @@ pub fn set_and_take(pairs: &mut Dictionary, key: String, value: Value) -> Option
     }
 }
 
-/// Writes through the entry of a key if the key is there, and then removes the key.
+/// Writes a value through the entry of a key if the key is there, and then removes the key. Returns
+/// the two values, or `None` if the key isn't there.
 pub fn write_and_take(pairs: &mut Dictionary, key: String, value: Value) -> Option<Replaced>
     ensures was { option_map (λ r. r.was) result ≡ lookup (bytes_eq (string_bytes key))
         (pairs_of pairs.old) }

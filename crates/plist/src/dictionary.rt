@@ -202,7 +202,7 @@ impl Dictionary {
         self.pairs.allocator()
     }
 
-    /// Returns the number of pairs. Its contract also says that the keys are distinct.
+    /// Returns the number of pairs. The contract also states that their keys are distinct.
     pub fn pair_count(&self) -> usize
         ensures count { result ≡ length (pairs_of self.now) }
         ensures distinct { IsDistinct bytes_eq (keys_of (pairs_of self.now)) }
@@ -210,7 +210,7 @@ impl Dictionary {
         self.pairs.pair_count()
     }
 
-    /// Returns the pair at an index.
+    /// Returns the pair at an index, which must be less than the number of pairs.
     pub fn pair_at(&self, index: usize) -> (&str, &Value)
         requires { index < length (pairs_of self.now) }
         ensures { slice_get (pairs_of self.now) index ≡ Some (result.0.now, result.1.now) }

@@ -1,6 +1,6 @@
 //! Equality of values.
 //!
-//! Values are compared recursively down to a fixed number of levels. A pair of values that is
+//! Values are compared recursively down to a fixed number of levels. A pair of collections that is
 //! deeper is deferred, and compared after the others. So a comparison uses a fixed amount of the
 //! call stack, however deep the values are, unless memory for the deferred pairs can't be
 //! allocated.
@@ -87,7 +87,8 @@ impl<'a> DeferredPairs<'a> {
         }
     }
 
-    // Defers a pair of collections, if memory for it can be allocated, and returns whether it did.
+    // Defers a pair of collections, if memory for it can be allocated, and returns whether it was
+    // deferred.
     #[tactic(auto, using(crate::proofs::Equality::defer))]
     fn defer(&mut self, value: &'a Value, other: &'a Value) -> bool
         ensures { PutsOff value.now other.now self.old result self.new }

@@ -102,8 +102,9 @@ impl<'a, R: Files> LazyFile<'a, R> {
     ///
     /// # Errors
     ///
-    /// The errors are those of [`Value::to_writer_binary`]. `OutOfMemory` and `PlistTooLarge` are
-    /// returned before a file is created or truncated.
+    /// The errors are those of [`Value::to_writer_binary`], and `Io`, without an offset, if the
+    /// sync fails. `OutOfMemory` and `PlistTooLarge` are returned before a file is created or
+    /// truncated.
     pub fn store(&mut self, alloc: Global, value: &Value) -> Result<(), Error>
         ensures sent { SendsValue (λ output. contents_of R.File.contents output.file) value.now
             result self.old self.new }
@@ -114,8 +115,8 @@ impl<'a, R: Files> LazyFile<'a, R> {
 }
 
 impl Value {
-    /// Reads the value of the file of this name, binary or in ASCII as [`Value::from_reader`]
-    /// chooses. It reads the file in windows of 8 KiB.
+    /// Reads the value of the file of this name. The first bytes decide whether it is read as
+    /// binary or as ASCII, as in [`Value::from_reader`]. The file is read in windows of 8 KiB.
     ///
     /// # Errors
     ///
@@ -129,9 +130,8 @@ impl Value {
         Value::from_file_with_dialect(rt, alloc, path, Dialect::Lax)
     }
 
-    /// Like [`Value::from_file`], but reads a file in ASCII in this dialect. [`Dialect::Tight`]
-    /// reads the files that other programs write with one value per line, without quotes or `;`
-    /// between them.
+    /// Like [`Value::from_file`], but reads ASCII in this dialect. [`Dialect::Tight`] reads the
+    /// files that other programs write with one value per line, without quotes or `;` between them.
     ///
     /// # Errors
     ///
@@ -185,8 +185,8 @@ impl Value {
     ///
     /// # Errors
     ///
-    /// - `PlistTooLarge` if the file would have 2^64 bytes or more, and `OutOfMemory`: no file is
-    ///   created or truncated.
+    /// - `PlistTooLarge` if the file would have 2^64 bytes or more, and `OutOfMemory` if an
+    ///   allocation fails: no file is created or truncated.
     /// - `Io` if the file can't be created, or if a write, the flush or the sync fails. The file
     ///   may then contain a prefix of the property list.
     pub fn to_file_binary<R: Files>(&self, rt: &R, alloc: Global, path: &str) -> Result<(), Error>

@@ -8,7 +8,7 @@ use std::alloc::{AllocError, Global};
 use std::marker::Model;
 use std::mem;
 
-/// The items of arrays that are open, each in the one before it.
+/// The items of open arrays that are nested in one another.
 ///
 /// One list contains the items of all arrays, so an array that has no item yet takes no memory but
 /// that of its start. Contracts see the list of the items of each array, innermost first.

@@ -137,11 +137,12 @@ impl Value {
     /// Builds a value from these events. A key that is repeated keeps its first position and takes
     /// its last value. The lengths of starts are ignored.
     ///
-    /// Items are taken up to the first one that is an error, or that can't come next.
+    /// Items are taken up to the first one that is an error, or that can't come next. The caller
+    /// has to prove that the iterator ends.
     ///
     /// # Errors
     ///
-    /// - That item's error.
+    /// - The first error among the items.
     /// - `UnexpectedEventType` for an event that can't come next, and `ExpectedEndOfEventStream`
     ///   for one after a whole value.
     /// - `UnexpectedEndOfEventStream` if the events end before the value does.
@@ -165,12 +166,13 @@ impl Value {
         collect(alloc, events.into_iter())
     }
 
-    /// Reads the value of a source, binary or in ASCII as [`Reader`] chooses. A key that is
-    /// repeated keeps its first position and takes its last value. A binary file that was written
-    /// for a value is read back as that value, with its dictionaries in the same order.
+    /// Reads the value of a source. The first bytes decide whether it is read as binary or as
+    /// ASCII, as in [`Reader`]. A key that is repeated keeps its first position and takes its last
+    /// value. A binary file that was written for a value is read back as that value, with its
+    /// dictionaries in the same order.
     ///
     /// A source is a slice of bytes, a vector, or a [`Seeking`](plist_base::Seeking) over anything
-    /// that can be read and sought, such as a file:
+    /// that implements `Read` and `Seek`, such as a file:
     ///
     /// ```text
     /// Value::from_reader(alloc, bytes.as_slice())
@@ -184,7 +186,7 @@ impl Value {
     ///
     /// # Errors
     ///
-    /// - The first error among the source's items: the errors of [`Reader`].
+    /// - The first error among the source's items, which is one of the errors of [`Reader`].
     /// - `UnexpectedEventType` for an event that can't come next, and `ExpectedEndOfEventStream`
     ///   for one after a whole value.
     /// - `UnexpectedEndOfEventStream` if the items end before the value does.
@@ -199,7 +201,7 @@ impl Value {
         Value::from_reader_with_dialect(alloc, source, Dialect::Lax)
     }
 
-    /// Like [`Value::from_reader`], but reads a source in ASCII in this dialect.
+    /// Like [`Value::from_reader`], but reads ASCII in this dialect.
     ///
     /// # Errors
     ///
@@ -231,8 +233,8 @@ impl Value {
     ///
     /// # Errors
     ///
-    /// - `LimitReached` for the first event that exceeds a limit, either because it is one event
-    ///   too many or because it opens one collection too many, unless an earlier item is an error.
+    /// - `LimitReached` for the first event that exceeds a limit, unless an earlier item is an
+    ///   error. Such an event is one too many, or it opens one collection too many.
     /// - Any error of [`Value::from_reader`].
     pub fn from_reader_with_limits<R: Source>(
         alloc: Global,
@@ -339,10 +341,10 @@ impl Value {
     ///
     /// # Errors
     ///
-    /// - `PlistTooLarge` if the file would have 2^64 bytes or more, and `OutOfMemory`: nothing is
-    ///   written, and the writer is unchanged.
-    /// - `Io` if a write fails (even with `Interrupted`) or accepts no byte, after which a prefix
-    ///   of the file is written; or if the flush fails, after which all of it is.
+    /// - `PlistTooLarge` if the file would have 2^64 bytes or more, and `OutOfMemory` if an
+    ///   allocation fails: nothing was written, and the writer is unchanged.
+    /// - `Io` if a write fails (even with `Interrupted`) or accepts no byte, or if the flush fails:
+    ///   a prefix of the file was written, and all of it if the flush failed.
     pub fn to_writer_binary<W: Write>(&self, alloc: Global, writer: &mut W) -> Result<(), Error>
         ensures sent { SendsValue W.contents self.now result writer.old writer.new }
     {

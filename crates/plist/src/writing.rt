@@ -38,12 +38,12 @@ pub fn write_value<W: Writer>(alloc: Global, value: &Value, writer: &mut W) -> R
     Ok(())
 }
 
-/// Returns a table of the value's events, in order, which stores each different scalar once. Longer
-/// strings and data are borrowed from the value.
+/// Returns a table of the value's events, in order, which stores each different scalar once.
+/// Strings and data of more than 30 bytes are borrowed from the value.
 ///
 /// # Errors
 ///
-/// `OutOfMemory`, without an offset.
+/// `OutOfMemory`, without an offset, if an allocation fails.
 pub fn collect_events<'a>(alloc: Global, value: &'a Value) -> Result<EventTable<'a>, Error>
     ensures events { IfOk result (λ held. plain_events held ≡ lengthless (tree_of value.now)) }
     ensures memory { OnlyMemory result }

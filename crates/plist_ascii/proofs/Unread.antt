@@ -58,7 +58,8 @@ nothing_unread : (k : Option (List ℕ)) (p : Option ℕ) (t : ℕ) → unread_o
 unfolding unread_of
 nothing_unread k p t = refl
 
--- a front of two lists begins with the front of the first one
+-- the first `m` elements of two lists, one after the other, begin with the first `m` of the first
+-- list
 cut_front : (m : ℕ) (xs ys : List ℕ) → (zs : List ℕ) × (take m (xs ++ ys) ≡ take m xs ++ zs)
 cut_front zero xs ys = ([], refl)
 cut_front (suc m) [] ys = (take (suc m) ys, refl)

@@ -17,7 +17,7 @@ lead_of c =
     else if is_one_of ")}" c then lead.End else if is_one_of ",;= \r\t\n" c then lead.Blank
     else if is_one_of "'\"" c then lead.Quote else if is_one_of "/" c then lead.Slash else lead.Bare
 
--- is it what a separator or white space begins, which is nothing?
+-- does a byte with this lead begin nothing, as a separator or white space does?
 abbrev pub begins_nothing : Lead → Bool
 begins_nothing lead.Blank = true
 begins_nothing other = false

@@ -25,7 +25,7 @@ letters = zip (codes "\\\"'abfnrtv") (codes "\\\"'\u{7}\u{8}\u{c}\n\r\t\u{b}")
 abbrev pub simple_escape : ℕ → Option ℕ
 simple_escape c = lookup (λ letter. c == letter) letters
 
--- a letter stands for its byte, or is a fault if it stands for none; no more bytes are taken
+-- the byte that a letter stands for, or a fault if it stands for no byte; no more bytes are taken
 abbrev pub simple : Option ℕ → Taken (List ℕ)
 simple (Some byte) = taken 0 (Ok (byte ∷ []))
 simple None = taken 0 (Err InvalidUtf8AsciiStream)

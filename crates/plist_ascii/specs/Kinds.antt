@@ -21,22 +21,22 @@ IsTextFault InvalidOctalString = ⊤
 IsTextFault InvalidUtf16String = ⊤
 IsTextFault kind = ⊥
 
--- the kind of a fault that bytes can have
+-- bytes can have a fault of this kind
 abbrev pub IsFaultOfBytes : FaultKind → Type 0
 IsFaultOfBytes IncompleteComment = ⊤
 IsFaultOfBytes kind = IsTextFault kind
 
--- `Io`, `OutOfMemory`, or a fault that the bytes can have
+-- the fault is `Io`, `OutOfMemory`, or one that bytes can have
 abbrev pub IsAsciiFault : FaultKind → Type 0
 IsAsciiFault kind = MatchFault kind ⊤ ⊤ (IsFaultOfBytes kind)
 
--- a string, or an integer
+-- the event is a string or an integer
 abbrev pub IsTextEvent : PlainEvent → Type 0
 IsTextEvent (ScalarEvent (String text)) = ⊤
 IsTextEvent (ScalarEvent (Integer number)) = ⊤
 IsTextEvent event = ⊥
 
--- a string, an integer, an end, or a start without a length
+-- the event is a string, an integer, an end, or a start without a length
 abbrev pub IsAsciiEvent : PlainEvent → Type 0
 IsAsciiEvent (StartArray None) = ⊤
 IsAsciiEvent (StartDictionary None) = ⊤

@@ -30,7 +30,7 @@ unread known input = unread_of (known input.inner) input.ended input.peeked inpu
 abbrev pub IfKnown : Option (List ℕ) → (List ℕ → Type 0) → Type 0
 IfKnown known P = (bytes : List ℕ) → known ≡ Some bytes → P bytes
 
--- the first byte, or none if there are no bytes
+-- the first byte, or `None` if there are no bytes
 abbrev pub first : List ℕ → Option ℕ
 first bytes = slice_get bytes 0
 
@@ -47,7 +47,7 @@ abbrev pub FirstIsTaken : Option (List ℕ) → ℕ → Option (List ℕ) → Ty
 FirstIsTaken old c new = IfKnown old (λ bytes. (rest : List ℕ) × (bytes ≡ c ∷ rest)
     × (new ≡ Some rest))
 
--- from offset p to offset q this part of the first bytes was taken, which has no stop
+-- the bytes begin with `part`, which has no stop and was taken, from offset p to offset q
 abbrev pub TakesPart : (stops : ℕ → Bool) → (p : ℕ) → (new : Option (List ℕ)) → (q : ℕ)
     → (part : List ℕ) → List ℕ → Type 0
 TakesPart stops p new q part bytes =

@@ -10,7 +10,7 @@ use std::io::Read;
 /// A reader from which bytes are taken one by one, or several at once if they are buffered.
 ///
 /// Every `Read` is a `ByteReader` that counts no failures and buffers nothing. A reader that counts
-/// its failures may implement it, too.
+/// its failures may implement this trait, too.
 pub trait ByteReader {
     /// The remaining bytes, if they are known.
     ghost remaining: { Self → Option (List ℕ) };
@@ -24,7 +24,7 @@ pub trait ByteReader {
     ///
     /// # Errors
     ///
-    /// The I/O error of the read that failed.
+    /// The I/O error of the read that failed. The remaining bytes are unspecified then.
     fn next_byte(&mut self) -> Result<Option<u8>, io::Error>
         ensures byte { IfOk result (λ b. GivesByte (remaining self.old) b (remaining self.new)) }
         ensures failures { CountsFailureIfCounted result (failures self.old) (failures self.new) };
@@ -42,7 +42,7 @@ pub trait ByteReader {
         ensures failures { failures self.new ≡ failures self.old };
 }
 
-/// Reads byte by byte. It counts no failures and buffers nothing.
+/// Reads byte by byte, counts no failures and buffers nothing.
 impl<R: Read> ByteReader for R {
     ghost remaining = { R.remaining };
 

@@ -7,7 +7,7 @@ pub enum Dialect {
     /// Space, tab, CR, `)`, `;` and `,` end a bare string: `{a=b}` is read as a start and the
     /// string `a=b}`.
     Lax,
-    /// LF, `}` and `=` end it, too: `{a=b}` is read as a start, the strings `a` and `b`, and an
-    /// end.
+    /// Besides the bytes that end a bare string in the lax dialect, LF, `}` and `=` end one:
+    /// `{a=b}` is read as a start, the strings `a` and `b`, and an end.
     Tight,
 }

@@ -105,8 +105,8 @@ impl<R: ByteReader> Input<R> {
         }
     }
 
-    // Reads one byte without taking it. It is called only if no byte can be taken without a read.
-    // Returns `None` if the input has ended, or if 2^64 - 1 bytes were taken.
+    // Reads one byte without taking it. This function is called only if no byte can be taken
+    // without a read. It returns `None` if the input has ended, or if 2^64 - 1 bytes were taken.
     #[inline(never)]
     fn read_ahead(&mut self) -> Result<Option<u8>, TokenFault>
         requires { hand R.held self.old ≡ [] }

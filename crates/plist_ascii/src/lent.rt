@@ -14,7 +14,7 @@ use crate::token::{Lead, lead_of};
 /// A string among the bytes at hand.
 #[derive(Clone, Copy)]
 pub struct LentText<'a> {
-    /// The number of bytes up to its end.
+    /// The number of bytes up to the end of the string, including the blanks before it.
     pub count: usize,
     /// The string.
     pub text: &'a str,

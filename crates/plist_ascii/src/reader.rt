@@ -77,8 +77,8 @@ impl<R: ByteReader> Input<R> {
 ///
 /// `UnclosedString`, `IncompleteComment`, `InvalidUtf8AsciiStream`, `InvalidOctalString` and
 /// `InvalidUtf16String` are errors in the bytes. After one of them, the reader continues with the
-/// next byte that wasn't taken. `Io` if a read fails, and `OutOfMemory` if an allocation fails,
-/// which occurs only in a string. After one of these two, and after its last item, the reader
+/// next byte that wasn't taken. The error is `Io` if a read fails, and `OutOfMemory` if an
+/// allocation for a string fails. After one of these two, and after its last item, the reader
 /// returns `None` on every call.
 #[derive(Drop)]
 pub struct AsciiReader<R> {
@@ -117,7 +117,7 @@ impl<R: ByteReader> AsciiReader<R> {
         // State afterwards.
         ensures place { place_of result ≡ 0 }
         ensures peeked_byte { peeked_byte result ≡ None }
-        // Law.
+        // Laws.
         ensures alike { OnlyBareTextsDiffer }
     {
         AsciiReader {

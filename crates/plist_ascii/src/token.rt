@@ -91,8 +91,8 @@ impl<R: ByteReader> Input<R> {
         }
     }
 
-    /// Takes the rest of the token that `byte` begins, which has been taken, and returns its event.
-    /// A separator, white space and a comment have no event, and `None` is returned.
+    /// Takes the rest of the token that begins with `byte`, which has been taken, and returns its
+    /// event. A separator, white space and a comment have no event, and `None` is returned.
     pub fn token_by(
         &mut self,
         alloc: Global,

@@ -41,7 +41,7 @@ const NEXTSTEP: [char; 128] = [
     '\u{153}', '\u{DF}', '\u{FE}', '\u{FF}', '\u{FFFD}', '\u{FFFD}',
 ];
 
-// Returns the byte that a letter stands for after a backslash, or `None` if it stands for none.
+// Returns the byte that this byte stands for after a backslash, or `None` if it stands for none.
 fn simple_of(byte: u8) -> Option<u8>
     ensures { result ≡ simple_escape byte }
 {

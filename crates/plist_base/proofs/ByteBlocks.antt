@@ -52,7 +52,8 @@ none_right t n number bytes few long e =
     (ap (λ lanes. eqb (mask_l (map (top 7) lanes) % 2 ^ 64) 0)
     (sym (turned (λ a b. cond (t a b) 255 0) n number bytes long)) ∙ e)
 
--- the bytes up to one index, and the last block, which begins at that index or before
+-- all bytes have a property if those up to one index have it, and those of the last block, which
+-- begins at that index or before
 pub each_covered : (P : ℕ → Type 0) (bytes : List ℕ) (first size n : ℕ) → first ≤ n
     → length bytes ≡ first + size → EachByte P (take n bytes)
     → EachByte P (take size (drop first bytes)) → EachByte P bytes
@@ -71,7 +72,8 @@ each_covered P bytes first size n le long front back i within = elim (cases_lt i
     shorter : i < n → i < length (take n bytes)
     shorter below = omega (arith, length-take n bytes)
 
--- one more block
+-- if the bytes before a block and those of the block have a property, so have all bytes up to its
+-- end
 pub each_more : (P : ℕ → Type 0) (bytes : List ℕ) (at size : ℕ) → at + size ≤ length bytes
     → EachByte P (take at bytes) → EachByte P (take size (drop at bytes))
     → EachByte P (take (at + size) bytes)

@@ -101,7 +101,7 @@ join-next first (next ∷ lines) line =
     rw (join-next next lines line)
     (sym (append_assoc first (10 ∷ join_with_byte 10 (next ∷ lines)) (10 ∷ line)))
 
--- the bytes of the line that begins at `start`
+-- the bytes from `start` to `end` are those of the line that begins at `start`
 pub line-slice : (bytes : List ℕ) (start end : ℕ) → end ≡ min (length bytes) (start + 51)
     → start ≤ length bytes → take (end - start) (drop start bytes) ≡ take 51 (drop start bytes)
 line-slice bytes start end is fits =
@@ -169,7 +169,7 @@ spelled text bytes are_bytes bytes_are =
           result_ok (both.1 is),
     )
 
--- what the bytes of a text decode to
+-- the bytes to which a text is decoded without its white space are those of the text
 pub data_decoded : (text dark bytes : List ℕ) → dark ≡ without_white text
     → decode_of standard dark ≡ Ok bytes → data_of_text text ≡ Some bytes
 unfolding data_of_text
@@ -196,7 +196,7 @@ pub fault_of_text : (text dark : List ℕ) (error : DecodeAllocError) → dark �
 fault_of_text text dark (decoding.DecodeError fault) is refused = rw is at refused
 fault_of_text text dark decoding.OutOfMemory is refused = tt
 
--- a text that can't be decoded has no bytes
+-- a text that can't be decoded isn't the base64 of any bytes
 pub no_data : (text dark : List ℕ) (error : DecodeAllocError) → dark ≡ without_white text
     → IsDecodeFailure standard dark error → IsNoData text (refusal_of_decoding error)
 unfolding data_of_text decoded_of

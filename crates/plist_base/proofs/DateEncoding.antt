@@ -187,7 +187,7 @@ tested : (b : Bool) (z y : ℤ) → ◌≡◌ {A = Option ℤ} (Some y) (cond b 
 tested true z y e = refl
 tested false z y e = absurd (cc)
 
--- the bits of a negative second, and of any other second
+-- the bits that are computed for a second are its bits, whether it is negative or not
 pub below_zero : (z x y : ℤ) (b n : ℕ) → x ≡ z → Some y ≡ if_second_of_date x
     → lt_z x (pos 0) ≡ true → n ≡ unsigned_abs x → b ≡ whole_bits n → AreWritten z (2 ^ 63 + b)
 below_zero z (pos n) y b m same h lt is e = absurd (grind (arith, ints))

@@ -37,7 +37,7 @@ neg_times (suc w) d = refl
 bounds_pos : (w l d v : ℕ) → d * w + l ≡ v → l < d → Bounds (pos w) (pos v) d
 bounds_pos w l d v e h = (le_pos _ v (omega arith), lt_pos v _ (omega arith))
 
--- the bounds of a negative value with parts left over
+-- a negative value with parts left over is rounded down to the second before it
 bounds_up : (w l d v : ℕ) → d * w + l ≡ v → 0 < l → l < d
     → Bounds (neg_ℤ (pos (suc w))) (neg_ℤ (pos v)) d
 bounds_up w l d v e some h = (
@@ -45,7 +45,7 @@ bounds_up w l d v e some h = (
   rw (neg_next w, neg_times w d) (lt_neg v _ (omega arith)),
 )
 
--- the bounds of a negative value without parts left over
+-- a negative value without parts left over lies exactly at its second
 bounds_even : (w d : ℕ) → 0 < d → Bounds (neg_ℤ (pos w)) (neg_ℤ (pos (w * d))) d
 bounds_even zero d h =
     let z : 0 * d ≡ 0 = omega arith in rw z (le_pos 0 0 (omega arith), lt_zero d h)
@@ -181,7 +181,7 @@ zeros_small (suc count) (suc place) = zeros_small count _
 back_to_unix : (second : ℤ) → ((second -ℤ plist_epoch) +ℤ plist_epoch) ≡ second
 back_to_unix second = omega (arith, ints)
 
--- a date's second, counted from the Unix epoch in 64 bits and back again
+-- a date's second stays the same if it is converted to a Unix second in 64 bits and back
 pub unix_and_back : (second : ℤ) → IsSecondOfDate second
     → (to_z w64 (of_z w64 (to_z w64 (of_z w64 second) +ℤ plist_epoch)) -ℤ plist_epoch) ≡ second
 unix_and_back second ranged = omega (arith, ints)
@@ -204,7 +204,7 @@ pub text_at : (date text : List ℕ) (second : ℤ)
 text_at date text second is text_of =
     subst (λ s. IsTextOfSecond s text) (back_to_unix _) (text_of.2 _ is)
 
--- a text of the Unix second in UTC is a text of a date there, if it has no fraction
+-- a text in UTC that spells the Unix second of a date without a fraction is a text of that date
 pub text_in_utc : (date text : List ℕ) (second : ℤ) → IsDate date → IsWhole date
     → second_of_bytes date ≡ Some (second -ℤ plist_epoch) → Some second ≡ unix_second_of_text text
     → IsInUtc text → IsDateText date text

@@ -5,7 +5,7 @@ use Rattle.std.proofs.lemmas.Nat.{div-mul-add, mod-mul-add}
 use Rattle.std.proofs.lemmas.Bool.Decides.{nat_tests}
 use Rattle.plist_base.specs.Date.{real_exponent, real_mantissa, real_scale, parts_in_second, parts_of, whole_seconds, parts_left, has_fraction, real_second, rounded_down, is_second_of_date, if_second_of_date, is_negative, second_of_bits}
 
--- the number of parts in a second, as the product of two powers
+-- the number of parts in a second is the product of two powers
 split : (e : ℕ) → e < 1075 → parts_in_second ≡ 2 ^ (1075 - e) * 2 ^ e
 unfolding parts_in_second
 split e h = let s : 1075 ≡ (1075 - e) + e =

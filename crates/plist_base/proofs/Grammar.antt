@@ -76,7 +76,7 @@ continues held e (more, tree, p) =
 only : {A : Type 0} (o : Option A) → option_and_then Some o ≡ o
 only o = search rules
 
--- one more event
+-- the stack after one more event is the one after a step from the stack before it
 pub steps_snoc : (es : List PlainEvent) (s : Stack) (e : PlainEvent)
     → steps s (es ++ e ∷ []) ≡ option_and_then (λ t. step t e) (steps s es)
 steps_snoc es s e =

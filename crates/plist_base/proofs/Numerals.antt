@@ -106,7 +106,7 @@ pub integer_unsigned : (text : List ℕ) (o r : Option ℤ)
     → r ≡ unsigned_of_text 10 text → r ≡ integer_of_text text
 integer_unsigned text o r h e i u = rw (integer_plain _ h, ← e, i) u
 
--- the signed number that a text spells, or else the unsigned one
+-- a text that doesn't begin with `0x` spells a signed number or else an unsigned one
 pub integer_either : {Called : Type 0} (text : List ℕ) (o r : Option ℤ)
     → ((rest : List ℕ) → text ≡ 48 ∷ 120 ∷ rest → ⊥) → o ≡ signed_of_text text
     → MatchOption o Called (λ z. r ≡ Some z) → (Called → r ≡ unsigned_of_text 10 text)

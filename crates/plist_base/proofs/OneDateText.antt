@@ -56,7 +56,7 @@ has_parts day time zone second is = search rules
 
 -- ---- the digits
 
--- both digits of a number
+-- these are the two digits of a number
 record Digits (tens ones n : ℕ) : Type 0 where
   small : n < 100
   high : tens ≡ 48 + n / 10
@@ -72,7 +72,7 @@ digits tens ones n is = record {
 
 -- ---- the numbers
 
--- a day of the calendar
+-- the calendar has this day
 record Day (year month day : ℕ) : Type 0 where
   in_year : IsInRange 1 12 month
   in_month : IsInRange 1 (days_in_month (pos year) month) day
@@ -85,7 +85,7 @@ day_made year month day number is = (
   (cond_some _ _ number is).1,
 )
 
--- a second of a day
+-- a day has this hour, this minute and this second
 record Time (hour minute second : ℕ) : Type 0 where
   hours : hour < 24
   minutes : minute < 60
@@ -218,7 +218,7 @@ date_of second text n = record {
   day_in = n.date.in_month;
 }
 
--- a second that has a text is one of the years 0 to 9999
+-- a second that has a text is in one of the years 0 to 9999
 pub year_of_text : (second : ℤ) (text : List ℕ) → IsTextOfSecond second text
     → HasFourDigitYear second
 unfolding date_of

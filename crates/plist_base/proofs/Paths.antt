@@ -52,7 +52,7 @@ path_pop i path o = record {
 pub path_fuel : {count : ℕ} {path : List ℕ} → IsPath count path → length path ≤ count
 path_fuel {count} {path} o = length-le_from_distinct_below _ _ o.distinct o.below
 
--- fewer objects are open than there are if this one isn't
+-- if this object isn't open, fewer objects are open than there are
 pub path_rises : {count : ℕ} {path : List ℕ} (i : ℕ) → IsPath count path → i < count
     → list_any (nat_eq i) path ≡ false → length path < count
 path_rises {count} {path} i o h new =

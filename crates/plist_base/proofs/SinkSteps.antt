@@ -34,14 +34,14 @@ pub same_then : {W : Type 0} {a b c : Sink W} → IsSameSink a b → IsSameSink 
 same_then p q = record { writer = q.writer ∙ p.writer; buffer = q.buffer ∙ p.buffer }
 
 module _ {W : Type 0} {contents : W → Option (List ℕ)} where
-  -- putting no bytes
+  -- no bytes are put
   pub puts_none : {a : Sink W} → PutsBytes contents a [] (Ok tt) a
   puts_none {a} = record {
     same = same_itself;
     follows = ([], Appends-nil (written contents a), append-nil (pending a));
   }
 
-  -- putting bytes that stay pending
+  -- bytes are put, and stay pending
   pub puts_pending : {a b : Sink W} {xs : List ℕ} → IsSameSink a b
       → b.writer.now ≡ a.writer.now → pending b ≡ pending a ++ xs → PutsBytes contents a xs (Ok tt) b
   puts_pending {a} same kept grown = record {
@@ -49,7 +49,7 @@ module _ {W : Type 0} {contents : W → Option (List ℕ)} where
     follows = ([], rw kept (Appends-nil (written contents a)), sym grown);
   }
 
-  -- putting nothing, and then bytes
+  -- nothing is put, and then bytes are
   pub puts_after : {a b c : Sink W} {xs : List ℕ} {answer : Answer} → PutsNothing a b
       → PutsBytes contents b xs answer c → PutsBytes contents a xs answer c
   puts_after {answer = Ok done} n p = record {
@@ -61,7 +61,7 @@ module _ {W : Type 0} {contents : W → Option (List ℕ)} where
     follows = rw (n.writer, n.pending) at p.follows;
   }
 
-  -- putting bytes, and then more
+  -- bytes are put, and then more
   pub puts_then : {a b c : Sink W} {xs ys : List ℕ} {answer : Answer}
       → PutsBytes contents a xs (Ok tt) b → PutsBytes contents b ys answer c
       → PutsBytes contents a (xs ++ ys) answer c
@@ -126,7 +126,7 @@ module _ {W : Type 0} {contents : W → Option (List ℕ)} where
     follows = (io, prefix_more (written contents a) (written contents b) (pending a) xs front);
   })
 
-  -- writing bytes, or a prefix of them, when nothing is pending
+  -- bytes, or a prefix of them, are written when nothing is pending
   puts_written : {a b : Sink W} {xs : List ℕ} (answer : Result (Unit {0}) Error) → IsSameSink a b
       → pending a ≡ [] → pending b ≡ [] → OnOk answer (Appends (written contents a) (written contents b) xs)
       → OnlyDevice answer → AppendsPrefix (written contents a) (written contents b) xs

@@ -21,7 +21,7 @@ all-without_length-twice [] = refl
 all-without_length-twice (e ∷ es) = rw (without_length-twice e, all-without_length-twice es) refl
 
 mutual
-  -- a tree's events without their lengths
+  -- a tree's events without their lengths are those of `lengthless`
   pub lengthless-is : (t : Tree) → map without_length (bracketing t) ≡ lengthless t
   lengthless-is (Leaf s) = refl
   lengthless-is (Array ts) = rw (map-append without_length, lengthless-of-items-is ts) refl
@@ -86,12 +86,12 @@ on_dictionary : (s : Stack) (m : List PlainEvent) → Fills (Pairs ∷ s) m
     → Fills (OneValue ∷ s) (StartDictionary None ∷ m)
 on_dictionary s m f = (Dictionary f.0, f.1, rw (f.2, append_assoc) refl, f.3)
 
--- a value followed by the other items
+-- what fills the expectation of a value and then of items fills that of items
 on_item : (s : Stack) (m : List PlainEvent) → Fills (OneValue ∷ Items ∷ s) m → Fills (Items ∷ s) m
 on_item s m f =
     let g = f.3 in (TreeAnd f.0 g.0, g.1, rw (f.2, g.2, append_assoc) refl, g.3)
 
--- a key and a value followed by the other pairs
+-- a key, followed by what fills the expectation of a value and then of pairs, fills that of pairs
 on_pair : (k : List ℕ) (s : Stack) (m : List PlainEvent) → Fills (OneValue ∷ Pairs ∷ s) m
     → Fills (Pairs ∷ s) (ScalarEvent (trees.String k) ∷ m)
 on_pair k s m f =

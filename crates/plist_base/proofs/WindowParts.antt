@@ -12,7 +12,7 @@ rest_of_part start from size bytes within =
     ∙ sym (drop-take from (size - from) (drop start bytes))
     ∙ ap (λ n. drop from (take n (drop start bytes))) (omega (arith, within))
 
--- the bytes of the window that contains an offset, from that offset on
+-- these are the bytes, from an offset on, of the window that contains this offset
 pub lends_part : (size place i : ℕ) (headers : List Header) (bytes lent : List ℕ) (none : Header)
     → IsWindowOf size headers i place → place % size ≤ (get_or headers i none).filled
     → lent ≡ take ((get_or headers i none).filled - place % size)

@@ -14,8 +14,8 @@ iterator_of limited = limited.inner
 abbrev pub HasEndedLimited : {I A : Type 0} → LimitedItems I A → Type 0
 HasEndedLimited limited = limited.ended ≡ true
 
--- `lets` maps items to those that an allowance leaves of them, and `may_reach` says which faults
--- may replace an event
+-- `lets` maps a list of items to those that are yielded under an allowance, and `may_reach` says
+-- which faults may replace an event
 module _ {A : Type 0} (lets : A → List Item → List Item) (may_reach : Fault → Type 0) where
   -- this fault, which is one that `may_reach` allows, replaces the event, and no item follows
   abbrev pub RefusesEvent : A → PlainEvent → Fault → Type 0

@@ -27,7 +27,7 @@ within_bytes left (Err fault ∷ items) = Err fault ∷ []
 
 -- ---- the items that a budget leaves
 
--- the items that remain of these within the budget
+-- the items that the budget leaves of a list of items
 abbrev pub within_budget : ByteBudget → List Item → List Item
 within_budget budget = within_bytes budget.left
 

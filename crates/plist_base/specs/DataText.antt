@@ -18,7 +18,8 @@ use Rattle.plist_base.specs.declared.data.InvalidXmlData.TheVariants.{Decode, Ou
 abbrev pub overwritten : (bytes new : List ℕ) → List ℕ
 overwritten bytes new = take (length bytes) (new ++ drop (length new) bytes)
 
--- when the reference ends, the data consists of the last bytes that were written through it
+-- when the reference `lent` ends, the bytes to which it points are written over the first ones of
+-- the data
 abbrev pub LendsBytes : MutBor (List ℕ) → MutBor (List ℕ) → Fml
 LendsBytes bytes lent = Lends the_row (Array u8 0) bytes lent (overwritten bytes.now)
 
@@ -69,7 +70,7 @@ abbrev pub IsFaultOfText : List ℕ → InvalidXmlData → Type 0
 IsFaultOfText text (Decode fault) = decode_of standard (without_white text) ≡ Err fault
 IsFaultOfText text OutOfMemory = ⊤
 
--- unless the error is `OutOfMemory`, the text is the base64 of no bytes
+-- unless the error is `OutOfMemory`, there are no bytes whose base64 is the text
 abbrev pub IsNoData : List ℕ → InvalidXmlData → Type 0
 IsNoData text (Decode fault) = data_of_text text ≡ None
 IsNoData text OutOfMemory = ⊤

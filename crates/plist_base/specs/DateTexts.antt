@@ -6,12 +6,13 @@ use Rattle.plist_base.specs.Date.{IsDate, IsWhole, if_second_of_date, plist_epoc
 use Rattle.plist_base.specs.Faults.{FaultKind, OutOfMemory, fault_without_offset, fault_of}
 use Rattle.plist_base.specs.UnixSeconds.{HasFourDigitYear, IsTextOfSecond, unix_second_of_text}
 
--- a Unix second, counted from the start of 2001, or none if it is outside the range of dates
+-- converts a Unix second to one that is counted from the start of 2001, or to `None` if it is
+-- outside the range of dates
 abbrev pub second_at : Option ℤ → Option ℤ
 second_at None = None
 second_at (Some unix) = if_second_of_date (unix -ℤ plist_epoch)
 
--- the second of the date that a text spells, or none if it spells none
+-- the second of the date that a text spells, or `None` if it spells no date
 abbrev pub second_of_text : List ℕ → Option ℤ
 second_of_text text = second_at (unix_second_of_text text)
 

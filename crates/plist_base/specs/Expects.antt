@@ -35,7 +35,7 @@ change_of OneValue event = change_of_value (shape_of event)
 change_of Items event = change_of_items (shape_of event)
 change_of Pairs event = change_of_pairs event
 
--- the stack after a change of its top, topmost first, or none if the event is rejected
+-- the stack after a change of its top, topmost first, or `None` if the event is rejected
 abbrev pub changed : Change → Expect → List Expect → Option (List Expect)
 changed Refused top rest = None
 changed Popped top rest = Some rest
@@ -43,16 +43,16 @@ changed Kept top rest = Some (top ∷ rest)
 changed (Pushed expect) top rest = Some (expect ∷ top ∷ rest)
 changed (Replaced expect) top rest = Some (expect ∷ rest)
 
--- the stack after an event, or none if the event is rejected
+-- the stack after an event, or `None` if the event is rejected
 abbrev pub step : List Expect → PlainEvent → Option (List Expect)
 step [] event = None
 step (top ∷ rest) event = changed (change_of top event) top rest
 
--- the stack after some events, or none if one is rejected
+-- the stack after some events, or `None` if one is rejected
 abbrev pub steps : List Expect → List PlainEvent → Option (List Expect)
 steps expects [] = Some expects
 steps expects (event ∷ events) = option_and_then (λ after. steps after events) (step expects event)
 
--- the stack after these events, which begin a tree, or none if one is rejected
+-- the stack after these events, which begin a tree, or `None` if one is rejected
 abbrev pub expected_after : List PlainEvent → Option (List Expect)
 expected_after events = steps (OneValue ∷ []) events

@@ -21,7 +21,7 @@ without_prefixes (a ∷ b ∷ rest) =
 abbrev pub is_numeral : (radix : ℕ) → List ℕ → Bool
 is_numeral radix digits = nat_lt 0 (length digits) && list_all (λ c. is_digit c radix) digits
 
--- the unsigned 64-bit number that the text spells, with an optional plus sign, or none
+-- the unsigned 64-bit number that the text spells, with an optional plus sign, or `None`
 abbrev pub unsigned_of_text : (radix : ℕ) → List ℕ → Option ℤ
 unsigned_of_text radix text =
     let digits = without_leading_plus text in
@@ -33,7 +33,7 @@ abbrev pub fits_signed : ℤ → Bool
 fits_signed (pos n) = nat_lt n (2 ^ 63)
 fits_signed (negsuc n) = nat_lt n (2 ^ 63)
 
--- the signed 64-bit number that the text spells in decimal, with an optional sign, or none
+-- the signed 64-bit number that the text spells in decimal, with an optional sign, or `None`
 abbrev pub signed_of_text : List ℕ → Option ℤ
 signed_of_text text =
     cond (is_numeral 10 (without_leading_sign text) && fits_signed (signed_digits_value 10 text))
@@ -50,7 +50,7 @@ integer_of_text text =
     cond (has_prefix text) (unsigned_of_text 16 (without_prefixes text))
     (or_else (signed_of_text text) (unsigned_of_text 10 text))
 
--- the result is the number that the text spells, or `Err` if it spells none
+-- the result is the number that the text spells, or `Err` if it spells no number
 abbrev pub SpellsInteger : {E : Type 0} → List ℕ → Result ℤ E → Type 0
 SpellsInteger text answer =
     MatchResult answer (λ number. integer_of_text text ≡ Some number)
@@ -58,7 +58,7 @@ SpellsInteger text answer =
 
 -- ---- worked examples
 
--- each row has a text, and the integer that it spells or none
+-- each row has a text, and the integer that it spells, or `None`
 abbrev AreRead : List (String × Option ℤ) → Type 0
 AreRead rows = map (λ row. integer_of_text (codes row.0)) rows ≡ map (λ row. row.1) rows
 

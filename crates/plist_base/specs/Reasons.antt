@@ -8,12 +8,12 @@ use Rattle.plist_base.specs.declared.reason.Reason.{Reason}
 abbrev pub error_of_reason : Reason → Error
 error_of_reason reason = reason.error.now
 
--- this text, or none for an I/O error, whose text depends on what the system reported
+-- this text, or `None` for an I/O error, whose text depends on what the system reported
 abbrev pub text_unless_io : FaultKind → List ℕ → Option (List ℕ)
 text_unless_io Io text = None
 text_unless_io kind text = Some text
 
--- the text that is printed, or none for an I/O error
+-- the text that is printed, or `None` for an I/O error
 abbrev pub reason_text : Reason → Option (List ℕ)
 reason_text reason =
     text_unless_io (kind_of (error_kind_of (error_of_reason reason))) (fault_text (fault_of (error_of_reason reason)))

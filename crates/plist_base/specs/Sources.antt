@@ -34,7 +34,7 @@ AnswersIo answer old new = MatchResult answer (λ _. new ≡ old) (λ error. Cou
 abbrev pub ItemCountsIo : {A : Type 0} → Option (Result A Error) → ℕ → ℕ → Type 0
 ItemCountsIo item old new = MatchOption item (new ≡ old) (λ answer. AnswersIo answer old new)
 
--- the fault of a read that failed or returned no byte
+-- the fault is that of a read that failed or returned no byte
 abbrev pub IsReadFault : FaultKind → Type 0
 IsReadFault Io = ⊤
 IsReadFault UnexpectedEof = ⊤

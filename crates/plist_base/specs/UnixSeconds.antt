@@ -7,7 +7,7 @@ use Rattle.jiff_core.specs.Calendar.{days_from_civil, days_in_month, days_of_mon
 
 -- ---- numbers
 
--- the number that two digits spell, or none if one isn't a digit
+-- the number that two digits spell, or `None` if one isn't a digit
 unfoldable pub two_digits : (tens ones : ℕ) → Option ℕ
 two_digits tens ones =
     cond (is_ascii_digit tens && is_ascii_digit ones) (Some ((tens - 48) * 10 + (ones - 48))) None
@@ -35,19 +35,19 @@ four_digits_at text place =
 
 -- ---- the parts
 
--- the number of days from 1970-01-01 to a date, or none if the calendar doesn't have it
+-- the number of days from 1970-01-01 to a date, or `None` if the calendar doesn't have it
 unfoldable pub day_number : (year month day : ℕ) → Option ℤ
 day_number year month day =
     cond (is_in_range 1 12 month && is_in_range 1 (days_in_month (pos year) month) day)
     (Some (days_from_civil (pos year) month day)) None
 
--- the second of the day at this time, or none if a part is out of range
+-- the second of the day at this time, or `None` if a part is out of range
 unfoldable pub second_of_day : (hour minute second : ℕ) → Option ℕ
 second_of_day hour minute second =
     cond (nat_lt hour 24 && nat_lt minute 60 && nat_lt second 60)
     (Some (hour * 3600 + minute * 60 + second)) None
 
--- how many seconds a zone is ahead of UTC, or none if a part is out of range
+-- how many seconds a zone is ahead of UTC, or `None` if a part is out of range
 abbrev pub offset : (sign hours minutes : ℕ) → Option ℤ
 offset sign hours minutes =
     cond (nat_lt hours 24 && nat_lt minutes 60)
@@ -87,7 +87,7 @@ second_of_parts (Some day) (Some time) None = None
 second_of_parts (Some day) None offset = None
 second_of_parts None time offset = None
 
--- the Unix second that a text spells, or none if it spells none
+-- the Unix second that a text spells, or `None` if it spells no date
 unfoldable pub unix_second_of_text : List ℕ → Option ℤ
 unix_second_of_text text =
     cond (has_separators text) (second_of_parts (day_in text) (time_in text) (zone_in text)) None
@@ -98,7 +98,7 @@ pub record IsTextOfSecond (second : ℤ) (text : List ℕ) : Type 0 where
   pub letter : slice_index text 10 ≡ 84
   pub utc : slice_index text 19 ≡ 90
 
--- the Unix second is one of the years 0 to 9999
+-- the Unix second is in one of the years 0 to 9999
 abbrev pub HasFourDigitYear : ℤ → Type 0
 HasFourDigitYear second =
     ((days_from_civil (pos 0) 1 1 *ℤ pos 86400) ≤ℤ second)

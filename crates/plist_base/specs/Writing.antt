@@ -23,13 +23,14 @@ MatchKind OutOfMemory refused failed other = failed
 MatchKind PlistTooLarge refused failed other = failed
 MatchKind kind refused failed other = other
 
--- a fact for an accepted event; otherwise the fault has no offset, and `MatchKind` has the fact
+-- a fact for an accepted event; otherwise the fault has no offset, and its kind selects the fact
 abbrev pub MatchAnswer : Answer → (accepted refused failed other : Type 0) → Type 0
 MatchAnswer (Ok done) accepted refused failed other = accepted
 MatchAnswer (Err fault) accepted refused failed other =
     (fault.offset ≡ None) × MatchKind fault.kind refused failed other
 
--- unless the event completes a tree, what can follow `after` is what can follow `before` and it
+-- unless the event completes a tree, what can follow `after` is what can follow `before` and the
+-- event
 abbrev pub IsHeldAfter : (before : List PlainEvent) → PlainEvent → (after : List PlainEvent) → Type 0
 IsHeldAfter before event after =
     AreTreeEvents (before ++ event ∷ []) ⊎ ContinueAlike after (before ++ event ∷ [])

@@ -1,4 +1,4 @@
--- Definitions that are used by bodies and proofs, but by no public clause.
+-- Definitions that are used by bodies and proofs. Public clauses rely only on `Hashing`.
 pub mod DateBits
 pub mod Paths
 pub mod Hashing

@@ -1,11 +1,11 @@
-//! Tests of bytes, many of which are made together.
+//! Tests that can be made for many bytes together.
 
 ghost use Rattle.std.specs.Prelude.{◌≡◌, ◌≤◌, length, true};
 ghost use Rattle.plist_base.specs.ByteTests.{EachByte};
 
 use std::simd::prelude::*;
 
-/// A test of a byte that can be made for many bytes together.
+/// A test of a byte. It can be made for many bytes together.
 ///
 /// A test may reject any byte, but it accepts only those with the property that it tests.
 pub trait ByteTest {
@@ -46,7 +46,7 @@ fn many_pass<T: ByteTest>(bytes: &[u8]) -> bool
     T::sixteen(u8x16::from_slice(&bytes[last..]))
 }
 
-// Tests eight to sixteen bytes, the first eight and the last eight together.
+// Tests eight to sixteen bytes: the first eight together, and then the last eight together.
 #[inline(always)]
 fn some_pass<T: ByteTest>(bytes: &[u8]) -> bool
     requires { (8 ≤ length bytes.now) × (length bytes.now ≤ 16) }

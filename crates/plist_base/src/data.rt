@@ -71,8 +71,9 @@ impl Data {
         Ok(Data::new(bytes))
     }
 
-    /// Formats this data as base64 in lines of 68 characters, each of which encodes 51 bytes. The
-    /// last line may be shorter. Lines are separated by a line feed; none follows the last one.
+    /// Formats this data as lines of base64. Each line has 68 characters and encodes 51 bytes,
+    /// except that the last line may be shorter. Lines are separated by a line feed; none follows
+    /// the last one.
     ///
     /// # Errors
     ///

@@ -215,7 +215,8 @@ impl RealParts {
     }
 }
 
-// Returns whether the value lies between two seconds. No absolute value of 2^52 or more does.
+// Returns whether the value lies between two seconds. An absolute value of 2^52 or more has no
+// fraction.
 #[tactic(auto, using(crate::proofs::DateShifts::fraction_parts))]
 fn is_fractional(bits: u64) -> bool
     ensures { result ≡ has_fraction bits }

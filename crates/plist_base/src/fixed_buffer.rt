@@ -12,7 +12,8 @@ pub const SINK_CAPACITY: usize = 1 << 16;
 
 /// A buffer of [`SINK_CAPACITY`] bytes. It never grows.
 ///
-/// Pushing requires enough room, so that a caller can check the room once for a whole line.
+/// A push doesn't check the room: the caller has to make sure that there is enough, and can do so
+/// once for a whole line.
 #[derive(Drop)]
 pub struct FixedBuffer {
     // The first `used` bytes are those that were pushed, and the others are unspecified.

@@ -256,7 +256,8 @@ impl fmt::Display for InvalidInteger {
 
 impl std::error::Error for InvalidInteger {}
 
-// Parses a decimal number with an optional sign, or returns `None` if it doesn't fit into an `i64`.
+// Parses a decimal number with an optional sign. Returns `None` if the string isn't one, or if the
+// number doesn't fit into an `i64`.
 #[tactic(auto, using(crate::proofs::Numerals::signed_texts))]
 fn signed(text: &str) -> Option<Integer>
     ensures { result ≡ signed_of_text text.now }
@@ -267,7 +268,8 @@ fn signed(text: &str) -> Option<Integer>
     }
 }
 
-// Parses a number with an optional plus sign, or returns `None` if it doesn't fit into a `u64`.
+// Parses a number with an optional plus sign. Returns `None` if the string isn't one, or if the
+// number doesn't fit into a `u64`.
 #[tactic(auto, using(crate::proofs::Numerals::unsigned_ok, crate::proofs::Numerals::unsigned_err))]
 fn unsigned(text: &str, radix: u32) -> Option<Integer>
     requires radix { (2 ≤ radix) × (radix ≤ 36) }

@@ -40,12 +40,13 @@ impl<R: Read + Seek> Seeking<R> {
         Seeking::with_memory(inner, None)
     }
 
-    /// Creates a source over this reader whose windows have 8 KiB.
+    /// Creates a source with windows of 8 KiB over this reader.
     ///
     /// It allocates eight windows when it fills the first one. If windows have to be filled again,
     /// it doubles their number, up to 8,192 windows (68 MB). Unless there are only eight, there are
-    /// fewer than twice as many windows as the file has. If an allocation fails, it continues with
-    /// the windows that it has, which are at first those of [`Seeking::new`].
+    /// fewer than twice as many windows as the file has parts of 8 KiB. If the first allocation
+    /// fails, it uses the windows of [`Seeking::new`]. If a later one fails, it continues with the
+    /// windows that it has.
     pub fn with_windows(alloc: Global, inner: R) -> Self
         ensures inner { seekable_of result ≡ inner }
         ensures failures { failures_of result ≡ 0 }
@@ -87,8 +88,8 @@ impl<R: Read + Seek> Seeking<R> {
         answer
     }
 
-    // Copies bytes from this offset on out of a window, which is filled first if it has none of
-    // them.
+    // Copies bytes out of a window, from this offset on. If the window has no such byte, it is
+    // filled first.
     fn copy_from_window(&mut self, place: u64, buf: &mut [u8]) -> Result<usize, io::Error>
         ensures bound { IfOk result (λ count. count ≤ length buf.new) }
         ensures failures { failures_of self.new ≡ failures_of self.old }
@@ -120,7 +121,8 @@ impl<R: Read + Seek> Seeking<R> {
                 return Ok(copied);
             }
         }
-        // The read is longer than a window, or a short read of the window didn't reach this offset.
+        // The read isn't shorter than a window, or a short read of the window didn't reach this
+        // offset.
         self.read_past_windows(place, buf)
     }
 

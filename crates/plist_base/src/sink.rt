@@ -71,8 +71,8 @@ impl<'s, W: Write> Sink<'s, W> {
     }
 
     /// Puts bytes if they fit into the buffer, and returns whether they do. A loop that puts small
-    /// numbers calls this first: a return slot is zeroed on every call, and a `bool` is smaller
-    /// than the result of [`Sink::put`].
+    /// numbers calls this first: the memory of a result is zeroed on every call, and a `bool` is
+    /// smaller than the result of [`Sink::put`].
     #[inline(always)]
     pub fn try_put(&mut self, bytes: &[u8]) -> bool
         ensures put { result ≡ true → PutsBytes W.contents self.old bytes.now (Ok tt) self.new }

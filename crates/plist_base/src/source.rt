@@ -130,7 +130,8 @@ impl Source for Vec<u8> {
 }
 
 /// Fills the buffer with the bytes from offset `place` on, with as many reads as necessary. A
-/// failed read isn't retried, not even after `Interrupted`.
+/// failed read isn't retried, not even after `Interrupted`. `place + buf.len()` must be less than
+/// 2^64.
 ///
 /// # Errors
 ///

@@ -1,4 +1,4 @@
-//! A second in UTC by its calendar parts, and how it is printed.
+//! The calendar parts of a second in UTC, and how they are printed.
 
 ghost use Rattle.std.specs.Prelude.{◌↔◌, List, ℕ, ◌<◌, ◌≤ℤ◌, ◌+ℤ◌, ◌*ℤ◌, pos, Some, IsSome, IfSome};
 ghost use Rattle.jiff_core.specs.Date.{epoch_day};

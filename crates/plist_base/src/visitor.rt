@@ -122,7 +122,8 @@ pub trait EventSource {
     ghost yields: { Self → PlainItem → Self → Type 0 };
 
     /// Hands the remaining events to a visitor, one by one, until no event remains, an error
-    /// replaces one, or the visitor returns `Break`.
+    /// replaces one, or the visitor returns `Break`. Returns [`Visited::Stopped`] if the visitor
+    /// returned `Break`, and [`Visited::Ended`] if no event remained.
     ///
     /// # Errors
     ///

@@ -18,7 +18,7 @@ const LONG_WINDOW: usize = 8192;
 // The number of windows before the first doubling.
 const INITIAL_WINDOWS: usize = 8;
 
-// Filling a window again counts as much as filling this many windows for the first time.
+// The number of first fills that cancel one refill. A refill fills a window again.
 const REFILL_WEIGHT: u64 = 8;
 
 // The number of windows in the first 512 MiB of a file. Whether a window was ever filled is stored
@@ -36,15 +36,16 @@ struct ShortWindows {
 //
 // Their number doubles when refills outnumber the windows, up to 8,192 windows. Each first fill
 // cancels an eighth of a refill, so that a file that is read in order keeps few windows. Unless
-// there are only eight, there are fewer than twice as many windows as the file has: once there are
-// as many, no window replaces another.
+// there are only eight, there are fewer than twice as many windows as the file has parts of 8 KiB:
+// once there are as many, no window replaces another.
 #[derive(Drop)]
 struct LongWindows {
     headers: Vec<Header>,
     bytes: Vec<u8>,
     // Has a bit for each tracked window of the file, which is set once the window was filled.
     ever_filled: Vec<u64>,
-    // The weighted refills since the last doubling, minus the first fills. It is never negative.
+    // The number of refills since the last doubling times `REFILL_WEIGHT`, minus the number of
+    // first fills. A first fill changes nothing if this is 0.
     refills: u64,
 }
 
@@ -149,7 +150,7 @@ impl Windows {
         }
     }
 
-    /// Returns the size of a window in bytes. Only shorter reads are served from windows.
+    /// Returns the size of a window in bytes. Only a read of fewer bytes fills a window.
     pub(crate) fn size(&self) -> usize {
         match &self.long {
             Some(_) => LONG_WINDOW,

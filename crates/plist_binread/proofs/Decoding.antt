@@ -307,7 +307,7 @@ borrowed_sets known place content seen answer current lies within sets =
     ∙ ap (take size) (drop-drop start place bytes) in
     subst (λ xs. SetsEvent (content_means content.kind xs) place answer current) e sets)
 
--- so is the event of a content that was read
+-- the event of a content that was read is that of the content in the file, too
 pub read_sets : (known : Option (List ℕ)) (kind : ContentKind) (start size : ℕ)
     (event current : PlainEvent) → current ≡ event
     → IfSome known (λ bytes. start + size ≤ length bytes
@@ -401,7 +401,7 @@ pub large_on_slot : {A : Type 0} (answer : Result A StepError) (slot : FaultSlot
 large_on_slot (Ok value) slot object place current sets large = large sets
 large_on_slot (Err refused) slot object place current sets large = tt
 
--- the string of UTF-16 units without an unpaired surrogate
+-- UTF-16 units without an unpaired surrogate mean this string
 pub units_text : (units bytes : List ℕ) → has_unpaired_surrogate units ≡ false
     → bytes ≡ encode_utf8_all (utf16_lossy_chars units)
     → text_of_units units ≡ Scalar (trees.String bytes)

@@ -9,7 +9,7 @@ use Rattle.plist_binread.proofs.Extents.{leb_short, length_beyond}
 
 -- ---- the length
 
--- so many bytes from an offset on are all bytes from there
+-- the first `length xs - w` bytes from offset `w` on are all bytes from there
 pub tail_whole : (w : ℕ) (xs : List ℕ) → take (length xs - w) (drop w xs) ≡ drop w xs
 tail_whole w xs = take_all (length xs - w) (drop w xs) (omega (arith, length-drop w xs))
 
@@ -61,7 +61,7 @@ module _ (m size left count : ℕ) (rest behind more : List ℕ)
       let short : length (behind ++ more) < count * size = omega arith in
       rw (is, leb_short (count * size) (length (behind ++ more)) short) refl
 
--- so many bytes are left between the length and the trailer
+-- this is the number of bytes between the length and the trailer
 pub length_left : (to_trailer : ℕ) (rest behind more : List ℕ) → length (rest ++ more) ≡ to_trailer
     → length behind ≤ length rest
     → length (behind ++ more) ≡ to_trailer - (length rest - length behind)

@@ -81,7 +81,7 @@ number_within w i n h =
     let e : suc i * w ≡ i * w + w = omega arith in
     omega arith
 
--- the next number among the buffered bytes
+-- the next number was decoded from the buffered bytes
 pub numbers_at_hand : (known : Option (List ℕ)) (seen numbers : List ℕ) (p w read i x : ℕ)
     → i * w + w ≤ length seen → length numbers ≡ read + i
     → x ≡ number_of (take w (drop (i * w) seen))

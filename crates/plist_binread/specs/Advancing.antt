@@ -23,7 +23,8 @@ item_with (Some (Ok value)) event = Some (Ok event)
 item_with (Some (Err error)) event = Some (Err error)
 
 module _ {R C : Type 0} {g : Ghosts R} {h : CounterGhosts C} (old : BinaryReader R C g h) where
-  -- one step yields an item as `GivesBinaryBy` says, and fewer items remain after it
+  -- one step yields an item as `GivesBinaryBy` says; if there is one, the bound `binary_steps`
+  -- falls
   pub record StepsBy (coming : List ℕ → BinaryReader R C g h → List Item)
       (limited : BinaryReader R C g h → Bool) (item : PlainItem) (new : BinaryReader R C g h) : Type 0
     where

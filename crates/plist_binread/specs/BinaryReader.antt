@@ -80,11 +80,11 @@ module _ {R C : Type 0} {g : Ghosts R} {h : CounterGhosts C} where
   abbrev pub open_collections : BinaryReader R C g h → ℕ
   open_collections reader = length reader.walk.frames
 
-  -- the number of objects in the file, or 0 if the reader hasn't read it
+  -- the number of objects in the file, or 0 if the reader hasn't read that number
   abbrev pub objects_in_file : BinaryReader R C g h → ℕ
   objects_in_file reader = length reader.walk.tags.items
 
-  -- the number of the object that is entered next, or `None` if the next item is an end
+  -- the number of the object that is entered next, or `None` if there is none
   abbrev pub number_to_come : List ℕ → BinaryReader R C g h → Option ℕ
   number_to_come bytes reader = upcoming_number bytes reader.state reader.decoder.bounds reader.walk.frames
 
@@ -94,7 +94,7 @@ module _ {R C : Type 0} {g : Ghosts R} {h : CounterGhosts C} where
       is_walking reader.state ≡ true → AreBoundsOf (head_of bytes) reader.decoder.bounds
       × (objects_in_file reader ≡ objects_in_head bytes)
 
-  -- the reader has ended if the item is an error or there is none
+  -- the reader has ended if the item is an error or `None`
   abbrev pub EndsAfterFault : {A : Type 0} → Option (Result A Error) → BinaryReader R C g h → Type 0
   EndsAfterFault item after = MatchOption item (HasEndedBinary after) (λ answer. OnErr answer
       (HasEndedBinary after))
@@ -138,7 +138,8 @@ module _ {R C : Type 0} {g : Ghosts R} {h : CounterGhosts C} where
   ObjectsMatchHead known item reader = IfSome known (λ bytes. MatchOption item ⊤ (λ answer.
       CountsObjects bytes answer (objects_in_file reader)))
 
-  -- whether there are limits is kept, and the number of objects once an item was yielded
+  -- whether there are limits never changes, and the number of objects doesn't change once an item
+  -- was yielded
   abbrev pub KeepsCounts : (old new : BinaryReader R C g h) → Type 0
   KeepsCounts old new =
       (has_limits new ≡ has_limits old) × (is_new old ≡ false → objects_in_file new

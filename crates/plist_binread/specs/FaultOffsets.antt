@@ -34,7 +34,8 @@ abbrev pub MatchGiven : FaultKind → (read memory other limit : Type 0) → Typ
 MatchGiven (LimitReached reached) read memory other limit = limit
 MatchGiven kind read memory other limit = MatchReader kind read memory other
 
--- a failed read lies within the range, `OutOfMemory` and limits have no offset, others have one
+-- the offset of a failed read lies within the range; `OutOfMemory` and the errors of limits, which
+-- only a limited reader has, have no offset; all other errors have one
 pub record IsGivenWithin (start end : ℕ) (limited : Bool) (fault : Fault) : Type 0 where
   pub placed : MatchGiven fault.kind (IsOffsetWithin start end fault.offset) (fault.offset ≡ None)
       (HasOffset fault.offset) ((limited ≡ true) × (fault.offset ≡ None))
@@ -45,7 +46,7 @@ abbrev pub ItemGivenWithin : {A : Type 0} → (start end : ℕ) → (limited : B
 ItemGivenWithin start end limited item =
     MatchOption item ⊤ (λ answer. IfErr answer (λ e. IsGivenWithin start end limited (fault_of e)))
 
--- like `IsGivenWithin`, for an error without limits
+-- like `IsGivenWithin`, for an error of a reader without limits
 abbrev pub FailsWithin : (start end : ℕ) → Fault → Type 0
 FailsWithin start end fault = IsGivenWithin start end false fault
 

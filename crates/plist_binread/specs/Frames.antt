@@ -22,7 +22,8 @@ with_innermost outer (Some frame) = outer ++ frame ∷ []
 abbrev pub PopsLast : (old : List Frame) → Option Frame → (new : List Frame) → Type 0
 PopsLast old last new = (old ≡ with_innermost new last) × (last ≡ None → new ≡ [])
 
--- the next child of the innermost frame, which is the first one, and the frames afterwards
+-- this is the next child of the innermost frame, which is the first in the list, and these are the
+-- frames afterwards
 abbrev pub NextOf : (old : List Frame) → NextChild → (new : List Frame) → Type 0
 NextOf old child.Nothing new = (old ≡ []) × (new ≡ [])
 NextOf old (child.End object) new =

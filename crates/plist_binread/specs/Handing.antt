@@ -44,7 +44,7 @@ module _ {V : Type 0} (step : V → PlainEvent → Flow → V → Type 0) (old n
     pub is : P event
     pub taken : TakesIfAny item event
 
-  -- the visitor took the scalar's event, or there is no scalar or one that needs memory
+  -- the visitor took the scalar's event, unless there is no scalar, or the scalar needs memory
   abbrev pub HandsSmall : Option trees.Scalar → Option Flow → Type 0
   HandsSmall scalar answer = MatchOption answer (MayAllocate scalar × (new ≡ old))
       (λ flow. (event : PlainEvent) × (scalar_event scalar ≡ Some event) × step old event flow new)

@@ -34,7 +34,7 @@ TakesNextChild table old (child.Child object index) new =
     × SomeRemain (until_fault (remaining_items table old))
     × (next_number table old ≡ Some (get_or (children_at (slice_get table object)) index 0))
 
--- the weight falls by 1 for an end, and by the steps below a child for a child
+-- the weight falls by 1 at an end, and at a child by the greatest number of steps below it
 abbrev pub WeightFalls : (count : ℕ) → List Frame → NextChild → List Frame → Type 0
 WeightFalls count old child.Nothing new = Unit {0}
 WeightFalls count old (child.End object) new = walk_weight count old ≡ walk_weight count new + 1

@@ -132,6 +132,6 @@ abbrev pub HasNoChild : (width to_trailer : ℕ) → (seen : List ℕ) → Type 
 HasNoChild width to_trailer seen = (more : List ℕ) → length (seen ++ more) ≡ to_trailer
     → children_in (object_in width (seen ++ more)) ≡ []
 
--- the bytes of the object reach up to the trailer, or are at least 10
+-- the bytes of the object reach up to the trailer, or there are at least 10
 abbrev pub ShowsLength : (to_trailer : ℕ) (seen : List ℕ) → Type 0
 ShowsLength to_trailer seen = length seen < 10 → to_trailer ≤ length seen

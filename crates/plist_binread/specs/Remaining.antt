@@ -143,7 +143,7 @@ AllocatesFirst (Err fault ∷ items) = IsTextOrLimitFault fault.kind
     IsTextOrLimitFault (LimitReached limit) = ⊤
     IsTextOrLimitFault kind = ⊥
 
--- the error is `Io`, `OutOfMemory` where the first item needs memory, or the only item
+-- the error is `Io`; or `OutOfMemory`, if the first item needs memory; or the only item
 abbrev pub Explains : List Item → Error → Type 0
 Explains before error =
     MatchFault (kind_of (error_kind_of error)) (SomeRemain before) (AllocatesFirst before)
@@ -169,7 +169,7 @@ steps_left Fresh count frames = walk_steps (2 ^ 64) + 1
 steps_left Walking count frames = walk_weight count (reverse frames)
 steps_left Ended count frames = 0
 
--- the number of the object that is entered next, or `None` if the next item is an end
+-- the number of the object that is entered next, or `None` if there is none
 abbrev pub next_number : List TableEntry → List Frame → Option ℕ
 next_number table [] = None
 next_number table (frame ∷ below) =

@@ -31,7 +31,8 @@ IsWalkOf bytes bounds walk = MatchesFile bytes bounds walk.tags.items walk.conte
 abbrev pub remaining_in : (bytes : List ℕ) → Bounds → Walk → List Item
 remaining_in bytes bounds walk = remaining_items (entries_of bytes bounds) (open_in walk)
 
--- the items that remain when the object that the reference at `at` names is about to be entered
+-- the items that remain when object `number` is about to be entered; if there is no such object,
+-- the fault has the offset `at`
 abbrev pub remaining_entering : (bytes : List ℕ) → Bounds → Walk → (at number : ℕ) → List Item
 remaining_entering bytes bounds walk at number =
     unfolding_of (entries_of bytes bounds) (fuel_in walk) (path_of (open_in walk)) at number

@@ -1,2 +1,2 @@
--- Definitions that only bodies and proofs use, and no public clause.
+-- Definitions that are used by bodies and proofs, but by no public clause.
 pub mod Heads

@@ -1,7 +1,7 @@
 //! Decodes objects that have a length: strings, data, arrays and dictionaries.
 //!
-//! Each function reads the bytes that follow the marker. These reach up to the trailer, or are at
-//! least 25, which is enough for any object except a long string or long data.
+//! Each function reads the bytes that follow the marker. These reach up to the trailer, or there
+//! are at least 25 of them, which is enough for any object except a long string or long data.
 
 ghost use Rattle.std.specs.Prelude.{ℕ, ◌≡◌, ◌+◌, ◌-◌, ◌*◌, ◌%◌, ◌^◌, ◌<◌, ◌≤◌, List, length, IfNone, IfSome};
 ghost use Rattle.plist_format.specs.declared.marker.CountedKind.TheVariants.{Array as ArrayKind, Dictionary as DictionaryKind};

@@ -8,7 +8,8 @@ use std::ops::ControlFlow;
 #[derive(Drop)]
 pub struct FirstEvent {
     alloc: Global,
-    /// The event, or `OutOfMemory` if an allocation for its string or data failed.
+    /// The event, or `OutOfMemory` if no event was received yet, or if an allocation for the
+    /// event's string or data failed.
     pub kept: Result<OwnedEvent, Error>,
 }
 

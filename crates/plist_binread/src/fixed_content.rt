@@ -1,7 +1,7 @@
 //! Decodes objects of a fixed size: integers, reals, dates and Uids.
 //!
-//! Each function reads the bytes that follow the marker. These reach up to the trailer, or are at
-//! least 25, which is enough for any of these objects.
+//! Each function reads the bytes that follow the marker. These reach up to the trailer, or there
+//! are at least 25 of them, which is enough for any of these objects.
 
 ghost use Rattle.std.specs.Prelude.{ℕ, List, ◌^◌, ◌<◌, ◌≤◌, length, IfNone, IfSome};
 ghost use Rattle.plist_format.specs.Object.{Scalar, date, signed, signed_integer, unsigned_integer, wide_integer};

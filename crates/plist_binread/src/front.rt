@@ -1,7 +1,7 @@
 //! Decodes an object from its first bytes.
 //!
-//! The bytes reach up to the trailer, or are at least 26, which is enough for any object except a
-//! long string or long data.
+//! The bytes reach up to the trailer, or there are at least 26 of them, which is enough for any
+//! object except a long string or long data.
 //!
 //! If an object has several faults, the first of the following is reported: the marker is invalid,
 //! the object doesn't end before the trailer, or the content is invalid.

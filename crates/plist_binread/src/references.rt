@@ -302,7 +302,8 @@ impl ReferenceReader {
         self.locate(source, &bounds, place, &mut decoder.slot)
     }
 
-    // Returns the reference to a child at offset `at`, or `None` if it isn't buffered.
+    // Returns the reference at offset `at`, or `None` if it isn't buffered. It is the reference to
+    // the child with this index.
     #[inline(always)]
     fn buffered_reference<S: Source>(
         &mut self,

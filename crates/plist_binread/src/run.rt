@@ -60,7 +60,7 @@ impl Run {
         }
     }
 
-    /// Returns the bytes of the run from an offset on, which are none if the offset lies outside
+    /// Returns the bytes of the run from an offset on, or an empty slice if the offset lies outside
     /// the run.
     #[inline(always)]
     pub fn bytes_from(&self, place: u64) -> &[u8]
@@ -73,7 +73,8 @@ impl Run {
         }
     }
 
-    /// Returns the number of `width` bytes at an offset, or `None` if the run doesn't contain it.
+    /// Returns the number in the `width` bytes at an offset, or `None` if the run doesn't contain
+    /// them.
     #[inline(always)]
     pub fn number_at(&self, place: u64, width: usize) -> Option<u64>
         requires { width ≤ 8 }
@@ -87,9 +88,9 @@ impl Run {
         Some(number_from(&found[..width]))
     }
 
-    /// Returns the number of `width` bytes at an offset, or `None` if it isn't buffered.
+    /// Returns the number in the `width` bytes at an offset, or `None` if they aren't buffered.
     ///
-    /// If the run doesn't contain the number, the run is filled again from the source's buffer.
+    /// If the run doesn't contain these bytes, it is filled again from the source's buffer.
     #[inline(always)]
     pub fn read<S: Source>(&mut self, source: &S, place: u64, width: usize) -> Option<u64>
         requires width { width ≤ 8 }

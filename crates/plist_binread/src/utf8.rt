@@ -29,7 +29,7 @@ impl ByteTest for Ascii {
     }
 }
 
-// Returns the string in these bytes, which may not be ASCII, or `None` if they aren't UTF-8.
+// Returns the string in these bytes, or `None` if they aren't UTF-8. They needn't be ASCII.
 #[inline(never)]
 fn wide_text_in(bytes: &[u8]) -> Option<&str>
     ensures { MatchOption result (IsUtf8 bytes.now → ⊥)

@@ -81,7 +81,7 @@ all_again (OneValue ∷ rest) = refl
 all_again (Items ∷ rest) = refl
 all_again (Pairs ∷ rest) = refl
 
--- the changes of events that aren't rejected
+-- the change is that of an event that isn't rejected
 abbrev IsAccepted : Change → Type 0
 IsAccepted c = (c ≡ change.Popped) ⊎ ((c ≡ change.Kept)
     ⊎ (((w : Expect) × (c ≡ change.Pushed w)) ⊎ ((w : Expect) × (c ≡ change.Replaced w))))

@@ -65,7 +65,7 @@ number_read kinds numbers p same =
     ap (λ k. entry_of k (get_or numbers p 0))
     (ap kind_in there ∙ same_kind (get_or kinds p shape.EndCollection) (get_or numbers p 0)) ∙ sym there
 
--- the scalar that an entry refers to
+-- an entry with the index of a scalar is the entry that refers to this scalar
 pub named : (e : EventEntry) (k : ℕ) → scalar_named e ≡ Some k → e ≡ entry.Scalar k
 named entry.End k is = cc
 named e k is = cc

@@ -311,7 +311,7 @@ module _ {scalars : List PlainEvent} {es : List EventEntry} {unclosed : List ℕ
     entries_are = entries_end kept.entries_are start outer is;
   }
 
-  -- a scalar, after which there may be one more different scalar
+  -- a scalar is appended, after which there may be one more different scalar
   module _ (more : List PlainEvent) {new : List PlainEvent} (grown : new ≡ scalars ++ more) where
     grown_shown : events_of_entries new es ≡ events_of_entries scalars es
     grown_shown = cc (shown_kept scalars more es kept.entries_are.sound)

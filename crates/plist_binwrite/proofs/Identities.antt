@@ -139,7 +139,7 @@ module _ (held : EventTable) where
   pub equal_scalars : AreIdentities (plain_events held) class top
   equal_scalars = owners (omega arith) have held.kept.apart (omega arith)
 
--- if these classes have the property, so do classes that are equal to them
+-- if classes are as `AreIdentities` says, so are classes that are equal to them
 pub identities_as : {es : List PlainEvent} {class other : ℕ → ℕ} {count : ℕ}
     → AreIdentities es class count → ((p : ℕ) → p < length es → other p ≡ class p)
     → AreIdentities es other count

@@ -1,5 +1,5 @@
--- The classes of a tree's positions correspond to the numbers of a plan: their number and their
--- total size are equal.
+-- The classes of a tree's positions correspond to the numbers of a plan: there are as many of each,
+-- and their objects have the same total size.
 use Rattle.std.proofs.Common.{◌≡◌, ℕ, ◌<◌, true, eqb, List, length, get_or, map, ap, sym, ◌∙◌}
 use Rattle.std.specs.List.{AllByRecursion}
 use Rattle.std.specs.Set.{is_member, unique_keys}
@@ -75,7 +75,7 @@ module _ {es : List PlainEvent} {class : ℕ → ℕ} {by_class firsts : List �
       ∙ ap length (sym kept_numbers) ∙ length-map (representatives class whole)
       number
 
-  -- the objects of a plan have as many bytes as the classes
+  -- the objects of a plan have as many bytes as one object for each class
   pub planned_size : (w : ℕ) (objects : ℕ → Object)
       → Describes es (number_by class by_class) objects
       → (order : List ℕ) → AllOnce (length firsts) order

@@ -1,4 +1,4 @@
--- Stamps on the keys of a dictionary: a key that has the stamp already occurred before.
+-- Stamps on the keys of a dictionary: a key with the dictionary's stamp has occurred in it before.
 use Rattle.std.proofs.Common.{◌≡◌, ◌≢◌, inl, inr, ℕ, ◌+◌, ◌<◌, true, false, Some, List, [], ◌∷◌, length, get_or, set, refl, ap, sym, ◌∙◌, subst, arith}
 use Rattle.std.specs.List.{AllByRecursion}
 use Rattle.std.specs.Prelude.{slice_get, ⊤}
@@ -42,7 +42,7 @@ abbrev pub AreFresh : (scalars : List PlainEvent) (mark : ℕ) (stamps : List �
 AreFresh scalars mark stamps es keys =
     (e : PlainEvent) → IsStamped scalars mark stamps e → LacksEvent es e keys
 
--- the keys that are left decide whether all of them differ
+-- the keys that are left decide whether all keys differ
 pub record Tells (scalars : List PlainEvent) (mark : ℕ) (stamps : List ℕ) (es : List PlainEvent)
     (all left : List ℕ) : Type 0 where
   pub down : Differ es all → Differ es left × AreFresh scalars mark stamps es left

@@ -16,7 +16,7 @@ module _ {T P : Type 0} (same : T → T → Bool) (view : T → P) where
   key_at cs i x y same_key h s =
       cc (slice_get-map view cs i, same_key s)
 
-  -- the keys after one was inserted: at most one more
+  -- after an insert there is at most one more key
   grown : (b : Bool) (old new : List T) (x : T) → new ≡ (if b then old else old ++ x ∷ [])
       → (map view new ≡ map view old) ⊎ (map view new ≡ map view old ++ view x ∷ [])
   grown true old new x e = inl (ap (map _) e)
@@ -68,7 +68,7 @@ module _ {T P : Type 0} (same : T → T → Bool) (view : T → P) where
           | inr r ↦ inr r
         ]
 
-  -- if a test passes only items with the key p, it finds the index of p
+  -- if only items with the key p pass a test, the index that it finds is one of p
   pub key_found : (test : T → Bool) (p : P) → ((y : T) → test y ≡ true → p ≡ view y) → (cs : List T)
       (i : ℕ) → position test cs ≡ Some i → slice_get (map view cs) i ≡ Some p
   key_found test p same_key [] i h = cc
@@ -80,7 +80,7 @@ module _ {T P : Type 0} (same : T → T → Bool) (view : T → P) where
         same_key _ f.1,
       )
 
-  -- the keys after the inserted one is removed
+  -- if the inserted key is removed, the keys are the old ones
   pub keys_back : (b : Bool) (old new : List T) (x : T) → new ≡ (if b then old else old ++ x ∷ [])
       → take (length old) new ≡ old
   keys_back true old new x e = cc (take-length old)

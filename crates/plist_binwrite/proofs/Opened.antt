@@ -30,7 +30,7 @@ skip_append (e ∷ a) b p unclosed q given =
     let k : p + 1 + length a ≡ p + length (e ∷ a) = omega arith in
     rw (← k) (skip_append a b _ _ q _)
 
--- one more event
+-- one more event changes the open starts as `unclosed_after_event` says
 pub open_more : (es : List PlainEvent) (e : PlainEvent)
     → unclosed_after (es ++ e ∷ []) ≡ unclosed_after_event e (length es) (unclosed_after es)
 open_more es e =

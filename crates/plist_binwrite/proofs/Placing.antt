@@ -134,7 +134,7 @@ order_none count marks long zeros = record {
   others = λ k any. zeros k;
 }
 
--- one more object, whose mark is v
+-- one more object is added to the order, and its mark is v
 module _ {count : ℕ} {order marks : List ℕ} (k v : ℕ) (o : IsOrder count order marks) (h : k < count)
     (z : get_or marks k 0 ≡ 0) (positive : 0 < v) where
   pub not_in_order : list_any (eqb k) order ≡ false

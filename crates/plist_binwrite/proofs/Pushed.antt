@@ -15,7 +15,7 @@ pub length_long : (high count : ℕ) → 15 ≤ count
 unfolding length_form
 length_long high count h = rw (le-ltb _ 15 h) refl
 
--- the bytes of a length that follows its marker
+-- these are the bytes of a length that follows its marker
 pub length_told : (high count width marker : ℕ) (digits : List ℕ) → 15 ≤ count
     → width ≡ least_width count → width ≤ 8 → marker ≡ 0x10 + doublings width
     → digits ≡ big_endian 8 count

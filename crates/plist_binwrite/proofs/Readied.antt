@@ -55,7 +55,7 @@ module _ {es : List PlainEvent} {class : ℕ → ℕ} {by_class firsts : List �
     (planned : IsPlanned es class by_class firsts) (t : Tree) (e : es ≡ lengthless t)
     (objects : ℕ → Object) (describes : Describes es (number_by class by_class) objects)
     (order : List ℕ) (all : AllOnce (length firsts) order) where
-  -- the length of the magic and the objects
+  -- the magic and the objects have this length
   pub laid_length : length (laid_out (reference_width (length firsts)) objects order)
       ≡ 8 + objects_by class (reference_width (count_by class t)) t
   laid_length =
@@ -195,7 +195,7 @@ module _ {given : Classed} {numbering : Numbering} {layout : FileLayout}
     abbrev size_of_all : ℕ
     size_of_all = objects_by (class_in given) (reference_width (count_by (class_in given) t)) t
 
-    -- the offset of the offset table
+    -- the offset of the offset table is the length of the magic and the objects
     table_told : IsSizeOrNone layout.end (8 + size_of_all)
     table_told =
         let of = numbered p.planned in
@@ -204,7 +204,7 @@ module _ {given : Classed} {numbering : Numbering} {layout : FileLayout}
         ∙ laid_length p.planned t e of.objects of.describes layout.order once)
         (l.laid of.objects of.describes).end
 
-    -- the number of objects
+    -- the number of objects is that of the classes
     count_told : length layout.places ≡ count_by (class_in given) t
     count_told = l.order.long ∙ planned_count p.planned t e
 

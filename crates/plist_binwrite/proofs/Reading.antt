@@ -1,4 +1,4 @@
--- The units of a string, and each form read back as its object, whatever follows.
+-- The units of a string; and each form is read back as its object, whatever follows.
 use Rattle.std.proofs.Common.{◌≡◌, inl, inr, ℕ, ◌+◌, ◌-◌, ◌/◌, ◌%◌, ◌≤◌, List, [], ◌++◌, length, flat_map, chars, encode_utf8, IsUtf8, ap, sym, ◌∙◌, arith, length-append, suc, ◌*◌, ◌^◌, ◌<◌, true, false, not, cond, ◌∷◌, map, Some, refl, is_some}
 use Rattle.std.specs.Char.Escape.{encode_utf16}
 use Rattle.std.specs.Char.{len_utf8}
@@ -31,7 +31,7 @@ unfolding units_of
 units_step text rest c utf8 parts =
     ap (flat_map _) (chars_past_char _ _ c utf8 parts)
 
--- the bytes of a surrogate pair
+-- these are the bytes of a surrogate pair
 pub pair_units : (c : ℕ) → 0x1_0000 ≤ c
     → big_endian 2 (0xd800 + (c - 0x1_0000) / 0x400)
     ++ big_endian 2 (0xdc00 + (c - 0x1_0000) % 0x400)

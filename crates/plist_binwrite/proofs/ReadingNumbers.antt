@@ -1,4 +1,4 @@
--- Numbers, lengths and the head of a file, read back from their bytes.
+-- Numbers, lengths and the head of a file are read back from their bytes.
 use Rattle.std.proofs.Common.{◌≡◌, inl, inr, ℕ, zero, suc, ◌+◌, ◌-◌, ◌*◌, ◌%◌, ◌^◌, ◌<◌, ◌≤◌, ℤ, pos, negsuc, cond, nat_le, List, [], ◌∷◌, ◌++◌, length, take, drop, get_or, Option, None, Some, refl, ap, sym, ◌∙◌, arith, append_assoc, length-append, flat_map, true, nat_eq, Ok}
 use Rattle.std.specs.List.{starts_with}
 use Rattle.std.proofs.lemmas.Bool.{lt-ltb, le-ltb, le-leb, cases_lt}
@@ -24,7 +24,8 @@ take_front xs rest n e = rw (← e) (take-append_seam xs _)
 pub drop_front : (xs rest : List ℕ) (n : ℕ) → length xs ≡ n → drop n (xs ++ rest) ≡ rest
 drop_front xs rest n e = rw (← e) (drop-append_seam xs _)
 
--- a function of the first n bytes and of those after them, if the first n are `xs`
+-- if the first n bytes are `xs`, a function of these and of the bytes after them is one of `xs` and
+-- `rest`
 parted : {A : Type 0} (f : List ℕ → List ℕ → A) (none : A) (xs rest : List ℕ) (n : ℕ)
     → length xs ≡ n → cond (nat_le n (length (xs ++ rest)))
     (f (take n (xs ++ rest)) (drop n (xs ++ rest))) none ≡ f xs rest

@@ -21,7 +21,8 @@ use Rattle.plist_binwrite.proofs.Owned.{owned_count, owned_size, entered_once}
 use Rattle.plist_binwrite.proofs.Occurring.{occurs_whole}
 use Rattle.plist_binwrite.proofs.Lengthless.{plain_lengthless}
 
--- a file of one kind is one of another, with its size, for events that are alike
+-- for events that are alike, a file of the first kind is one of the second kind, and has the same
+-- size
 module _ (one other : FileKind) (xs ys : List PlainEvent) (p : AreAlike xs ys)
     (to : (tree : Tree) → AreAlike ys (bracketing tree) → (file : List ℕ)
     → one.IsFile tree file → other.IsFile tree file)

@@ -55,7 +55,7 @@ module _ (w : ℕ → ℕ) where
             rw f.0 (omega arith)
       ]
 
-  -- distinct numbers that are all those below a count have the same total as these
+  -- distinct numbers that are exactly those below a count have the total of the numbers below it
   pub total_all : (n : ℕ) (xs : List ℕ) → IsDistinct eqb xs
       → ((q : ℕ) → is_member eqb xs q ≡ true → q < n)
       → ((q : ℕ) → q < n → is_member eqb xs q ≡ true) → total w xs ≡ total_below w n

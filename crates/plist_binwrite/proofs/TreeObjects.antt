@@ -183,7 +183,7 @@ module _ (given : Classed) (plan : FilePlan) where
         length-pairs num ms (p + 1),
       ) refl
 
--- the size of a dictionary, by the number of its references
+-- a size that is computed from the number of references is that of the dictionary
 pub dictionary_told : (given : Option ℕ) (w count pairs : ℕ) → count ≡ pairs
     → IsSizeOrNone given (marked_size 0xd count (2 * count * w))
     → IsSizeOrNone given (dictionary_size w pairs)

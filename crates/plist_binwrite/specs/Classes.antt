@@ -13,8 +13,8 @@ use Rattle.plist_binwrite.specs.Occurrences.{OccursAt, positions}
 use Rattle.plist_binwrite.specs.Widths.{reference_width}
 use Rattle.plist_binwrite.specs.Written.{IsWrittenAs}
 
--- trees that begin at indices of one class have the same object, if the classes are the object
--- numbers
+-- if the class of an index is taken as its object number, trees that begin at indices of one class
+-- have the same object
 pub record AreClasses (es : List PlainEvent) (class : ℕ → ℕ) : Type 0 where
   pub object : (t u : Tree) (p q : ℕ) → OccursAt es t p → OccursAt es u q → class p ≡ class q
       → object_of class t p ≡ object_of class u q
@@ -49,7 +49,7 @@ module _ (class : ℕ → ℕ) where
         → numbers p ≡ numbers q → class p ≡ class q
     pub entered : visits file ≡ map (λ one. numbers one.0) (collections_in tree)
 
-  -- a file of the tree with one object for each class
+  -- the bytes are a file of the tree with one object for each class
   pub record IsFileBy (tree : Tree) (file : List ℕ) : Type 0 where
     pub written : IsWrittenAs tree file
     pub numbered : IsNumberedBy tree file

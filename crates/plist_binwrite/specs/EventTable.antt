@@ -45,7 +45,7 @@ HasItem es p = (p < length es) × (is_end (event_at es p) ≡ false)
 abbrev pub LacksItem : List PlainEvent → (index : ℕ) → Type 0
 LacksItem es p = (is_end (event_at es p) ≡ true) ⊎ (length es ≤ p)
 
--- the event at an index is the scalar with this index among the different ones
+-- the event at an index is the scalar with the index `scalar` among the different scalars
 abbrev pub IsScalarAt : EventTable → (index scalar : ℕ) → Type 0
 IsScalarAt held p scalar =
     slice_get (scalars_of held) scalar ≡ Some (event_at (plain_events held) p)

@@ -36,7 +36,7 @@ abbrev mutual
   positions_in_items (TreeAnd tree trees) p = positions tree p
       ++ positions_in_items trees (p + event_count tree)
 
-  -- the positions of keys and in values of pairs, the first of which begins at index p
+  -- the positions of the keys of pairs, and those in their values; the first pair begins at index p
   pub positions_in_pairs : Members → ℕ → List (ℕ × Tree)
   positions_in_pairs NoMembers p = []
   positions_in_pairs (MemberAnd key tree pairs) p =

@@ -1,4 +1,5 @@
--- The definitions that bodies and proofs use, but no public clause does.
+-- Definitions that are used by bodies and proofs. Public clauses rely only on `Columns`, `Entries`
+-- and `UnclosedStarts`.
 pub mod Columns
 pub mod PlannedFiles
 pub mod Entries

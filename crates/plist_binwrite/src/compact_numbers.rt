@@ -86,7 +86,7 @@ impl Numbers {
         self.narrow.len() + self.wide.len()
     }
 
-    /// Returns the number at an index.
+    /// Returns the number at an index, which must be less than the length.
     #[inline(always)]
     pub fn get(&self, index: usize) -> usize
         requires { index < length self.now }
@@ -138,7 +138,8 @@ impl Numbers {
         }
     }
 
-    /// Replaces the number at an index. If an allocation fails, nothing changes.
+    /// Replaces the number at an index, which must be less than the length. If an allocation fails,
+    /// nothing changes.
     #[inline(always)]
     pub fn set(&mut self, index: usize, number: usize) -> Result<(), AllocError>
         requires { index < length self.old }

@@ -125,7 +125,8 @@ impl EventBuffer {
         Ok(())
     }
 
-    /// Buffers an event if it can follow the buffered ones.
+    /// Buffers an event if it can follow the buffered ones, which must not be those of a whole
+    /// property list.
     ///
     /// # Errors
     ///

@@ -17,7 +17,8 @@ use std::borrow::{CowSlice, CowStr};
 /// The events of a property list. Each different scalar is stored once. The lengths of starts
 /// aren't stored.
 ///
-/// The table doesn't check whether the events can follow one another.
+/// The table doesn't check whether the events can follow one another. An index that a call takes
+/// must be less than [`EventTable::len`], except in [`EventTable::has_item`].
 #[derive(Drop)]
 pub struct EventTable<'e> {
     scalars: IndexSet<StoredScalar<'e>>,
@@ -306,7 +307,7 @@ impl EventTable<'static> {
     ghost use Rattle.plist_base.specs.Trees.{Data as DataScalar, String as StringScalar};
     ghost use Rattle.plist_binwrite.specs.EventTable.{plain_event, plain_events, GrowsBy};
 
-    // Appends a copy of a string, unless an equal one is stored.
+    // Appends a string, which is copied unless an equal one is stored.
     fn copy_text(&mut self, alloc: Global, text: CowStr<'_>) -> Result<(), AllocError>
         ensures events { OnOk result (GrowsBy self.old
             (ScalarEvent (StringScalar (cow_str_bytes text.entry))) self.new) }
@@ -321,7 +322,7 @@ impl EventTable<'static> {
         }
     }
 
-    // Appends a copy of data, unless equal data is stored.
+    // Appends data, which is copied unless equal data is stored.
     fn copy_data(&mut self, alloc: Global, bytes: CowSlice<'_, u8>) -> Result<(), AllocError>
         ensures events { OnOk result (GrowsBy self.old
             (ScalarEvent (DataScalar (cow_slice_items bytes.entry))) self.new) }

@@ -46,8 +46,8 @@ impl FileLayout {
     ghost use Rattle.plist_binwrite.specs.inner.Planning.{IsNumberingOfEvents};
     ghost use Rattle.plist_binwrite.specs.inner.Sizing.{IsLayout, MarksItem};
 
-    // Creates a layout in which no object has an offset. The first one follows the magic, which has
-    // 8 bytes.
+    // Creates a layout in which no object has an offset yet. The first object will follow the
+    // magic, which has 8 bytes.
     fn new(
         alloc: Global,
         given: &Classed<'_, '_>,
@@ -67,7 +67,8 @@ impl FileLayout {
         })
     }
 
-    // Places the object of the event at an index after the others, unless it has an offset already.
+    // Gives the object of the event at an index the offset after the other objects, unless it has
+    // an offset already.
     #[inline(always)]
     fn place(
         &mut self,

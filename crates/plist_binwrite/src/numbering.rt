@@ -28,7 +28,7 @@ impl Numbering {
     ghost use Rattle.plist_binwrite.specs.inner.Planning.{object_number};
 
     // Creates a numbering in which no object has a number. The memory of `firsts` is reserved at
-    // once, because a list that grows leaves gaps in the heap between lists of their final size.
+    // once: if this list grew, it would leave gaps in the heap between the lists that don't grow.
     fn new(alloc: Global, bound: usize) -> Result<Numbering, AllocError>
         ensures unknown { IfOk result (λ r. r.by_class ≡ replicate bound 0) }
         ensures firsts { IfOk result (λ r. r.firsts ≡ []) }

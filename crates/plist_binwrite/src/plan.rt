@@ -19,7 +19,7 @@ use std::alloc::Global;
 pub struct FilePlan {
     /// The number of each class's object.
     pub numbering: Numbering,
-    /// The numbers of its objects, in the order of the file.
+    /// The numbers of the objects, in the order of the file.
     pub order: Numbers,
     /// The byte offset of each object, indexed by its number.
     pub places: Numbers,

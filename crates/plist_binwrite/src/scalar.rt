@@ -13,7 +13,8 @@ use plist_base::{Error, FixedBuffer, Sink};
 use plist_format::CountedKind;
 use std::io::Write;
 
-// Pushes an ASCII string, if the buffer has room for it, and returns whether it did.
+// Pushes a string, if it is ASCII and surely fits into the buffer, and returns whether it was
+// pushed.
 #[inline(always)]
 fn push_text(buffer: &mut FixedBuffer, text: &str) -> bool
     requires { 17 ≤ room buffer.old }
@@ -29,7 +30,7 @@ fn push_text(buffer: &mut FixedBuffer, text: &str) -> bool
     true
 }
 
-// Pushes data, if the buffer has room for it, and returns whether it did.
+// Pushes data, if it surely fits into the buffer, and returns whether it was pushed.
 #[inline(always)]
 fn push_data(buffer: &mut FixedBuffer, bytes: &[u8]) -> bool
     requires { 17 ≤ room buffer.old }
@@ -45,9 +46,10 @@ fn push_data(buffer: &mut FixedBuffer, bytes: &[u8]) -> bool
     true
 }
 
-/// Pushes the object of a scalar, unless it is a string or data for which there is no room, or a
-/// string that isn't ASCII, and returns whether it did. There must be room for 17 bytes. A loop
-/// calls this before [`put_scalar`], because then no large `Result` is zeroed.
+/// Pushes the object of a scalar, and returns `true`. If the scalar is a string or data for which
+/// there may be no room, or a string that isn't ASCII, nothing is pushed, and the result is
+/// `false`. There must be room for 17 bytes. A loop calls this before [`put_scalar`], because then
+/// no large `Result` is zeroed.
 #[inline(always)]
 pub fn push_scalar(buffer: &mut FixedBuffer, scalar: ScalarRef<'_>) -> bool
     requires { 17 ≤ room buffer.old }

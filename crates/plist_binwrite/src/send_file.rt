@@ -56,7 +56,8 @@ fn send_plan<W: Write>(
 /// and flushes the writer. All memory is allocated before the first byte is written: that of the
 /// plan, and a buffer of fixed size through which the bytes are written.
 ///
-/// Trees of one class share an object. The class of an end isn't used.
+/// Trees of one class share an object. So they must be equal scalars, or collections of one kind
+/// whose children have the same classes in the same order. The class of an end isn't used.
 ///
 /// # Errors
 ///

@@ -1,4 +1,4 @@
--- No value of a slice is refused because a read failed.
+-- Reading the value of a slice never fails because of a failed read.
 use Rattle.std.proofs.Common.{◌≡◌, ℕ, inl, inr, List, [], ◌∷◌, ◌++◌, Option, Some, None, Result, Ok, Err, IfSome, map, refl, sym, subst, arith, ap, ◌∙◌}
 use Rattle.std.specs.Iterator.{Yields}
 use Rattle.plist_base.specs.declared.error.Error.{Error}

@@ -4,7 +4,8 @@ use Rattle.plist_base.specs.Faults.{FaultKind, Io, OutOfMemory, PlistTooLarge}
 use Rattle.plist_base.specs.Trees.{Tree}
 use Rattle.plist_binwrite.specs.Sizes.{file_size}
 
--- the file would have 2^64 bytes or more, or memory runs out, even if only for the vector
+-- the file would have 2^64 bytes or more, or memory runs out, which is `Io` if the vector can't
+-- grow
 abbrev pub PreventsReadBack : FaultKind → Tree → Type 0
 PreventsReadBack PlistTooLarge tree = 2 ^ 64 ≤ file_size tree
 PreventsReadBack OutOfMemory tree = ⊤

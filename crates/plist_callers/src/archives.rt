@@ -9,7 +9,8 @@ use plist::{Uid, Value};
 use plist_keyed::{Archive, KeyedError};
 use std::alloc::Global;
 
-/// Returns the object to which a key of an archive refers. No Uid in it is resolved.
+/// Returns the object to which a key of an archive refers, or `None` if it refers to none. No Uid
+/// in the object is resolved.
 pub fn object_at<'a>(archive: &Archive<'a>, key: &str) -> Option<&'a Value>
     ensures found { IfSome result (λ object. IsObjectAt key.now archive.now object.now) }
     ensures missing { IsNone result → HasNoObjectAt key.now archive.now }

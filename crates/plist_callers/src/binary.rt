@@ -7,8 +7,8 @@ use plist_base::{Error, ErrorKind, OwnedEvent, Source};
 use plist_binread::BinaryReader;
 use std::alloc::Global;
 
-/// Returns how many objects a reader reports before its first call, which is 0, and after it, which
-/// is at most as many as the file's head has.
+/// Returns how many objects a reader reports before its first call and after it. The first number
+/// is 0, and the second is at most the number in the file's head.
 pub fn count_objects(alloc: Global, bytes: &[u8]) -> (usize, usize)
     ensures before { result.0 ≡ 0 }
     ensures after { result.1 ≤ objects_in_head bytes.now }

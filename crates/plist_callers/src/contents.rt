@@ -13,49 +13,50 @@ use plist::{Dictionary, Value, kind_of_value};
 use plist_base::{Date, Error, EventKind, RealBits, Uid};
 use std::alloc::Global;
 
-/// Returns a Boolean, through a value.
+/// Converts a Boolean to a value and back.
 pub fn boolean_again(flag: bool) -> Option<bool>
     ensures { result ≡ Some flag }
 {
     Value::from(flag).as_boolean()
 }
 
-/// Returns a date, through a value, with its fraction.
+/// Converts a date to a value and back. Its fraction is kept.
 pub fn date_again(date: Date) -> Option<Date>
     ensures { result ≡ Some date }
 {
     Value::from(date).as_date()
 }
 
-/// Returns a real, through a value, with its width and all its bytes.
+/// Converts a real to a value and back. Its width and all its bytes are kept.
 pub fn real_again(bits: RealBits) -> Option<RealBits>
     ensures { result ≡ Some bits }
 {
     Value::Real(bits).as_real()
 }
 
-/// Returns an identifier, through a value.
+/// Converts an identifier to a value and back.
 pub fn uid_again(uid: Uid) -> Option<Uid>
     ensures { result ≡ Some uid }
 {
     Value::Uid(uid).into_uid()
 }
 
-/// Returns the bytes of data, through a value.
+/// Converts the bytes of data to a value and back.
 pub fn data_again(bytes: Vec<u8>) -> Option<Vec<u8>>
     ensures { option_map (λ found. found.items) result ≡ Some bytes.items }
 {
     Value::Data(bytes).into_data()
 }
 
-/// Returns a string, through a value.
+/// Converts a string to a value and back.
 pub fn text_again(text: String) -> Option<String>
     ensures { option_map string_bytes result ≡ Some (string_bytes text) }
 {
     Value::from(text).into_string()
 }
 
-/// Takes the content out of a value, and makes a value of it again, which is the same one.
+/// Takes the content out of a value, and makes a value of it again, which is equal to the first
+/// one.
 pub fn value_again(value: Value) -> Value
     ensures { result ≡ value }
 {
@@ -77,7 +78,7 @@ pub fn text_or_value(value: Value) -> Result<String, Value>
     }
 }
 
-/// Returns the identifier of a value, by a pattern.
+/// Returns the identifier of a value, by a pattern, or `None` if the value isn't one.
 pub fn uid_in_value(value: Value) -> Option<Uid>
     ensures { result ≡ uid_in (tree_of value) }
 {
@@ -95,14 +96,14 @@ pub fn is_true(value: Value) -> bool
     matches!(value, Value::Boolean(true))
 }
 
-/// Returns the items of an array, through a value.
+/// Converts the items of an array to a value and back.
 pub fn items_again(items: Vec<Value>) -> Option<Vec<Value>>
     ensures { option_map (λ v. item_trees v.items) result ≡ Some (item_trees items.items) }
 {
     Value::from(items).into_array()
 }
 
-/// Returns the pairs of a dictionary, through a value.
+/// Converts a dictionary to a value and back.
 pub fn pairs_again(pairs: Dictionary) -> Option<Dictionary>
     ensures { option_map (λ again. pair_trees (pairs_of again)) result
         ≡ Some (pair_trees (pairs_of pairs)) }
@@ -110,63 +111,63 @@ pub fn pairs_again(pairs: Dictionary) -> Option<Dictionary>
     Value::from(pairs).into_dictionary()
 }
 
-/// Returns an `i64`, through a value.
+/// Converts an `i64` to a value and back.
 pub fn i64_again(number: i64) -> Option<i64>
     ensures { result ≡ Some number }
 {
     Value::from(number).as_signed_integer()
 }
 
-/// Returns an `i32`, through a value.
+/// Converts an `i32` to a value and back.
 pub fn i32_again(number: i32) -> Option<i64>
     ensures { result ≡ Some number }
 {
     Value::from(number).as_signed_integer()
 }
 
-/// Returns an `i16`, through a value.
+/// Converts an `i16` to a value and back.
 pub fn i16_again(number: i16) -> Option<i64>
     ensures { result ≡ Some number }
 {
     Value::from(number).as_signed_integer()
 }
 
-/// Returns an `i8`, through a value.
+/// Converts an `i8` to a value and back.
 pub fn i8_again(number: i8) -> Option<i64>
     ensures { result ≡ Some number }
 {
     Value::from(number).as_signed_integer()
 }
 
-/// Returns a `u64`, through a value.
+/// Converts a `u64` to a value and back.
 pub fn u64_again(number: u64) -> Option<u64>
     ensures { result ≡ Some number }
 {
     Value::from(number).as_unsigned_integer()
 }
 
-/// Returns a `u32`, through a value.
+/// Converts a `u32` to a value and back.
 pub fn u32_again(number: u32) -> Option<u64>
     ensures { result ≡ Some number }
 {
     Value::from(number).as_unsigned_integer()
 }
 
-/// Returns a `u16`, through a value.
+/// Converts a `u16` to a value and back.
 pub fn u16_again(number: u16) -> Option<u64>
     ensures { result ≡ Some number }
 {
     Value::from(number).as_unsigned_integer()
 }
 
-/// Returns a `u8`, through a value.
+/// Converts a `u8` to a value and back.
 pub fn u8_again(number: u8) -> Option<u64>
     ensures { result ≡ Some number }
 {
     Value::from(number).as_unsigned_integer()
 }
 
-/// Returns a borrowed number, through a value.
+/// Converts a borrowed number to a value, and returns the number of that value.
 pub fn lent_again(number: &u64) -> Option<u64>
     ensures { result ≡ Some number.now }
 {
@@ -248,7 +249,11 @@ pub fn drop_pairs(value: &mut Value)
     }
 }
 
-/// Returns a string that is copied, through a value.
+/// Copies a string into a value, and returns the string of that value.
+///
+/// # Errors
+///
+/// `OutOfMemory` if an allocation fails.
 pub fn copied_text(alloc: Global, text: &str) -> Result<Option<String>, Error>
     ensures { IfOk result (λ again. option_map string_bytes again ≡ Some text.now) }
 {
@@ -263,6 +268,10 @@ pub fn kind_of_uid(uid: Uid) -> EventKind
 }
 
 /// Returns the kind of a value's copy, which is that of the value.
+///
+/// # Errors
+///
+/// `OutOfMemory` if an allocation fails.
 pub fn kind_of_copy(alloc: Global, value: &Value) -> Result<EventKind, Error>
     ensures { IfOk result (λ kind. kind ≡ kind_of_tree (tree_of value.now)) }
 {

@@ -1,6 +1,6 @@
-//! Proved callers of data: its bytes are those from which it was made, data with equal bytes is
-//! equal, its text is read back as the data, and a text that isn't that of data is rejected at its
-//! first wrong symbol.
+//! Proved callers of data. Data has the bytes from which it was made, and data with equal bytes is
+//! equal. Its text is parsed as the same data, and the error for a text with a wrong symbol names
+//! that symbol.
 
 ghost use Rattle.std.specs.Prelude.{◌≡◌, ◌<◌, ◌↔◌, Err, IfErr, IfOk, IfSome, IsTrue, codes, length, slice_get, slice_set, string_bytes};
 ghost use Rattle.base64.specs.Engines.{standard};
@@ -13,14 +13,14 @@ use base64::DecodeError;
 use plist_base::{Data, Error, InvalidXmlData};
 use std::alloc::{AllocError, Global};
 
-/// Returns bytes, through data.
+/// Converts bytes to data and back.
 pub fn bytes_again(bytes: Vec<u8>) -> Vec<u8>
     ensures { result.items ≡ bytes.items }
 {
     Vec::from(Data::from(bytes))
 }
 
-/// Returns the bytes of a copy of data, which are its own.
+/// Copies data, and returns the bytes of the copy, which are those of the data.
 ///
 /// # Errors
 ///
@@ -39,7 +39,7 @@ pub fn first_byte(first: &Data) -> Option<u8>
     first.as_ref().first().copied()
 }
 
-/// Sets the first byte of data. The others don't change.
+/// Sets the first byte of data, which must not be empty. The other bytes don't change.
 pub fn set_first_byte(first: &mut Data, byte: u8)
     requires { 0 < length first.old }
     ensures { first.new ≡ slice_set first.old 0 byte }
@@ -66,8 +66,8 @@ pub fn text_of_no_data(alloc: Global) -> Result<String, AllocError>
     InvalidXmlData::Decode(DecodeError::InvalidPadding).to_string(alloc)
 }
 
-/// Returns the first byte that isn't valid in base64, and its offset in the text without white
-/// space, if that byte is why the text isn't that of data.
+/// If a text is rejected because of a byte that isn't valid in base64, returns the offset of this
+/// byte in the text without white space, and the byte. Otherwise returns `None`.
 pub fn wrong_symbol(alloc: Global, text: &str) -> Option<(usize, u8)>
     ensures { IfSome result (λ found.
         decode_of standard (without_white text.now) ≡ Err (fault.InvalidByte found.0 found.1)) }

@@ -102,6 +102,10 @@ pub fn count_in_arrays(value: &Value) -> u64 {
 }
 
 /// Counts the dictionaries that are nested under this key, by entries.
+///
+/// # Errors
+///
+/// `OutOfMemory` if the key can't be copied.
 pub fn levels_by_entry(alloc: Global, pairs: &mut Dictionary, key: &str) -> Result<u64, Error> {
     match pairs.entry(key.to_string(alloc)?) {
         Entry::Occupied(found) => match found.into_mut() {
@@ -124,7 +128,7 @@ pub fn levels_by_get_mut(pairs: &mut Dictionary, key: &str) -> u64 {
 ///
 /// # Errors
 ///
-/// A date is an error.
+/// `OverflowOrNanDate` if there is a date.
 pub fn try_count_in(pairs: &Dictionary) -> Result<u64, Error> {
     let mut count = 0;
     for (_key, value) in pairs {
@@ -141,7 +145,7 @@ pub fn try_count_in(pairs: &Dictionary) -> Result<u64, Error> {
 ///
 /// # Errors
 ///
-/// A date is an error.
+/// `OverflowOrNanDate` if there is a date.
 pub fn try_count_of(pairs: Dictionary) -> Result<u64, Error> {
     let mut count = 0;
     for (_key, value) in pairs {
@@ -167,12 +171,12 @@ pub fn count_without_dates(pairs: Dictionary) -> Option<u64> {
     Some(count)
 }
 
-/// Like [`try_count_of`], by [`Value::into_dictionary`]: counts the dictionaries in one that
-/// contains nothing else.
+/// Counts the dictionaries in a dictionary that contains no other values, at any depth, by
+/// [`Value::into_dictionary`].
 ///
 /// # Errors
 ///
-/// Any other value is an error.
+/// `UnexpectedEndOfEventStream` if there is any other value.
 pub fn try_count_dictionaries(pairs: Dictionary) -> Result<u64, Error> {
     let mut count = 0;
     for (_key, value) in pairs {
@@ -315,7 +319,7 @@ fn merge_each(over: Dictionary, base: &mut Dictionary) -> Result<(), Error> {
 ///
 /// # Errors
 ///
-/// A date in the first is an error.
+/// `OverflowOrNanDate` if a date is met in the first dictionary.
 pub fn try_count_common(pairs: &Dictionary, others: &Dictionary) -> Result<u64, Error> {
     let mut count = 0;
     for (key, value) in pairs {

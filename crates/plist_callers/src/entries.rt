@@ -22,7 +22,7 @@ pub fn entry_has_key(pairs: &mut Dictionary, key: String, name: &str) -> bool
     pairs.entry(key).key().as_str() == name
 }
 
-/// Returns the Boolean of a key, by its entry.
+/// Returns the Boolean of a key, by its entry, or `None` if the key has none.
 pub fn flag_by_entry(pairs: &mut Dictionary, key: String) -> Option<bool>
     ensures { result ≡ option_and_then (λ value. boolean_in (tree_of value))
         (lookup (bytes_eq (string_bytes key)) (pairs_of pairs.old)) }
@@ -33,7 +33,12 @@ pub fn flag_by_entry(pairs: &mut Dictionary, key: String) -> Option<bool>
     }
 }
 
-/// Returns the Boolean of a key. If the key isn't there, it is added with `false`.
+/// Returns the Boolean of a key, or `None` if its value isn't a Boolean. If the key isn't there, it
+/// is added with `false`.
+///
+/// # Errors
+///
+/// The key and `false` if an allocation fails. Nothing changes then.
 pub fn flag_or_false(pairs: &mut Dictionary, key: String) -> Result<Option<bool>, (String, Value)>
     ensures { IfOk result (λ flag. flag ≡ boolean_in (tree_of
         (unwrap_or (lookup (bytes_eq (string_bytes key)) (pairs_of pairs.old))
@@ -43,8 +48,11 @@ pub fn flag_or_false(pairs: &mut Dictionary, key: String) -> Result<Option<bool>
     Ok(lent.as_boolean())
 }
 
-/// Returns the Boolean of a key. If the key isn't there, it is added with `false`, unless an
-/// allocation fails; then the error is `OutOfMemory`.
+/// Like [`flag_or_false`], but drops the key if an allocation fails.
+///
+/// # Errors
+///
+/// `OutOfMemory` if an allocation fails. Nothing changes then.
 pub fn flag_or_fault(pairs: &mut Dictionary, key: String) -> Result<Option<bool>, Error>
     ensures flag { IfOk result (λ flag. flag ≡ boolean_in (tree_of
         (unwrap_or (lookup (bytes_eq (string_bytes key)) (pairs_of pairs.old))
@@ -57,6 +65,10 @@ pub fn flag_or_fault(pairs: &mut Dictionary, key: String) -> Result<Option<bool>
 
 /// Sets a key's value through its entry. If the key isn't there, it is first added with another
 /// value.
+///
+/// # Errors
+///
+/// The key and `first` if an allocation fails. Nothing changes then.
 pub fn set_by_entry(
     pairs: &mut Dictionary,
     key: String,
@@ -75,6 +87,10 @@ pub fn set_by_entry(
 
 /// Sets a key's value through its entry. If the key isn't there, it is first added with a value
 /// that the closure makes.
+///
+/// # Errors
+///
+/// The key and the closure's value if an allocation fails. Nothing changes then.
 pub fn set_by_made_entry<F: FnOnce() -> Value>(
     pairs: &mut Dictionary,
     key: String,
@@ -92,7 +108,7 @@ pub fn set_by_made_entry<F: FnOnce() -> Value>(
     Ok(())
 }
 
-/// Removes a key through its entry.
+/// Removes a key through its entry, and returns its value, or `None` if the key isn't there.
 pub fn take_by_entry(pairs: &mut Dictionary, key: String) -> Option<Value>
     ensures value { result ≡ lookup (bytes_eq (string_bytes key)) (pairs_of pairs.old) }
     ensures pairs { OnSome result (IsTakenAt (pairs_of pairs.old) (string_bytes key)

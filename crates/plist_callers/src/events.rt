@@ -1,5 +1,5 @@
-//! Proved callers of events: an event that is written by the method that it names, or as a copy;
-//! the hash of data; and integers in their order.
+//! Proved callers of events: an event that is written by the method for its kind, or as a copy; the
+//! hash of data; and integers in their order.
 
 ghost use Rattle.std.specs.Prelude.{◌≡◌, ◌<ℤ◌, ◌↔◌, IsTrue, OnOk};
 ghost use Rattle.std.specs.Cow.{cow_slice_items};
@@ -13,6 +13,10 @@ use std::borrow::CowSlice;
 use std::hash::{DefaultHasher, Hash, Hasher};
 
 /// Writes an event by the method for events of its kind, which writes exactly this event.
+///
+/// # Errors
+///
+/// The errors are those of the writer.
 pub fn write_by_name<W: Writer>(writer: &mut W, event: Event<'_>) -> Result<(), Error>
     ensures { W.Step writer.old (event_of event.entry) (answer_of result) writer.new }
 {
@@ -31,6 +35,11 @@ pub fn write_by_name<W: Writer>(writer: &mut W, event: Event<'_>) -> Result<(), 
 }
 
 /// Writes a copy of an event's copy, which is equal to the event.
+///
+/// # Errors
+///
+/// `OutOfMemory` if the event can't be copied, in which case nothing is written; otherwise the
+/// errors of the writer.
 pub fn write_copies<W: Writer>(
     alloc: Global,
     writer: &mut W,

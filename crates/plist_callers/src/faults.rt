@@ -8,8 +8,8 @@ use plist_base::{Error, ErrorKind};
 use std::alloc::{AllocError, Global};
 use std::io;
 
-/// For an early end, returns whether the input ended too early, whether it is an I/O error, and the
-/// offset.
+/// Makes the error of an input that ends too early, and returns the results of its `is_eof`,
+/// `is_io` and `offset`.
 pub fn early_end(place: u64) -> (bool, bool, Option<u64>)
     ensures { result ≡ (true, false, Some place) }
 {
@@ -17,8 +17,8 @@ pub fn early_end(place: u64) -> (bool, bool, Option<u64>)
     (fault.is_eof(), fault.is_io(), fault.offset())
 }
 
-/// For an end of the events, which has no offset, returns whether the input ended too early,
-/// whether it is an I/O error, and the offset.
+/// Makes the error of events that end too early, which has no offset, and returns the results of
+/// its `is_eof`, `is_io` and `offset`.
 pub fn end_of_events() -> (bool, bool, Option<u64>)
     ensures { result ≡ (false, false, None) }
 {
@@ -37,14 +37,14 @@ pub fn failure_kind(failure: io::Error) -> Option<io::ErrorKind>
     }
 }
 
-/// Returns an I/O error, through an error.
+/// Converts an I/O error to an error and back.
 pub fn failure_again(failure: io::Error, place: u64) -> Result<io::Error, Error>
     ensures { result ≡ Ok failure }
 {
     ErrorKind::Io(failure).with_byte_offset(place).into_io()
 }
 
-/// Returns an I/O error, through the error that `?` makes of it.
+/// Converts an I/O error to an error as `?` does, and back.
 pub fn failure_passed_on(failure: io::Error) -> Result<io::Error, Error>
     ensures { result ≡ Ok failure }
 {

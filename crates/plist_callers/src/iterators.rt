@@ -19,7 +19,8 @@ pub struct FirstCall<T> {
     pub first: Option<T>,
 }
 
-/// Starts to iterate over the pairs.
+/// Starts to iterate over the pairs. Returns how many there are, as the iterator reports it, and
+/// the first one.
 pub fn begin_pairs(pairs: &Dictionary) -> FirstCall<(&String, &Value)>
     ensures left { result.left ≡ length (pairs_of pairs.now) }
     ensures hint { result.hint ≡ (length (pairs_of pairs.now), Some (length (pairs_of pairs.now))) }
@@ -31,7 +32,8 @@ pub fn begin_pairs(pairs: &Dictionary) -> FirstCall<(&String, &Value)>
     FirstCall { left, hint, first }
 }
 
-/// Starts to iterate over the keys.
+/// Starts to iterate over the keys. Returns how many there are, as the iterator reports it, and
+/// the first one.
 pub fn begin_keys(pairs: &Dictionary) -> FirstCall<&String>
     ensures left { result.left ≡ length (keys_of (pairs_of pairs.now)) }
     ensures hint { result.hint ≡ (result.left, Some result.left) }
@@ -43,7 +45,8 @@ pub fn begin_keys(pairs: &Dictionary) -> FirstCall<&String>
     FirstCall { left, hint, first }
 }
 
-/// Starts to iterate over the values.
+/// Starts to iterate over the values. Returns how many there are, as the iterator reports it, and
+/// the first one.
 pub fn begin_values(pairs: &Dictionary) -> FirstCall<&Value>
     ensures left { result.left ≡ length (values_of (pairs_of pairs.now)) }
     ensures hint { result.hint ≡ (result.left, Some result.left) }
@@ -55,7 +58,8 @@ pub fn begin_values(pairs: &Dictionary) -> FirstCall<&Value>
     FirstCall { left, hint, first }
 }
 
-/// Starts to iterate over the pairs by value.
+/// Starts to iterate over the pairs by value. Returns how many there are, as the iterator reports
+/// it, and the first one.
 pub fn begin_own_pairs(pairs: Dictionary) -> FirstCall<(String, Value)>
     ensures left { result.left ≡ length (pairs_of pairs) }
     ensures hint { result.hint ≡ (result.left, Some result.left) }

@@ -2,13 +2,14 @@
 //! clauses of what it calls alone, so that none of these clauses can be weakened unnoticed.
 //!
 //! They are listed from the lowest layer up: `faults`, `texts`, `dates`, `reals`, `hashes`,
-//! `events`, `sources`, `limits`, `data`; the readers `binary`, also over `small_files`, `ascii`
-//! and `either`, and the `writer`; `values` and their `contents`, what `writers` write of them,
-//! files by `stored`, dictionaries by `pairs`, `entries` and `iterators`, and `depths`, the
-//! recursions over them; and `archives`.
+//! `events`, `sources`, `limits`, `data`; the readers `binary` (also over `small_files`), `ascii`
+//! and `either`, and the `writer`; `values` and their `contents`; `writers`, for what is written of
+//! values; `stored`, for files; `pairs`, `entries` and `iterators`, for dictionaries; `depths`, for
+//! recursions over dictionaries; and `archives`.
 //!
 //! A caller that is named after a bug returns whether the library has that bug, or returns the
-//! result that the bug would change.
+//! result that the bug would change. Unless its documentation names other errors, a caller returns
+//! the errors of the calls in it.
 #![tactic(auto)]
 
 pub mod archives;

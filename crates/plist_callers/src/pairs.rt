@@ -1,4 +1,4 @@
-//! Proved callers of the calls on pairs: what was set is found, and the others are unchanged.
+//! Proved callers of the calls on pairs: what was set is found, and the other pairs are unchanged.
 
 ghost use Rattle.std.specs.Prelude.{◌≡◌, ◌+◌, ◌∷◌, [], IfErr, IfOk, IfSome, IsNone, IsPermutation, IsSome, IsSorted, OnErr, OnOk, OnSome, Some, length, string_bytes, unwrap_or};
 ghost use Rattle.std.specs.Cmp.Lexicographic.{slice_cmp};
@@ -13,6 +13,10 @@ use plist::{Dictionary, Error, Value};
 use std::mem;
 
 /// Makes this pair the only one.
+///
+/// # Errors
+///
+/// The key and the value if an allocation fails. There are no pairs then.
 pub fn make_only(pairs: &mut Dictionary, key: String, value: Value) -> Result<(), (String, Value)>
     ensures only { OnOk result (pairs_of pairs.new ≡ (string_bytes key, value) ∷ []) }
     ensures refused { OnErr result (pairs_of pairs.new ≡ []) }
@@ -33,7 +37,7 @@ pub fn value_or<'a>(pairs: &'a Dictionary, key: &str, other: &'a Value) -> &'a V
     }
 }
 
-/// Replaces the value of a key that must be there.
+/// Replaces the value of a key that must be there, and returns the old value.
 pub fn replace_at(pairs: &mut Dictionary, key: &str, value: Value) -> Value
     requires { IsSome (lookup (bytes_eq key.now) (pairs_of pairs.old)) }
     ensures old { lookup (bytes_eq key.now) (pairs_of pairs.old) ≡ Some result }
@@ -42,7 +46,8 @@ pub fn replace_at(pairs: &mut Dictionary, key: &str, value: Value) -> Value
     mem::replace(&mut pairs[key], value)
 }
 
-/// Sets the value of a key if it is there, which allocates no memory.
+/// Sets the value of a key if it is there, which allocates no memory, and returns the old value.
+/// Returns `None` if the key isn't there.
 pub fn set_where_there(pairs: &mut Dictionary, key: String, value: Value) -> Option<Value>
     ensures old { result ≡ lookup (bytes_eq (string_bytes key)) (pairs_of pairs.old) }
     ensures pairs { OnSome result (IsSetAt (pairs_of pairs.old) (string_bytes key) value

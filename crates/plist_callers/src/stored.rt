@@ -12,6 +12,10 @@ use std::rt::Files;
 
 /// Writes bytes to a file, and returns how many of them were written. If the bytes of the file are
 /// known, exactly these were appended.
+///
+/// # Errors
+///
+/// The error of creating the file or of writing to it.
 pub fn short_write_is_passed_over<R: Files>(
     output: &mut LazyFile<'_, R>,
     bytes: &[u8],
@@ -23,8 +27,12 @@ pub fn short_write_is_passed_over<R: Files>(
     output.write(bytes)
 }
 
-/// Writes twice. If both writes succeed, the file is open after the first, so the second doesn't
-/// create it again.
+/// Writes twice, and returns how many bytes the second write took. If both writes succeed, the file
+/// is open after the first, so the second doesn't create it again.
+///
+/// # Errors
+///
+/// The error of creating the file or of the first write that fails. Nothing is written after it.
 pub fn file_is_created_at_each_write<R: Files>(
     output: &mut LazyFile<'_, R>,
     first: &[u8],
@@ -36,8 +44,8 @@ pub fn file_is_created_at_each_write<R: Files>(
     output.write(second)
 }
 
-/// Returns whether a value couldn't be stored because no file of it can be made. If so, the file
-/// wasn't created either.
+/// Returns whether a value couldn't be stored because of `OutOfMemory` or `PlistTooLarge`. If so,
+/// the file wasn't created.
 pub fn file_is_made_first<R: Files>(
     alloc: Global,
     output: &mut LazyFile<'_, R>,

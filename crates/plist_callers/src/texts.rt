@@ -1,4 +1,5 @@
-//! Proved callers of what is printed for errors, numbers and identifiers.
+//! Proved callers of what is printed for errors, numbers and identifiers. Each returns the printed
+//! text, or `AllocError` if an allocation fails.
 
 ghost use Rattle.std.specs.Prelude.{◌≡◌, IfOk, codes, decimal, string_bytes};
 ghost use Rattle.std.specs.Fmt.{signed_decimal};

@@ -60,7 +60,8 @@ pub fn finishes_once(builder: &mut Builder) -> bool
     }
 }
 
-/// Returns the result of `finish` after an event for which memory ran out: `WriterFailed`.
+/// Returns the result of `finish` after an event for which memory ran out: `WriterFailed`. If
+/// memory doesn't run out for the event, returns `None`.
 pub fn finish_without_memory(
     builder: &mut Builder,
     event: Event<'_>,
@@ -87,7 +88,11 @@ pub fn meets_an_end<R: Files>(rt: &R, alloc: Global, value: &Value, path: &str) 
     }
 }
 
-/// Copies a dictionary: the copy has the same trees at the same keys, in the same order.
+/// Returns a copy of a dictionary, which has the same trees at the same keys, in the same order.
+///
+/// # Errors
+///
+/// `OutOfMemory` if an allocation fails.
 pub fn copy_of(pairs: &Dictionary) -> Result<Dictionary, Error>
     ensures copy { IfOk result (λ copy.
         tree_pairs (pairs_of copy) ≡ tree_pairs (pairs_of pairs.now)) }
@@ -96,6 +101,10 @@ pub fn copy_of(pairs: &Dictionary) -> Result<Dictionary, Error>
 }
 
 /// Returns whether a copy of a value is equal to it, which is always true.
+///
+/// # Errors
+///
+/// `OutOfMemory` if the value can't be copied.
 pub fn equals_its_copy(alloc: Global, value: &Value) -> Result<bool, Error>
     ensures equal { IfOk result (λ equal. equal ≡ true) }
 {
@@ -118,7 +127,7 @@ pub fn from_reader_makes_up_a_failure(alloc: Global, bytes: &[u8]) -> bool
 ///
 /// # Errors
 ///
-/// Those of [`Value::from_reader_within`].
+/// The errors are those of [`Value::from_reader_within`].
 pub fn budget_refuses_the_last_byte<R: Source>(
     alloc: Global,
     source: R,

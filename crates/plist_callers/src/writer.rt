@@ -11,7 +11,7 @@ use plist_binwrite::BinaryWriter;
 use std::alloc::Global;
 use std::io::Write;
 
-/// Returns an inner writer unchanged, through a writer.
+/// Creates a writer over an inner writer, and returns the inner writer, which is unchanged.
 pub fn inner_again<W: Write>(alloc: Global, inner: W) -> W
     ensures { result ≡ inner }
 {
@@ -31,8 +31,8 @@ pub fn begin_with<W: Write + Drop>(alloc: Global, inner: W, event: Event<'_>) ->
     writer.write(event)
 }
 
-/// Returns the result of a further call if memory ran out for an event, and the inner writer; or
-/// `None` if memory didn't run out. The writer has failed then, and nothing was written.
+/// If memory runs out for an event, returns the result of a further call, and the inner writer. The
+/// writer has failed then, and nothing was written. If memory doesn't run out, returns `None`.
 pub fn next_without_memory<W: Write + Drop>(
     writer: BinaryWriter<W>,
     event: Event<'_>,

@@ -20,8 +20,8 @@ use std::alloc::Global;
 ///
 /// # Errors
 ///
-/// `PlistTooLarge` if the file would have 2^64 bytes or more; `OutOfMemory`, or `Io` if the vector
-/// can't grow.
+/// `PlistTooLarge` if the file would have 2^64 bytes or more, `Io` if the vector can't grow, and
+/// `OutOfMemory` if another allocation fails.
 pub fn write_back(alloc: Global, value: &Value) -> Result<Value, Error>
     ensures same { IfOk result (λ again. tree_of again ≡ tree_of value.now) }
     ensures refused { IfErr result
@@ -62,7 +62,7 @@ pub fn shared_file(alloc: Global, value: &Value) -> Result<Vec<u8>, Error>
 ///
 /// # Errors
 ///
-/// Those of [`write_back`].
+/// The errors are those of [`write_back`].
 pub fn texts_by_length(alloc: Global, value: &Value) -> Result<bool, Error>
     ensures { IfOk result (λ changed. changed ≡ false) }
 {

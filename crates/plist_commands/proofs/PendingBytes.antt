@@ -42,7 +42,8 @@ one_of Io A h = h
 one_of OutOfMemory A h = h
 one_of kind A h = h
 
--- the source's count of failures after its own error, or after a failed write that followed it
+-- the source's count of failures is right after its own error, and after a failed write that
+-- followed the error
 pub fault_counts : {A : Type 0} (error answer : Error) (old before new : ℕ) → before ≡ old
     → CountsIo error before new → ((answer ≡ error) × A) ⊎ (fault_of answer ≡ fault_without_offset Io)
     → CountsReads {A = Unit {0}} (Err answer) old new

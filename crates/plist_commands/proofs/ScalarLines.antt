@@ -9,7 +9,7 @@ use Rattle.plist_commands.specs.EscapedLines.{stands_for_itself, escaped_text}
 
 -- ---- strings whose bytes are printed as they are
 
--- a byte that passes each of the four comparisons
+-- a byte that passes each of the four comparisons is printed as it is
 pub plain_byte : (byte : ℕ) → ltb byte 0x20 ≡ false → leb 0x7f byte ≡ false
     → eqb byte 0x5c ≡ false → eqb byte 0x22 ≡ false → stands_for_itself byte ≡ true
 plain_byte byte low high backslash quote =
@@ -38,7 +38,7 @@ plain_block n bytes few long none i within =
     (none_left eqb n 0x5c bytes few long (eq-eqb _ _ backslash) i within)
     (none_left eqb n 0x22 bytes few long (eq-eqb _ _ quote) i within)
 
--- a text whose bytes each stand for themselves
+-- a text whose bytes all stand for themselves is printed as it is
 pub plain_text : (text : List ℕ) → EachByte (λ byte. stands_for_itself byte ≡ true) text
     → escaped_text text ≡ text
 plain_text [] each = refl

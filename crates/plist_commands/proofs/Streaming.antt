@@ -187,7 +187,7 @@ sends_read (Some bytes) held (_, (t, are, alike)) contents answer old new once s
   sends_tree t held alike contents old new answer sent,
 )
 
--- known bytes whose items aren't those of a tree aren't such a property list
+-- known bytes whose items aren't those of a tree aren't a property list without repeated keys
 pub not_read : (known : Option (List ℕ)) → AreNoTree (items_of_known known)
     → IfSome known (λ bytes. BytesHaveKeysOnce bytes → ⊥)
 not_read None h = tt

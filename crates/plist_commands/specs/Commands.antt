@@ -56,8 +56,9 @@ abbrev pub MayEnd : {O : Type 0}
 MayEnd answers contents command old answer new =
     answers command (contents old) answer (contents new)
 
--- Unless the status is 2, the arguments ask for a command that may have some result, and the program
--- ends as it does after that result. `before` and `after` are the output and the writer of messages.
+-- Unless the status is 2, the arguments ask for a command that may have some result, and the status
+-- and the reports are those after this result. `before` and `after` are the output and the writer
+-- of messages.
 abbrev pub RunEnds : {O E : Type 0} → (ends : PlainCommand → O → CommandOutcome → O → Type 0)
     → (reports : E → PlainMessage → Bool → E → Type 0) → (words : List (String Global))
     → (status : ℕ) → (before after : O × E) → Type 0

@@ -56,7 +56,7 @@ SendsBytes bytes old new =
     (tree : Tree) × IsValueOf (items_of_input bytes) (Ok tree)
     × ((file : List ℕ) × IsFileOf tree file × (new ≡ old ++ file))
 
--- if the call returned `Ok` with this value, this is true
+-- if the call returned `Ok` with this value, the fact is true
 abbrev pub IfOkIs : {A E : Type 0} → Result A E → A → Type 0 → Type 0
 IfOkIs answer wanted P = IfOk answer (λ found. found ≡ wanted → P)
 
@@ -82,7 +82,8 @@ HoldsTree items held =
     AreTreeEvents held
     × IfSome items (λ all. (tree : Tree) × AreItemsOfTree all tree × AreAlike held (bracketing tree))
 
--- this is true of all known bytes whose items are those of the tree of the buffered events
+-- `P` is true of bytes that are unknown, or whose items are those of the tree of the buffered
+-- events
 abbrev pub ForBytesOf : (held : List PlainEvent) → (Option (List ℕ) → Type 0) → Type 0
 ForBytesOf held P = (known : Option (List ℕ)) → HoldsTree (items_of_known known) held → P known
 

@@ -13,8 +13,8 @@ use Rattle.plist_commands.specs.declared.collector.Collector.{Collector}
 use Rattle.plist_commands.specs.declared.collector.StopReason.{StopReason}
 use Rattle.plist_commands.specs.declared.collector.StopReason.TheVariants.{Failed, Misplaced, Paused}
 
--- the event can follow those that were buffered, it is buffered after them without its length, and
--- `whole` says whether all of them are those of a whole property list
+-- the event can follow the buffered events, and is buffered after them without its length; `whole`
+-- says whether the events are now those of a whole property list
 abbrev pub HoldsMore : (whole : Bool) → (before : List PlainEvent) → PlainEvent
     → (after : List PlainEvent) → Type 0
 HoldsMore whole before event after =
@@ -62,13 +62,13 @@ CollectsEvent old event (Break stop) new = MatchStop new.stop
     (TestsWhole (is_complete old) (collected old) → CanContinue (collected old) event → ⊥)
     (λ error. fault_of error ≡ fault_without_offset OutOfMemory)
 
--- whether the collector paused in a visit with this result
+-- `answer` says whether the collector paused in a visit with this result
 abbrev pub HasPaused : Bool → Collector → Result Visited Error → Type 0
 HasPaused answer collector (Ok Stopped) =
     MatchStop collector.stop (answer ≡ true) (answer ≡ false) (λ error. answer ≡ false)
 HasPaused answer collector visited = answer ≡ false
 
--- the result of collecting, after a visit with this result
+-- `answer` is the result of collecting, after a visit with this result
 abbrev pub AnswersVisit : Result Visited Error → Collector → Result Bool Error → Type 0
 AnswersVisit (Ok Ended) collector answer = answer ≡ Ok (is_complete collector)
 AnswersVisit (Ok Stopped) collector answer =

@@ -62,7 +62,7 @@ CountsReads answer old new = MatchResult answer (λ _. new ≡ old)
     (λ error. MatchFault (kind_of (error_kind_of error))
     (((offset_of error ≡ None) × (new ≡ old)) ⊎ Rises old new) (new ≡ old) (new ≡ old))
 
--- the count of failures of a reader's source changes with the result in this way
+-- the count of failures of a reader's source changes with the result as `CountsReads` says
 abbrev pub CountsReadsOf : {S C A : Type 0} {g : Ghosts S} {h : CounterGhosts C}
     → (failures : S → ℕ) → BinaryReader S C g h → Result A Error → BinaryReader S C g h → Type 0
 CountsReadsOf failures old answer new =

@@ -97,7 +97,8 @@ HoldsOther {S} known failed source answer held =
     × BuffersRun (StepsReader known failed) reader answer left held
     × CountsReads answer (failures_in failed reader) (failures_in failed left)
 
--- A read failed while the format was determined; or none did, and a reader of the source was used.
+-- A read failed while the format was determined; or no read failed, and a reader of the source was
+-- used.
 abbrev pub ReadsSource : {S : Type 0} (known : S → Option (List ℕ)) (failed : S → ℕ) (source : S)
     → Result Bool Error → (held : List PlainEvent) → Type 0
 ReadsSource {S} known failed source answer held =
@@ -109,7 +110,7 @@ ReadsSource {S} known failed source answer held =
 
 -- The result of a conversion, given that of buffering the events. If the events are those of a
 -- whole property list, a file of them was written, or a value is needed, or writing failed. If they
--- aren't, a value is needed. The error of buffering is returned.
+-- aren't, a value is needed. If buffering failed, its error is returned.
 abbrev pub ComesOfReading : (sent : Type 0) → Result Bool Error → Result Streamed Error → Type 0
 ComesOfReading sent (Ok true) answer =
     MatchResult answer (λ found. found ≡ Sent → sent) (λ error. offset_of error ≡ None)

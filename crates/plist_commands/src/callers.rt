@@ -30,8 +30,9 @@ pub fn print_bytes(alloc: Global, bytes: &[u8], out: &mut Vec<u8>) -> Result<(),
     print_events(alloc, bytes, out)
 }
 
-/// Converts the property list in these bytes. It writes a file of the tree that they are read as,
-/// or nothing if a value is needed.
+/// Converts the property list in these bytes. It writes a file of the property list's tree, and
+/// returns [`Streamed::Sent`]. If a value is needed, it writes nothing, and returns
+/// [`Streamed::NeedsValue`].
 ///
 /// # Errors
 ///

@@ -101,9 +101,9 @@ impl Collector {
         matches!(visited, Ok(Visited::Stopped)) && matches!(self.stop, StopReason::Paused)
     }
 
-    /// Ends the pauses, and sets how many different scalars are expected. The number is a hint, by
-    /// which their table grows in larger steps: for a large file, a fifth of the time would be
-    /// spent on doubling the table.
+    /// Ends the pauses, and sets how many different scalars are expected. The number is a hint,
+    /// with which the table of scalars grows in larger steps. Without it, doubling the table would
+    /// take a fifth of the time for a large file.
     pub(crate) fn expect_scalars(&mut self, count: usize)
         ensures events { collected self.new ≡ collected self.old }
         ensures whole { is_complete self.new ≡ is_complete self.old }
@@ -113,12 +113,13 @@ impl Collector {
         self.pending.expect_scalars(count);
     }
 
-    /// Returns whether the buffered events are those of a whole property list, after a visit with
-    /// this result. If the collector paused in the visit, it returns `false`.
+    /// Returns whether the source ended in the visit with this result, and the buffered events are
+    /// those of a whole property list. If the collector paused in the visit, or rejected an event,
+    /// it returns `false`.
     ///
     /// # Errors
     ///
-    /// The error that replaced an event, or `OutOfMemory`.
+    /// The error that replaced an event, or `OutOfMemory` if an allocation failed in the visit.
     pub(crate) fn answer(&mut self, visited: Result<Visited, Error>) -> Result<bool, Error>
         ensures answer { AnswersVisit visited self.old result }
         ensures held { self.new.pending ≡ self.old.pending }

@@ -47,8 +47,8 @@ pub fn command_of(words: &[String]) -> Option<Command<'_>>
 
 /// Runs commands. It is a trait so that a clause can name the result of a command.
 pub trait Commands {
-    /// A possible result of a command, and the bytes of the output before and after it, if they are
-    /// known.
+    /// Relates a command, the bytes of the output before it, a possible result, and the bytes of
+    /// the output after it. The bytes are given if they are known.
     ghost answers: { Self → PlainCommand → (old : Option (List ℕ)) → CommandOutcome
         → (new : Option (List ℕ)) → Type 0 };
 
@@ -57,8 +57,8 @@ pub trait Commands {
     /// # Errors
     ///
     /// An error is returned if a file can't be opened, read or written, if it doesn't contain a
-    /// property list, or for `keyed` an archive with a tree under the key, or if an allocation
-    /// fails.
+    /// property list, or if an allocation fails. For `keyed` an error is also returned if the file
+    /// isn't an archive with a tree under the key.
     fn perform<O: Write>(
         &self,
         alloc: Global,

@@ -118,14 +118,16 @@ fn send_events<W: Write>(
     Ok(Streamed::Sent)
 }
 
-/// Writes the property list of a source as a binary file, without making a value, if no dictionary
-/// has a key twice. All of the source is read before the first byte is written, and the bytes are
-/// those that [`Value::to_writer_binary`] writes for the value that [`Value::from_reader`] returns.
+/// Writes the property list of a source as a binary file, without making a value, and returns
+/// [`Streamed::Sent`]. If a dictionary has a key twice, or the events aren't those of a value, it
+/// writes nothing and returns [`Streamed::NeedsValue`]. All of the source is read before the first
+/// byte is written, and the bytes are those that [`Value::to_writer_binary`] writes for the value
+/// that [`Value::from_reader`] returns.
 ///
 /// # Errors
 ///
-/// The errors of [`Value::from_reader`], after which nothing is written, and those of
-/// [`Value::to_writer_binary`], which says what is written then.
+/// - The errors of [`Value::from_reader`]. Nothing was written then.
+/// - The errors of [`Value::to_writer_binary`], whose documentation says what was written then.
 pub fn convert_binary<S: Source, W: Write>(
     alloc: Global,
     source: S,

@@ -14,7 +14,8 @@ use plist_base::{Date, FixedBuffer, Integer, RealBits, Uid};
 /// How the bytes of a string or data are printed.
 #[derive(Clone, Copy)]
 pub enum Notation {
-    /// As in a string: printable ASCII as it is, and an escape for any other byte.
+    /// As in a string: an escape for `"`, `\` and any byte that isn't printable ASCII, and any
+    /// other byte as it is.
     Text,
     /// As in data: two hexadecimal digits for each byte.
     Hexadecimal,
@@ -44,7 +45,7 @@ pub enum ShortLine {
 /// An upper bound of the length of a line, apart from the printed bytes of a string or data in it.
 pub const MAX_FIXED_LINE: usize = 64;
 
-/// Pushes bytes as they are printed: at most four for each byte.
+/// Pushes the printed form of these bytes, which has at most four bytes for each of them.
 pub fn push_bytes(line: &mut FixedBuffer, bytes: &[u8], notation: Notation)
     requires { 4 * length bytes.now ≤ room line.old }
     ensures { buffered line.new ≡ buffered line.old ++ in_notation notation bytes.now }

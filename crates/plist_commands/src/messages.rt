@@ -22,15 +22,15 @@ pub enum Message<'a> {
 
 /// Reports messages. It is a trait so that a clause can name what was reported.
 pub trait Messages {
-    /// What reporting a message changes: if `whole` is false, only a prefix of the message may be
-    /// written.
+    /// What reporting a message changes: if `whole` is false, possibly only a prefix of the message
+    /// was written.
     ghost reports: { (old : Self) → PlainMessage → (whole : Bool) → (new : Self) → Type 0 };
 
     /// Writes a message, on a line of its own.
     ///
     /// # Errors
     ///
-    /// The error of the write, if it fails.
+    /// The error of the write, if it fails. Possibly only a prefix of the message was written then.
     fn report(&mut self, message: Message<'_>) -> Result<(), Error>
         ensures { reports self.old (plain_message_of message.entry) (is_ok result) self.new };
 }
@@ -47,7 +47,7 @@ fn line_of_failure(failure: &Failure) -> Result<ArrayString<256>, Error>
     }
 }
 
-/// Each message is one line, which is written by one call.
+/// Each message is one line, which is passed to the writer as a whole.
 impl<W: Write> Messages for W {
     ghost reports = { λ old said whole new. TakesMessage said whole (W.contents old)
         (W.contents new) };

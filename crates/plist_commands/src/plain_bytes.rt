@@ -1,4 +1,5 @@
-//! The bytes of a string: printable ASCII as it is, and an escape for any other byte.
+//! The bytes of a string: an escape for `"`, `\` and any byte that isn't printable ASCII, and any
+//! other byte as it is.
 
 ghost use Rattle.std.specs.Prelude.{◌≡◌, ◌++◌, ◌+◌, ◌*◌, ◌≤◌, length, true};
 ghost use Rattle.plist_base.specs.Sinks.{buffered, room};
@@ -8,7 +9,7 @@ use crate::hexadecimal::digit_of;
 use plist_base::{ByteTest, FixedBuffer, all_pass};
 use std::simd::prelude::*;
 
-// `PLAIN[byte]` is whether a byte of a string is printed as it is.
+// `PLAIN[byte]` says whether this byte of a string is printed as it is.
 const PLAIN: [bool; 256] = [
     false, false, false, false, false, false, false, false, false, false, false, false, false,
     false, false, false, false, false, false, false, false, false, false, false, false, false,
@@ -100,8 +101,8 @@ fn push_escaped(line: &mut FixedBuffer, text: &[u8])
     }
 }
 
-/// Pushes the bytes of a string, with escapes: at most four for each byte. A string that needs no
-/// escape is copied as a whole.
+/// Pushes the printed form of a string, which has at most four bytes for each byte of the string. A
+/// string that needs no escape is copied as a whole.
 #[inline(always)]
 pub fn push_text(line: &mut FixedBuffer, text: &[u8])
     requires { 4 * length text.now ≤ room line.old }

@@ -251,8 +251,8 @@ impl<'p, W: Write> Printer<'p, W> {
         }
     }
 
-    // Writes the lines that are pending before an error, and returns that error, or that of the
-    // write if it fails.
+    // Writes the lines that are pending when an error occurs. Returns this error, or the error of
+    // the write if it fails.
     fn finish_before(&mut self, error: Error) -> Error
         ensures { FailsAfterLines W.contents (printer_sink self.old) error result
             (printer_sink self.new) }
@@ -397,8 +397,8 @@ pub fn print_reader<S: Source, W: Write>(
     print_source(alloc, reader, writer)
 }
 
-/// Prints the events of a source, each on a line of its own, up to the first fault, and flushes the
-/// writer at the end.
+/// Prints the events of a binary property list, each on a line of its own, up to the first fault,
+/// and flushes the writer at the end.
 ///
 /// # Errors
 ///

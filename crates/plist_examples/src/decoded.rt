@@ -77,7 +77,8 @@ fn twice(alloc: Global, object: &str) -> Result<Vec<u8>, Wrong> {
     file(alloc, body.as_str(), [1, 1], [2, 0, table])
 }
 
-// Returns what a file is expected to yield, after the number of small scalars that are decoded.
+// Returns the number of small scalars that are expected to be decoded, followed by what the file is
+// expected to yield.
 fn wanted_of(alloc: Global, check: &str, words: &str) -> Result<String, AllocError> {
     match check {
         "kept" => format!(in alloc; "1 [2 {words} {words} end"),

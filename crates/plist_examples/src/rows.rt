@@ -17,7 +17,7 @@ pub(crate) struct Row<'a> {
     pub wanted: &'a str,
 }
 
-// Returns the example of a line, if it has this many fields.
+// Returns the example of a line, or `None` if the line has fewer than three fields.
 pub(crate) fn row_of(line: &str) -> Option<Row<'_>> {
     let (check, rest) = line.split_once('|')?;
     let (name, rest) = rest.split_once('|')?;

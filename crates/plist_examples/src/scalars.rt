@@ -38,15 +38,15 @@ fn second_words(alloc: Global, date: Option<Date>) -> Result<String, AllocError>
     }
 }
 
-// Two dates are equal if their bytes are.
+// Returns whether two dates are equal, that is, whether their bytes are.
 fn is_same(a: &Date, b: &Date) -> bool
     ensures { IsTrue result ↔ (a.now ≡ b.now) }
 {
     *a == *b
 }
 
-// Returns the second of a Unix second's date, the Unix second of that date, and whether the date of
-// the second is the same.
+// Returns the plist second of a Unix second's date, the Unix second of that date, and whether the
+// date of that plist second is the same date.
 fn unix_words(alloc: Global, unix: i64) -> Result<String, AllocError> {
     match Date::from_unix_secs(unix) {
         Some(date) => {

@@ -160,7 +160,7 @@ fn expect_collected(alloc: Global, words: &str, wanted: &str) -> Result<(), Wron
     expect(alloc, &Value::from_events(alloc, items), wanted)
 }
 
-// Checks what a builder returns for the events of these words, and the value then.
+// Checks what a builder returns for the events of these words, and then the value that it built.
 fn expect_built(alloc: Global, words: &str, wanted: &str) -> Result<(), Wrong> {
     let Some((answers, value)) = wanted.split_once(" => ") else {
         return unreadable(alloc, wanted);

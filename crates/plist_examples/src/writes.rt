@@ -191,7 +191,7 @@ fn expect_by<S: Sharing>(
     expect_answer(alloc, sending, &device, answer, call)
 }
 
-// Checks, for each way, whether writing fails at this call.
+// Checks that writing in each way fails at this call if `fails` is true, and succeeds otherwise.
 fn expect_sent<S: Sharing>(
     alloc: Global,
     sending: Sending<'_>,
@@ -209,9 +209,9 @@ fn expect_sent<S: Sharing>(
     Ok(())
 }
 
-// Returns whether the test makes this call fail. For a large file it does so only for the call that
-// writes the last byte, and for the calls that write the bytes before and after the one at which
-// pending bytes are written.
+// Returns whether the test makes this call fail. For a file of 200 bytes or more, only three calls
+// fail: the one that writes the last byte, and those that write the bytes at offsets 65,535 and
+// 65,537, around the end of the first full buffer.
 fn is_tried(call: u64, size: usize) -> bool {
     size < 200 || call.saturating_add(1) == size as u64 || call == 65_535 || call == 65_537
 }

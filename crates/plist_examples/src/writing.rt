@@ -103,7 +103,8 @@ fn expect_value_shared(alloc: Global, value: &Value, bytes: &[u8]) -> Result<(),
     expect_bytes(alloc, writer.into_inner().as_slice(), bytes)
 }
 
-// Checks that the value of a file has these events in order, and is shared as the same file.
+// Checks that the value of a file has these events in order, and that the sharing writer writes it
+// as the same file.
 fn expect_shared_again(alloc: Global, words: &str, bytes: &[u8]) -> Result<(), Wrong> {
     let read = Value::from_reader(alloc, bytes);
     expect_same(alloc, words_of_answer(alloc, &read)?.as_str(), words)?;
@@ -113,8 +114,8 @@ fn expect_shared_again(alloc: Global, words: &str, bytes: &[u8]) -> Result<(), W
     }
 }
 
-// Checks that the events of these words are shared as this file and read back, and that its value
-// has them in order and is shared as the same file, also on devices.
+// Checks that the sharing writer writes the events of these words as this file, also to devices,
+// that they are read back, and that the file's value is written as the same file.
 fn expect_shared(alloc: Global, words: &str, bytes: &[u8]) -> Result<(), Wrong> {
     let writer = SharingWriter::new(alloc, Vec::new(alloc));
     expect_written(alloc, writer, words, bytes)?;

@@ -35,7 +35,7 @@ byte_of (marker.Counted kind low) = high_half kind * 16 + low
 byte_of (marker.Uid width) = 0x7f + width
 byte_of (marker.Unknown byte) = byte
 
--- the kind of object and the low half, or none if objects with this marker have no length
+-- the kind of object and the low half, or `None` if objects with this marker have no length
 abbrev pub counted_in : Marker → Option (CountedKind × ℕ)
 counted_in (marker.Counted kind low) = Some (kind, low)
 counted_in other = None

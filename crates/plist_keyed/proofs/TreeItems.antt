@@ -37,7 +37,7 @@ AreItemsOf events (Err fault) items =
     ++ Err fault ∷ more)
     × Begins events es
 
--- the items of a tree
+-- the items are those of the tree
 abbrev pub Gives : Result Tree ArchiveFault → List Given → Type 0
 Gives answer items = AreItemsOf bracketing answer items
 

@@ -80,7 +80,7 @@ module _ (objects : List (List PlainEvent)) where
       let some : 0 < length (from uid) = some_step objects _ [] uid in
       rw (same, uid_steps from e uid is, length-append (from uid) rest) (omega (arith, some))
 
--- the items that remain of a walk that began with a Uid
+-- the items that remain of a walk that began with a Uid are those of the Uid
 pub begun : (start walk : Walk) (objects : List Value) (uid : ℕ) → start.objects.now ≡ objects
     → start.levels.items ≡ [] → Skips (remaining_from start uid) (remaining_steps walk)
     → coming_items walk ≡ items_at objects uid

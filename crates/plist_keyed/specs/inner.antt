@@ -1,4 +1,4 @@
--- What bodies and proofs use, but no public clause.
+-- Definitions that are used by bodies and proofs, but by no public clause.
 pub mod Walks
 pub mod Settled
 pub mod Checking

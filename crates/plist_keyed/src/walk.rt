@@ -31,7 +31,8 @@ enum WalkStep<'a> {
     Skip,
 }
 
-// A walk that yields the events of a tree. Each Uid in it is settled, so it finds no fault.
+// A walk that yields the events of a tree. Each Uid that it reaches is settled, so the walk finds
+// no fault.
 #[derive(Drop)]
 struct Walk<'a> {
     alloc: Global,
@@ -173,7 +174,8 @@ impl<'a> Iterator for Walk<'a> {
     }
 }
 
-// Returns the value of the object that a settled Uid names, in which each Uid is replaced.
+// Returns the value of the object that a settled Uid names, in which each Uid is replaced by its
+// own tree.
 fn value_below(
     alloc: Global,
     objects: &[Value],
@@ -189,7 +191,7 @@ fn value_below(
     Value::from_events(alloc, walk)
 }
 
-/// Returns the value of the object that a Uid names, in which each Uid is replaced.
+/// Returns the value of the object that a Uid names, in which each Uid is replaced by its own tree.
 ///
 /// # Errors
 ///

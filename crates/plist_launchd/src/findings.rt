@@ -168,7 +168,12 @@ fn check_program<'a>(job: &'a Dictionary, to: &mut Findings<'a>) -> Result<(), E
     Ok(())
 }
 
-/// Checks a job. The findings are first about missing keys, and then about its keys in their order.
+/// Checks a job, and returns the findings: first those about missing keys, and then those about its
+/// keys, in the order of the keys.
+///
+/// # Errors
+///
+/// `OutOfMemory` if an allocation fails.
 pub fn check(alloc: Global, job: &Dictionary) -> Result<Findings<'_>, Error> {
     let mut findings = Vec::new(alloc);
     if !job.contains_key("Label") {

@@ -87,6 +87,11 @@ fn print_added<W: Write>(
 
 /// Prints a line for each key that was removed, changed or added, also in nested dictionaries. Each
 /// key is printed after `path`.
+///
+/// # Errors
+///
+/// `Failure::Plist` if a line can't be printed or an allocation fails. Earlier lines have been
+/// printed then.
 #[cycle(diff)]
 pub fn diff<W: Write>(
     alloc: Global,

@@ -39,6 +39,10 @@ fn keys_text(alloc: Global, pairs: &Dictionary) -> Result<String, Error> {
 
 /// Returns the text of a value. The text of an array has its items, and that of a dictionary its
 /// keys.
+///
+/// # Errors
+///
+/// `OutOfMemory` if an allocation fails.
 #[cycle(text)]
 pub fn text_of(alloc: Global, value: &Value) -> Result<String, Error> {
     match value {

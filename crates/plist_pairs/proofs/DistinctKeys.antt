@@ -21,7 +21,8 @@ pub first-distinct : (ks more : List (List ℕ)) → IsDistinct bytes_eq (ks ++ 
 first-distinct ks more d =
     rw (← (take-append_seam ks more)) (distinct-take nat_list_eq_equiv (length ks) (ks ++ more) d)
 
--- the keys are distinct before and after one is added that isn't among them
+-- if keys are distinct, they still are after a key that isn't among them is added, and the other
+-- way round
 key-more : (k : List ℕ) (ks : List (List ℕ)) (b : Bool) → list_any (bytes_eq k) ks ≡ b
     → IsDistinct bytes_eq ks → IsDistinct bytes_eq (if b then ks else ks ++ k ∷ [])
 key-more k ks true p d = d

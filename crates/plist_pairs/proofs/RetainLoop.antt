@@ -1,4 +1,4 @@
--- What is kept by a loop that moves the items to keep to the front.
+-- Which items are left by a loop that moves to the front the items that it keeps.
 use Rattle.std.proofs.Common.{◌≡◌, ℕ, ◌+◌, ◌≤◌, Bool, true, false, List, [], ◌∷◌, ◌++◌, length, take, set, get_or, filter, refl, sym, ap, subst, ◌∙◌, append_assoc, arith, length-append, Some, slice_get, swap, append-nil}
 use Rattle.std.specs.List.{AllZip, items_where_true}
 use Rattle.std.specs.Map.{keys_of}

@@ -29,7 +29,8 @@ module _ {F V : Type 0} (g : Shared F (Bor (String Global) × (Bor V × Unit {0}
       × (new ≡ items_where_true answers old)
 
 module _ {I V : Type 0} (next_gives : I → Option (String Global × V) → I → Type 0) (iter : I) where
-  -- all pairs of the iterator are inserted, or after an error those before a pair with a new key
+  -- all pairs of the iterator are inserted; or, after an error, those before a pair whose key is
+  -- new
   abbrev pub ExtendsBy : Rows V → Result (Unit {0}) Error → Rows V → Type 0
   ExtendsBy old (Ok _) new =
       (taken : List (String Global × V)) × Drains next_gives iter taken
@@ -48,16 +49,17 @@ module _ {I V : Type 0} (next_gives : I → Option (String Global × V) → I �
 
 module _ {I J V : Type 0} (becomes : J → I → Type 0)
     (next_gives : I → Option (String Global × V) → I → Type 0) (made : J) where
-  -- `ExtendsBy` is true of an iterator that the value becomes
+  -- `ExtendsBy` is true of an iterator that `into_iter` of the value returns
   abbrev pub ExtendsByIterable : Rows V → Result (Unit {0}) Error → Rows V → Type 0
   ExtendsByIterable old answer new =
       (iter : I) × becomes made iter × ExtendsBy next_gives iter old answer new
 
-  -- `IsMadeOf` is true of an iterator that the value becomes
+  -- `IsMadeOf` is true of an iterator that `into_iter` of the value returns
   abbrev pub IsMadeOfIterable : Rows V → Type 0
   IsMadeOfIterable pairs = (iter : I) × becomes made iter × IsMadeOf next_gives iter pairs
 
--- each iterator that the value becomes can be called, and ends after finitely many items
+-- each iterator that `into_iter` of the value returns can be called, and ends after finitely many
+-- items
 abbrev pub IterableEnds : {J I : Type 0} → (becomes : J → I → Type 0) → (can_next : I → Type 0)
     → (remaining : I → Count) → J → Type 0
 IterableEnds becomes can_next remaining made = IsFiniteIterable becomes can_next remaining made

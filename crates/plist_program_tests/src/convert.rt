@@ -103,7 +103,7 @@ fn add_data(rt: &impl Abort, file: &mut Vec<u8>, first: u32) {
 const TABLE_OF_TWO: &[u8] = b"\0\0\0\x08\0\0\0\x0b\0\x01\x86\xb1\
     \0\0\0\0\0\0\x04\x01\0\0\0\0\0\0\0\x03\0\0\0\0\0\0\0\0\0\0\0\0\0\x03\x0d\x57";
 
-// An array of two data: the file is written in five writes.
+// An array of two data objects, whose file is written in five writes.
 #[test]
 fn converts_large_files(rt: HostRuntime) {
     let mut file = must(&rt, Vec::from_slice(rt.alloc(), b"bplist00\xa2\x01\x02"));
@@ -131,7 +131,7 @@ fn an_integer_is_no_key(rt: HostRuntime) {
     expect_holds(&rt, "of_integer_key", &[b'x'; 2048]);
 }
 
-// Checks that this is written without a value, and flushed.
+// Checks that `convert_binary` makes no value of these bytes, and writes and flushes `wanted`.
 fn expect_sent(rt: &(impl Abort + AllocGlobal), bytes: &[u8], wanted: &[u8]) {
     let mut writer = sound(rt);
     let done = must(rt, convert_binary(rt.alloc(), bytes, &mut writer));

@@ -29,7 +29,7 @@ fn pair(rt: &(impl Abort + AllocGlobal), key: &str, value: Value) -> Value {
     Value::Dictionary(pairs)
 }
 
-// Returns the value in this many arrays, after a number.
+// Returns the value inside this many arrays. In each of them a number precedes what is nested.
 fn in_arrays(rt: &(impl Abort + AllocGlobal), value: Value, levels: u32) -> Value {
     let mut whole = value;
     for level in 0..levels {
@@ -38,8 +38,9 @@ fn in_arrays(rt: &(impl Abort + AllocGlobal), value: Value, levels: u32) -> Valu
     whole
 }
 
-// Returns a number that is nested in arrays and dictionaries. Of a hundred levels one is a
-// dictionary, and one is an array in which other items precede the nested one.
+// Returns a number that is nested in arrays and dictionaries. Of every hundred levels, one is a
+// dictionary, and one is an array in which a string follows the nested value. In the other arrays a
+// number precedes it.
 fn nested(rt: &(impl Abort + AllocGlobal), number: u32) -> Value {
     let mut value = Value::from(number);
     for _ in 0..LEVELS / 100 {

@@ -13,7 +13,7 @@ use std::io::{ErrorKind, Write};
 use std::process::Abort;
 use std::rt::Files;
 
-// The file of `true`, and that of the string of the ASCII input.
+// The binary files of the Boolean `true`, and of the string that the ASCII input contains.
 const TRUTH: &[u8] = b"bplist00\
     \x09\x08\
     \0\0\0\0\0\0\x01\x01\0\0\0\0\0\0\0\x01\0\0\0\0\0\0\0\0\0\0\0\0\0\0\0\x09";

@@ -86,7 +86,7 @@ module _ (m : ℕ) (bytes : List ℕ) where
   pub xml-end : (place : ℕ) → m ≤ place → xml_place place cut ≡ None
   xml-end place h = xml-past _ (omega (arith, length-take {A = ℕ}))
 
--- the result depends on where the search began only by the offset that it found
+-- if searches from two offsets stop at the same offset, their results are equal
 pub moved : (start place : ℕ) (bytes : List ℕ) → past_white start bytes ≡ past_white place bytes
     → xml_place start bytes ≡ xml_place place bytes
 moved start place bytes e = ap (λ q. cond (get_or bytes q 0 == 60) (Some q) None) e

@@ -34,7 +34,7 @@ text-or-all InvalidOctalString E h = tt
 text-or-all InvalidUtf16String E h = tt
 text-or-all kind E h = h
 
--- the items that remain before the first call
+-- two functions that agree on known bytes yield the same items that remain before the first call
 pub same-items : (k l : Option (List ℕ)) (f g : List ℕ → List Item) → l ≡ k
     → IfSome k (λ bytes. f bytes ≡ g bytes) → option_map f l ≡ option_map g k
 same-items None l f g e h = rw e refl

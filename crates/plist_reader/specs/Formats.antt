@@ -35,7 +35,8 @@ abbrev pub text_format : Option ℕ → Format
 text_format None = Ascii
 text_format (Some place) = Xml place
 
--- the format: binary by the first eight bytes, XML by the first after white space, else ASCII
+-- the format: binary if the bytes begin with the magic; XML if the first byte after a byte order
+-- mark and white space is `<`; and otherwise ASCII
 unfoldable pub format_of : List ℕ → Format
 format_of bytes =
     if starts_with nat_eq bytes magic then Binary

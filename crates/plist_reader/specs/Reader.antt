@@ -101,7 +101,7 @@ module _ {R : Type 0} {g : Ghosts R} (known : R → Option (List ℕ)) where
   abbrev pub reader_items : Reader R g → Option (List Item)
   reader_items reader = state_items reader.state
 
--- the source in a state, which has none only while the first item is read
+-- the source in a state, or `None` while the first item is read
 abbrev pub source_in : {R : Type 0} {g : Ghosts R} → State R g → Option R
 source_in (state.Unread source limits dialect) = Some source
 source_in (state.Binary reader) = Some (binary.binary_source reader)
@@ -111,7 +111,7 @@ source_in (state.Limited reader) = Some (stream.stream_source (ascii.device_of
 source_in (state.Refused source) = Some source
 source_in state.Moved = None
 
--- the source of a reader, which has none only while the first item is read
+-- the source of a reader, or `None` while the first item is read
 abbrev pub reader_source : {R : Type 0} {g : Ghosts R} → Reader R g → Option R
 reader_source reader = source_in reader.state
 
@@ -146,7 +146,8 @@ is_limited_in state.Moved = false
 abbrev pub reader_is_limited : {R : Type 0} {g : Ghosts R} → Reader R g → Bool
 reader_is_limited reader = is_limited_in reader.state
 
--- the first remaining item, if there is one, is yielded, or an `Io` or `OutOfMemory` that is last
+-- the first remaining item is yielded, or `None` if no item remains; `Io` is always possible, and
+-- `OutOfMemory` if an item remains, and no item remains after them
 abbrev pub GivesItem : (before : List Item) → Option (Result Event Error) → (after : List Item)
     → Type 0
 GivesItem before item after =
@@ -173,7 +174,8 @@ abbrev pub EndsAfter : Option (Result Event Error) → Type 0 → Type 0
 EndsAfter item ended = MatchOption item ended (λ answer.
     IfErr answer (λ error. MatchText (kind_of (error_kind_of error)) ⊤ ended))
 
--- one of the readers can yield a fault of this kind, that of a limit only under limits
+-- one of the readers can yield a fault of this kind; the fault of a limit is possible only under
+-- limits
 abbrev pub IsReaderFault : (limited : Bool) → FaultKind → Type 0
 IsReaderFault limited XmlUnsupported = ⊤
 IsReaderFault limited kind = MatchText kind ⊤ (MatchGiven kind ⊤ ⊤ ⊤ (limited ≡ true))

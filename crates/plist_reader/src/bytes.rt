@@ -66,7 +66,8 @@ impl<R: Source> BufferedSource<R> {
         }
     }
 
-    // Reads from the source if no byte is buffered. None is buffered afterwards only at the end.
+    // Reads from the source if no byte is buffered. After a success a byte is buffered, unless none
+    // remains.
     fn fill(&mut self) -> Result<(), io::Error>
         ensures bytes { OnOk result (stream_bytes_left R.known self.new
             ≡ stream_bytes_left R.known self.old) }

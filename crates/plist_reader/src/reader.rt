@@ -147,8 +147,8 @@ impl<R: Source> Reader<R> {
         Reader::with_dialect(alloc, source, Dialect::Lax)
     }
 
-    /// Creates a reader that reads a source in ASCII in this dialect, and a binary source as
-    /// [`Reader::new`] does.
+    /// Creates a reader that reads ASCII in this dialect, and a binary source as [`Reader::new`]
+    /// does.
     pub fn with_dialect(alloc: Global, source: R, dialect: Dialect) -> Self
         ensures items { reader_items R.known result
             ≡ option_map (items_of_dialect dialect) (R.known source) }

@@ -284,7 +284,12 @@ fn idiom_text<R: Files + AllocGlobal>(
     }
 }
 
-/// Prints a line for each idiom that the file of this name lists.
+/// Prints a line for each idiom that the file of this name lists. The error of an idiom is printed
+/// in its line.
+///
+/// # Errors
+///
+/// `Failure::Plist` if the file can't be read, a line can't be printed or an allocation fails.
 pub fn print<R: Files + AllocGlobal, W: Write>(
     rt: &R,
     alloc: Global,

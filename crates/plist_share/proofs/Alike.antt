@@ -1,4 +1,4 @@
--- The derived test of collections decides whether they have the same key.
+-- The derived test of collections decides whether they have the same node (`node_of`).
 use Rattle.std.proofs.Common.{◌≡◌, Bool, true, ◌&&◌, ap}
 use Rattle.std.specs.Bool.{Decides}
 use Rattle.std.specs.Cmp.{booleans_Decides}

@@ -198,7 +198,7 @@ module _ (es : List PlainEvent) (scalar class : ℕ → ℕ) (count : ℕ) (keys
   by_scalar (Array ts) p c s a d h = absurd (a (ap shape_of (starts_array s)))
   by_scalar (Dictionary ms) p c s a d h = absurd (d (ap shape_of (starts_dictionary s)))
 
--- after a collection's class is set
+-- the class of a collection is set
 module _ (classes : List ℕ) (p c : ℕ) where
   abbrev after : ℕ → ℕ
   after = nth_number (set classes p c)

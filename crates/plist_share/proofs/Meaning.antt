@@ -13,7 +13,7 @@ use Rattle.plist_binwrite.proofs.Uniques.{all_both}
 use Rattle.plist_share.specs.Distinct.{subtrees, subtrees_of_items, subtrees_of_pairs}
 
 module _ (table : List TableEntry) where
-  -- the object of a number
+  -- this is the object of the number
   pub record Stands (number : ℕ) (object : Object) : Type 0 where
     pub entry : TableEntry
     pub found : slice_get table number ≡ Some entry
@@ -85,7 +85,7 @@ module _ (table : List TableEntry) where
         λ i. MemberAnd (the_text k l (the_scalar _ _ (one_object m.0 n.0)) i)
         (one_tree t u p.1 m.1 n.1 i) (one_pairs ms ns ps m.2 n.2 i)
 
-  -- a number of the tree, below the number of objects
+  -- the tree has a number, which is below the number of objects
   abbrev pub Numbered : Tree → Type 0
   Numbered tree = (number : ℕ) × (number < length table) × Means tree number
 

@@ -1,2 +1,2 @@
--- The definitions that bodies and proofs use, but no public clause does.
+-- Definitions that are used by bodies and proofs, but by no public clause.
 pub mod Nodes

@@ -17,7 +17,7 @@ pub enum DeviceFault {
     Fails(ErrorKind),
     /// A read returns no byte, or a write accepts none. The write is counted as a failure.
     MovesNothing,
-    /// From then on the device has only this many bytes.
+    /// From this call on the device has only this many bytes.
     Shrinks(usize),
 }
 
@@ -45,7 +45,7 @@ pub struct Device {
     pub bytes: Vec<u8>,
     /// The number of bytes that `read` has returned, or `write` has accepted.
     pub moved: usize,
-    /// The offset of the last call, or 0 if that asked for the size.
+    /// The offset of the last call, or 0 if that call requested the size.
     pub place: u64,
     /// The value of `moved` at the last flush.
     pub flushed: usize,

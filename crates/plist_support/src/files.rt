@@ -15,9 +15,9 @@ pub fn bytes_of(alloc: Global, digits: &str) -> Result<Vec<u8>, Wrong> {
     Ok(bytes)
 }
 
-/// Makes a file of the magic, `body`, which is the objects and the offset table, and a trailer. The
-/// widths are those of an offset and of a reference, in bytes. The numbers are the number of
-/// objects, the index of the root, and the offset of the table.
+/// Makes a file of the magic, `body` and a trailer. `body` consists of the objects and the offset
+/// table. The widths are those of an offset and of a reference, in bytes. The numbers are the
+/// number of objects, the index of the root, and the offset of the table.
 pub fn file_of(
     alloc: Global,
     body: &[u8],

@@ -1,7 +1,8 @@
 //! Helpers that the examples share: files in hexadecimal, events as words, and devices that fail.
 //!
-//! Nothing here ends the process: if an example doesn't find what it expects, its test fails with a
-//! [`Wrong`].
+//! Nothing here ends the process: if an example doesn't find what it expects, or a word or digits
+//! can't be parsed, the error is a [`Wrong`], with which the test fails. If an allocation fails,
+//! the error is `AllocError` or [`Wrong::OutOfMemory`].
 #![tactic(auto)]
 
 mod device;

@@ -26,7 +26,7 @@ pub enum By {
     Tight,
     /// The ASCII reader over a [`Sequential`], which reads the source from its start on.
     Sequential,
-    /// The reader that chooses by the format of the first bytes.
+    /// The reader of either format, which the first bytes determine.
     Either,
 }
 
@@ -113,8 +113,8 @@ fn run_over(alloc: Global, reading: Reading<'_>, most: usize) -> Result<(String,
     Ok((found, device.calls))
 }
 
-/// Checks that a device that moves one byte per call yields these items, and that a failure of any
-/// call that is made for an item replaces that item.
+/// Checks that these items are read from a device that moves one byte per call, and that the
+/// failure of a call replaces the item for which the call was made.
 pub fn expect_on_devices(alloc: Global, by: By, bytes: &[u8], items: &str) -> Result<(), Wrong> {
     let reading = Reading { by, bytes };
     let (mut before, mut made) = run_over(alloc, reading, 0)?;

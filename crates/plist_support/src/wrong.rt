@@ -24,7 +24,7 @@ impl From<AllocError> for Wrong {
     }
 }
 
-/// Fails with these words.
+/// Fails with these words, or with `OutOfMemory` if they couldn't be allocated.
 pub fn fail<T>(text: Result<String, AllocError>) -> Result<T, Wrong> {
     Err(Wrong::Words(text?))
 }

@@ -6,8 +6,8 @@ use Rattle.plist_commands.specs.Commands.{IsNoCommand, IsStatusAfter, PlainComma
 use Rattle.plist_commands.specs.Failures.{CommandOutcome, OfPlist}
 use Rattle.plist_commands.specs.Messages.{PlainMessage, Fault, Usage}
 
--- the status of a run with some arguments: either they ask for no command, nothing is printed, and
--- the usage is reported; or they ask for one, and the status follows from its outcome
+-- this is the status of a run with some arguments: either they ask for no command, nothing is
+-- printed, and the usage is reported; or they ask for one, and the status follows from its outcome
 abbrev pub RunsWords : {O E : Type 0} → (reports : E → PlainMessage → Bool → E → Type 0)
     → (status : ℕ) → (old new : O) → (err told : E) → Type 0
 RunsWords reports status old new err told =
@@ -17,7 +17,7 @@ RunsWords reports status old new err told =
     ⊎ ((asked : PlainCommand) × (words ≡ words_for asked)
     × ((answer : CommandOutcome) × IsStatusAfter reports answer status err told)))
 
--- the exit code is the status, or 1 if there is none
+-- the exit code is the status, or 1 after an error
 abbrev pub IsStatusOf : Result ℕ Error → (code : ℕ) → Type 0
 IsStatusOf answer code = MatchResult answer (λ status. code ≡ status) (λ _. code ≡ 1)
 

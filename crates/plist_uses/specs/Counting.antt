@@ -27,11 +27,11 @@ is_other (ScalarEvent (String text)) = false
 is_other (ScalarEvent scalar) = true
 is_other event = false
 
--- the number of events that pass, or the greatest number of 64 bits if there are more
+-- the number of events that pass, or 2^64 - 1 if there are more
 abbrev pub count_passing : (PlainEvent → Bool) → List PlainEvent → ℕ
 count_passing passes events = min (length (filter passes events)) (2 ^ 64 - 1)
 
--- the counts say how many arrays, dictionaries, strings and others these events have
+-- the counts say how many arrays, dictionaries, strings and other scalars these events have
 pub record AreCounts (events : List PlainEvent) (counts : Counts) : Type 0 where
   pub arrays : counts.arrays ≡ count_passing is_array events
   pub dictionaries : counts.dictionaries ≡ count_passing starts_dictionary events
@@ -61,7 +61,7 @@ IsRefusedBy items answer = IfErr answer (λ error.
 abbrev pub nothing : Counts
 nothing = record { arrays = 0; dictionaries = 0; texts = 0; others = 0 }
 
--- one more if it passes, up to the greatest number of 64 bits
+-- one more if the event passes, up to 2^64 - 1
 abbrev pub one_more : (passes : Bool) → ℕ → ℕ
 one_more passes count = cond passes (min (count + 1) (2 ^ 64 - 1)) count
 

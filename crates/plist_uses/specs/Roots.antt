@@ -9,14 +9,14 @@ use Rattle.plist.specs.declared.value.Value.{Value}
 use Rattle.plist.specs.Accessors.{text_in}
 use Rattle.plist.specs.ValueTrees.{tree_of}
 
--- the tree of the Uid at `root` among the names of the archive
+-- this is the tree of the Uid at `root` among the names of the archive
 abbrev pub IsRootOf : (archive : Value) → (root : Tree) → Type 0
 IsRootOf archive root =
     (objects : List Value) × (names : List (List ℕ × Value)) × (uid : ℕ)
     × IsArchiveOf archive objects names × IsUidAt (codes "root") names uid
     × (resolved_tree (map tree_of objects) uid ≡ Ok root)
 
--- the archive names no Uid `root`
+-- the archive has no Uid at `root` among its names
 abbrev pub HasNoRoot : (archive : Value) → Type 0
 HasNoRoot archive = (objects : List Value) × (names : List (List ℕ × Value))
     × IsArchiveOf archive objects names × ((uid : ℕ) → IsUidAt (codes "root") names uid → ⊥)
@@ -28,7 +28,7 @@ HasFaultyRoot archive error =
     × IsArchiveOf archive objects names × IsUidAt (codes "root") names uid
     × IsFaultOf (resolved_tree (map tree_of objects) uid) error
 
--- the value isn't an archive, or its root has that fault
+-- the error says that the value isn't an archive, or is that of resolving its root
 abbrev pub RefusesRoot : (archive : Value) → KeyedError → Type 0
 RefusesRoot archive error = IsNoArchive archive error ⊎ HasFaultyRoot archive error
 

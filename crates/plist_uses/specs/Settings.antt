@@ -47,7 +47,7 @@ abbrev pub text_at : (name : List ℕ) → Settings → Option (List ℕ)
 text_at name settings =
     option_and_then (λ setting. text_in (tree_of setting)) (lookup (bytes_eq name) (settings_in settings))
 
--- the bytes are a file of another file's settings, after the name was set
+-- the bytes are a file of another file's settings, except that the name has this setting
 abbrev pub IsChanged : (known : Option (List ℕ)) → (name : List ℕ) → (setting : Value)
     → (bytes : List ℕ) → Type 0
 IsChanged known name setting bytes =

@@ -75,7 +75,8 @@ impl Settings {
         self.pairs.get(name)
     }
 
-    /// Sets a name, and leaves the others and their order unchanged. The old setting is dropped.
+    /// Sets the setting of a name, and leaves the others and their order unchanged. The old setting
+    /// of the name is dropped.
     ///
     /// # Errors
     ///

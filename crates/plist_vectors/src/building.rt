@@ -50,7 +50,8 @@ fn text(rt: &(impl Abort + AllocGlobal), text: &str) -> String {
     must(rt, String::from_str(rt.alloc(), text))
 }
 
-// Returns the dictionary of a, which is an array of the string x, and of b, which is the string a.
+// Returns a dictionary with an array of the string `x` at the key `a`, and with the string `a` at
+// the key `b`.
 fn two_pairs(rt: &(impl Abort + AllocGlobal)) -> Value {
     let mut items = Vec::new(rt.alloc());
     must(rt, items.push(Value::String(text(rt, "x"))));

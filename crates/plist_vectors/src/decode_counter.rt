@@ -1,5 +1,5 @@
-//! A ledger can be the counter of a reader. Its count doesn't exist at run time, so this test can't
-//! check it; the examples in `decoded` check counts.
+//! A `Ledger` of the kit can be the counter of a reader. Its count doesn't exist at run time, so
+//! this test can't check it; the examples in `decoded` check counts.
 
 ghost use Rattle.std.specs.Prelude.{◌≡◌, ◌<◌};
 
@@ -10,7 +10,7 @@ use std::alloc::Global;
 use std::marker::Brand;
 use std::sync::ledger::{Blank, Ledger};
 
-// Returns how many items a file has, while a ledger counts.
+// Returns how many items a reader yields for a file while a ledger counts what it decodes.
 fn items_counted<L: Ledger>(alloc: Global, bytes: &[u8], blank: Blank) -> u64
     requires name { blank.name ≡ L.name }
     requires parts { blank.parts ≡ L.parts }

@@ -8,8 +8,8 @@ use plist_support::{Device, Disk, expect_io};
 use std::io::ErrorKind;
 use std::process::Abort;
 
-// Reads the size, bytes that a short read of a window doesn't reach, and bytes that are longer than
-// a window. Returns which of the three failed, and the kind of its error.
+// Reads the size, bytes that a short read of a window doesn't reach, and more bytes than a window
+// has. Returns which of the three failed, and the kind of its error.
 fn first_failure<S: Source>(source: &mut S) -> Option<(u64, ErrorKind)> {
     if let Err(error) = source.size() {
         return Some((0, error.kind()));
@@ -47,8 +47,9 @@ const KINDS: [ErrorKind; 7] = [
     ErrorKind::Other,
 ];
 
-// The size takes one seek. A window takes a seek and a read, and so do the bytes past it, and more
-// bytes than a window. A failure of any of these is passed on, and nothing is tried again.
+// The size takes one seek. Filling a window takes a seek and a read, and so do a read of the bytes
+// past it, and a read of more bytes than a window has. A failure of any of these is passed on, and
+// nothing is tried again.
 #[test]
 fn tries_nothing_twice(rt: HostRuntime) {
     for kind in KINDS {

@@ -67,7 +67,7 @@ fn errors_of_devices(rt: HostRuntime) {
     expect_handed_on(&rt, b"bplist00", 3);
     let truth = must(&rt, file(rt.alloc(), "09 08", [1, 1], [1, 0, 9]));
     expect_handed_on(&rt, truth.as_slice(), 12);
-    // These are the magic, the byte order mark, white space, and then the text.
+    // These calls read the magic, the byte order mark, white space, and then the text.
     for call in 0..14 {
         expect_handed_on(&rt, b"  'a'", call);
     }

@@ -145,8 +145,8 @@ const OF_ONE: [u32; 4] = [0, 32_768, 65_536, 98_304];
 const OF_LAST: [u32; 4] = [57_344, 122_880, 188_416, 253_952];
 
 // The number of windows doubles when a window is filled again for the ninth time, after which the
-// four parts have two slots. The parts of the last slot have two slots only when it doubles once
-// more, at the seventeenth such fill after that.
+// four parts have two slots. The parts of the last slot have two slots only when the number doubles
+// once more, at the seventeenth such fill after that.
 #[test]
 fn windows_grow(rt: HostRuntime) {
     assert_eq!(rt; calls_of_rounds(&rt, true, OF_ONE, 3), 24);
@@ -336,7 +336,7 @@ fn a_failed_read_takes_nothing(rt: HostRuntime) {
     assert_eq!(rt; device.place, 1);
 }
 
-// The bytes end where a read returns none.
+// If a read returns no byte, the error is `UnexpectedEof`, with the offset of that read.
 #[test]
 fn ends_where_no_byte_is(rt: HostRuntime) {
     let mut device = Device::new(sample(&rt, 8), u64::MAX);

@@ -1,4 +1,4 @@
-//! What the tests share. A test ends if it doesn't find what it expects.
+//! What the tests share. A test panics if it doesn't find what it expects.
 
 mod file;
 mod words;

@@ -47,7 +47,7 @@ CannotEnd (Items items ∷ outer) = ⊥
 CannotEnd (Pairs (run.Pairs pairs) ∷ outer) = ⊥
 CannotEnd (Pairs (run.AfterKey pairs key) ∷ outer) = ⊤
 
--- the tree of an open collection, if it ends
+-- the tree that an open collection becomes if it ends
 abbrev pub ended_tree : OpenCollection → Tree
 ended_tree (InArray items) = Array (trees_of items)
 ended_tree (InDictionary pairs) = tree.Dictionary (members_of pairs)

@@ -20,7 +20,7 @@ same_values value other = same (tree_of value) (tree_of other)
 abbrev pub same_values_at : (pairs others : List (List ℕ × Value)) → Bool
 same_values_at pairs others = same_pairs same_values pairs others
 
--- all these pairs are equal
+-- the two values of each of these pairs are equal
 abbrev pub are_same : List Pair → Bool
 are_same [] = true
 are_same (pair ∷ pairs) = same_values pair.value.now pair.other.now && are_same pairs
@@ -46,8 +46,8 @@ are_covered (pair ∷ pairs) others =
     option_eq same_values (Some pair.1) (lookup (bytes_eq pair.0) others)
     && are_covered pairs others
 
--- `answer` and the pairs deferred afterwards decide together what `equal` and the pairs deferred
--- before do. No more than `most` values were deferred.
+-- `answer` is true and all pairs deferred afterwards are equal, if and only if `equal` is true and
+-- all pairs deferred before are. At most `most` values were deferred.
 abbrev pub Compares : (equal : Bool) → (most : ℕ) → (before : DeferredPairs) → (answer : Bool)
     → (after : DeferredPairs) → Type 0
 Compares equal most before answer after =

@@ -151,7 +151,8 @@ expect_around (InArray items) = Items
 expect_around (InDictionary pairs) = Pairs
 expect_around (AfterKey pairs key) = Pairs
 
--- what is expected after `expected_within`: after a key's value, first the other pairs
+-- what is expected after `expected_within`: if `expected_within` is the value of a key, the other
+-- pairs and then `round`, and otherwise `round` alone
 abbrev stack_within : OpenCollection → (round : Stack) → Stack
 stack_within (AfterKey pairs key) round = Pairs ∷ round
 stack_within collection round = round
@@ -279,19 +280,19 @@ refusal-last (Within (InDictionary ps) outer) e = refl
 refusal-last (Within (AfterKey ps k) outer) e = refl
 refusal-last (Complete t) e = refl
 
--- a collection that takes a value still does with last values
+-- a collection that takes a value still takes one after `last_wins_within`
 takes-last : (c : OpenCollection) → TakesValue c → TakesValue (last_wins_within c)
 takes-last (InArray ts) ok = ok
 takes-last (InDictionary ps) ok = ok
 takes-last (AfterKey ps k) ok = ok
 
--- collections that take values still do with last values
+-- collections that take values still take them after `last_wins_within`
 all-take-last : (outer : List OpenCollection) → AllTakeValue outer
     → AllTakeValue (map last_wins_within outer)
 all-take-last [] ok = tt
 all-take-last (c ∷ outer) ok = (takes-last c ok.0, all-take-last outer ok.1)
 
--- nested collections are still nested with last values
+-- nested collections are still nested after `last_wins_so_far`
 nested-last : (u : Unfinished) → IsNested u → IsNested (last_wins_so_far u)
 nested-last NotBegun ok = tt
 nested-last (Within c outer) ok = all-take-last _ ok

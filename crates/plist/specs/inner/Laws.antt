@@ -21,11 +21,12 @@ use Rattle.plist.specs.inner.Following.{refused-ends, taken-continues, accepted-
 abbrev IsForOrder : FaultKind → Type 0
 IsForOrder kind = MatchKind kind (Unit {0}) ⊥ ⊥
 
--- two equal kinds are both that of an event that can't come next, if one is
+-- if a kind is that of an event that can't come next, so is an equal kind
 for_order : (kind other : FaultKind) → Some other ≡ Some kind → IsForOrder other → IsForOrder kind
 for_order kind other p x = subst IsForOrder (same_Some other kind p) x
 
--- the kind of a rejected change is that of an event that can't come next, if the given kind is
+-- if the given kind is that of an event that can't come next, so is the kind with which a change is
+-- rejected
 change-order : (c : Change) (kind other : FaultKind) → if_refused c other ≡ Some kind
     → IsForOrder other → IsForOrder kind
 change-order change.Refused kind other p x = for_order _ _ p x

@@ -56,7 +56,8 @@ covered seen (MemberAnd l u ms) ns =
           let n = or_parts (bytes_eq k l) (is_among k seen) fresh in f k t n.1 (rw n.0 e))),
     )
 
--- a key of the second is in the first: the key at the front is, and the later ones are
+-- a key of the second is in the first if the key at the front of the second is, and if the later
+-- ones are
 key_there : (b : Bool) (ms : Members) (l : List ℕ) (u : Tree) (ns : Members) (k : List ℕ)
     → bytes_eq k l ≡ b → is_some (first_value l ms) ≡ true
     → is_some (cond (bytes_eq k l) (Some u) (first_value k ns)) ≡ true
@@ -84,15 +85,15 @@ keys_there ms (MemberAnd l u ns) =
           (rest.1 (λ k e. f k (key_more (bytes_eq k l) u (first_value k ns) e))),
     )
 
--- `AreSameAt` in two parts: the first value is the same in the second, and the second isn't there
--- alone
+-- `AreSameAt` in two parts: a first value is the same as the second one, and there is no second
+-- value without a first one
 at_each : (a b : Option Tree) → AreSameAt a b
     ↔ (((t : Tree) → a ≡ Some t → AreSameAt (Some t) b) × (is_some b ≡ true → is_some a ≡ true))
 at_each None None = (λ h. (λ t e. absurd (cc), λ e. e), λ f. tt)
 at_each None (Some u) = (λ h. absurd h, λ f. let h = f.1 refl in absurd (cc))
 at_each (Some t) b = (λ h. (λ s e. rw (← same_Some t s e) h, λ e. refl), λ f. f.0 t refl)
 
--- dictionaries are the same if and only if they are at every key
+-- dictionaries are the same if and only if their values are the same at every key
 pub dictionaries_alike : (ms ns : Members) → (same (Dictionary ms) (Dictionary ns) ≡ true)
     ↔ ((k : List ℕ) → AreSameAt (first_value k ms) (first_value k ns))
 dictionaries_alike ms ns = (

@@ -6,13 +6,13 @@ use Rattle.std.specs.Map.{values_of}
 use Rattle.plist.specs.declared.value.Value.{Value, fold-Value}
 use Rattle.plist.specs.declared.value.Value.TheOpen.{Dictionary-F, Value-F}
 
--- one more than the weights in a collection, or 1 for a scalar
+-- one more than the sum of the weights in a collection, or 1 for a scalar
 abbrev pub weight_step : Value-F ℕ ℕ → ℕ
 weight_step (Value-F.Array items) = 1 + sum items.items
 weight_step (Value-F.Dictionary pairs) = 1 + pairs
 weight_step other = 1
 
--- the weights of a dictionary's values together
+-- the sum of the weights of a dictionary's values
 abbrev pub pairs_step : Dictionary-F ℕ ℕ → ℕ
 pairs_step dictionary = sum (values_of dictionary.pairs)
 
@@ -34,9 +34,9 @@ others (value ∷ values) = values
 abbrev pub to_drop : List Value → ℕ
 to_drop values = weights values * weights values + weights (others values)
 
--- `joined` has the values of `left` and those of `below`, the content of a collection. There are
--- fewer values than with the collection; or there are as many, and no more of them follow the first
--- one than the collection contained.
+-- `joined` has the values of `left` and those of `below`, the content of a collection. It has fewer
+-- values than `left`, the collection and `below` have together; or it has as many, and those after
+-- the first one are no more than those in `below`.
 abbrev pub IsLess : (joined left below : List Value) → Type 0
 IsLess joined left below =
     (weights joined < weights left + 1 + weights below)

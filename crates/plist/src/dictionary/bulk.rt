@@ -1,4 +1,4 @@
-//! Calls that visit all pairs of a dictionary.
+//! Calls that insert, keep, sort or copy many pairs.
 
 ghost use Rattle.std.specs.Prelude.{◌≡◌, IfOk, OnErr, OnOk, IsPermutation, IsSorted};
 ghost use Rattle.std.specs.Cmp.Lexicographic.{slice_cmp};
@@ -25,6 +25,7 @@ impl Dictionary {
     }
 
     /// Inserts the pairs, in their order. Values that are replaced are dropped without recursion.
+    /// The caller has to prove that the iterator ends.
     ///
     /// # Errors
     ///
@@ -40,7 +41,8 @@ impl Dictionary {
         self.pairs.extend(more)
     }
 
-    /// Makes a dictionary from these pairs, inserted in their order.
+    /// Makes a dictionary from these pairs, inserted in their order. The caller has to prove that
+    /// the iterator ends.
     ///
     /// # Errors
     ///

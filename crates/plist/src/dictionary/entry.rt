@@ -132,7 +132,8 @@ impl<'a> VacantEntry<'a> {
         &self.key
     }
 
-    /// Adds the key with this value, as the last pair.
+    /// Adds the key with this value, as the last pair, and returns a mutable reference to the
+    /// value.
     ///
     /// # Errors
     ///
@@ -184,8 +185,8 @@ impl<'a> Entry<'a> {
         }
     }
 
-    /// Like [`Entry::or_insert`], but with the value that the closure returns. The closure is
-    /// called only if the key isn't there.
+    /// Does what [`Entry::or_insert`] does, but with the value that the closure returns. The
+    /// closure is called only if the key isn't there.
     ///
     /// # Errors
     ///

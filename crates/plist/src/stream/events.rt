@@ -35,8 +35,8 @@ enum Next<'a> {
 ///
 /// # Errors
 ///
-/// `OutOfMemory`, without an offset, in place of a start; then the iterator has ended. No other
-/// event allocates memory.
+/// `OutOfMemory`, without an offset, in place of a start if an allocation fails. The iterator has
+/// ended then. No other event allocates memory.
 #[derive(Drop)]
 pub struct Events<'a> {
     value: Option<&'a Value>,

@@ -36,7 +36,7 @@ module _ {R : Type 0} (failures : R → Option ℕ) (old : Input R) where
   CountsRead answer new = MatchResult answer (λ _. failures new.inner ≡ failures old.inner)
       (λ f. (f ≡ fault.Io) × ReadFailed new)
 
--- the error of a failed read is stored
+-- if the fault is `Io`, the error of the failed read is stored
 abbrev pub HasFailed : {R : Type 0} → TokenFault → Input R → Type 0
 HasFailed fault.Io input = IsSome input.failure
 HasFailed other input = ⊤
@@ -111,7 +111,7 @@ module _ {R : Type 0} (known : R → Option (List ℕ)) where
   DropsFirst count old new =
       IfKnown (unread known old) (λ xs. unread known new ≡ Some (drop count xs))
 
-  -- the byte is the first of those that remain, or `None` if none do, and wasn't taken
+  -- the byte is the first of those that remain, or `None` if no byte remains, and it wasn't taken
   abbrev pub Looks : Input R → Option ℕ → Input R → Type 0
   Looks old byte new =
       IfKnown (unread known old) (λ xs. (unread known new ≡ Some xs) × (byte ≡ first xs))
@@ -133,7 +133,7 @@ module _ {R : Type 0} (known : R → Option (List ℕ)) where
       IfKnown (unread known old) (λ xs. (unread known new ≡ Some xs)
       × (begins_with byte xs ≡ false))
 
-  -- the bytes that remain begin with a stop
+  -- the bytes that remain, if there are any, begin with a stop
   abbrev pub IsAtStop : Stop → Input R → Input R → Type 0
   IsAtStop stop old new = IfKnown (unread known old)
       (λ xs. IfKnown (unread known new) (λ ys. run (stops stop) ys ≡ 0))
@@ -195,7 +195,7 @@ module _ {R : Type 0} (known : R → Option (List ℕ)) where
   GivesBy view front old answer new =
       GivesFront front (unread known old) old.taken (unread known new) new.taken (said view answer)
 
-  -- `OutOfMemory` is returned only for a string
+  -- `OutOfMemory` is returned only for a token that is a string, an integer or a string's fault
   abbrev pub AllocatesForText : (List ℕ → Token) → Input R → TokenFault → Type 0
   AllocatesForText front old f =
       f ≡ fault.OutOfMemory → IfKnown (unread known old) (λ xs. IsTextToken (front xs).gives)

@@ -35,7 +35,7 @@ abbrev pub said : {X A : Type 0} → (view : X → A) → Result X TokenFault
 said view (Ok x) = Some (Ok (view x))
 said view (Err f) = option_map (λ kind. Err kind) (kind_in_bytes f)
 
--- the meaning of a string, as an event or as the fault that it isn't UTF-8
+-- the result has the meaning of this string: an event, or the fault that the string isn't UTF-8
 abbrev pub Means : Result Event TokenFault → Result (Option PlainEvent) FaultKind → Type 0
 Means answer outcome = MatchResult answer
     (λ event. (outcome ≡ Ok (Some (event_of event))) × IsTextEvent (event_of event))

@@ -7,7 +7,7 @@ use Rattle.plist_binread.specs.declared.trailer.Trailer as code
 use Rattle.plist_binread.specs.declared.head.Head as held
 use Rattle.plist_format.specs.Container.{Trailer, Head, head_at, head_of, head_with, magic, trailer_in}
 
--- a trailer of the code as the format defines it
+-- what contracts see of a trailer that the code has read
 abbrev pub trailer_seen : code.Trailer → Trailer
 trailer_seen t = record {
   offset_width = t.offset_width;
@@ -17,7 +17,7 @@ trailer_seen t = record {
   table = t.table;
 }
 
--- a head of the code as the format defines it
+-- what contracts see of a head that the code has read
 abbrev pub head_seen : held.Head → Head
 head_seen head = record {
   trailer = head.trailer;
@@ -75,7 +75,8 @@ IsHeadBefore trailer bytes head =
     length bytes ≡ trailer + 32
     → head_with bytes trailer (trailer_in (drop trailer bytes)) ≡ Ok (head_seen head)
 
--- if the bytes end with a trailer at this offset, this is their head's error or a failed read's
+-- if the bytes end with a trailer at this offset, the error is that of their head, unless a read or
+-- an allocation failed
 abbrev pub IsFaultBefore : (trailer : ℕ) → List ℕ → Fault → Type 0
 IsFaultBefore trailer bytes fault =
     length bytes ≡ trailer + 32 → MatchFault fault.kind ⊤ ⊤

@@ -60,7 +60,8 @@ index_after_entry index other = index + 1
 abbrev pub index_after_at : List EventEntry → (index : ℕ) → ℕ
 index_after_at entries index = index_after_entry index (entry_at entries index)
 
--- the entry has the index after itself, as a start has while it is open
+-- the index after the entry's tree is the one after the entry itself, as it is while a start is
+-- open
 abbrev pub IsUnclosed : (index : ℕ) → EventEntry → Type 0
 IsUnclosed index entry = index_after_entry index entry ≡ index + 1
 

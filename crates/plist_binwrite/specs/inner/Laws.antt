@@ -21,12 +21,12 @@ by_kind OutOfMemory a b c d f g h = g h
 by_kind PlistTooLarge a b c d f g h = g h
 by_kind kind a b c d f g h = h
 
--- the case of a Boolean that is false
+-- if the Boolean is false, the fact that it selects is the second one
 match_false : (b : Bool) (x y : Type 0) → b ≡ false → MatchBool b x y → y
 match_false true x y e h = absurd (true≢false e)
 match_false false x y e h = h
 
--- the case of a Boolean that is true
+-- if the Boolean is true, the fact that it selects is the first one
 match_true : (b : Bool) (x y : Type 0) → b ≡ true → MatchBool b x y → x
 match_true true x y e h = h
 match_true false x y e h = absurd (false≢true e)
@@ -43,7 +43,7 @@ module _ {W S : Type 0} {g : Ghosts W} {h : SharingGhosts S}
       inr (continue_alike (open_events after) (open_events before ++ event ∷ [])
       (ap (map without_length) h.1 ∙ alike_last (open_events before) event))
 
-  -- what a call of a writer that hasn't failed does satisfies the law
+  -- if the writer hasn't failed, the effect of a call satisfies the law
   taken : (answer : Answer) (after : FileWriter W S g h)
       → TakesEvent before event answer after
       → AnswersByOrder (open_events before) event answer (open_events after) (failed_of after)

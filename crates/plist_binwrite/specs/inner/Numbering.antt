@@ -28,7 +28,8 @@ module _ (given : Classed) where
   abbrev pub NumbersItem : (index : ℕ) → Numbering → Type 0
   NumbersItem index found = IsNumbered (stored_number given found) index
 
-  -- a half of the children of the collection that begins at this index have numbers
+  -- each child in this half of the children of the collection that begins at this index has a
+  -- number
   abbrev pub NumbersHalf : Half → (index : ℕ) → Numbering → Type 0
   NumbersHalf half index found =
       AllByRecursion (IsNumbered (stored_number given found)) (half_of (events_in given) half index)

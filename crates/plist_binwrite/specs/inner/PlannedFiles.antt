@@ -16,7 +16,7 @@ use Rattle.plist_binwrite.specs.declared.plan.FilePlan.{FilePlan}
 use Rattle.plist_binwrite.specs.inner.Laying.{laid_out, with_table_and_trailer}
 use Rattle.plist_binwrite.specs.inner.Planning.{IsNumberingOfEvents, count_of, object_number}
 
--- the objects of a planned file
+-- these are the objects of a planned file
 abbrev pub AreObjectsOf : Classed → FilePlan → (ℕ → Object) → Type 0
 AreObjectsOf given plan objects =
     Describes (events_in given) (object_number given plan.numbering) objects
@@ -37,14 +37,14 @@ pub record IsFilePlan (given : Classed) (plan : FilePlan) : Type 0 where
   pub file : (objects : ℕ → Object) → AreObjectsOf given plan objects → (t : Tree)
       → events_in given ≡ lengthless t → IsFileBy (class_in given) t (file_of plan objects)
 
--- the fault if a file can't be planned: an allocation failed, or the file would have 2^64 bytes or
--- more
+-- the fault says why a file can't be planned: an allocation failed, or the file would have 2^64
+-- bytes or more
 abbrev pub IsPlanFault : Classed → Fault → Type 0
 IsPlanFault given fault = (fault ≡ fault_without_offset OutOfMemory)
     ⊎ ((fault ≡ fault_without_offset PlistTooLarge) × IsOversized (class_in given) (events_in given))
 
 module _ {W : Type 0} (contents : W → Option (List ℕ)) where
-  -- the file is written; or an I/O operation fails, and a prefix of it is
+  -- the file is written; or an I/O operation fails, and a prefix of the file is written
   abbrev pub SendsPlan : Classed → FilePlan → Answer → (old new : W) → Type 0
   SendsPlan given plan (Ok done) old new = (objects : ℕ → Object) → AreObjectsOf given plan objects
       → Appends (contents old) (contents new) (file_of plan objects)

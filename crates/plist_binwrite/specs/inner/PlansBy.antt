@@ -26,7 +26,7 @@ AllHaveNumbers es stored =
 pub record KeepsNumbering (old new : ℕ → ℕ) : Type 0 where
   pub kept : (p : ℕ) → IsNumbered old p → new p ≡ old p
 
--- each class has the number of the one object whose first event is of that class, or none yet
+-- each class has the number of the one object whose first event is of that class, or no number yet
 pub record IsPlan (es : List PlainEvent) (class : ℕ → ℕ) (by_class firsts : List ℕ) : Type 0 where
   pub below : (p : ℕ) → p < length es → class p < length by_class
   pub small : length firsts < 2 ^ 64

@@ -110,14 +110,14 @@ IsOpened old uid object new =
     × (new.ends ≡ old.ends)
 
 -- the state is consistent with these remaining events of the innermost object, which were removed
--- from it
+-- from the state
 abbrev pub IsCheckWith : Check → (left : Events) → Type 0
 IsCheckWith check left =
     IsCheckOf (objects_checked check) (open_uids check) (settled_uids check)
     (left ∷ check_levels check) (get nat_eq check.ends) []
 
 -- the remaining steps, given these remaining events of the innermost object, which were removed
--- from it
+-- from the state
 abbrev pub unchecked_with : Check → (left : Events) → List Step
 unchecked_with check left =
     unchecked_steps_in (objects_checked check) (left ∷ check_levels check) (open_uids check)
@@ -132,8 +132,8 @@ Leaves before after =
     (uid : ℕ) × (open_uids before ≡ uid ∷ open_uids after)
     × (settled_uids after ≡ uid ∷ settled_uids before) × (after.levels ≡ before.levels)
 
--- the end of a Uid's chain: if its object is a Uid, the end of that one, and otherwise the Uid
--- itself
+-- `end` is the end of a Uid's chain: if its object is a Uid, the end of that one, and otherwise the
+-- Uid itself
 abbrev pub HasEnd : Check → (uid end : ℕ) → Type 0
 HasEnd check uid end =
     ((end ≡ uid) × IsNoUid (objects_checked check) uid) ⊎ ((next : ℕ)

@@ -33,7 +33,7 @@ abbrev pub uid_of_event : PlainEvent → Option ℕ
 uid_of_event (ScalarEvent scalar) = number_of_uid scalar
 uid_of_event event = None
 
--- the steps of an event, which are those of the object if it is a Uid
+-- the steps of an event, which are those of the named object if the event is a Uid
 abbrev pub steps_of_event : (follow : ℕ → List Step) → PlainEvent → List Step
 steps_of_event follow (ScalarEvent scalar) =
     option_map_or follow (number_of_uid scalar) (Some (Ok (ScalarEvent scalar)) ∷ [])
@@ -51,7 +51,7 @@ steps_found (Some object) true uid steps = Some (Err (RecursiveUid uid)) ∷ []
 steps_found (Some object) false uid steps = None ∷ (steps object ++ None ∷ [])
 
 module _ (objects : List (List PlainEvent)) where
-  -- the steps of a Uid while the objects on the path are open; `fuel` objects aren't on it
+  -- the steps of a Uid while the objects on the path are open; `fuel` counts the others
   unfoldable pub steps_at : (fuel : ℕ) (path : List ℕ) (uid : ℕ) → List Step
   steps_at zero path uid = steps_found (slice_get objects uid) true uid (λ object. [])
   steps_at (suc fuel) path uid =

@@ -1,4 +1,4 @@
-//! Calls that insert, keep or sort many pairs, and [`Pairs::set`], by which they insert one.
+//! Calls that insert, keep or sort many pairs, and [`Pairs::set`], which inserts one.
 
 ghost use Rattle.std.specs.Prelude.{◌≡◌, IfOk, OnErr, OnOk, IsPermutation, IsSorted, string_bytes};
 ghost use Rattle.std.specs.Cmp.Lexicographic.{slice_cmp};
@@ -59,7 +59,7 @@ impl<V> Pairs<V> {
         }
     }
 
-    /// Inserts the pairs, in their order.
+    /// Inserts the pairs, in their order. The caller has to prove that the iterator ends.
     ///
     /// # Errors
     ///
@@ -81,7 +81,8 @@ impl<V> Pairs<V> {
         Ok(())
     }
 
-    /// Makes a `Pairs` from these pairs, inserted in their order.
+    /// Makes a `Pairs` from these pairs, inserted in their order. The caller has to prove that the
+    /// iterator ends.
     ///
     /// # Errors
     ///

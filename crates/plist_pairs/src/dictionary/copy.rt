@@ -24,7 +24,7 @@ pub trait TryCopy: Sized {
         ensures { IfOk result (λ copy. shown copy ≡ shown self.now) };
 }
 
-// Copies the pairs into others, which must be empty.
+// Copies the pairs into another `Pairs`, which must be empty.
 fn copy_pairs<V: TryCopy + Discard>(
     alloc: Global,
     pairs: &Pairs<V>,

@@ -1,8 +1,9 @@
-//! When pairs are equal.
+//! Decides whether two `Pairs` are equal.
 
 use crate::dictionary::Pairs;
 
-/// Pairs are equal if both have equal values at each key of either. Their order doesn't matter.
+/// Two `Pairs` are equal if they have the same keys, with equal values. The order of the pairs
+/// doesn't matter.
 impl<V: PartialEq> PartialEq for Pairs<V> {
     ghost use Rattle.plist_pairs.specs.Equal.{same_pairs};
     ghost use Rattle.plist_pairs.specs.inner.PairsSame.{same_pairs_partial};

@@ -1,4 +1,4 @@
-//! Pairs by their indices, for calls that look up a key only once.
+//! Access to pairs by index, for calls that look up a key only once.
 
 ghost use Rattle.std.specs.Prelude.{◌≡◌, ◌<◌, ◌++◌, ◌∷◌, Some, MatchOption, slice_get, swap, take, [], length, string_bytes, OnOk, IfErr, OnErr};
 ghost use Rattle.std.specs.Str.{bytes_eq};
@@ -85,7 +85,7 @@ impl<V> Pairs<V> {
         self.alloc
     }
 
-    /// Returns the number of pairs. Its contract also states that their keys are distinct.
+    /// Returns the number of pairs. The contract also states that their keys are distinct.
     #[tactic(auto, using(crate::proofs::PairColumns::no_keys))]
     pub fn pair_count(&self) -> usize
         ensures count { result ≡ length self.now }

@@ -8,8 +8,8 @@ use std::io::Write;
 use std::process::Abort;
 use std::rt::Files;
 
-// Returns a word of a line. After an `@` follows the name of a file in the folder for temporary
-// files.
+// Returns the argument that a word of a line denotes: the word itself or, if it begins with `@`,
+// the path of the file of this name in the folder for temporary files.
 fn word_of(rt: &(impl Abort + AllocGlobal + Env), word: &str) -> String {
     match word.strip_prefix('@') {
         Some(name) => path_of(rt, name),

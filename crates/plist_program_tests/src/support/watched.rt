@@ -19,8 +19,8 @@ pub(crate) enum Stage {
     Written,
     Flushed,
     Stored,
-    // A call was out of order: the file was created again, was to be stored before anything was
-    // written, was removed, or was used after that; or a file was read after it was created.
+    // A call was out of order. In order are: reads of other files, the creation of the written
+    // file, its writes, one flush of it, and one sync of it.
     OutOfTurn,
 }
 

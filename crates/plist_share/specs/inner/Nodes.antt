@@ -47,7 +47,7 @@ node_at class (Array items) p = Some (node_by class false (Array items) p)
 node_at class (Dictionary pairs) p = Some (node_by class true (Dictionary pairs) p)
 
 module _ (count : ℕ) (nodes : List Node) where
-  -- a collection's class: `count` plus its index among the collections found so far
+  -- c is a collection's class: `count` plus its index among the collections found so far
   abbrev pub IsIndexed : Node → ℕ → Type 0
   IsIndexed node c = (i : ℕ) × (c ≡ count + i) × (slice_get nodes i ≡ Some node)
 
@@ -80,7 +80,7 @@ abbrev pub AddsClasses : (old : Vec ℕ Global) → (classes indices : List ℕ)
     → Type 0
 AddsClasses old classes indices new = new.items ≡ old.items ++ map (nth_number classes) indices
 
--- the classes of the children of the collection that begins at an index
+-- these are the classes of the children of the collection that begins at an index
 abbrev pub AreClassesWithin : EventTable → (classes : List ℕ) → (index : ℕ) → Vec ℕ Global → Type 0
 AreClassesWithin held classes index found =
     found.items ≡ map (nth_number classes) (half_of (plain_events held) Keys index)
@@ -93,7 +93,8 @@ is_dictionary shape.StartDictionary = true
 is_dictionary shape.Scalar = false
 is_dictionary shape.EndCollection = false
 
--- the class of the collection that begins at an index; the classes of collections start at `base`
+-- `class` is that of the collection that begins at an index; the classes of collections start at
+-- `base`
 abbrev pub IsClassAt : EventTable → (classes : List ℕ) → (base : ℕ) → (seen : List Collection)
     → (index class : ℕ) → Type 0
 IsClassAt held classes base seen index class = (t : Tree) → OccursAt (plain_events held) t index

@@ -11,7 +11,7 @@ use Rattle.plist_binread.proofs.ChildInvariant.{ChildTaken, known_child_taken, c
 use Rattle.plist_binread.proofs.advance.advance.Goals as goal
 use Rattle.plist_binread.proofs.advance.advance.Goals.{In-Child, After-read_child}
 
--- what taking the next child does
+-- the next child was taken as `ChildTaken` says
 taken : (g : _) (c : In-Child g) → IfSome (g.S.Source.known c.args.source.now) (λ bytes.
     ChildTaken bytes c.args.decoder.now.bounds c.args.walk.now (Child c.in-Child.object c.in-Child.index)
     c.next_child.new.self)
@@ -19,7 +19,7 @@ taken g c =
     known_child_taken _ _ c.args.walk.now c.next_child.new.self (Child _ _) c.requires.known
     c.in-Child.ensures.remaining
 
--- the offset of the collection
+-- the offset that was read from the contents is that of the collection
 place : (g : _) (c : After-read_child g)
     → c.index-at.result.now ≡ get_or c.next_child.new.self.contents.items c.in-Child.object 0
 place g c =

@@ -5,7 +5,7 @@ use Rattle.plist_base.specs.declared.error.Error.{Error}
 use Rattle.plist_base.specs.DateTexts.{PrintsOnly}
 use Rattle.plist_callers.proofs.dates.text_again.Goals as goal
 
--- if no other text is printed under a premise, then under this premise what is printed is that text
+-- if only one text can be printed under a premise, then what is printed under it is that text
 prints_under : {P : Type 0} (text : List ℕ) (answer : Result (String Global) Error)
     → (P → PrintsOnly text answer) → IfOk answer (λ printed. P → string_bytes printed ≡ text)
 prints_under text (Ok printed) h = h

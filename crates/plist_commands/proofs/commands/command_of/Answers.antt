@@ -4,7 +4,7 @@ use Rattle.std.proofs.lemmas.Slice.Eq.{bytes_eq-Decides}
 use Rattle.plist_commands.specs.Commands.{Print, Convert, Keyed}
 use Rattle.plist_commands.proofs.commands.command_of.Goals as goal
 
--- a list of two words and one of three, by their items
+-- a list of two words, and one of three, consists of these items
 two : {A : Type 0} (text : A → List ℕ) (word : List ℕ) (items : List A) (first second : A)
     (verb file : List ℕ) → 2 ≤ length items → length items < 3 → first ≡ get_or items 0 first
     → second ≡ get_or items 1 second → verb ≡ text first → file ≡ text second

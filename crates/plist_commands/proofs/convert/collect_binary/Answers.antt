@@ -17,7 +17,7 @@ same_items g c =
     (λ bytes. items_to_come bytes c.new-reader.result)
     (ap g.S.Source.known c.new-reader.ensures.source) c.requires.binary c.new-reader.ensures.items
 
--- what is true if the collector didn't pause
+-- if the collector didn't pause, the result is as `Concludes` says
 after_first : (g : _) (c : After-answer g)
     → Concludes Steps (items_left g.S.Source.known)
     (λ reader. g.S.Source.failures (binary_source reader)) c.new-reader.result c.answer.result
@@ -28,7 +28,7 @@ after_first g c =
     c.visit-first.new.visitor c.requires.empty c.visit-first.ensures c.answer.result
     (rw c.if-not-has_paused.true at c.has_paused.ensures) c.answer.ensures.answer
 
--- what is true if the collector paused, and the visit was continued
+-- if the collector paused and the visit was continued, the result is as `Concludes` says
 after_others : (g : _) (c : After-answer-2 g)
     → Concludes Steps (items_left g.S.Source.known)
     (λ reader. g.S.Source.failures (binary_source reader)) c.new-reader.result c.answer-2.result

@@ -10,7 +10,7 @@ use Rattle.plist_commands.proofs.SourceItems.{IsOpen, reader_comes, reader_count
 use Rattle.plist_commands.proofs.convert.collect_other.Goals as goal
 use Rattle.plist_commands.proofs.convert.collect_other.Goals.{After-answer}
 
--- what is true after the visit
+-- after the visit, the result is as `Concludes` says
 known : (g : _) (c : After-answer g) → Concludes (StepsReader g.S.Source.known g.S.Source.failures)
     (reader_items g.S.Source.known) (failures_in g.S.Source.failures)
     c.new-reader.result c.answer.result (c.visit-visited.new.self, c.visit-visited.new.visitor)

@@ -54,7 +54,7 @@ abbrev Boxed : Type 0 → Type 0
 Boxed X = Box (List (List ℕ × X)) Global
 
 module _ {X : Type 0} where
-  -- an optional box of pairs as nothing, or its pointer, its allocator and its pairs
+  -- what an optional box of pairs consists of: nothing, or its pointer, its allocator and its pairs
   abbrev split : Option (Boxed X) → Unit {0} ⊎ (Ptr × Global) × List (List ℕ × X)
   split None = inl tt
   split (Some b) = inr ((b.ptr, b.alloc), b.value)

@@ -36,7 +36,8 @@ entry g = pair (const (List ℕ)) g
 abbrev pub the_former : Former {0} → Former {0}
 the_former g = list (entry g)
 
--- the greatest of the numbers of all pairs is that of their values
+-- if each pair has the number of its value, the greatest number of a pair is the greatest number in
+-- the list of the values
 pub most_values : {Y : Type 0} (f : Y → ℕ) (es : List (List ℕ × Y))
     → most (λ p. max 0 (f p.1)) es ≡ most f (values_of es)
 most_values f [] = refl
@@ -79,7 +80,7 @@ fields =
 abbrev pub on_value : {X Y : Type 0} → (X → Y) → List ℕ × X → List ℕ × Y
 on_value h p = (p.0, h p.1)
 
--- applying `h` to the values before or after they are paired with keys is the same
+-- it is the same whether `h` is applied to the values before or after they are paired with keys
 zip-map : {X Y : Type 0} (h : X → Y) (ks : List (List ℕ)) (vs : List X)
     → zip ks (map h vs) ≡ map (on_value h) (zip ks vs)
 zip-map h [] vs = refl
