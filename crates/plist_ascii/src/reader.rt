@@ -177,8 +177,9 @@ impl<R: ByteReader + Drop> AsciiReader<R> {
     }
 
     /// Hands the next event to a visitor, and returns what the visitor returns, or `None` if no
-    /// event remains. A string without escapes that lies whole in the buffer of the inner reader is
-    /// handed over without being copied.
+    /// event remains. A bare string that spells no integer, or a quoted string without escapes, is
+    /// borrowed from the buffer of the inner reader if that has all of the string and the byte that
+    /// ends it. Any other string is handed over as an owned one.
     ///
     /// # Errors
     ///
