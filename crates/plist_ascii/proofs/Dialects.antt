@@ -3,7 +3,7 @@ use Rattle.std.proofs.Common.{◌≡◌, ◌⊎◌, inl, inr, ℕ, Bool, true, f
 use Rattle.std.specs.Prelude.{◌==◌}
 use Rattle.plist_ascii.specs.declared.token.Lead.{Lead}
 use Rattle.plist_ascii.specs.declared.token.Lead.TheVariants as lead
-use Rattle.plist_ascii.specs.Taken.{past_one}
+use Rattle.plist_ascii.specs.TokenPrefixes.{past_one}
 use Rattle.plist_ascii.specs.Texts.{bare, lax_stops}
 use Rattle.plist_ascii.specs.Ascii.{lead_of, token, token_by, OnlyBareTextsDiffer}
 

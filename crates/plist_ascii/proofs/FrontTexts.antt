@@ -14,14 +14,14 @@ use Rattle.plist_ascii.specs.declared.input.Input.{Input}
 use Rattle.plist_ascii.specs.declared.reader.AsciiReader.{AsciiReader}
 use Rattle.plist_ascii.specs.AsciiReader.{BeginsWithItem, GivesAscii, bytes_to_come}
 use Rattle.plist_ascii.specs.Kinds.{IfBracket, IsAsciiEvent}
-use Rattle.plist_ascii.specs.Taken.{Taken, past_one, run, taken}
+use Rattle.plist_ascii.specs.TokenPrefixes.{Taken, past_one, run, taken}
 use Rattle.plist_ascii.specs.Quoted.{ends_run, quoted, quoted_outcome, run_end}
 use Rattle.plist_ascii.specs.Texts.{bare_event, number_or_text, quoted_event}
 use Rattle.plist_ascii.specs.Unread.{stops}
 use Rattle.plist_ascii.specs.inner.Inputs.{DropsFirst, hand_of}
 use Rattle.plist_ascii.specs.inner.FrontTexts.{BeginWithText, IsAhead, IsBareFront, IsQuotedFront, LeadsToText}
 use Rattle.plist_ascii.proofs.Items.{going_start, going_blanks, going_event}
-use Rattle.plist_ascii.proofs.Unread.{ended_hand}
+use Rattle.plist_ascii.proofs.UnreadBytes.{ended_hand}
 use Rattle.std.proofs.lemmas.Bool.{eq-eqb}
 use Rattle.plist_ascii.proofs.Quotes.{part_ends, quoted_opens}
 use Rattle.plist_ascii.proofs.Texts.{number_is_text, text_gives}

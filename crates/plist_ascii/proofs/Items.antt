@@ -8,7 +8,7 @@ use Rattle.plist_ascii.specs.declared.fault.TokenFault.{TokenFault}
 use Rattle.plist_ascii.specs.declared.fault.TokenFault.TheVariants as broken
 use Rattle.plist_ascii.specs.inner.TokenFaults.{kind_in_bytes, fault_after}
 use Rattle.plist_base.specs.Events.{PlainEvent, Item}
-use Rattle.plist_ascii.specs.Taken.{taken, run}
+use Rattle.plist_ascii.specs.TokenPrefixes.{taken, run}
 use Rattle.plist_ascii.specs.Texts.{Token}
 use Rattle.plist_ascii.specs.Unread.{TakesFront}
 use Rattle.plist_ascii.specs.declared.token.Lead.{Lead}

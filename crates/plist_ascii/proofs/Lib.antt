@@ -1,5 +1,5 @@
-pub mod Unread
-pub mod Answering
+pub mod UnreadBytes
+pub mod TokenOutcomes
 pub mod Quotes
 pub mod Loops
 pub mod Items

@@ -4,7 +4,7 @@ use Rattle.std.proofs.lemmas.List.{drop-drop}
 use Rattle.plist_base.specs.Faults.{FaultKind, IncompleteComment}
 use Rattle.plist_base.specs.Events.{PlainEvent}
 use Rattle.plist_ascii.specs.declared.input.Input.{Input}
-use Rattle.plist_ascii.specs.Taken.{Taken, taken, run, past, past_one}
+use Rattle.plist_ascii.specs.TokenPrefixes.{Taken, taken, run, past, past_one}
 use Rattle.plist_ascii.specs.Unread.{unread, IfKnown, TakesFront}
 use Rattle.std.proofs.lemmas.Bool.{eq-eqb}
 use Rattle.std.proofs.lemmas.List.Folds.{prefix_len-append}

@@ -3,7 +3,7 @@ use Rattle.std.proofs.Common.{◌≡◌, ℕ, zero, suc, ◌+◌, ◌<◌, ◌�
 use Rattle.std.specs.Prelude.{◌==◌}
 use Rattle.std.proofs.lemmas.List.{drop-drop}
 use Rattle.plist_base.specs.Faults.{FaultKind, UnclosedString}
-use Rattle.plist_ascii.specs.Taken.{Taken, taken, past_one, run}
+use Rattle.plist_ascii.specs.TokenPrefixes.{Taken, taken, past_one, run}
 use Rattle.plist_ascii.specs.Escapes.{escape}
 use Rattle.plist_ascii.specs.Quoted.{piece_then, with_front, ends_run, run_end, quoted_by, quoted_in, quoted, escape_then}
 use Rattle.plist_ascii.specs.Unread.{TakesFront}

@@ -13,7 +13,7 @@ use Rattle.plist_ascii.specs.Texts.{Token, utf8_or_fault, number_or_text, bare, 
 use Rattle.plist_ascii.specs.Kinds.{IsTextEvent, IsTextFault}
 use lib.Utf8.{low_scalar}
 use Rattle.std.specs.Char.{IsScalar, is_digit}
-use Rattle.plist_ascii.specs.Taken.{Taken, taken, past_one, past_outcome, front, front_gives, run}
+use Rattle.plist_ascii.specs.TokenPrefixes.{Taken, taken, past_one, past_outcome, front, front_gives, run}
 use Rattle.plist_ascii.specs.Escapes.{is_surrogate, bad_unit, escape, escape_by, simple, simple_escape, octal_text, unit, first_unit, second_unit, second_letter, second_digits, pair_text}
 use Rattle.plist_ascii.specs.Quoted.{with_front, escape_then, run_end, quoted_by, quoted_in, quoted, quoted_outcome, quoted_token}
 use Rattle.plist_ascii.specs.declared.token.Lead.{Lead}
@@ -21,7 +21,7 @@ use Rattle.plist_ascii.specs.Ascii.{IsTextToken, lead_of, token_by}
 use Rattle.plist_ascii.specs.Comments.{slash}
 use Rattle.plist_ascii.specs.Unread.{IfKnown, first, GivesFront}
 use Rattle.std.proofs.lemmas.Bool.{ne_eqb}
-use Rattle.plist_ascii.proofs.Unread.{first_splits}
+use Rattle.plist_ascii.proofs.UnreadBytes.{first_splits}
 
 pub text_gives : (xs : List ℕ) (e : Scalar) (f : PlainEvent) → is_utf8 xs ≡ true → f ≡ ScalarEvent e
     → IsTextEvent (ScalarEvent e) → (utf8_or_fault xs e ≡ Ok (Some f)) × IsTextEvent f

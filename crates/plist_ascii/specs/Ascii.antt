@@ -4,7 +4,7 @@ use Rattle.plist_base.specs.Faults.{FaultKind, fault_at}
 use Rattle.plist_base.specs.Events.{PlainEvent, StartArray, StartDictionary, EndCollection, Item}
 use Rattle.plist_ascii.specs.declared.token.Lead.{Lead}
 use Rattle.plist_ascii.specs.declared.token.Lead.TheVariants as lead
-use Rattle.plist_ascii.specs.Taken.{is_one_of, taken, past_one}
+use Rattle.plist_ascii.specs.TokenPrefixes.{is_one_of, taken, past_one}
 use Rattle.plist_ascii.specs.Texts.{Token, bare, lax_stops}
 use Rattle.plist_ascii.specs.Quoted.{quoted_token}
 use Rattle.plist_ascii.specs.Comments.{slash}

@@ -2,7 +2,7 @@
 use Rattle.std.specs.Prelude.{ℕ, suc, Bool, false, if◌then◌else◌, ◌&&◌, ◌==◌, List, [], ◌∷◌, length, Option, None, Some, Ok, Err}
 use Rattle.std.specs.Option.{option_map}
 use Rattle.plist_base.specs.Faults.{IncompleteComment}
-use Rattle.plist_ascii.specs.Taken.{taken, past_one, run}
+use Rattle.plist_ascii.specs.TokenPrefixes.{taken, past_one, run}
 use Rattle.plist_ascii.specs.Texts.{Token, bare}
 
 -- a line comment, up to the LF, which isn't taken

@@ -13,7 +13,7 @@ use Rattle.std.specs.Char.{is_digit}
 use Rattle.std.specs.Char.Utf16.{is_high_surrogate, is_low_surrogate, surrogate_pair_char}
 use Rattle.std.specs.Str.Parse.{digits_value}
 use Rattle.plist_base.specs.Faults.{FaultKind, InvalidUtf16String, InvalidUtf8AsciiStream, InvalidOctalString}
-use Rattle.plist_ascii.specs.Taken.{Taken, taken, past_one, after_byte, followed, is_one_of, needs}
+use Rattle.plist_ascii.specs.TokenPrefixes.{Taken, taken, past_one, after_byte, followed, is_one_of, needs}
 
 -- ---- one letter
 

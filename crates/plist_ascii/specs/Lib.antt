@@ -1,4 +1,4 @@
-pub mod Taken
+pub mod TokenPrefixes
 pub mod Texts
 pub mod Escapes
 pub mod Quoted

@@ -2,7 +2,7 @@
 use Rattle.std.specs.Prelude.{ℕ, zero, suc, ◌+◌, Bool, if◌then◌else◌, ◌||◌, ◌==◌, List, [], ◌∷◌, ◌++◌, length, take, drop, Option, Result, Ok, Err}
 use Rattle.plist_base.specs.Faults.{FaultKind, UnclosedString}
 use Rattle.plist_base.specs.Events.{PlainEvent}
-use Rattle.plist_ascii.specs.Taken.{Taken, taken, past_one, run}
+use Rattle.plist_ascii.specs.TokenPrefixes.{Taken, taken, past_one, run}
 use Rattle.plist_ascii.specs.Texts.{Token, quoted_event}
 use Rattle.plist_ascii.specs.Escapes.{escape}
 

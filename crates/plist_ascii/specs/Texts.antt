@@ -7,7 +7,7 @@ use Rattle.plist_base.specs.Trees.{Scalar, Integer, String}
 use Rattle.plist_base.specs.IntegerText.{integer_of_text}
 use Rattle.plist_ascii.specs.declared.dialect.Dialect.{Dialect}
 use Rattle.plist_ascii.specs.declared.dialect.Dialect.TheVariants as dialect
-use Rattle.plist_ascii.specs.Taken.{Taken, is_one_of, taken, run}
+use Rattle.plist_ascii.specs.TokenPrefixes.{Taken, is_one_of, taken, run}
 
 -- a token: the number of bytes taken, and an event, no event or a fault
 abbrev pub Token : Type 0

@@ -6,7 +6,7 @@ use Rattle.plist_base.specs.Faults.{FaultKind}
 use Rattle.plist_ascii.specs.declared.input.Input.{Input}
 use Rattle.plist_ascii.specs.declared.stop.Stop.{Stop}
 use Rattle.plist_ascii.specs.declared.stop.Stop.TheVariants as stop
-use Rattle.plist_ascii.specs.Taken.{Taken, run}
+use Rattle.plist_ascii.specs.TokenPrefixes.{Taken, run}
 use Rattle.plist_ascii.specs.Texts.{ends_bare}
 use Rattle.plist_ascii.specs.Ascii.{is_blank}
 use Rattle.plist_ascii.specs.Quoted.{ends_run}

@@ -13,7 +13,7 @@ use crate::token::{Lead, lead_of};
 
 /// A string among the bytes at hand.
 #[derive(Clone, Copy)]
-pub struct LentText<'a> {
+pub struct BorrowedText<'a> {
     /// The number of bytes up to the end of the string, including the blanks before it.
     pub count: usize,
     /// The string.
@@ -61,7 +61,7 @@ fn quoted_length(bytes: &[u8]) -> Option<usize>
 // Returns the bare string with which these bytes begin, unless it may continue after the last byte
 // or spells an integer.
 #[inline(always)]
-fn bare_front(stop: Stop, bytes: &[u8]) -> Option<LentText<'_>>
+fn bare_front(stop: Stop, bytes: &[u8]) -> Option<BorrowedText<'_>>
     ensures text { IfSome result (λ lent. BeginWithText (stops stop) bytes.now lent.count
         lent.text.now) }
     ensures within { IfSome result (λ lent. lent.count ≤ length bytes.now) }
@@ -72,7 +72,7 @@ fn bare_front(stop: Stop, bytes: &[u8]) -> Option<LentText<'_>>
             if may_be_number(text) {
                 return None;
             }
-            Some(LentText {
+            Some(BorrowedText {
                 count: length,
                 text,
             })
@@ -84,14 +84,14 @@ fn bare_front(stop: Stop, bytes: &[u8]) -> Option<LentText<'_>>
 // Returns the quoted string with which these bytes begin, unless it has an escape or doesn't end
 // among them.
 #[inline(always)]
-fn quoted_front(bytes: &[u8]) -> Option<LentText<'_>>
+fn quoted_front(bytes: &[u8]) -> Option<BorrowedText<'_>>
     ensures text { IfSome result (λ lent. (ends : ℕ → Bool)
         → BeginWithText ends bytes.now lent.count lent.text.now) }
     ensures within { IfSome result (λ lent. lent.count ≤ length bytes.now) }
 {
     let length = quoted_length(bytes)?;
     match str::from_utf8(&bytes[1..1 + length]) {
-        Ok(text) => Some(LentText {
+        Ok(text) => Some(BorrowedText {
             count: length + 2,
             text,
         }),
@@ -101,7 +101,7 @@ fn quoted_front(bytes: &[u8]) -> Option<LentText<'_>>
 
 // Returns the string with which these bytes begin, if it can be borrowed from them.
 #[inline(always)]
-fn front_text(stop: Stop, bytes: &[u8]) -> Option<LentText<'_>>
+fn front_text(stop: Stop, bytes: &[u8]) -> Option<BorrowedText<'_>>
     ensures text { IfSome result (λ lent. BeginWithText (stops stop) bytes.now lent.count
         lent.text.now) }
     ensures within { IfSome result (λ lent. lent.count ≤ length bytes.now) }
@@ -116,7 +116,7 @@ impl<R: ByteReader> Input<R> {
     /// Returns the string that is next after blanks, if it lies whole among the bytes at hand, has
     /// no escape and spells no integer. Nothing is read or taken.
     #[inline(always)]
-    pub fn lent_text(&self, stop: Stop) -> Option<LentText<'_>>
+    pub fn lent_text(&self, stop: Stop) -> Option<BorrowedText<'_>>
         ensures text { IfSome result (λ lent. IsAhead R.remaining stop self.now lent.count
             lent.text.now) }
         ensures within { IfSome result (λ lent. lent.count ≤ length (hand R.held self.now)) }
@@ -125,7 +125,7 @@ impl<R: ByteReader> Input<R> {
         let bytes = self.at_hand();
         let blanks = run_length(Stop::Lead, bytes);
         let front = front_text(stop, &bytes[blanks..])?;
-        Some(LentText {
+        Some(BorrowedText {
             count: blanks + front.count,
             text: front.text,
         })

@@ -4,7 +4,7 @@ ghost use Rattle.std.specs.Prelude.{◌≡◌, ◌+◌, ◌*◌, ◌<◌, ◌≤
 ghost use Rattle.std.specs.Char.{digit_value, is_digit};
 ghost use Rattle.std.specs.Char.Utf16.{is_high_surrogate, is_low_surrogate};
 ghost use Rattle.plist_base.specs.Faults.{InvalidOctalString, InvalidUtf16String};
-ghost use Rattle.plist_ascii.specs.Taken.{is_one_of};
+ghost use Rattle.plist_ascii.specs.TokenPrefixes.{is_one_of};
 ghost use Rattle.plist_ascii.specs.Escapes.{simple_escape, octal, octal_char, octal_text, unit, unit_of, is_surrogate, pair_text, first_unit, second_unit, second_letter, second_digits, unicode, escape, escape_by};
 ghost use Rattle.plist_ascii.specs.inner.Inputs.{CountsFailed, GivesBy};
 ghost use Rattle.plist_ascii.specs.inner.Parts.{IsCharOr, escaped_bytes};

@@ -1,7 +1,7 @@
 //! Sources, from which readers read bytes.
 
 ghost use Rattle.std.specs.Prelude.{◌≡◌, ℕ, ◌+◌, ◌-◌, ◌^◌, ◌<◌, ◌≤◌, List, length, drop, Some, Option, IfOk, IfSome, OnOk};
-ghost use Rattle.plist_base.specs.Sources.{CountsFailure, GivesAt, LiesAt, AnswersIo, FailsReading, FillsUpTo, EndsTooEarly, IsIoWithin};
+ghost use Rattle.plist_base.specs.Sources.{CountsFailure, GivesAt, LiesAt, ResultCountsIo, FailsReading, FillsUpTo, EndsTooEarly, IsIoWithin};
 ghost use Rattle.plist_base.specs.Outcomes.{DecodesBy, IfFault, IfRead, IfRefused};
 
 use crate::{Error, ErrorKind};
@@ -148,7 +148,7 @@ pub fn read_exact_at<S: Source>(source: &mut S, place: u64, buf: &mut [u8]) -> R
     // State afterwards.
     ensures filled { IfRefused result (S.known source.old) (FillsUpTo place buf.new) }
     ensures unchanged { S.known source.new ≡ S.known source.old }
-    ensures failures { AnswersIo result (S.failures source.old) (S.failures source.new) }
+    ensures failures { ResultCountsIo result (S.failures source.old) (S.failures source.new) }
 {
     let mut done = 0;
     while done < buf.len() {

@@ -6,8 +6,8 @@ use Rattle.plist_base.specs.Visits.{Flow}
 use Rattle.plist_base.specs.Events.{PlainEvent}
 use Rattle.plist_base.specs.Faults.{IsIo, kind_of, error_kind_of}
 use Rattle.plist_base.proofs.Refusals.{MatchFault-weaker}
-use Rattle.plist_binread.specs.Beginning.{IsKnownWalk}
-use Rattle.plist_binread.specs.DecodeOutcome.{YieldsAnswer}
+use Rattle.plist_binread.specs.FirstStep.{IsKnownWalk}
+use Rattle.plist_binread.specs.DecodeOutcome.{YieldsResult}
 use Rattle.plist_binread.specs.declared.frames.NextChild.{NextChild}
 use Rattle.plist_binread.specs.declared.frames.NextChild.TheVariants.{Child}
 use Rattle.plist_binread.specs.declared.walk.Walk.{Walk}
@@ -80,9 +80,9 @@ module _ (known : Option (List ℕ)) (bounds : Bounds) (old mid : Walk) (object 
           rw (child.1, ← many, place) child.0.0.0)
 
       pub child_yields : (answer : Result Flow Error) (current : PlainEvent) (new : Walk)
-          → IfSome now (λ bytes. YieldsAnswer (remaining_entering bytes bounds mid
+          → IfSome now (λ bytes. YieldsResult (remaining_entering bytes bounds mid
           (get_or mid.contents.items object 0) number) answer current (remaining_in bytes bounds new))
-          → IfSome known (λ bytes. YieldsAnswer (remaining_in bytes bounds old) answer current
+          → IfSome known (λ bytes. YieldsResult (remaining_in bytes bounds old) answer current
           (remaining_in bytes bounds new))
       child_yields answer current new yields = IfSome-both known child_first (rw same at yields)
           (λ bytes first yields. rw first yields)

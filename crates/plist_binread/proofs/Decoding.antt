@@ -24,7 +24,7 @@ use Rattle.plist_binread.specs.Front.{IsFrontAt}
 use Rattle.plist_binread.specs.Packed.{MayAllocate, content_bytes, is_small_event, scalar_event, unmarked, unpacked}
 use Rattle.plist_binread.specs.NextChild.{IsCurrentCached}
 use Rattle.plist_binread.specs.Reading.{data_of_content, object_with}
-use Rattle.plist_binread.specs.Slot.{answer_in}
+use Rattle.plist_binread.specs.Slot.{result_in}
 use Rattle.plist_binread.specs.declared.decoded.Content.{Content}
 use Rattle.plist_binread.specs.declared.decoded.ContentKind.{ContentKind}
 use Rattle.plist_binread.specs.declared.decoded.ContentKind.TheVariants as content_kind
@@ -373,7 +373,7 @@ pub cached_if : {A : Type 0} (known : Option (List ℕ)) (number : ℕ) (answer 
     (slot : FaultSlot) (current : PlainEvent) (d : Decoded) (tags : List ℕ)
     → OnOk answer (is_small_event current ≡ true → small_count d ≡ 1)
     → (small_count d ≡ 1 → 0 < unmarked (get_or tags number 0))
-    → IfSome known (λ _. IsCurrentCached (Some number) (Some (answer_in answer slot)) current tags)
+    → IfSome known (λ _. IsCurrentCached (Some number) (Some (result_in answer slot)) current tags)
 cached_if known number (Ok value) slot current d tags small caches =
     IfSome-all known (λ _ is. caches (small is))
 cached_if known number (Err error) slot current d tags small caches = IfSome-all known (λ _. tt)
@@ -395,7 +395,7 @@ content_enough size to_trailer rest behind shown within short near few = elim (c
 ]
 
 pub large_on_slot : {A : Type 0} (answer : Result A StepError) (slot : FaultSlot) (object : Object)
-    (place : ℕ) (current : PlainEvent) → SetsEvent object place (answer_in answer slot) current
+    (place : ℕ) (current : PlainEvent) → SetsEvent object place (result_in answer slot) current
     → (event_of_object object ≡ Some current → is_small_event current ≡ false)
     → OnOk answer (is_small_event current ≡ false)
 large_on_slot (Ok value) slot object place current sets large = large sets

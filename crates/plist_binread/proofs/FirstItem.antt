@@ -16,11 +16,11 @@ use Rattle.plist_format.specs.Object.{Object}
 use Rattle.plist_format.specs.Unfolding.{table_of, items_of, unfolding_of, until_fault, items_with, items_of_file}
 use Rattle.plist_binread.specs.declared.head.Bounds.{Bounds}
 use Rattle.plist_binread.specs.Remaining.{path_of, remaining_items, entries_of, places_with, places_of, CountsObjects, IsHeld, MatchesFile, SomeRemain, AllocatesFirst}
-use Rattle.plist_binread.specs.Beginning.{CachesRoot, CountsRoot, RefusesFirst}
+use Rattle.plist_binread.specs.FirstStep.{CachesRoot, CountsRoot, RefusesFirst}
 use Rattle.plist_binread.specs.Step.{CachesEntered}
 use Rattle.plist_binread.specs.declared.fault_slot.FaultSlot.{FaultSlot}
 use Rattle.plist_binread.specs.declared.fault_slot.StepError.{StepError}
-use Rattle.plist_binread.specs.DecodeOutcome.{YieldsAnswer}
+use Rattle.plist_binread.specs.DecodeOutcome.{YieldsResult}
 use Rattle.plist_binread.specs.Walking.{walk_objects}
 use Rattle.plist_binread.specs.declared.walk.Walk.{Walk}
 use Rattle.plist_binread.specs.inner.Heads.{head_seen}
@@ -114,7 +114,7 @@ known_unread known e refused = IfSome_then known refused (λ bytes.
 
 begins_with : (bytes : List ℕ) (before after : List Item) (answer : Result Flow Error)
     (current : PlainEvent) → items_of_file bytes ≡ until_fault before
-    → YieldsAnswer before answer current after → Begins bytes answer current after
+    → YieldsResult before answer current after → Begins bytes answer current after
 begins_with bytes before after (Ok _) current is yields = is ∙ yields
 begins_with bytes before after (Err e) current is yields =
     MatchFault-weaker (kind_of (error_kind_of e)) (λ remaining. rw is remaining)
@@ -143,7 +143,7 @@ pub known_begun : (known now : Option (List ℕ)) (head : code.Head) (bounds : B
     → length tags ≡ length head.places.items → bounds.trailer ≡ head.trailer
     → bounds.reference_width ≡ head.reference_width
     → IfSome known (λ bytes. head_of bytes ≡ Ok (head_seen head))
-    → IfSome now (λ bytes. YieldsAnswer (unfolding_of (entries_of bytes bounds)
+    → IfSome now (λ bytes. YieldsResult (unfolding_of (entries_of bytes bounds)
     (length tags - length (reverse fs)) (path_of (reverse fs)) head.trailer head.root
     ++ remaining_items (entries_of bytes bounds) (reverse fs)) answer current
     (remaining_items (entries_of bytes bounds) (reverse gs)))

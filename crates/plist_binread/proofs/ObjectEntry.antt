@@ -9,15 +9,15 @@ use Rattle.plist_binread.specs.declared.decoded.Decoded.{Decoded}
 use Rattle.plist_binread.specs.declared.decoded.Decoded.TheVariants as decoded
 use Rattle.plist_binread.specs.declared.fault_slot.FaultSlot.{FaultSlot}
 use Rattle.plist_binread.specs.declared.fault_slot.StepError.{StepError}
-use Rattle.plist_binread.specs.Slot.{answer_in}
+use Rattle.plist_binread.specs.Slot.{result_in}
 use Rattle.std.specs.Prelude.{OnOk}
 use Rattle.plist_binread.specs.declared.head.Bounds.{Bounds}
 use Rattle.plist_binread.specs.declared.walk.Walk.{Walk}
-use Rattle.plist_binread.specs.Beginning.{IsKnownWalk}
+use Rattle.plist_binread.specs.FirstStep.{IsKnownWalk}
 use Rattle.plist_binread.specs.Remaining.{Explains, entries_of}
 use Rattle.plist_binread.specs.Decoded.{DecodesAt, IsDecodedAs, IsRefusedAt, SetsDecoded, SetsEvent, bytes_at, event_of_object, is_refused}
 use Rattle.plist_binread.specs.Decoding.{IsRefusedAs}
-use Rattle.plist_binread.specs.DecodeOutcome.{YieldsAnswer, YieldsCurrent}
+use Rattle.plist_binread.specs.DecodeOutcome.{YieldsResult, YieldsCurrent}
 use Rattle.plist_binread.specs.Step.{OpensObject}
 use Rattle.plist_binread.specs.Walking.{IsWalkOf, open_in, remaining_entering, remaining_in, walk_objects}
 use Rattle.plist_format.specs.Unfolding.{until_fault}
@@ -56,7 +56,7 @@ always_ok P (Err error) p = tt
 -- what is true after `Ok` is true of the result with the error that the slot stores
 pub on_answer : {A : Type 0} (P : Type 0) (answer : Result A StepError) (slot : FaultSlot)
     → OnOk answer P
-    → OnOk (answer_in answer slot) P
+    → OnOk (result_in answer slot) P
 on_answer P (Ok value) slot h = h
 on_answer P (Err refused) slot h = tt
 
@@ -104,7 +104,7 @@ module _ (known : Option (List ℕ)) (bounds : Bounds) (walk : Walk) (number : �
       → IfSome known (λ bytes. IsDecodedAt bytes bounds number place d)
       → OpensObject number d walk new → SetsDecoded now bounds place d answer current
       → OnOk answer (is_refused d ≡ false)
-      → IfSome known (λ bytes. YieldsAnswer (remaining_entering bytes bounds walk at number) answer
+      → IfSome known (λ bytes. YieldsResult (remaining_entering bytes bounds walk at number) answer
       current (remaining_in bytes bounds new))
   known_set {A = A} at place d new now answer current same free there opens sets found =
       IfSome-three known k there (rw same at sets) (λ bytes k t sets.
@@ -120,7 +120,7 @@ module _ (known : Option (List ℕ)) (bounds : Bounds) (walk : Walk) (number : �
           (remaining_in bytes bounds new))
           → (answer : Result A Error) → OnOk answer (is_refused d ≡ false)
           → SetsEvent (object_at bounds place bytes) place answer current
-          → YieldsAnswer (remaining_entering bytes bounds walk at number) answer current
+          → YieldsResult (remaining_entering bytes bounds walk at number) answer current
           (remaining_in bytes bounds new)
       by bytes k t yields (Ok value) found sets =
           yields at current found (ap event_of_object t.there ∙ sets)

@@ -9,7 +9,7 @@ use Rattle.plist_binread.specs.declared.reader.BinaryReader.{BinaryReader}
 use Rattle.plist_binread.specs.declared.head.Bounds.{Bounds}
 use Rattle.plist_binread.specs.declared.walk.Walk.{Walk}
 use Rattle.plist_format.specs.Container.{head_of}
-use Rattle.plist_binread.specs.Beginning.{IsBounded, IsKnownWalk}
+use Rattle.plist_binread.specs.FirstStep.{IsBounded, IsKnownWalk}
 use Rattle.plist_binread.specs.BinaryReader.{AreListsWithin, GivesAs, KeepsInvariant}
 use Rattle.plist_binread.specs.Remaining.{AreBoundsOf, places_of}
 use Rattle.plist_binread.specs.Walking.{cached_in, walk_objects}

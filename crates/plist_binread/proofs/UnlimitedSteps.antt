@@ -10,7 +10,7 @@ use Rattle.plist_binread.specs.declared.counter.DecodeCounter.{Ghosts as Counter
 use Rattle.plist_binread.specs.declared.reader.BinaryReader.{BinaryReader}
 use Rattle.plist_binread.specs.declared.reader.WalkState.{WalkState}
 use Rattle.plist_binread.specs.declared.reader.WalkState.TheVariants.{Fresh, Walking}
-use Rattle.plist_binread.specs.Beginning.{CountsRoot, GivesRoot, IsBounded, IsKnownWalk, CachesRoot}
+use Rattle.plist_binread.specs.FirstStep.{CountsRoot, GivesRoot, IsBounded, IsKnownWalk, CachesRoot}
 use Rattle.plist_binread.specs.BinaryReader.{objects_in_head}
 use Rattle.plist_binread.specs.Remaining.{CountsObjects, walk_steps}
 use Rattle.plist_binread.specs.FaultOffsets.{ErrWithin, ItemWithin}
@@ -18,9 +18,9 @@ use Rattle.plist_binread.specs.DecodeOutcome.{YieldsNext}
 use Rattle.plist_binread.specs.Step.{CachesNext, LightensNext}
 use Rattle.plist_base.specs.Events.{PlainEvent}
 use Rattle.plist_base.specs.Visits.{Flow}
-use Rattle.plist_binread.specs.Advancing.{Walks, item_with}
+use Rattle.plist_binread.specs.ReaderSteps.{Walks, item_with}
 use Rattle.plist_binread.specs.declared.fault_slot.StepError.{StepError}
-use Rattle.plist_binread.specs.Slot.{AnswersInSlot, ItemAnswersInSlot, answer_in, item_in}
+use Rattle.plist_binread.specs.Slot.{SlotCountsIo, ItemSlotCountsIo, result_in, item_in}
 use Rattle.plist_binread.specs.NextChild.{is_fresh, is_walking, state_after}
 use Rattle.plist_binread.specs.Walking.{cached_in, remaining_in, walk_objects, weight_in}
 use Rattle.plist_base.proofs.Refusals.{MatchFault-all}
@@ -62,14 +62,14 @@ module _ {R C : Type 0} {g : Ghosts R} {h : CounterGhosts C} (old new : BinaryRe
     (limiter : new.limiter ≡ old.limiter) where
   pub first_walks : (noted : Result Flow StepError) (event : PlainEvent) → old.state ≡ Fresh
       → new.state ≡ state_after (Some noted)
-      → IfSome (g.known old.source) (GivesRoot (answer_in noted new.decoder.slot) event new.decoder.bounds new.walk)
-      → ErrWithin 0 (2 ^ 64) (answer_in noted new.decoder.slot)
+      → IfSome (g.known old.source) (GivesRoot (result_in noted new.decoder.slot) event new.decoder.bounds new.walk)
+      → ErrWithin 0 (2 ^ 64) (result_in noted new.decoder.slot)
       → IfSome (g.known old.source) (IsBounded new.walk)
       → IfSome (g.known old.source) (CountsRoot noted new.decoder.slot new.walk)
       → OnOk noted (IsKnownWalk (g.known old.source) new.decoder.bounds new.walk)
-      → IfSome (g.known old.source) (CachesRoot (answer_in noted new.decoder.slot) event new.walk)
+      → IfSome (g.known old.source) (CachesRoot (result_in noted new.decoder.slot) event new.walk)
       → OnOk noted (weight_in new.walk < walk_steps (walk_objects new.walk))
-      → AnswersInSlot g.failures noted new.decoder.slot old.source new.source
+      → SlotCountsIo g.failures noted new.decoder.slot old.source new.source
       → Walks old (item_with (item_in (Some noted) new.decoder.slot) event) new
   first_walks (Ok value) event fresh is yields within bounded objects held kept falls failures = record {
     gives = record {
@@ -119,7 +119,7 @@ module _ {R C : Type 0} {g : Ghosts R} {h : CounterGhosts C} (old new : BinaryRe
       → IsKnownWalk (g.known old.source) new.decoder.bounds new.walk
       → CachesNext (g.known old.source) old.decoder.bounds old.walk (item_in noted new.decoder.slot) event new.walk
       → LightensNext old.walk noted new.walk
-      → ItemAnswersInSlot g.failures noted new.decoder.slot old.source new.source
+      → ItemSlotCountsIo g.failures noted new.decoder.slot old.source new.source
       → Walks old (item_with (item_in noted new.decoder.slot) event) new
   item_walks_at None event walking is yields within size bounded held kept falls failures = record {
     gives = record {
@@ -191,7 +191,7 @@ module _ {R C : Type 0} {g : Ghosts R} {h : CounterGhosts C} (old new : BinaryRe
       → CachesNext (g.known old.source) old.decoder.bounds old.walk (item_in noted new.decoder.slot) event
       new.walk
       → LightensNext old.walk noted new.walk
-      → ItemAnswersInSlot g.failures noted new.decoder.slot old.source new.source
+      → ItemSlotCountsIo g.failures noted new.decoder.slot old.source new.source
       → Walks old (item_with (item_in noted new.decoder.slot) event) new
   item_walks noted event walking bounds is yields within size bounded held kept falls failures =
       item_walks_at noted event walking is (rw bounds yields) within size bounded (rw bounds held) kept

@@ -6,8 +6,8 @@ use Rattle.plist_base.specs.Faults.{Fault, fault_of}
 use Rattle.plist_base.specs.Limits.{Refuses, RefusesAny}
 use Rattle.plist_base.specs.declared.limits.LimitCounter.{LimitCounter}
 use Rattle.plist_base.specs.Visits.{Flow}
-use Rattle.plist_binread.specs.Advancing.{TakesWithin}
-use Rattle.plist_binread.specs.Handing.{HandsItem, PassesOn, Takes}
+use Rattle.plist_binread.specs.ReaderSteps.{TakesWithin}
+use Rattle.plist_binread.specs.Handovers.{HandsItem, PassesOn, Takes}
 use Rattle.plist_binread.specs.declared.fault_slot.StepError.{StepError}
 use Rattle.plist_binread.specs.declared.relay.Relay.{Relay}
 use Rattle.plist_binread.specs.declared.within.Within.{Within}

@@ -39,18 +39,18 @@ abbrev pub YieldsCurrent : List Item → (current : PlainEvent) → List Item �
 YieldsCurrent before current after = until_fault before ≡ Ok current ∷ until_fault after
 
 -- like `YieldsCurrent`, or the result is an error that may replace the first item
-abbrev pub YieldsAnswer : {A : Type 0} → List Item → Result A Error → (current : PlainEvent)
+abbrev pub YieldsResult : {A : Type 0} → List Item → Result A Error → (current : PlainEvent)
     → List Item
     → Type 0
-YieldsAnswer before answer current after = MatchResult answer
+YieldsResult before answer current after = MatchResult answer
     (λ _. YieldsCurrent before current after)
     (λ error. Explains (until_fault before) error)
 
--- like `YieldsAnswer`, or there is no item because none remained
+-- like `YieldsResult`, or there is no item because none remained
 abbrev pub YieldsNext : {A : Type 0} → List Item → Option (Result A Error) → (current : PlainEvent)
     → List Item → Type 0
 YieldsNext before item current after =
-    MatchOption item ((before ≡ []) × (after ≡ [])) (λ answer. YieldsAnswer before answer current
+    MatchOption item ((before ≡ []) × (after ≡ [])) (λ answer. YieldsResult before answer current
     after)
 
 -- the item isn't an error, and the current event is the end of a collection

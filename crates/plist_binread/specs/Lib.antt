@@ -1,4 +1,4 @@
-pub mod Beginning
+pub mod FirstStep
 pub mod Reading
 pub mod Runs
 pub mod BinaryReader
@@ -12,10 +12,10 @@ pub mod CountedContent
 pub mod Front
 pub mod Packed
 pub mod Step
-pub mod Advancing
+pub mod ReaderSteps
 pub mod FirstEvents
 pub mod Slot
-pub mod Handing
+pub mod Handovers
 pub mod NextChild
 pub mod Walking
 pub mod inner

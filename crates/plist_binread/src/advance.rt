@@ -3,8 +3,8 @@
 ghost use Rattle.std.specs.Prelude.{◌≡◌, true, IfSome};
 ghost use Rattle.plist_binread.specs.NextChild.{closes};
 ghost use Rattle.plist_binread.specs.DecodeOutcome.{IsCurrentEnd};
-ghost use Rattle.plist_binread.specs.Handing.{HandsItem};
-ghost use Rattle.plist_binread.specs.Slot.{ItemAnswersInSlot, item_in};
+ghost use Rattle.plist_binread.specs.Handovers.{HandsItem};
+ghost use Rattle.plist_binread.specs.Slot.{ItemSlotCountsIo, item_in};
 ghost use Rattle.plist_binread.specs.Walking.{IsWalkOf, cached_in, walk_objects, open_in};
 ghost use Rattle.plist_binread.specs.FaultOffsets.{ItemWithin};
 ghost use Rattle.plist_binread.specs.Runs.{KnowsReferences};
@@ -51,7 +51,7 @@ pub fn advance<S: Source, C: DecodeCounter, V: EventVisitor>(
     ensures references { KnowsReferences (S.known source.old) decoder.old.bounds references.new }
     ensures falls { LightensNext walk.old result walk.new }
     ensures unchanged { S.known source.new ≡ S.known source.old }
-    ensures failures { ItemAnswersInSlot S.failures result decoder.new.slot source.old source.new }
+    ensures failures { ItemSlotCountsIo S.failures result decoder.new.slot source.old source.new }
 {
     match walk.next_child() {
         NextChild::Nothing => None,

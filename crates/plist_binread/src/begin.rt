@@ -4,10 +4,10 @@ ghost use Rattle.std.specs.Prelude.{◌≡◌, ◌^◌, ◌<◌, Ok, replicate, 
 ghost use Rattle.plist_base.specs.Outcomes.{OnlyMemory};
 ghost use Rattle.plist_binread.specs.Remaining.{walk_steps};
 ghost use Rattle.plist_binread.specs.FaultOffsets.{ErrWithin};
-ghost use Rattle.plist_binread.specs.Handing.{Hands};
-ghost use Rattle.plist_binread.specs.Slot.{AnswersInSlot, answer_in};
+ghost use Rattle.plist_binread.specs.Handovers.{Hands};
+ghost use Rattle.plist_binread.specs.Slot.{SlotCountsIo, result_in};
 ghost use Rattle.plist_binread.specs.Walking.{IsEmptyWalk, cached_in, walk_objects, weight_in};
-ghost use Rattle.plist_binread.specs.Beginning.{CountsRoot, GivesRoot, IsBounded, IsKnownWalk, CachesRoot};
+ghost use Rattle.plist_binread.specs.FirstStep.{CountsRoot, GivesRoot, IsBounded, IsKnownWalk, CachesRoot};
 
 use crate::counter::DecodeCounter;
 use crate::decoder::Decoder;
@@ -43,12 +43,12 @@ pub fn begin<S: Source, C: DecodeCounter, V: EventVisitor>(
     requires counted { C.counts → C.count decoder.old.counter ≡ cached_in walk.old }
     // Result.
     ensures handed { Hands V.step visitor.old visitor.new result (λ event.
-        IfSome (S.known source.old) (GivesRoot (answer_in result decoder.new.slot) event
+        IfSome (S.known source.old) (GivesRoot (result_in result decoder.new.slot) event
         decoder.new.bounds walk.new)
-        × IfSome (S.known source.old) (CachesRoot (answer_in result decoder.new.slot) event
+        × IfSome (S.known source.old) (CachesRoot (result_in result decoder.new.slot) event
         walk.new)) }
     // Errors.
-    ensures fault { ErrWithin 0 (2 ^ 64) (answer_in result decoder.new.slot) }
+    ensures fault { ErrWithin 0 (2 ^ 64) (result_in result decoder.new.slot) }
     // State afterwards.
     ensures counted { C.counts → C.count decoder.new.counter ≡ cached_in walk.new }
     ensures bounded { IfSome (S.known source.old) (IsBounded walk.new) }
@@ -56,7 +56,7 @@ pub fn begin<S: Source, C: DecodeCounter, V: EventVisitor>(
     ensures known { OnOk result (IsKnownWalk (S.known source.old) decoder.new.bounds walk.new) }
     ensures falls { OnOk result (weight_in walk.new < walk_steps (walk_objects walk.new)) }
     ensures unchanged { S.known source.new ≡ S.known source.old }
-    ensures failures { AnswersInSlot S.failures result decoder.new.slot source.old source.new }
+    ensures failures { SlotCountsIo S.failures result decoder.new.slot source.old source.new }
 {
     let alloc = decoder.slot.alloc;
     let head = decoder.slot.keep_error(Head::read(alloc, source))?;

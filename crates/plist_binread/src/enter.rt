@@ -4,12 +4,12 @@ ghost use Rattle.std.specs.Prelude.{◌≡◌, ◌+◌, ◌<◌, get_or, true, f
 ghost use Rattle.plist_base.specs.Faults.{ObjectReferenceTooLarge, RecursiveObject, fault_at, fault_of};
 ghost use Rattle.plist_binread.specs.Packed.{is_marked};
 ghost use Rattle.plist_binread.specs.Walking.{IsWalkOf, cached_in, remaining_entering, remaining_in, walk_objects};
-ghost use Rattle.plist_binread.specs.DecodeOutcome.{YieldsAnswer};
+ghost use Rattle.plist_binread.specs.DecodeOutcome.{YieldsResult};
 ghost use Rattle.plist_binread.specs.FaultOffsets.{ErrWithin};
 ghost use Rattle.plist_binread.specs.Decoded.{FitsWalk, small_count};
 ghost use Rattle.plist_binread.specs.Step.{IsFoundAt, IsLighterEntered, IsUnchanged, CachesDecoded, CachesEntered, IsCollectionStart, OpensCollection, OpensObject, RefusesEntering, RefusesWithoutIo};
-ghost use Rattle.plist_binread.specs.Handing.{Hands};
-ghost use Rattle.plist_binread.specs.Slot.{AnswersInSlot, answer_in};
+ghost use Rattle.plist_binread.specs.Handovers.{Hands};
+ghost use Rattle.plist_binread.specs.Slot.{SlotCountsIo, result_in};
 
 use crate::counter::DecodeCounter;
 use crate::decoded::{Content, Decoded};
@@ -60,7 +60,7 @@ fn look_up(walk: &Walk, slot: &mut FaultSlot, at: u64, number: u64) -> Result<Kn
     // Errors.
     ensures refused { IfErr result (RefusesEntering walk.now at number slot.new) }
     ensures kinds { IfErr result (RefusesWithoutIo slot.new) }
-    ensures fault { ErrWithin 0 0 (answer_in result slot.new) }
+    ensures fault { ErrWithin 0 0 (result_in result slot.new) }
     // State afterwards.
     ensures below { IfOk result (λ _. number < walk_objects walk.now) }
     ensures new { IfOk result (λ _. is_marked (get_or walk.now.tags.items number 0) ≡ false) }
@@ -155,12 +155,12 @@ pub fn enter<S: Source, C: DecodeCounter, V: EventVisitor>(
     // Result.
     ensures handed { Hands V.step visitor.old visitor.new result (λ event.
         IfSome (S.known source.old) (λ bytes.
-        YieldsAnswer (remaining_entering bytes decoder.old.bounds walk.old reference.at reference.number)
-        (answer_in result decoder.new.slot) event (remaining_in bytes decoder.old.bounds walk.new))
-        × CachesEntered (S.known source.old) reference.number (answer_in result decoder.new.slot)
+        YieldsResult (remaining_entering bytes decoder.old.bounds walk.old reference.at reference.number)
+        (result_in result decoder.new.slot) event (remaining_in bytes decoder.old.bounds walk.new))
+        × CachesEntered (S.known source.old) reference.number (result_in result decoder.new.slot)
         event walk.new) }
     // Errors.
-    ensures fault { ErrWithin 0 decoder.old.bounds.trailer (answer_in result decoder.new.slot) }
+    ensures fault { ErrWithin 0 decoder.old.bounds.trailer (result_in result decoder.new.slot) }
     // State afterwards.
     ensures size { walk_objects walk.new ≡ walk_objects walk.old }
     ensures known { IfSome (S.known source.old) (λ bytes.
@@ -169,7 +169,7 @@ pub fn enter<S: Source, C: DecodeCounter, V: EventVisitor>(
     ensures counted { C.counts → C.count decoder.new.counter ≡ cached_in walk.new }
     ensures falls { OnOk result (IsLighterEntered walk.old walk.new) }
     ensures unchanged { S.known source.new ≡ S.known source.old }
-    ensures failures { AnswersInSlot S.failures result decoder.new.slot source.old source.new }
+    ensures failures { SlotCountsIo S.failures result decoder.new.slot source.old source.new }
 {
     match look_up(walk, &mut decoder.slot, reference.at, reference.number)? {
         Known::Small(kind, content) => {

@@ -7,7 +7,7 @@ ghost use Rattle.plist_format.specs.Object.{Object};
 ghost use Rattle.plist_binread.specs.FaultOffsets.{FailsWithin};
 ghost use Rattle.plist_binread.specs.Decoding.{IsRefusedAs};
 ghost use Rattle.plist_binread.specs.Decoded.{IsObjectFault};
-ghost use Rattle.plist_binread.specs.Slot.{answer_in};
+ghost use Rattle.plist_binread.specs.Slot.{result_in};
 
 use crate::decoded::ObjectFault;
 use plist_base::{Error, ErrorKind};
@@ -67,7 +67,7 @@ impl FaultSlot {
 
     /// Passes on a result, and stores the error if the result is `Err`.
     pub fn keep_error<T>(&mut self, answer: Result<T, Error>) -> Result<T, StepError>
-        ensures answer { answer_in result self.new ≡ answer }
+        ensures answer { result_in result self.new ≡ answer }
     {
         match answer {
             Ok(value) => Ok(value),

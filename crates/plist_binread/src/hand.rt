@@ -1,14 +1,14 @@
 //! Hands decoded objects to a visitor.
 
 ghost use Rattle.std.specs.Prelude.{◌≡◌, ◌≤◌, ℕ, false, take, OnOk};
-ghost use Rattle.plist_base.specs.Sources.{AnswersIo};
+ghost use Rattle.plist_base.specs.Sources.{ResultCountsIo};
 ghost use Rattle.plist_format.specs.Object.{date, text, wide_text};
 ghost use Rattle.plist_binread.specs.CountedContent.{AreUnits, content_means, unit_size};
 ghost use Rattle.plist_binread.specs.Decoded.{EndsIn64Bits, FailsInContent, FitsBefore, IsLong, IsLongBytes, SetsAsSmall, SetsContentAt, SetsDecoded, SetsEvent, is_refused};
 ghost use Rattle.plist_binread.specs.FaultOffsets.{ErrWithin};
-ghost use Rattle.plist_binread.specs.Handing.{Hands, HandsRead, HandsSmall};
+ghost use Rattle.plist_binread.specs.Handovers.{Hands, HandsRead, HandsSmall};
 ghost use Rattle.plist_binread.specs.Packed.{content_bytes, is_small_event, text_if_any, unpacked};
-ghost use Rattle.plist_binread.specs.Slot.{AnswersInSlot, answer_in};
+ghost use Rattle.plist_binread.specs.Slot.{SlotCountsIo, result_in};
 ghost use Rattle.plist_binread.specs.declared.decoded.ContentKind.TheVariants.{Text as KindText};
 
 use crate::counter::DecodeCounter;
@@ -84,10 +84,10 @@ fn hand_date<V: EventVisitor>(
     visitor: &mut V,
 ) -> Result<ControlFlow<()>, StepError>
     ensures handed { Hands V.step visitor.old visitor.new result (λ event.
-        SetsEvent (date (content_bytes content)) place (answer_in result slot.new) event
+        SetsEvent (date (content_bytes content)) place (result_in result slot.new) event
         × OnOk result (is_small_event event ≡ false)) }
-    ensures fault { (end : ℕ) → ErrWithin place end (answer_in result slot.new) }
-    ensures failures { (count : ℕ) → AnswersIo (answer_in result slot.new) count count }
+    ensures fault { (end : ℕ) → ErrWithin place end (result_in result slot.new) }
+    ensures failures { (count : ℕ) → ResultCountsIo (result_in result slot.new) count count }
 {
     match Date::from_plist_real(content.to_be_bytes()) {
         Ok(date) => Ok(visitor.date(date)),
@@ -102,7 +102,7 @@ fn hand_read<V: EventVisitor>(
     visitor: &mut V,
 ) -> Result<ControlFlow<()>, StepError>
     ensures { Hands V.step visitor.old visitor.new result
-        (HandsRead read.entry (answer_in result slot.new)) }
+        (HandsRead read.entry (result_in result slot.new)) }
 {
     match read {
         Ok(event) => Ok(visitor.event(event)),
@@ -121,10 +121,10 @@ fn hand_text<V: EventVisitor>(
 ) -> Result<ControlFlow<()>, StepError>
     requires { IsLongBytes KindText bytes.now }
     ensures handed { Hands V.step visitor.old visitor.new result (λ event.
-        SetsEvent (text bytes.now) place (answer_in result slot.new) event
+        SetsEvent (text bytes.now) place (result_in result slot.new) event
         × OnOk result (is_small_event event ≡ false)) }
-    ensures fault { (end : ℕ) → ErrWithin place end (answer_in result slot.new) }
-    ensures failures { (count : ℕ) → AnswersIo (answer_in result slot.new) count count }
+    ensures fault { (end : ℕ) → ErrWithin place end (result_in result slot.new) }
+    ensures failures { (count : ℕ) → ResultCountsIo (result_in result slot.new) count count }
 {
     match text_in(bytes) {
         Some(text) => Ok(visitor.string(CowStr::Borrowed(text))),
@@ -144,10 +144,10 @@ fn hand_wide_text<V: EventVisitor>(
 ) -> Result<ControlFlow<()>, StepError>
     requires { AreUnits 2 bytes.now }
     ensures handed { Hands V.step visitor.old visitor.new result (λ event.
-        SetsEvent (wide_text bytes.now) place (answer_in result slot.new) event
+        SetsEvent (wide_text bytes.now) place (result_in result slot.new) event
         × OnOk result (is_small_event event ≡ false)) }
-    ensures fault { (end : ℕ) → ErrWithin place end (answer_in result slot.new) }
-    ensures failures { (count : ℕ) → AnswersIo (answer_in result slot.new) count count }
+    ensures fault { (end : ℕ) → ErrWithin place end (result_in result slot.new) }
+    ensures failures { (count : ℕ) → ResultCountsIo (result_in result slot.new) count count }
 {
     let read = wide_text_event(slot.alloc, bytes, place);
     hand_read(read, slot, visitor)
@@ -166,10 +166,10 @@ pub fn hand_bytes<V: EventVisitor>(
     requires units { AreUnits (unit_size kind) bytes.now }
     requires long { IsLongBytes kind bytes.now }
     ensures handed { Hands V.step visitor.old visitor.new result (λ event.
-        SetsEvent (content_means kind bytes.now) place (answer_in result slot.new) event
+        SetsEvent (content_means kind bytes.now) place (result_in result slot.new) event
         × OnOk result (is_small_event event ≡ false)) }
-    ensures fault { (end : ℕ) → ErrWithin place end (answer_in result slot.new) }
-    ensures failures { (count : ℕ) → AnswersIo (answer_in result slot.new) count count }
+    ensures fault { (end : ℕ) → ErrWithin place end (result_in result slot.new) }
+    ensures failures { (count : ℕ) → ResultCountsIo (result_in result slot.new) count count }
 {
     match kind {
         ContentKind::Data => Ok(visitor.data(CowSlice::Borrowed(bytes))),
@@ -192,13 +192,13 @@ fn hand_far<S: Source, V: EventVisitor>(
     requires long { IsLong content }
     // Result.
     ensures handed { Hands V.step visitor.old visitor.new result (λ event.
-        SetsContentAt (S.known source.old) place content (answer_in result slot.new) event
+        SetsContentAt (S.known source.old) place content (result_in result slot.new) event
         × OnOk result (is_small_event event ≡ false)) }
     // Errors.
-    ensures fault { FailsInContent place content (answer_in result slot.new) }
+    ensures fault { FailsInContent place content (result_in result slot.new) }
     // State afterwards.
     ensures unchanged { S.known source.new ≡ S.known source.old }
-    ensures failures { AnswersInSlot S.failures result slot.new source.old source.new }
+    ensures failures { SlotCountsIo S.failures result slot.new source.old source.new }
 {
     let read = read_long(slot.alloc, source, place, content);
     hand_read(read, slot, visitor)
@@ -218,16 +218,16 @@ pub fn hand_decoded<S: Source, C: DecodeCounter, V: EventVisitor>(
     // Result.
     ensures handed { Hands V.step visitor.old visitor.new result (λ event.
         SetsDecoded (S.known source.old) decoder.old.bounds place decoded
-        (answer_in result decoder.new.slot) event
+        (result_in result decoder.new.slot) event
         × SetsAsSmall decoded result event) }
     ensures found { OnOk result (is_refused decoded ≡ false) }
     // Errors.
-    ensures fault { ErrWithin place decoder.old.bounds.trailer (answer_in result decoder.new.slot) }
+    ensures fault { ErrWithin place decoder.old.bounds.trailer (result_in result decoder.new.slot) }
     // State afterwards.
     ensures unchanged { S.known source.new ≡ S.known source.old }
     ensures bounds { decoder.new.bounds ≡ decoder.old.bounds }
     ensures counter { decoder.new.counter ≡ decoder.old.counter }
-    ensures failures { AnswersInSlot S.failures result decoder.new.slot source.old source.new }
+    ensures failures { SlotCountsIo S.failures result decoder.new.slot source.old source.new }
 {
     match decoded {
         Decoded::Small(kind, content) => match hand_small(kind, content, visitor) {

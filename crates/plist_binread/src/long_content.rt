@@ -3,7 +3,7 @@
 ghost use Rattle.std.specs.Prelude.{◌≡◌, IfErr, IfOk, ⊤};
 ghost use Rattle.plist_base.specs.Outcomes.{OnlyMemory};
 ghost use Rattle.plist_base.specs.Faults.{MatchFault, kind_of, error_kind_of};
-ghost use Rattle.plist_base.specs.Sources.{AnswersIo};
+ghost use Rattle.plist_base.specs.Sources.{ResultCountsIo};
 ghost use Rattle.plist_format.specs.Container.{numbers_spelled};
 ghost use Rattle.plist_format.specs.Object.{text, text_of_units, wide_text};
 ghost use Rattle.plist_binread.specs.Decoding.{Decodes, IsLarge};
@@ -120,7 +120,7 @@ pub fn read_long<S: Source>(
     ensures fault { FailsInContent place content result }
     // State afterwards.
     ensures unchanged { S.known source.new ≡ S.known source.old }
-    ensures failures { AnswersIo result (S.failures source.old) (S.failures source.new) }
+    ensures failures { ResultCountsIo result (S.failures source.old) (S.failures source.new) }
 {
     let start = place + u64::from(content.start);
     let size = content.count * content.kind.unit_size();

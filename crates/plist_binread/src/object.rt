@@ -4,7 +4,7 @@ ghost use Rattle.std.specs.Prelude.{◌≡◌, IfErr, IfOk, IfSome};
 ghost use Rattle.plist_binread.specs.Decoded.{CountsRead, DecodesAt, FitsBefore, IsRefusedAt};
 ghost use Rattle.plist_binread.specs.FaultOffsets.{ErrWithin};
 ghost use Rattle.plist_binread.specs.Front.{IsFrontAt};
-ghost use Rattle.plist_binread.specs.Slot.{AnswersInSlot, answer_in};
+ghost use Rattle.plist_binread.specs.Slot.{SlotCountsIo, result_in};
 
 use crate::counter::DecodeCounter;
 use crate::decoded::Decoded;
@@ -52,12 +52,12 @@ pub fn read_object<S: Source, C: DecodeCounter>(
     // Errors.
     ensures refused { IfErr result (λ _.
         IsRefusedAt (S.known source.old) decoder.old.bounds place decoder.new.slot.fault) }
-    ensures fault { ErrWithin place decoder.old.bounds.trailer (answer_in result decoder.new.slot) }
+    ensures fault { ErrWithin place decoder.old.bounds.trailer (result_in result decoder.new.slot) }
     // State afterwards.
     ensures counted { CountsRead C.counts C.count decoder.old.counter decoder.new.counter result }
     ensures bounds { decoder.new.bounds ≡ decoder.old.bounds }
     ensures unchanged { S.known source.new ≡ S.known source.old }
-    ensures failures { AnswersInSlot S.failures result decoder.new.slot source.old source.new }
+    ensures failures { SlotCountsIo S.failures result decoder.new.slot source.old source.new }
 {
     if place >= decoder.bounds.trailer {
         return Err(decoder.slot.refuse_overrun(place));

@@ -5,8 +5,8 @@ ghost use Rattle.plist_binread.specs.DecodeOutcome.{reference_place, reference_i
 ghost use Rattle.plist_binread.specs.FaultOffsets.{ErrWithin};
 ghost use Rattle.plist_binread.specs.Reading.{HasNoChild, FindsReferences, HasNoChildren, HasPairs, AreReferencesOfSeen, RefusesNumber, ReadsChildAt, ReadsNumber, ShowsLength};
 ghost use Rattle.plist_binread.specs.Step.{RefusesEach};
-ghost use Rattle.plist_base.specs.Sources.{AnswersIo};
-ghost use Rattle.plist_binread.specs.Slot.{AnswersInSlot, answer_in, found_in};
+ghost use Rattle.plist_base.specs.Sources.{ResultCountsIo};
+ghost use Rattle.plist_binread.specs.Slot.{SlotCountsIo, result_in, found_in};
 
 use crate::counted_content::split_length;
 use crate::counter::DecodeCounter;
@@ -113,13 +113,13 @@ fn read_references<S: Source>(
     requires to_trailer { to_trailer ≡ bounds.now.trailer - place }
     // Result.
     ensures value { IfOk result (λ references. references.place ≡ place) }
-    ensures references { FindsReferences (answer_in result slot.new) (S.known source.old) bounds.now
+    ensures references { FindsReferences (result_in result slot.new) (S.known source.old) bounds.now
         place }
     // Errors.
-    ensures fault { ErrWithin place bounds.now.trailer (answer_in result slot.new) }
+    ensures fault { ErrWithin place bounds.now.trailer (result_in result slot.new) }
     // State afterwards.
     ensures unchanged { S.known source.new ≡ S.known source.old }
-    ensures failures { AnswersInSlot S.failures result slot.new source.old source.new }
+    ensures failures { SlotCountsIo S.failures result slot.new source.old source.new }
 {
     let mut front = [0; LENGTH_END];
     let seen = &mut front[..to_trailer.min(LENGTH_END as u64) as usize];
@@ -182,7 +182,7 @@ fn read_reference<S: Source>(
     ensures fault { ErrWithin place (place + width) (found_in result slot.new) }
     // State afterwards.
     ensures unchanged { S.known source.new ≡ S.known source.old }
-    ensures failures { AnswersIo (found_in result slot.new) (S.failures source.old)
+    ensures failures { ResultCountsIo (found_in result slot.new) (S.failures source.old)
         (S.failures source.new) }
 {
     match read_unbuffered_number(source, place, width) {
@@ -215,7 +215,7 @@ impl ReferenceReader {
     ghost use Rattle.plist_binread.specs.FaultOffsets.{ErrWithin};
     ghost use Rattle.plist_binread.specs.Reading.{IfFound, IsNumberAt, ReadsChildAt};
     ghost use Rattle.plist_binread.specs.Runs.{AreRunsOf, KnowsReferences};
-    ghost use Rattle.plist_binread.specs.Slot.{AnswersInSlot, answer_in};
+    ghost use Rattle.plist_binread.specs.Slot.{SlotCountsIo, result_in};
     ghost use Rattle.plist_binread.specs.Step.{RefusesEach};
 
     /// Creates a reader that hasn't located any references yet.
@@ -245,11 +245,11 @@ impl ReferenceReader {
         // Errors.
         ensures refused { IfErr result (RefusesEach (S.known source.old) bounds.now place
             slot.new) }
-        ensures fault { ErrWithin place bounds.now.trailer (answer_in result slot.new) }
+        ensures fault { ErrWithin place bounds.now.trailer (result_in result slot.new) }
         // State afterwards.
         ensures known { KnowsReferences (S.known source.old) bounds.now self.new }
         ensures unchanged { S.known source.new ≡ S.known source.old }
-        ensures failures { AnswersInSlot S.failures result slot.new source.old source.new }
+        ensures failures { SlotCountsIo S.failures result slot.new source.old source.new }
     {
         if place >= bounds.trailer {
             return Err(slot.refuse_overrun(place));
@@ -287,13 +287,13 @@ impl ReferenceReader {
         ensures refused { IfErr result (RefusesEach (S.known source.old) decoder.old.bounds place
             decoder.new.slot) }
         ensures fault { ErrWithin place decoder.old.bounds.trailer
-            (answer_in result decoder.new.slot) }
+            (result_in result decoder.new.slot) }
         // State afterwards.
         ensures known { KnowsReferences (S.known source.old) decoder.old.bounds self.new }
         ensures bounds { decoder.new.bounds ≡ decoder.old.bounds }
         ensures counter { decoder.new.counter ≡ decoder.old.counter }
         ensures unchanged { S.known source.new ≡ S.known source.old }
-        ensures failures { AnswersInSlot S.failures result decoder.new.slot source.old source.new }
+        ensures failures { SlotCountsIo S.failures result decoder.new.slot source.old source.new }
     {
         if self.site.place == place {
             return Ok(());
@@ -337,17 +337,17 @@ impl ReferenceReader {
     ) -> Result<u64, StepError>
         requires known { KnowsReferences (S.known source.old) decoder.old.bounds self.old }
         // Result.
-        ensures child { ReadsChildAt (answer_in result decoder.new.slot) (S.known source.old)
+        ensures child { ReadsChildAt (result_in result decoder.new.slot) (S.known source.old)
             decoder.old.bounds place index }
         // Errors.
         ensures fault { ErrWithin place decoder.old.bounds.trailer
-            (answer_in result decoder.new.slot) }
+            (result_in result decoder.new.slot) }
         // State afterwards.
         ensures known { KnowsReferences (S.known source.old) decoder.old.bounds self.new }
         ensures bounds { decoder.new.bounds ≡ decoder.old.bounds }
         ensures counter { decoder.new.counter ≡ decoder.old.counter }
         ensures unchanged { S.known source.new ≡ S.known source.old }
-        ensures failures { AnswersInSlot S.failures result decoder.new.slot source.old source.new }
+        ensures failures { SlotCountsIo S.failures result decoder.new.slot source.old source.new }
     {
         self.turn_to(source, decoder, place)?;
         let trailer = decoder.bounds.trailer;

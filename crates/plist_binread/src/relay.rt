@@ -29,7 +29,7 @@ impl<'v, V: EventVisitor> Relay<'v, V> {
 }
 
 impl<'v, V: EventVisitor> EventVisitor for Relay<'v, V> {
-    ghost use Rattle.plist_binread.specs.Handing.{PassesOn};
+    ghost use Rattle.plist_binread.specs.Handovers.{PassesOn};
 
     ghost step = { PassesOn V.step };
 

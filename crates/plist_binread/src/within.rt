@@ -40,7 +40,7 @@ impl<'v, V: EventVisitor> Within<'v, V> {
 }
 
 impl<'v, V: EventVisitor> EventVisitor for Within<'v, V> {
-    ghost use Rattle.plist_binread.specs.Advancing.{TakesWithin};
+    ghost use Rattle.plist_binread.specs.ReaderSteps.{TakesWithin};
 
     ghost step = { TakesWithin V.step };
 

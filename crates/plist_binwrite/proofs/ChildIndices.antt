@@ -14,9 +14,9 @@ use Rattle.plist_binwrite.specs.declared.children.Half.{Half}
 use Rattle.plist_binwrite.specs.declared.children.Half.TheVariants.{Keys, Values}
 use Rattle.plist_base.specs.declared.event.EventShape.TheVariants as shape
 use Rattle.plist_binwrite.specs.inner.UnclosedStarts.{skip_after}
-use Rattle.plist_binwrite.proofs.Occurring.{occurs_items, occurs_pairs, occurs_item, occurs_next, occurs_key, occurs_value, occurs_next_pair}
-use Rattle.plist_binwrite.proofs.Opened.{skip_ends, skip_forward}
-use Rattle.plist_binwrite.proofs.Skipping.{begins, first_event, stands_single, starts_array, starts_dictionary}
+use Rattle.plist_binwrite.proofs.TreeOccurrences.{occurs_items, occurs_pairs, occurs_item, occurs_next, occurs_key, occurs_value, occurs_next_pair}
+use Rattle.plist_binwrite.proofs.OpenStarts.{skip_ends, skip_forward}
+use Rattle.plist_binwrite.proofs.TreeStarts.{begins, first_event, stands_single, starts_array, starts_dictionary}
 
 -- an index past all events counts as that of an end
 past_end : (es : List PlainEvent) (q : ℕ) → length es ≤ q → is_end (event_at es q) ≡ true

@@ -13,9 +13,9 @@ use Rattle.plist_binwrite.specs.inner.Planning.{IsPlanned}
 use Rattle.plist_binwrite.specs.inner.PlansBy.{number_by}
 use Rattle.plist_binwrite.proofs.TreeObjects.{occurs_at}
 use Rattle.plist_binwrite.specs.Occurrences.{event_count, OccursAt, ItemsOccurAt, PairsOccurAt}
-use Rattle.plist_binwrite.proofs.Occurring.{occurs_items, occurs_pairs, occurs_item, occurs_next, occurs_key, occurs_value, occurs_next_pair}
-use Rattle.plist_binwrite.proofs.PlannedBy.{numbers_below}
-use Rattle.plist_binwrite.proofs.Skipping.{begins, occurs_in}
+use Rattle.plist_binwrite.proofs.TreeOccurrences.{occurs_items, occurs_pairs, occurs_item, occurs_next, occurs_key, occurs_value, occurs_next_pair}
+use Rattle.plist_binwrite.proofs.NumberingSteps.{numbers_below}
+use Rattle.plist_binwrite.proofs.TreeStarts.{begins, occurs_in}
 
 pub the_scalar : (x y : Scalar) → obj.Scalar x ≡ obj.Scalar y → x ≡ y
 the_scalar x y p = cc

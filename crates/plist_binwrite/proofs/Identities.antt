@@ -12,7 +12,7 @@ use Rattle.plist_binwrite.specs.inner.Columns.{scalar_named}
 use Rattle.plist_binwrite.specs.inner.Entries.{entry_at}
 use Rattle.plist_binwrite.specs.inner.Scalars.{identity_at, identity_of, shared, alone, AreDistinct, HaveClasses, AreIdentities, is_leaf}
 use Rattle.plist_binwrite.proofs.Columns.{named}
-use Rattle.plist_binwrite.proofs.HeldEntries.{no_scalar, scalar_stored, scalar_is_leaf}
+use Rattle.plist_binwrite.proofs.EntryEvents.{no_scalar, scalar_stored, scalar_is_leaf}
 
 module _ {es keys : List PlainEvent} {class : ℕ → ℕ} {top index : ℕ}
     (full : length es ≤ index) (have : HaveClasses es class keys top index) (apart : AreDistinct keys)

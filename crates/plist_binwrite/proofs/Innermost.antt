@@ -9,10 +9,10 @@ use Rattle.plist_base.specs.declared.event.EventShape.TheVariants as shape
 use Rattle.plist_binwrite.specs.EventTable.{event_at, plain_events}
 use Rattle.plist_binwrite.specs.inner.Expected.{OpenKind, open_after_event, open_after, expects_in, expected_inside, innermost}
 use Rattle.plist_binwrite.specs.inner.UnclosedStarts.{unclosed_after_event, unclosed_from, unclosed_after}
-use Rattle.plist_binwrite.proofs.HeldEntries.{below, unclosed_is, was_start}
-use Rattle.plist_binwrite.proofs.Occurring.{past_one}
-use Rattle.plist_binwrite.proofs.Opened.{is_start}
-use Rattle.plist_binwrite.proofs.Skipping.{first_event}
+use Rattle.plist_binwrite.proofs.EntryEvents.{below, unclosed_is, was_start}
+use Rattle.plist_binwrite.proofs.TreeOccurrences.{past_one}
+use Rattle.plist_binwrite.proofs.OpenStarts.{is_start}
+use Rattle.plist_binwrite.proofs.TreeStarts.{first_event}
 
 -- ---- open starts, and the collections that they begin
 

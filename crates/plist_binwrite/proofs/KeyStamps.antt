@@ -14,9 +14,9 @@ use Rattle.plist_binwrite.specs.EventTable.{AllBelow, event_at, is_end, key_indi
 use Rattle.plist_binwrite.specs.inner.Entries.{AreDistinct, is_leaf}
 use Rattle.plist_binwrite.specs.RepeatedKeys.{Lacks, HasDistinctKeys, HasKeysOnce, ItemsHaveKeysOnce, ValuesHaveKeysOnce}
 use Rattle.plist_binwrite.specs.Occurrences.{event_count, OccursAt, ItemsOccurAt, PairsOccurAt, positions, positions_in_items, positions_in_pairs}
-use Rattle.plist_binwrite.proofs.Inside.{positions_all}
-use Rattle.plist_binwrite.proofs.Occurring.{occurs_whole, occurs_items, occurs_pairs, occurs_item, occurs_next, occurs_key, occurs_value, occurs_next_pair}
-use Rattle.plist_binwrite.proofs.Skipping.{stands_single, starts_array}
+use Rattle.plist_binwrite.proofs.TreePositions.{positions_all}
+use Rattle.plist_binwrite.proofs.TreeOccurrences.{occurs_whole, occurs_items, occurs_pairs, occurs_item, occurs_next, occurs_key, occurs_value, occurs_next_pair}
+use Rattle.plist_binwrite.proofs.TreeStarts.{stands_single, starts_array}
 use Rattle.plist_binwrite.proofs.Uniques.{all_both}
 
 -- ---- one dictionary, by the events of its keys

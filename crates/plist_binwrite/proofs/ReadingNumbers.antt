@@ -11,7 +11,7 @@ use Rattle.plist_base.specs.Trees as trees
 use Rattle.plist_format.specs.Container.{number_of, number_at, numbers_spelled, magic, trailer_in, is_width, head_with, head_of}
 use Rattle.plist_format.specs.Object.{Object, Scalar, Counted, layout_of, length_that_follows, meaning_of_front, object_in, signed, integer_in_range}
 use Rattle.plist_binwrite.specs.Forms.{big_endian, doublings, unsigned_form, integer_form, uid_form, length_form, IsInteger, AllFit, least_width, table_form, trailer_form}
-use Rattle.plist_binwrite.proofs.Pushed.{length_short, length_long}
+use Rattle.plist_binwrite.proofs.NumberForms.{length_short, length_long}
 use Rattle.plist_binwrite.proofs.LeastWidths.{at_width, length-big_endian, number_back}
 use Rattle.plist_binwrite.specs.Widths.{reference_width, offset_width}
 use Rattle.plist_binwrite.specs.inner.Laying.{with_table_and_trailer}

@@ -17,8 +17,8 @@ use Rattle.plist_binwrite.specs.Sending.{Sends, least_files}
 use Rattle.plist_binwrite.specs.SendingAs.{FileKind, IsFileAs, FailsAs, SendsAs}
 use Rattle.plist_binwrite.specs.inner.Scalars.{AreIdentities}
 use Rattle.plist_binwrite.proofs.Least.{least}
-use Rattle.plist_binwrite.proofs.Owned.{owned_count, owned_size, entered_once}
-use Rattle.plist_binwrite.proofs.Occurring.{occurs_whole}
+use Rattle.plist_binwrite.proofs.WriterClasses.{owned_count, owned_size, entered_once}
+use Rattle.plist_binwrite.proofs.TreeOccurrences.{occurs_whole}
 use Rattle.plist_binwrite.proofs.Lengthless.{plain_lengthless}
 
 -- for events that are alike, a file of the first kind is one of the second kind, and has the same

@@ -20,10 +20,10 @@ use Rattle.plist_binwrite.specs.declared.plan.FilePlan.{FilePlan}
 use Rattle.plist_binwrite.specs.inner.Planning.{object_number}
 use Rattle.plist_binwrite.specs.inner.Putting.{collection_form, tree_form}
 use Rattle.plist_binwrite.specs.inner.Entries.{is_leaf}
-use Rattle.plist_binwrite.proofs.Occurring.{occurs_whole, occurs_items, occurs_pairs, occurs_item, occurs_next, occurs_key, occurs_value, occurs_next_pair}
-use Rattle.plist_binwrite.proofs.Skipping.{stands_single, starts_array, starts_dictionary, no_start, begins, occurs_in}
+use Rattle.plist_binwrite.proofs.TreeOccurrences.{occurs_whole, occurs_items, occurs_pairs, occurs_item, occurs_next, occurs_key, occurs_value, occurs_next_pair}
+use Rattle.plist_binwrite.proofs.TreeStarts.{stands_single, starts_array, starts_dictionary, no_start, begins, occurs_in}
 use Rattle.plist_binwrite.proofs.ChildIndices.{few_children, keys_are_in, values_are_in}
-use Rattle.plist_binwrite.proofs.Inside.{Stands, positions_stand, positions_all}
+use Rattle.plist_binwrite.proofs.TreePositions.{Stands, positions_stand, positions_all}
 use Rattle.plist_binwrite.proofs.ReadingNumbers.{length-table}
 use Rattle.plist_binwrite.proofs.Uniques.{all_from}
 use Rattle.plist_binwrite.proofs.Unfold.{length-references, length-pairs}

@@ -1,12 +1,12 @@
 pub mod Blocks
 pub mod SourceItems
-pub mod Collected
+pub mod CollectorRuns
 pub mod PendingBytes
 pub mod LineParts
 pub mod PlainBytes
 pub mod Runs
 pub mod ScalarLines
 pub mod Printers
-pub mod Streaming
+pub mod BufferedItems
 pub mod Trees
 pub mod ErrorMessages

@@ -21,7 +21,7 @@ use Rattle.plist_commands.specs.Converting.{items_left}
 use Rattle.plist_commands.specs.EscapedLines.{first_fault, lines_of, lines_of_events}
 use Rattle.plist_commands.specs.Items.{ComesIfKnown, GivesNext, failures_if_held, failures_in, items_of_events}
 use Rattle.plist_commands.specs.Printing.{CountsReads, IsWriterError, PrintsKnown, PrintsAll, PrintsUntil}
-use Rattle.plist_binread.specs.Advancing.{Steps}
+use Rattle.plist_binread.specs.ReaderSteps.{Steps}
 use Rattle.plist_commands.specs.ReaderRuns.{IsAskedOnce, PrintsRun, StepsReader, StopsPrinting}
 use Rattle.plist_base.proofs.SinkSteps.{prefix_more}
 use Rattle.plist_commands.proofs.PendingBytes.{device_own, fault_counts, memory_own, own_counts, own_ends}

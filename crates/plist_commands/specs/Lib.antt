@@ -9,4 +9,4 @@ pub mod Commands
 pub mod Failures
 pub mod Archives
 pub mod Converting
-pub mod Holding
+pub mod CollectorSteps

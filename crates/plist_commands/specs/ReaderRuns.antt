@@ -11,7 +11,7 @@ use Rattle.plist_base.specs.Sources.{Rises}
 use Rattle.plist_base.specs.Visits.{YieldsAll, YieldsPlain, PlainItem}
 use Rattle.plist_binread.specs.BinaryReader.{is_new, binary_source}
 use Rattle.plist_binread.specs.FaultOffsets.{HasOffset}
-use Rattle.plist_binread.specs.Advancing.{Steps}
+use Rattle.plist_binread.specs.ReaderSteps.{Steps}
 use Rattle.plist_reader.specs.Reader.{Gives, BinaryReaderOf, IsNewReader}
 use Rattle.plist_reader.specs.declared.reader.Reader.{Reader}
 use Rattle.plist_commands.specs.declared.convert.Streamed.{Streamed}

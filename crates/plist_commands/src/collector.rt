@@ -5,7 +5,7 @@ ghost use Rattle.plist_base.specs.Bracketing.{CanContinue};
 ghost use Rattle.plist_base.specs.Events.{event_of};
 ghost use Rattle.plist_binwrite.specs.EventBuffers.{TestsWhole, buffered_events, is_whole};
 ghost use Rattle.plist_commands.specs.Converting.{IfOkIs};
-ghost use Rattle.plist_commands.specs.Holding.{HoldsMore};
+ghost use Rattle.plist_commands.specs.CollectorSteps.{HoldsMore};
 
 use plist_base::{Error, Event, EventVisitor, Visited};
 use plist_binwrite::event_buffer::{EventBuffer, PushError};
@@ -59,7 +59,7 @@ pub(crate) struct Collector {
 
 impl Collector {
     ghost use Rattle.std.specs.Prelude.{[]};
-    ghost use Rattle.plist_commands.specs.Holding.{AnswersVisit, EndsAtEvent, HasPaused, MayPause, collected, is_complete};
+    ghost use Rattle.plist_commands.specs.CollectorSteps.{AnswersVisit, EndsAtEvent, HasPaused, MayPause, collected, is_complete};
 
     /// Creates a collector that has taken no event.
     pub(crate) fn new(alloc: Global) -> Collector
@@ -136,7 +136,7 @@ impl Collector {
 }
 
 impl EventVisitor for Collector {
-    ghost use Rattle.plist_commands.specs.Holding.{CollectsEvent};
+    ghost use Rattle.plist_commands.specs.CollectorSteps.{CollectsEvent};
 
     ghost step = { CollectsEvent };
 

@@ -4,7 +4,7 @@ ghost use Rattle.std.specs.Prelude.{◌≡◌, ◌+◌, ◌-◌, ◌<◌, nat_eq
 ghost use Rattle.std.specs.List.{starts_with};
 ghost use Rattle.plist_base.specs.Faults.{IsIo, Io, fault_at, kind_of, error_kind_of, offset_of};
 ghost use Rattle.plist_base.specs.Outcomes.{OnlyFault, DecodesBy};
-ghost use Rattle.plist_base.specs.Sources.{AnswersIo};
+ghost use Rattle.plist_base.specs.Sources.{ResultCountsIo};
 ghost use Rattle.plist_binread.specs.FaultOffsets.{HasOffset};
 ghost use Rattle.plist_reader.specs.Formats.{is_white, byte_order_mark_length, input_front, xml_place, format_of};
 
@@ -36,7 +36,7 @@ fn begins_with<S: Source, const N: usize>(source: &mut S, front: &[u8; N]) -> Re
     ensures offset { IfErr result (λ error. HasOffset (offset_of error)) }
     // State afterwards.
     ensures unchanged { S.known source.new ≡ S.known source.old }
-    ensures failures { AnswersIo result (S.failures source.old) (S.failures source.new) }
+    ensures failures { ResultCountsIo result (S.failures source.old) (S.failures source.new) }
 {
     let mut found = [0; N];
     match read_exact_at(source, 0, &mut found) {
@@ -59,7 +59,7 @@ fn byte_order_mark_length<S: Source>(source: &mut S) -> Result<u64, Error>
     ensures offset { IfErr result (λ error. HasOffset (offset_of error)) }
     // State afterwards.
     ensures unchanged { S.known source.new ≡ S.known source.old }
-    ensures failures { AnswersIo result (S.failures source.old) (S.failures source.new) }
+    ensures failures { ResultCountsIo result (S.failures source.old) (S.failures source.new) }
 {
     let marked = begins_with(source, MARK)?;
     Ok(if marked { 3 } else { 0 })
@@ -70,7 +70,7 @@ fn byte_at<S: Source>(source: &mut S, place: u64) -> Result<Option<u8>, Error>
     ensures byte { DecodesBy result (S.known source.old) (λ bytes. slice_get bytes place) }
     ensures refused { OnlyFault result (fault_at Io place) }
     ensures unchanged { S.known source.new ≡ S.known source.old }
-    ensures failures { AnswersIo result (S.failures source.old) (S.failures source.new) }
+    ensures failures { ResultCountsIo result (S.failures source.old) (S.failures source.new) }
 {
     match read_byte(source, place) {
         Ok(byte) => Ok(byte),
@@ -94,7 +94,7 @@ fn xml_place<S: Source>(source: &mut S, start: u64) -> Result<Option<u64>, Error
     ensures offset { IfErr result (λ error. HasOffset (offset_of error)) }
     // State afterwards.
     ensures unchanged { S.known source.new ≡ S.known source.old }
-    ensures failures { AnswersIo result (S.failures source.old) (S.failures source.new) }
+    ensures failures { ResultCountsIo result (S.failures source.old) (S.failures source.new) }
 {
     let mut place = start;
     'white: while place < u64::MAX {
@@ -122,7 +122,7 @@ pub fn format_of<S: Source>(source: &mut S) -> Result<Format, Error>
     ensures offset { IfErr result (λ error. HasOffset (offset_of error)) }
     // State afterwards.
     ensures unchanged { S.known source.new ≡ S.known source.old }
-    ensures failures { AnswersIo result (S.failures source.old) (S.failures source.new) }
+    ensures failures { ResultCountsIo result (S.failures source.old) (S.failures source.new) }
 {
     if begins_with(source, MAGIC)? {
         return Ok(Format::Binary);

@@ -14,7 +14,7 @@ use Rattle.plist_binwrite.proofs.Uniques.{all_unique}
 use Rattle.plist_share.specs.Distinct.{tree_eq, subtrees, distinct_subtrees, HasAtLeast, IsLeastOfAll}
 use Rattle.plist_share.proofs.Meaning.{Means, Numbered, one_tree, all_numbered}
 use Rattle.plist_share.proofs.Parsing.{unfolding_parses}
-use Rattle.plist_share.proofs.Separating.{tree_tells}
+use Rattle.plist_share.proofs.TreeEquality.{tree_tells}
 
 least_with : (file : List ℕ) (t : Tree) (head : Result Head Fault) → head_of file ≡ head
     → items_with file head ≡ map Ok (bracketing t) → HasAtLeast file (distinct_subtrees t)

@@ -1,9 +1,9 @@
 pub mod Meaning
 pub mod Parsing
 pub mod Least
-pub mod Classed
-pub mod Alike
-pub mod Found
-pub mod Separating
-pub mod Shares
+pub mod EqualTrees
+pub mod EqualKeys
+pub mod ClassTrees
+pub mod TreeEquality
+pub mod DistinctSubtrees
 pub mod SharedFile

@@ -10,11 +10,11 @@ use Rattle.plist_binwrite.specs.EventTable.{plain_events}
 use Rattle.plist_binwrite.specs.Occurrences.{OccursAt}
 use Rattle.plist_binwrite.specs.SendingAs.{SendsAs}
 use Rattle.plist_binwrite.proofs.SendingFiles.{sends_as}
-use Rattle.plist_binwrite.proofs.Occurring.{occurs_whole}
+use Rattle.plist_binwrite.proofs.TreeOccurrences.{occurs_whole}
 use Rattle.plist_binwrite.proofs.Lengthless.{plain_lengthless}
 use Rattle.plist_share.specs.inner.Nodes.{SeparatesTrees}
 use Rattle.plist_share.specs.SharedFiles.{shared_files}
-use Rattle.plist_share.proofs.Shares.{shared_file, size_is}
+use Rattle.plist_share.proofs.DistinctSubtrees.{shared_file, size_is}
 
 module _ {W : Type 0} (contents : W → Option (List ℕ)) (events : EventTable) (class : ℕ → ℕ)
     (given : SeparatesTrees (plain_events events) class) where

@@ -6,7 +6,7 @@ use Rattle.plist_ascii.specs.declared.input.Input.{Input}
 use Rattle.plist_ascii.specs.declared.stop.Stop.{Stop}
 use Rattle.plist_ascii.specs.declared.token.Lead.TheVariants as lead
 use Rattle.plist_ascii.specs.Ascii.{is_blank, lead_of, token_by}
-use Rattle.plist_ascii.specs.Taken.{past_one, run, taken}
+use Rattle.plist_ascii.specs.TokenPrefixes.{past_one, run, taken}
 use Rattle.plist_ascii.specs.Quoted.{ends_run}
 use Rattle.plist_ascii.specs.Unread.{IfKnown, stops, unread}
 

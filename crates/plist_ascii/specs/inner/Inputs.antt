@@ -10,7 +10,7 @@ use Rattle.plist_ascii.specs.declared.fault.TokenFault.{TokenFault}
 use Rattle.plist_ascii.specs.declared.fault.TokenFault.TheVariants as fault
 use Rattle.plist_ascii.specs.declared.input.Input.{Input}
 use Rattle.plist_ascii.specs.declared.stop.Stop.{Stop}
-use Rattle.plist_ascii.specs.Taken.{Taken, run}
+use Rattle.plist_ascii.specs.TokenPrefixes.{Taken, run}
 use Rattle.plist_ascii.specs.Texts.{Token}
 use Rattle.plist_ascii.specs.Comments.{begins_with}
 use Rattle.plist_ascii.specs.Ascii.{lead_of, token_by, IsTextToken}

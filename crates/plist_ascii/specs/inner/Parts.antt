@@ -7,7 +7,7 @@ use Rattle.std.specs.declared.vec.Vec.{Vec}
 use Rattle.plist_base.specs.Faults.{FaultKind}
 use Rattle.plist_ascii.specs.declared.unescape.Escaped.{Escaped}
 use Rattle.plist_ascii.specs.declared.unescape.Escaped.TheVariants as piece
-use Rattle.plist_ascii.specs.Taken.{Taken, taken}
+use Rattle.plist_ascii.specs.TokenPrefixes.{Taken, taken}
 use Rattle.plist_ascii.specs.Quoted.{piece_then, run_end, quoted_by}
 
 -- the bytes that an escape stands for

@@ -1,5 +1,5 @@
 use Rattle.std.proofs.Common.{length, ◌-◌, ◌+◌, ◌≡◌, ◌≤◌, drop}
-use Rattle.plist_ascii.specs.Taken.{run}
+use Rattle.plist_ascii.specs.TokenPrefixes.{run}
 use Rattle.plist_ascii.specs.Unread.{stops}
 use Rattle.plist_ascii.proofs.stop.run_length.Given as goal
 

@@ -3,7 +3,7 @@ use Rattle.std.proofs.lemmas.List.{get_or_read_under}
 use Rattle.std.proofs.lemmas.Result.{on_ok_weaker}
 use Rattle.plist_binread.specs.declared.frames.NextChild.TheVariants.{Child}
 use Rattle.plist_base.specs.Events.{EndCollection}
-use Rattle.plist_binread.specs.Slot.{answer_in}
+use Rattle.plist_binread.specs.Slot.{result_in}
 use Rattle.plist_binread.proofs.UnknownBytes.{IfSome-all}
 use Rattle.plist_binread.specs.Walking.{weight_in}
 use Rattle.plist_binread.proofs.WalkSteps.{steps_positive}
@@ -70,7 +70,7 @@ returns-in-Ok-clause-handed g c =
     let t = goal.at.returns-in-Ok-clause-handed g c in
     let at = place g t.After-read_child in
     let h = c.enter.ensures.handed in
-    let answer = answer_in c.enter.result c.enter.new.decoder.slot in
+    let answer = result_in c.enter.result c.enter.new.decoder.slot in
     record {
       event = h.event;
       is = (

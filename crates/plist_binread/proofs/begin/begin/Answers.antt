@@ -3,7 +3,7 @@ use Rattle.std.proofs.Math.ListN.{length-replicate}
 use Rattle.plist_binread.proofs.FaultOffsets.{passed}
 use Rattle.plist_binread.specs.declared.head.Bounds.{Bounds}
 use Rattle.plist_base.specs.Events.{EndCollection}
-use Rattle.plist_binread.specs.Slot.{answer_in}
+use Rattle.plist_binread.specs.Slot.{result_in}
 use Rattle.plist_binread.proofs.UnknownBytes.{IfSome-all}
 use Rattle.plist_binread.proofs.OpenObjects.{IsOpen-none, cached_count-none, cached_count-empty}
 use Rattle.plist_binread.proofs.FirstItem.{known_unread, known_wanted, known_opens, known_begun, known_cached, known_counted, known_hidden, known_uncounted}
@@ -111,11 +111,11 @@ returns-clause-handed g c =
         rw c.enter.ensures.bounds (known_begun
             (g.S.Source.known c.args.source.now) (g.S.Source.known c.read.new.source)
             c.in_ok-head.head (bounds g there) c.in_ok-none.none.items c.args.walk.now.frames
-            c.enter.new.walk.frames (answer_in c.enter.result c.enter.new.decoder.slot) h.event
+            c.enter.new.walk.frames (result_in c.enter.result c.enter.new.decoder.slot) h.event
             c.read.ensures.unchanged c.requires.empty.1 (count g there) refl refl
             (rw (← c.in_ok-head.ensures.answer) at c.read.ensures.value) h.is.0),
         known_cached (g.S.Source.known c.args.source.now) (g.S.Source.known c.read.new.source)
-            c.in_ok-head.head _ (answer_in c.enter.result c.enter.new.decoder.slot) h.event
+            c.in_ok-head.head _ (result_in c.enter.result c.enter.new.decoder.slot) h.event
             c.enter.new.walk c.read.ensures.unchanged refl
             (rw (← c.in_ok-head.ensures.answer) at c.read.ensures.value) h.is.1,
       );

@@ -16,7 +16,7 @@ use Rattle.plist_binread.specs.declared.decoded.Decoded.{Decoded}
 use Rattle.plist_binread.specs.declared.head.Bounds.{Bounds}
 use Rattle.plist_binread.specs.declared.decoded.Decoded.TheVariants as decoded
 use Rattle.plist_binread.specs.Packed.{is_small_event, scalar_event, unmarked}
-use Rattle.plist_binread.specs.Slot.{answer_in}
+use Rattle.plist_binread.specs.Slot.{result_in}
 use Rattle.plist_binread.proofs.enter.enter.Goals as goal
 use Rattle.plist_binread.proofs.enter.enter.Goals.{After-cache_or_open, In-Long, in-Some-buffered_front+in-Long+else-lies_in, in-Some-buffered_front+in_default, in-None-buffered_front+in_ok-decoded-in-None-buffered_front}
 
@@ -114,7 +114,7 @@ returns-then-lies_in-clause-handed g c =
     = record { kind = c.in-Long.kind; start = c.in-Long.start; count = c.in-Long.count } in
     let long = decoded.Long c.in-Long.kind c.in-Long.start c.in-Long.count in
     let h = c.hand_bytes.ensures.handed in
-    let answer = answer_in c.hand_bytes.result c.hand_bytes.new.slot in
+    let answer = result_in c.hand_bytes.result c.hand_bytes.new.slot in
     let front = seen_front g at in
     let there = known_decoded _ bounds c.args.walk.now c.args.reference.number c.requires.known
     c.in_ok-kind.ensures.below c.in-At.place long (rw c.in-At.is at c.in_ok-kind.ensures.found)
@@ -247,7 +247,7 @@ returns-then-cache_or_open-clause-handed g c =
       is = (
         known_set _ _ c.args.walk.now c.args.reference.number c.requires.known c.in_ok-kind.ensures.below
             c.args.reference.at c.in-At.place _ c.cache_or_open.new.walk _
-            (answer_in c.hand_decoded.result c.hand_decoded.new.decoder.slot) h.event
+            (result_in c.hand_decoded.result c.hand_decoded.new.decoder.slot) h.event
             f.unchanged c.in_ok-kind.ensures.new (there g at)
             (c.cache_or_open.ensures.yields c.if-cache_or_open.true) (rw f.same at h.is.0)
             (on_answer _ c.hand_decoded.result c.hand_decoded.new.decoder.slot c.hand_decoded.ensures.found),

@@ -2,7 +2,7 @@ use Rattle.std.proofs.Common.{arith}
 use Rattle.std.proofs.lemmas.List.{take_all}
 use Rattle.plist_binwrite.specs.Forms.{big_endian}
 use Rattle.plist_base.proofs.SinkSteps.{puts_then, puts_refused, puts_as}
-use Rattle.plist_binwrite.proofs.Outgoing.{one_part, all_parts}
+use Rattle.plist_binwrite.proofs.NumberLists.{one_part, all_parts}
 use Rattle.plist_binwrite.proofs.forms.put_numbers.Goals as goal
 
 pub loop-index-preserved : goal.loop-index-preserved

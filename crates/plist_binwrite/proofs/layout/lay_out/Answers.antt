@@ -1,6 +1,6 @@
 use Rattle.std.proofs.Common.{◌≢◌, subst, get_or, arith, below_more}
-use Rattle.plist_binwrite.proofs.Placing.{in_order}
-use Rattle.plist_binwrite.proofs.PlannedBy.{known_number}
+use Rattle.plist_binwrite.proofs.ObjectOffsets.{in_order}
+use Rattle.plist_binwrite.proofs.NumberingSteps.{known_number}
 use Rattle.plist_binwrite.proofs.layout.lay_out.Goals as goal
 
 pub loop-index-preserved : goal.loop-index-preserved

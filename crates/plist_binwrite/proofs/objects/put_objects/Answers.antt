@@ -2,8 +2,8 @@ use Rattle.std.proofs.Common.{◌<◌, ◌∙◌, length, ap, arith, sym}
 use Rattle.std.proofs.lemmas.List.{take_all}
 use Rattle.plist_binwrite.specs.Forms.{form}
 use Rattle.plist_base.proofs.SinkSteps.{puts_after, puts_then, puts_refused, puts_as}
-use Rattle.plist_binwrite.proofs.Outgoing.{one_part, all_parts}
-use Rattle.plist_binwrite.proofs.Placing.{described}
+use Rattle.plist_binwrite.proofs.NumberLists.{one_part, all_parts}
+use Rattle.plist_binwrite.proofs.ObjectOffsets.{described}
 use Rattle.plist_binwrite.proofs.TreeObjects.{scalar_there}
 use Rattle.plist_binwrite.proofs.objects.put_objects.Goals as goal
 use Rattle.plist_binwrite.proofs.objects.put_objects.Goals.{then-not-try_put_object+in_ok-put_object, else-not-try_put_object}

@@ -1,5 +1,5 @@
 use Rattle.std.proofs.Common.{inr, refl}
-use Rattle.plist_binwrite.proofs.Readied.{oversized, plan_made}
+use Rattle.plist_binwrite.proofs.PlannedFiles.{oversized, plan_made}
 use Rattle.plist_binwrite.proofs.plan.plan_file.Goals as goal
 
 pub returns-in-Some-clause-plan : goal.returns-in-Some-clause-plan

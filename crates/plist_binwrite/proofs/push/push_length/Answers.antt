@@ -1,6 +1,6 @@
 use Rattle.std.proofs.Common.{◌∙◌, ◌++◌, ◌-◌, ap, append_assoc, drop, take}
 use Rattle.plist_base.specs.Sinks.{buffered}
-use Rattle.plist_binwrite.proofs.Pushed.{length_short, length_told}
+use Rattle.plist_binwrite.proofs.NumberForms.{length_short, length_told}
 use Rattle.plist_binwrite.proofs.push.push_length.Goals as goal
 
 pub returns-in-Some-clause-pushed : goal.returns-in-Some-clause-pushed

@@ -1,7 +1,7 @@
 use Rattle.std.proofs.Common.{◌∙◌, ◌++◌, ◌∷◌, ap, append_assoc, arith, sym}
 use Rattle.plist_base.specs.Sinks.{buffered}
 use Rattle.plist_binwrite.specs.Forms.{big_endian}
-use Rattle.plist_binwrite.proofs.Pushed.{wide_is}
+use Rattle.plist_binwrite.proofs.NumberForms.{wide_is}
 use Rattle.plist_binwrite.proofs.push.push_wide_integer.Goals as goal
 
 pub returns : goal.returns

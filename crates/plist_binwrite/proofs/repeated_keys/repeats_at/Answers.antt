@@ -9,7 +9,7 @@ use Rattle.plist_binwrite.specs.declared.children.Half.TheVariants.{Keys}
 use Rattle.plist_binwrite.specs.inner.Entries.{is_leaf}
 use Rattle.plist_binwrite.proofs.ChildIndices.{are_items, keys_are_in}
 use Rattle.plist_binwrite.proofs.KeyStamps.{Differ, Tells, below_set, differ_down, differ_up, keys_leaves, tells_end, tells_next, tells_repeats, tells_start}
-use Rattle.plist_binwrite.proofs.Occurring.{occurs_pairs}
+use Rattle.plist_binwrite.proofs.TreeOccurrences.{occurs_pairs}
 use Rattle.plist_binwrite.proofs.repeated_keys.repeats_at.Goals as goal
 use Rattle.plist_binwrite.proofs.repeated_keys.repeats_at.Goals.{After-into_iter-key-iterator as Begun, In-Some as Next}
 

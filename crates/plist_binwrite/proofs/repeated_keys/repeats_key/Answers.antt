@@ -5,7 +5,7 @@ use Rattle.plist_base.specs.Trees.{Dictionary}
 use Rattle.plist_binwrite.specs.EventTable.{plain_events}
 use Rattle.plist_binwrite.specs.Occurrences.{OccursAt}
 use Rattle.plist_binwrite.proofs.KeyStamps.{all_once, one_repeats}
-use Rattle.plist_binwrite.proofs.Skipping.{occurs_in}
+use Rattle.plist_binwrite.proofs.TreeStarts.{occurs_in}
 use Rattle.plist_binwrite.proofs.Lengthless.{plain_lengthless}
 use Rattle.plist_binwrite.proofs.repeated_keys.repeats_key.Goals as goal
 

@@ -1,6 +1,6 @@
 use Rattle.plist_base.specs.Writing.{answer_of}
 use Rattle.plist_binwrite.proofs.Identities.{equal_scalars}
-use Rattle.plist_binwrite.proofs.Owned.{owners_classes}
+use Rattle.plist_binwrite.proofs.WriterClasses.{owners_classes}
 use Rattle.plist_binwrite.proofs.SendingFiles.{sends_plainly}
 use Rattle.plist_binwrite.proofs.send_file.complete.Goals as goal
 

@@ -1,5 +1,5 @@
 use Rattle.plist_base.proofs.SinkSteps.{puts_then, puts_refused, puts_as}
-use Rattle.plist_binwrite.proofs.Readied.{file_is}
+use Rattle.plist_binwrite.proofs.PlannedFiles.{file_is}
 use Rattle.plist_binwrite.proofs.send_file.put_file.Goals as goal
 
 pub returns-in_err-put : goal.returns-in_err-put

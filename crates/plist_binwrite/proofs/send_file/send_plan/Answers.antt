@@ -1,7 +1,7 @@
 use Rattle.std.proofs.lemmas.Result.{err_from_is_err_and}
 use Rattle.plist_base.proofs.SinkSteps.{put_part, same_then}
 use Rattle.plist_binwrite.proofs.ClassObjects.{numbered}
-use Rattle.plist_binwrite.proofs.Readied.{sends_end}
+use Rattle.plist_binwrite.proofs.PlannedFiles.{sends_end}
 use Rattle.plist_binwrite.proofs.send_file.send_plan.Goals as goal
 
 pub returns-clause-sent : goal.returns-clause-sent

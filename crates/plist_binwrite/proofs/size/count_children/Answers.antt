@@ -1,6 +1,6 @@
 use Rattle.std.proofs.Common.{inl, arith, ap, length}
 use Rattle.plist_binwrite.proofs.ChildIndices.{few_children}
-use Rattle.plist_binwrite.proofs.HeldEntries.{long_shown}
+use Rattle.plist_binwrite.proofs.EntryEvents.{long_shown}
 use Rattle.plist_binwrite.specs.EventTable.{plain_events, scalars_of}
 use Rattle.plist_binwrite.proofs.size.count_children.Goals as goal
 

@@ -1,10 +1,10 @@
 use Rattle.std.proofs.Common.{◌≡◌, ap, subst, true}
 use Rattle.plist_binread.specs.BinaryReader.{binary_source, items_to_come}
 use Rattle.plist_commands.specs.Converting.{CollectsItems, items_left, items_of_known}
-use Rattle.plist_commands.specs.Holding.{collected}
-use Rattle.plist_binread.specs.Advancing.{Steps}
-use Rattle.plist_commands.proofs.Collected.{Concludes, binary_once, binary_twice}
-use Rattle.plist_commands.proofs.Streaming.{binary_items}
+use Rattle.plist_commands.specs.CollectorSteps.{collected}
+use Rattle.plist_binread.specs.ReaderSteps.{Steps}
+use Rattle.plist_commands.proofs.CollectorRuns.{Concludes, binary_once, binary_twice}
+use Rattle.plist_commands.proofs.BufferedItems.{binary_items}
 use Rattle.plist_commands.proofs.convert.collect_binary.Goals as goal
 use Rattle.plist_commands.proofs.convert.collect_binary.Goals.{After-answer, After-answer-2, After-visit-first}
 

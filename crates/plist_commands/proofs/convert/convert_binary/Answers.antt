@@ -1,5 +1,5 @@
 use Rattle.std.proofs.Common.{refl}
-use Rattle.plist_commands.proofs.Streaming.{not_read}
+use Rattle.plist_commands.proofs.BufferedItems.{not_read}
 use Rattle.plist_commands.proofs.convert.convert_binary.Goals as goal
 
 pub returns-then-not-branch-clause-converts : goal.returns-then-not-branch-clause-converts

@@ -1,6 +1,6 @@
 use Rattle.plist_binread.specs.BinaryReader.{binary_source}
 use Rattle.plist_commands.specs.Converting.{items_left}
-use Rattle.plist_binread.specs.Advancing.{Steps}
+use Rattle.plist_binread.specs.ReaderSteps.{Steps}
 use Rattle.plist_commands.proofs.SourceItems.{binary_comes, run_counted, run_prints, run_unchanged}
 use Rattle.plist_commands.proofs.print.print_reader.Goals as goal
 

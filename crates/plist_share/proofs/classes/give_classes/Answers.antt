@@ -1,7 +1,7 @@
 use Rattle.std.proofs.Common.{arith}
 use Rattle.std.proofs.lemmas.List.{length-map}
 use Rattle.plist_share.specs.inner.Nodes.{Node, node_of}
-use Rattle.plist_share.proofs.Found.{found_classes, separate_trees}
+use Rattle.plist_share.proofs.ClassTrees.{found_classes, separate_trees}
 use Rattle.plist_share.proofs.classes.give_classes.Goals as goal
 
 pub returns-in-Some : goal.returns-in-Some

@@ -1,6 +1,6 @@
-use Rattle.plist_binwrite.proofs.Keyed.{key_at, keys_kept, keys_apart, keys_grow}
+use Rattle.plist_binwrite.proofs.SetKeys.{key_at, keys_kept, keys_apart, keys_grow}
 use Rattle.plist_share.specs.inner.Nodes.{node_of}
-use Rattle.plist_share.proofs.Alike.{same, same_key, key_same}
+use Rattle.plist_share.proofs.EqualKeys.{same, same_key, key_same}
 use Rattle.plist_share.proofs.classes.index_of.Goals as goal
 
 pub returns-in-Ok-clause-stored : goal.returns-in-Ok-clause-stored

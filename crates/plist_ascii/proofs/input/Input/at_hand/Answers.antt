@@ -1,5 +1,5 @@
 use Rattle.std.proofs.Common.{refl}
-use Rattle.plist_ascii.proofs.Unread.{ended_hand, full_hand, looked_hand, cut_hand, whole_hand, hand_first, hand_first_looked, hand_first_none}
+use Rattle.plist_ascii.proofs.UnreadBytes.{ended_hand, full_hand, looked_hand, cut_hand, whole_hand, hand_first, hand_first_looked, hand_first_none}
 use Rattle.plist_ascii.proofs.input.Input.at_hand.Goals as goal
 
 pub returns-then-self-clause-hand : goal.returns-then-self-clause-hand

@@ -1,5 +1,5 @@
 use Rattle.std.proofs.Common.{arith, ◌+◌, ◌∙◌}
-use Rattle.plist_ascii.specs.Taken.{run}
+use Rattle.plist_ascii.specs.TokenPrefixes.{run}
 use Rattle.plist_ascii.proofs.Loops.{since_on, is_star, star_closes, star_opens, star_misses, commenting_more, commenting_ends}
 use Rattle.plist_ascii.proofs.input.Input.block_comment.Goals as goal
 

@@ -1,7 +1,7 @@
 use Rattle.std.proofs.Common.{refl}
 use Rattle.plist_ascii.specs.Escapes.{escape}
 use Rattle.plist_ascii.specs.inner.Parts.{escaped_bytes}
-use Rattle.plist_ascii.proofs.Answering.{gives_passed, gives_past, gives_unclosed}
+use Rattle.plist_ascii.proofs.TokenOutcomes.{gives_passed, gives_past, gives_unclosed}
 use Rattle.plist_ascii.proofs.input.Input.escape.Goals as goal
 
 pub returns-clause-answers : goal.returns-clause-answers

@@ -1,7 +1,7 @@
 use Rattle.std.proofs.Common.{refl, sym, ◌∙◌}
 use Rattle.std.proofs.lemmas.Bool.{ne_eqb}
 use Rattle.plist_ascii.specs.Escapes.{escape_by}
-use Rattle.plist_ascii.proofs.Answering.{gives_same}
+use Rattle.plist_ascii.proofs.TokenOutcomes.{gives_same}
 use Rattle.plist_ascii.proofs.input.Input.escape_by.Goals as goal
 
 pub returns-then-is_octal-clause-answers : goal.returns-then-is_octal-clause-answers

@@ -2,9 +2,9 @@ use Rattle.std.proofs.Common.{arith, Err, [], refl, ◌∙◌}
 use Rattle.plist_base.specs.Faults.{fault_of}
 use Rattle.std.specs.Option.{option_map}
 use Rattle.plist_ascii.specs.inner.TokenFaults.{kind_in_bytes}
-use Rattle.plist_ascii.proofs.Answering.{some_same}
+use Rattle.plist_ascii.proofs.TokenOutcomes.{some_same}
 use Rattle.plist_ascii.proofs.Loops.{since_on}
-use Rattle.plist_ascii.proofs.Unread.{ended_unread}
+use Rattle.plist_ascii.proofs.UnreadBytes.{ended_unread}
 use Rattle.plist_ascii.proofs.Items.{going_start, going_blanks, going_skip, going_event, going_error, going_none, going_quoted}
 use Rattle.plist_ascii.proofs.input.Input.item.Goals as goal
 

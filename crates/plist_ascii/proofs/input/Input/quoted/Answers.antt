@@ -2,7 +2,7 @@ use Rattle.std.proofs.Common.{arith, ap, sym, refl, Ok}
 use Rattle.plist_ascii.specs.Quoted.{quoted}
 use Rattle.plist_ascii.specs.inner.TokenFaults.{kind_in_bytes}
 use Rattle.std.specs.Prelude.{vec_items, Err}
-use Rattle.plist_ascii.proofs.Answering.{gives_passed, some_by}
+use Rattle.plist_ascii.proofs.TokenOutcomes.{gives_passed, some_by}
 use Rattle.plist_ascii.proofs.Loops.{since_on}
 use Rattle.plist_ascii.proofs.Quotes.{quoting_more, quoting_ends}
 use Rattle.plist_ascii.proofs.input.Input.quoted.Goals as goal

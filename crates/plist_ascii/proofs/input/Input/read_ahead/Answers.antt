@@ -1,5 +1,5 @@
 use Rattle.std.proofs.Common.{arith}
-use Rattle.plist_ascii.proofs.Unread.{none_looks, ended_unread, full_unread, none_peeked, one_looks, end_looks, peeked_hand}
+use Rattle.plist_ascii.proofs.UnreadBytes.{none_looks, ended_unread, full_unread, none_peeked, one_looks, end_looks, peeked_hand}
 use Rattle.plist_ascii.proofs.input.Input.read_ahead.Goals as goal
 
 pub returns-then-self-clause-next : goal.returns-then-self-clause-next

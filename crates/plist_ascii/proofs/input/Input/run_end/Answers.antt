@@ -1,7 +1,7 @@
 use Rattle.std.proofs.Common.{suc, arith}
 use Rattle.std.proofs.lemmas.Bool.{ne_eqb}
 use Rattle.plist_ascii.specs.Escapes.{escape}
-use Rattle.plist_ascii.proofs.Answering.{passed_on, some_from}
+use Rattle.plist_ascii.proofs.TokenOutcomes.{passed_on, some_from}
 use Rattle.plist_ascii.proofs.Quotes.{end_goes_on, end_fails, drop_past}
 use Rattle.plist_ascii.specs.inner.Inputs.{FailsAfter}
 use Rattle.plist_ascii.specs.Quoted.{run_end}

@@ -1,8 +1,8 @@
 use Rattle.std.proofs.Common.{Some, Err, arith, refl, sym, ◌∙◌}
 use Rattle.plist_base.specs.Faults.{InvalidUtf16String}
 use Rattle.plist_ascii.specs.Escapes.{second_letter, bad_unit}
-use Rattle.plist_ascii.proofs.Answering.{gives_past, gives_looked, gives_none}
-use Rattle.plist_ascii.proofs.Unread.{takes_looked, first_splits, first_none}
+use Rattle.plist_ascii.proofs.TokenOutcomes.{gives_past, gives_looked, gives_none}
+use Rattle.plist_ascii.proofs.UnreadBytes.{takes_looked, first_splits, first_none}
 use Rattle.plist_ascii.proofs.input.Input.second_letter.Goals as goal
 
 pub returns-then-is_unit_letter-clause-answers : goal.returns-then-is_unit_letter-clause-answers

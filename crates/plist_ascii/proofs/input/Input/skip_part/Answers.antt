@@ -1,5 +1,5 @@
 use Rattle.std.proofs.Common.{take}
-use Rattle.plist_ascii.proofs.Unread.{part_taken, stop_at_hand, drops_known}
+use Rattle.plist_ascii.proofs.UnreadBytes.{part_taken, stop_at_hand, drops_known}
 use Rattle.plist_ascii.proofs.input.Input.skip_part.Goals as goal
 
 pub returns-clause-bytes : goal.returns-clause-bytes

@@ -6,9 +6,9 @@ use Rattle.plist_ascii.specs.Texts.{bare}
 use Rattle.plist_ascii.specs.Comments.{slash, line_comment, block_comment}
 use Rattle.plist_ascii.specs.Unread.{stops}
 use Rattle.plist_ascii.specs.inner.Inputs.{AllocatesForText}
-use Rattle.plist_ascii.proofs.Answering.{front_from, gives_passed, gives_past, gives_looked, gives_here, passed_on}
+use Rattle.plist_ascii.proofs.TokenOutcomes.{front_from, gives_passed, gives_past, gives_looked, gives_here, passed_on}
 use Rattle.plist_ascii.proofs.Texts.{bare_looked, slash_wants}
-use Rattle.plist_ascii.proofs.Unread.{takes_looked, first_none}
+use Rattle.plist_ascii.proofs.UnreadBytes.{takes_looked, first_none}
 use Rattle.plist_ascii.proofs.input.Input.slash.Goals as goal
 
 pub returns-in_err-line_comment-in-Some-eq47-clause-answers

@@ -1,4 +1,4 @@
-use Rattle.plist_ascii.proofs.Unread.{takes_looked, first_none}
+use Rattle.plist_ascii.proofs.UnreadBytes.{takes_looked, first_none}
 use Rattle.plist_ascii.proofs.input.Input.take.Goals as goal
 
 pub returns-in-Some-clause-next : goal.returns-in-Some-clause-next

@@ -1,6 +1,6 @@
 use Rattle.std.proofs.Common.{Some, ap, ◌∙◌}
 use Rattle.plist_ascii.proofs.Loops.{runs_start, runs_part, runs_end}
-use Rattle.plist_ascii.proofs.Answering.{ok_by}
+use Rattle.plist_ascii.proofs.TokenOutcomes.{ok_by}
 use Rattle.plist_ascii.proofs.input.Input.take_bare.Goals as goal
 
 pub returns-then-not-branch-clause-value : goal.returns-then-not-branch-clause-value

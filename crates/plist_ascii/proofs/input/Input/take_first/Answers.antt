@@ -1,5 +1,5 @@
 use Rattle.std.proofs.Common.{refl, arith}
-use Rattle.plist_ascii.proofs.Unread.{hand_fits, hand_held, held_taken, peeked_taken}
+use Rattle.plist_ascii.proofs.UnreadBytes.{hand_fits, hand_held, held_taken, peeked_taken}
 use Rattle.plist_ascii.proofs.input.Input.take_first.Goals as goal
 
 pub overflow_add-self : goal.overflow_add-self

@@ -1,4 +1,4 @@
-use Rattle.plist_ascii.proofs.Unread.{takes_looked, begins_none, begins_other}
+use Rattle.plist_ascii.proofs.UnreadBytes.{takes_looked, begins_none, begins_other}
 use Rattle.plist_ascii.proofs.input.Input.take_if.Goals as goal
 
 pub returns-then-byte-wanted-clause-next : goal.returns-then-byte-wanted-clause-next

@@ -1,5 +1,5 @@
 use Rattle.std.proofs.Common.{Some, ap, ◌∙◌, arith}
-use Rattle.plist_ascii.proofs.Unread.{none_stops}
+use Rattle.plist_ascii.proofs.UnreadBytes.{none_stops}
 use Rattle.plist_ascii.proofs.Loops.{added, since_on, runs_part, runs_end}
 use Rattle.plist_ascii.proofs.input.Input.take_run.Goals as goal
 

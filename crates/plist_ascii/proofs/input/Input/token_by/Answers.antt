@@ -1,6 +1,6 @@
 use Rattle.plist_ascii.specs.Unread.{stops}
 use Rattle.plist_ascii.specs.inner.Inputs.{token_until, AllocatesForText}
-use Rattle.plist_ascii.proofs.Answering.{passed_on}
+use Rattle.plist_ascii.proofs.TokenOutcomes.{passed_on}
 use Rattle.plist_ascii.proofs.Texts.{wants_led, bare_wants, quoted_wants}
 use Rattle.plist_ascii.proofs.input.Input.token_by.Goals as goal
 

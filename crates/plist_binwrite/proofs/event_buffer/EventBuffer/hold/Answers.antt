@@ -1,5 +1,5 @@
 use Rattle.plist_base.specs.Events.{event_of}
-use Rattle.plist_binwrite.proofs.Buffered.{expects_next, tests_next}
+use Rattle.plist_binwrite.proofs.Expectations.{expects_next, tests_next}
 use Rattle.plist_binwrite.proofs.event_buffer.EventBuffer.hold.Goals as goal
 
 pub invariant_of-self-2 : goal.invariant_of-self-2

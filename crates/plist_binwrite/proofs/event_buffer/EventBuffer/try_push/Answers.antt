@@ -3,7 +3,7 @@ use Rattle.std.proofs.lemmas.Result.{err_from_is_err_and}
 use Rattle.plist_base.specs.Events.{event_of}
 use Rattle.plist_base.specs.Faults.{UnexpectedEventType, fault_without_offset}
 use Rattle.plist_binwrite.specs.EventBuffers.{buffered_events, expected_instead}
-use Rattle.plist_binwrite.proofs.Buffered.{can_take, cannot_take}
+use Rattle.plist_binwrite.proofs.Expectations.{can_take, cannot_take}
 use Rattle.plist_binwrite.proofs.event_buffer.EventBuffer.try_push.Goals as goal
 
 pub returns-in-Refused-clause-refused : goal.returns-in-Refused-clause-refused

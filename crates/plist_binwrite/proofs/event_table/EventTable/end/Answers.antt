@@ -1,7 +1,7 @@
 use Rattle.std.proofs.Common.{[], refl, subst}
 use Rattle.plist_binwrite.specs.EventTable.{scalars_of}
 use Rattle.plist_binwrite.specs.inner.Entries.{IsValidTable}
-use Rattle.plist_binwrite.proofs.HeldEntries.{start_stored, start_within, end_shown, kept_end, kept_stray, either, either_few}
+use Rattle.plist_binwrite.proofs.EntryEvents.{start_stored, start_within, end_shown, kept_end, kept_stray, either, either_few}
 use Rattle.plist_binwrite.proofs.event_table.EventTable.end.Goals as goal
 
 pub close-requires-clause-within : goal.close-requires-clause-within

@@ -3,7 +3,7 @@ use Rattle.std.specs.Prelude.{IfSome, slice_get}
 use Rattle.plist_binwrite.specs.StoredScalars.{event_of_scalar}
 use Rattle.plist_binwrite.specs.declared.stored_scalar.StoredScalar.{StoredScalar}
 use Rattle.plist_binwrite.specs.inner.StoredEquality.{stored_eq, stored_same}
-use Rattle.plist_binwrite.proofs.Keyed.{key_found}
+use Rattle.plist_binwrite.proofs.SetKeys.{key_found}
 use Rattle.plist_binwrite.proofs.event_table.EventTable.find.Goals as goal
 
 there : (keys : List StoredScalar) (x : StoredScalar) (r : Option ℕ)

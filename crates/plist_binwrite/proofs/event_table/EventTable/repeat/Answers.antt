@@ -1,7 +1,7 @@
 use Rattle.std.proofs.Common.{inl, sym, append-nil}
 use Rattle.plist_binwrite.specs.EventTable.{scalars_of}
 use Rattle.plist_binwrite.specs.inner.Entries.{IsValidTable}
-use Rattle.plist_binwrite.proofs.HeldEntries.{kept_scalar, leaf_stored, either, either_few}
+use Rattle.plist_binwrite.proofs.EntryEvents.{kept_scalar, leaf_stored, either, either_few}
 use Rattle.plist_binwrite.proofs.event_table.EventTable.repeat.Goals as goal
 
 pub invariant_of-self : goal.invariant_of-self

@@ -1,6 +1,6 @@
 use Rattle.std.proofs.Common.{◌≡◌, Option, IfSome, None, Some, refl, sym, ◌∙◌}
 use Rattle.plist_binwrite.proofs.Columns.{named}
-use Rattle.plist_binwrite.proofs.HeldEntries.{scalar_stored}
+use Rattle.plist_binwrite.proofs.EntryEvents.{scalar_stored}
 use Rattle.plist_binwrite.proofs.event_table.EventTable.scalar_index.Goals as goal
 
 some_of : {A : Type 0} {P : A → Type 0} (o : Option A) → ((a : A) → o ≡ Some a → P a) → IfSome o P

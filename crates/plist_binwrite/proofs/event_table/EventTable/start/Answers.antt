@@ -1,7 +1,7 @@
 use Rattle.std.proofs.Common.{◌≡◌, ◌+◌, subst}
 use Rattle.plist_binwrite.specs.EventTable.{scalars_of}
 use Rattle.plist_binwrite.specs.inner.Entries.{index_after_entry}
-use Rattle.plist_binwrite.proofs.HeldEntries.{long_shown, kept_start}
+use Rattle.plist_binwrite.proofs.EntryEvents.{long_shown, kept_start}
 use Rattle.plist_binwrite.proofs.event_table.EventTable.start.Goals as goal
 
 pub invariant_of-self-in-Ok : goal.invariant_of-self-in-Ok

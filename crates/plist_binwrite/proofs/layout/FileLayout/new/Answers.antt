@@ -3,7 +3,7 @@ use Rattle.std.proofs.lemmas.Bool.Decides.{leb_tells}
 use Rattle.std.proofs.lemmas.List.{length-replicate, get_or-replicate}
 use Rattle.std.proofs.Math.ListN.{get_or-eq_default}
 use Rattle.plist_binwrite.specs.inner.Planning.{count_of}
-use Rattle.plist_binwrite.proofs.Placing.{order_none}
+use Rattle.plist_binwrite.proofs.ObjectOffsets.{order_none}
 use Rattle.plist_binwrite.proofs.layout.FileLayout.new.Goals as goal
 
 all_zero : (xs : List ℕ) (n : ℕ) → length xs ≡ n → ((k : ℕ) → k < n → get_or xs k 0 ≡ 0) → (k : ℕ)

@@ -2,9 +2,9 @@ use Rattle.std.proofs.Common.{◌≡◌, ◌<◌, ℕ, get_or, ap, arith, sym, �
 use Rattle.plist_binwrite.specs.EventTable.{scalars_of}
 use Rattle.plist_binwrite.specs.inner.Planning.{count_of, object_number}
 use Rattle.plist_binwrite.proofs.ClassObjects.{numbered}
-use Rattle.plist_binwrite.proofs.HeldEntries.{long_shown}
-use Rattle.plist_binwrite.proofs.Placing.{end_positive, laid_next, marked_more, not_in_order, order_more, sized}
-use Rattle.plist_binwrite.proofs.PlannedBy.{numbers_below}
+use Rattle.plist_binwrite.proofs.EntryEvents.{long_shown}
+use Rattle.plist_binwrite.proofs.ObjectOffsets.{end_positive, laid_next, marked_more, not_in_order, order_more, sized}
+use Rattle.plist_binwrite.proofs.NumberingSteps.{numbers_below}
 use Rattle.plist_binwrite.proofs.TreeObjects.{object_fits}
 use Rattle.plist_binwrite.proofs.layout.FileLayout.place.Goals as goal
 use Rattle.plist_binwrite.proofs.layout.FileLayout.place.Goals.{In_ok-set as Placed}

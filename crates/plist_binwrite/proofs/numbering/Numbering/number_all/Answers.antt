@@ -4,10 +4,10 @@ use Rattle.plist_binwrite.specs.EventClasses.{events_in}
 use Rattle.plist_binwrite.specs.inner.Planning.{stored_number}
 use Rattle.plist_binwrite.specs.inner.PlansBy.{IsNumbered}
 use Rattle.plist_binwrite.proofs.ChildIndices.{keys_are_in, values_are_in}
-use Rattle.plist_binwrite.proofs.Inside.{positions_all, positions_have}
-use Rattle.plist_binwrite.proofs.Occurring.{occurs_whole}
-use Rattle.plist_binwrite.proofs.PlannedBy.{keeps_then, still_numbered}
-use Rattle.plist_binwrite.proofs.Skipping.{begins, occurs_in}
+use Rattle.plist_binwrite.proofs.TreePositions.{positions_all, positions_have}
+use Rattle.plist_binwrite.proofs.TreeOccurrences.{occurs_whole}
+use Rattle.plist_binwrite.proofs.NumberingSteps.{keeps_then, still_numbered}
+use Rattle.plist_binwrite.proofs.TreeStarts.{begins, occurs_in}
 use Rattle.plist_binwrite.proofs.Uniques.{all_from}
 use Rattle.plist_binwrite.proofs.numbering.Numbering.number_all.Goals as goal
 

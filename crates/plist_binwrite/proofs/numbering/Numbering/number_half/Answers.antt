@@ -6,7 +6,7 @@ use Rattle.plist_binwrite.specs.EventTable.{HasItem}
 use Rattle.plist_binwrite.specs.inner.Planning.{stored_number}
 use Rattle.plist_binwrite.specs.inner.PlansBy.{IsNumbered}
 use Rattle.plist_binwrite.proofs.ChildIndices.{are_items}
-use Rattle.plist_binwrite.proofs.PlannedBy.{keeps_self, keeps_then, still_numbered}
+use Rattle.plist_binwrite.proofs.NumberingSteps.{keeps_self, keeps_then, still_numbered}
 use Rattle.plist_binwrite.proofs.numbering.Numbering.number_half.Goals as goal
 use Rattle.plist_binwrite.proofs.numbering.Numbering.number_half.Goals.{After-into_iter-child-iterator as Begun}
 

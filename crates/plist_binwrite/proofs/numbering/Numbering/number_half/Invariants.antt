@@ -4,7 +4,7 @@ use Rattle.plist_binwrite.specs.EventClasses.{events_in}
 use Rattle.plist_binwrite.specs.EventTable.{HasItem}
 use Rattle.plist_binwrite.specs.inner.Numbering.{IsNumberedSoFar, KeepsNumbers}
 use Rattle.plist_binwrite.specs.inner.Planning.{stored_number}
-use Rattle.plist_binwrite.proofs.PlannedBy.{NumbersRest}
+use Rattle.plist_binwrite.proofs.NumberingSteps.{NumbersRest}
 use Rattle.plist_binwrite.proofs.numbering.Numbering.number_half.Given as goal
 
 abbrev pub invariant-loop-child : goal.invariant-loop-child

@@ -1,6 +1,6 @@
 use Rattle.std.proofs.Common.{◌≡◌, Ok, refl, rules, true}
 use Rattle.plist_base.specs.Events.{event_of}
-use Rattle.plist_commands.proofs.Collected.{may_pause}
+use Rattle.plist_commands.proofs.CollectorRuns.{may_pause}
 use Rattle.plist_commands.proofs.collector.CollectorEventVisitor.event.Goals as goal
 
 pub returns-in-Ok-true : goal.returns-in-Ok-true

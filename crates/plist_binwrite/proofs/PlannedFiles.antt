@@ -29,11 +29,11 @@ use Rattle.plist_binwrite.specs.declared.layout.FileLayout.{FileLayout}
 use Rattle.plist_binwrite.specs.declared.numbering.Numbering.{Numbering}
 use Rattle.plist_binwrite.specs.declared.plan.FilePlan.{FilePlan}
 use Rattle.plist_binwrite.proofs.ClassObjects.{Numbered, numbered, number_apart, number_below}
-use Rattle.plist_binwrite.proofs.Kept.{planned_count, planned_size}
-use Rattle.plist_binwrite.proofs.Placing.{length-magic, found_place, object_there, any_at}
+use Rattle.plist_binwrite.proofs.PlanClasses.{planned_count, planned_size}
+use Rattle.plist_binwrite.proofs.ObjectOffsets.{length-magic, found_place, object_there, any_at}
 use Rattle.plist_binwrite.proofs.Reading.{form_read}
 use Rattle.plist_binwrite.proofs.ReadingNumbers.{drop_front, width_positive, last, length_closed, front_is, head_is}
-use Rattle.plist_binwrite.proofs.Occurring.{occurs_whole}
+use Rattle.plist_binwrite.proofs.TreeOccurrences.{occurs_whole}
 use Rattle.plist_binwrite.proofs.Unfold.{Shows, unfolds_whole, no_fault}
 use Rattle.plist_binwrite.proofs.LeastWidths.{width_holds}
 use Rattle.plist_base.specs.Outcomes.{OnlyDevice}

@@ -20,8 +20,8 @@ use Rattle.plist_binwrite.specs.inner.Entries.{AreDistinct, is_leaf, entry_at, e
 use Rattle.plist_binwrite.specs.inner.UnclosedStarts.{unclosed_after_event, unclosed_after, skip_after_event, skip_after, without_innermost}
 use Rattle.plist_binwrite.proofs.Changes.{at_set, at_more}
 use Rattle.plist_binwrite.proofs.Columns.{unnamed}
-use Rattle.plist_binwrite.proofs.Opened as opened
-use Rattle.plist_binwrite.proofs.Opened.{open_more, skip_more, skip_ends, skip_forward, innermost_starts}
+use Rattle.plist_binwrite.proofs.OpenStarts as opened
+use Rattle.plist_binwrite.proofs.OpenStarts.{open_more, skip_more, skip_ends, skip_forward, innermost_starts}
 
 -- ---- the events of entries
 

@@ -9,14 +9,14 @@ use Rattle.plist_binwrite.specs.Classes.{same_class, representatives, count_by, 
 use Rattle.plist_binwrite.specs.Sizes.{total, size_with}
 use Rattle.plist_binwrite.specs.Occurrences.{OccursAt, positions, positions_in_items, positions_in_pairs}
 use Rattle.plist_binwrite.specs.Widths.{reference_width}
-use Rattle.plist_binwrite.proofs.Inside.{Stands, positions_stand}
+use Rattle.plist_binwrite.proofs.TreePositions.{Stands, positions_stand}
 use Rattle.plist_binwrite.proofs.Uniques.{unique_seen}
 use Rattle.plist_share.specs.Distinct.{tree_eq, subtrees, subtrees_of_items, subtrees_of_pairs, distinct_subtrees}
 use Rattle.plist_share.specs.inner.Nodes.{SeparatesTrees}
 use Rattle.plist_share.specs.SharedFiles.{IsSharedFileOf}
 use Rattle.plist_share.specs.SharedSizes.{shared_objects_size, shared_file_size}
 use Rattle.plist_share.proofs.Least.{least}
-use Rattle.plist_share.proofs.Separating.{tree_same, tree_other}
+use Rattle.plist_share.proofs.TreeEquality.{tree_same, tree_other}
 
 abbrev tree_positions : ℕ × Tree → Tree
 tree_positions a = a.1

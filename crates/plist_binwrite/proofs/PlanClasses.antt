@@ -19,11 +19,11 @@ use Rattle.plist_binwrite.specs.Sizes.{total, object_size}
 use Rattle.plist_binwrite.specs.Occurrences.{positions}
 use Rattle.plist_binwrite.specs.Written.{object_table}
 use Rattle.plist_binwrite.proofs.ClassObjects.{number_below, number_apart, number_same}
-use Rattle.plist_binwrite.proofs.Inside.{Stands, positions_stand, positions_all}
+use Rattle.plist_binwrite.proofs.TreePositions.{Stands, positions_stand, positions_all}
 use Rattle.plist_binwrite.proofs.SameScalars.{tells_both}
-use Rattle.plist_binwrite.proofs.Occurring.{occurs_whole}
-use Rattle.plist_binwrite.proofs.Placing.{form_size, total_bodies}
-use Rattle.plist_binwrite.proofs.PlannedBy.{known_number}
+use Rattle.plist_binwrite.proofs.TreeOccurrences.{occurs_whole}
+use Rattle.plist_binwrite.proofs.ObjectOffsets.{form_size, total_bodies}
+use Rattle.plist_binwrite.proofs.NumberingSteps.{known_number}
 use Rattle.plist_binwrite.proofs.Totals.{total_below, count_below, total_all, unique_member, unique_distinct, total-map, total_equal, total_one}
 use Rattle.plist_binwrite.proofs.Uniques.{all_from, all_unique, members_self, member_has, unique_seen}
 

@@ -10,8 +10,8 @@ use Rattle.plist_base.specs.Bracketing.{lengthless, lengthless_items, lengthless
 use Rattle.plist_binwrite.specs.EventTable.{event_at}
 use Rattle.plist_binwrite.specs.Occurrences.{event_count, OccursAt}
 use Rattle.plist_binwrite.specs.inner.UnclosedStarts.{unclosed_after_event, unclosed_from, unclosed_after, skip_after_event, skip_from, skip_after}
-use Rattle.plist_binwrite.proofs.Occurring.{past_one}
-use Rattle.plist_binwrite.proofs.Skipping.{first_event, occurs_within, size_positive}
+use Rattle.plist_binwrite.proofs.TreeOccurrences.{past_one}
+use Rattle.plist_binwrite.proofs.TreeStarts.{first_event, occurs_within, size_positive}
 
 -- ---- after events in two parts
 

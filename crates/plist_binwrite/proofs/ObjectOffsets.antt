@@ -26,7 +26,7 @@ use Rattle.plist_binwrite.specs.Sizes.{total, IsSizeOrNone, object_size}
 use Rattle.plist_binwrite.proofs.TreeObjects.{occurs_at}
 use Rattle.plist_binwrite.proofs.Reading.{length-keys_of, length-values_of}
 use Rattle.plist_binwrite.proofs.ReadingNumbers.{length-table}
-use Rattle.plist_binwrite.proofs.PlannedBy.{known_number}
+use Rattle.plist_binwrite.proofs.NumberingSteps.{known_number}
 use Rattle.plist_binwrite.proofs.Totals.{total_below, total_all}
 use Rattle.plist_binwrite.proofs.Unfold.{length-references, length-pairs}
 

@@ -16,10 +16,10 @@ use Rattle.plist_binwrite.specs.inner.Scalars.{Identity, shared, alone, identity
 use Rattle.plist_binwrite.specs.Sizes.{total, object_size, size_with, file_size}
 use Rattle.plist_binwrite.specs.Occurrences.{event_count, OccursAt, positions, positions_in_items, positions_in_pairs}
 use Rattle.plist_binwrite.specs.Widths.{reference_width}
-use Rattle.plist_binwrite.proofs.Inside.{Stands, one_tree, positions_stand}
+use Rattle.plist_binwrite.proofs.TreePositions.{Stands, one_tree, positions_stand}
 use Rattle.plist_binwrite.proofs.SameScalars.{owner_eq, owners_tell, tells_both}
-use Rattle.plist_binwrite.proofs.Occurring.{occurs_whole}
-use Rattle.plist_binwrite.proofs.Skipping.{stands_single, starts_array, starts_dictionary, occurs_in}
+use Rattle.plist_binwrite.proofs.TreeOccurrences.{occurs_whole}
+use Rattle.plist_binwrite.proofs.TreeStarts.{stands_single, starts_array, starts_dictionary, occurs_in}
 use Rattle.plist_binwrite.proofs.Totals.{total_one}
 use Rattle.plist_binwrite.proofs.Uniques.{unique_seen}
 

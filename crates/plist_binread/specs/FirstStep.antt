@@ -6,7 +6,7 @@ use Rattle.plist_format.specs.Container.{head_of}
 use Rattle.plist_binread.specs.Remaining.{CountsObjects, SomeRemain, places_of}
 use Rattle.plist_binread.specs.declared.fault_slot.StepError.{StepError}
 use Rattle.plist_base.specs.Events.{PlainEvent}
-use Rattle.plist_binread.specs.Slot.{answer_in}
+use Rattle.plist_binread.specs.Slot.{result_in}
 use Rattle.plist_binread.specs.NextChild.{IsCurrentCached, root_with}
 use Rattle.plist_format.specs.Unfolding.{until_fault, items_of_file}
 use Rattle.plist_binread.specs.Walking.{IsWalkOf, walk_objects, remaining_in}
@@ -30,7 +30,7 @@ CachesRoot answer event walk bytes =
 -- the walk has as many objects as the head counts, unless a read or an allocation failed
 abbrev pub CountsRoot : {A : Type 0} → Result A StepError → FaultSlot → Walk → List ℕ → Type 0
 CountsRoot answer slot walk bytes =
-    CountsObjects bytes (answer_in answer slot) (walk_objects walk)
+    CountsObjects bytes (result_in answer slot) (walk_objects walk)
 
 -- the error is the only item of the file, or that of a failed read or allocation
 abbrev pub RefusesFirst : List ℕ → Error → Type 0

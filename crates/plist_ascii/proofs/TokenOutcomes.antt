@@ -6,7 +6,7 @@ use Rattle.std.specs.Result.{IsErrAnd, IfErr, OnOk}
 use Rattle.plist_base.specs.Faults.{FaultKind, UnclosedString}
 use Rattle.plist_ascii.specs.declared.fault.TokenFault.{TokenFault}
 use Rattle.plist_ascii.specs.Unread.{IfKnown, FirstIsTaken, TakesFront, GivesFront}
-use Rattle.plist_ascii.specs.Taken.{Taken, taken, past_one, front}
+use Rattle.plist_ascii.specs.TokenPrefixes.{Taken, taken, past_one, front}
 use Rattle.plist_ascii.specs.inner.TokenFaults.{kind_in_bytes, said}
 
 -- a fact for `Ok` implies what follows from it

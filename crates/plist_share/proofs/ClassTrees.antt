@@ -18,11 +18,11 @@ use Rattle.plist_base.specs.declared.event.EventShape.TheVariants as shape
 use Rattle.plist_binwrite.specs.inner.Scalars.{AreIdentities, AreDistinct}
 use Rattle.plist_binwrite.proofs.Changes.{at_set}
 use Rattle.plist_binwrite.proofs.ClassObjects.{sound, the_items, the_pairs}
-use Rattle.plist_binwrite.proofs.Owned.{class_owner, owner_class}
+use Rattle.plist_binwrite.proofs.WriterClasses.{class_owner, owner_class}
 use Rattle.plist_binwrite.proofs.TreeObjects.{refs_are, keys_are, values_are}
 use Rattle.plist_binwrite.proofs.Reading.{dictionary_is, length-keys_of, length-values_of}
-use Rattle.plist_binwrite.proofs.Skipping.{stands_single, starts_array, starts_dictionary, occurs_in}
-use Rattle.plist_share.proofs.Classed.{complete}
+use Rattle.plist_binwrite.proofs.TreeStarts.{stands_single, starts_array, starts_dictionary, occurs_in}
+use Rattle.plist_share.proofs.EqualTrees.{complete}
 use Rattle.plist_share.specs.inner.Nodes.{Node, is_dictionary, node_at, node_by, IsIndexed, IsClass, HaveTreeClasses, Extends, SeparatesTrees}
 
 -- ---- a dictionary's pairs by their keys and their values, and back

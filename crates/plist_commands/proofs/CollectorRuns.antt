@@ -22,15 +22,15 @@ use Rattle.plist_commands.specs.Converting.{CollectsItems, items_left}
 use Rattle.plist_commands.specs.declared.collector.Collector.{Collector}
 use Rattle.plist_commands.specs.declared.collector.StopReason.{StopReason}
 use Rattle.plist_commands.specs.declared.collector.StopReason.TheVariants.{Failed, Misplaced, Paused}
-use Rattle.plist_commands.specs.Holding.{AnswersVisit, HasPaused, HoldsMore, IsEmpty, MatchStop, MayPause, CollectsEvent, collected, is_complete}
+use Rattle.plist_commands.specs.CollectorSteps.{AnswersVisit, HasPaused, HoldsMore, IsEmpty, MatchStop, MayPause, CollectsEvent, collected, is_complete}
 use Rattle.plist_commands.specs.Items.{ComesIfKnown}
 use Rattle.plist_commands.specs.Printing.{CountsReads}
-use Rattle.plist_binread.specs.Advancing.{Steps}
+use Rattle.plist_binread.specs.ReaderSteps.{Steps}
 use Rattle.plist_commands.specs.ReaderRuns.{BuffersRun}
 use Rattle.plist_commands.proofs.SourceItems.{binary_comes}
 use Rattle.plist_commands.proofs.PendingBytes.{fault_counts, memory_own, own_counts}
 use Rattle.plist_commands.proofs.Runs.{HasHeld, held_faulted, held_more, held_none, held_refused, held_stopped, held_whole}
-use Rattle.plist_commands.proofs.Streaming.{HasTaken, came_next, goes_on, held_at_end, taken_none, tells_next, tells_none, took_event, took_fault, whole_at_end}
+use Rattle.plist_commands.proofs.BufferedItems.{HasTaken, came_next, goes_on, held_at_end, taken_none, tells_next, tells_none, took_event, took_fault, whole_at_end}
 
 -- `OutOfMemory` is possible for any items
 read_without_memory : (items : Option (List Item)) (error : Error)

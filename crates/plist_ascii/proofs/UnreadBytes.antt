@@ -7,7 +7,7 @@ use Rattle.std.proofs.lemmas.List.{length-take, length-take-le, take-append-le, 
 use Rattle.std.proofs.Math.Seq.{take-append-add, take-nil}
 use Rattle.std.proofs.lemmas.Bool.{ne_eqb, eqb-true, eqb-false}
 use Rattle.plist_ascii.specs.Incoming.{GivesByte, StartsWithHeld}
-use Rattle.plist_ascii.specs.Taken.{run}
+use Rattle.plist_ascii.specs.TokenPrefixes.{run}
 use Rattle.plist_ascii.specs.Comments.{begins_with}
 use Rattle.plist_ascii.specs.inner.Inputs.{hand_of}
 use Rattle.plist_ascii.specs.Unread.{unread_of, first, readable_with, IfKnown, FirstIsTaken, TakesPart}
