@@ -15,7 +15,7 @@ use Rattle.plist_binread.specs.declared.head.Bounds.{Bounds}
 use Rattle.plist_binread.specs.declared.walk.Walk.{Walk}
 use Rattle.plist_binread.specs.FirstStep.{IsKnownWalk}
 use Rattle.plist_binread.specs.Remaining.{Explains, entries_of}
-use Rattle.plist_binread.specs.Decoded.{DecodesAt, IsDecodedAs, IsRefusedAt, SetsDecoded, SetsEvent, bytes_at, event_of_object, is_refused}
+use Rattle.plist_binread.specs.Decoded.{DecodesAt, IsDecodedAs, RefusesObjectAt, SetsDecoded, SetsEvent, bytes_at, event_of_object, is_refused}
 use Rattle.plist_binread.specs.Decoding.{IsRefusedAs}
 use Rattle.plist_binread.specs.DecodeOutcome.{YieldsResult, YieldsCurrent}
 use Rattle.plist_binread.specs.Step.{OpensObject}
@@ -78,7 +78,7 @@ module _ (known : Option (List ℕ)) (bounds : Bounds) (walk : Walk) (number : �
   -- the error of an object is possible in place of its first item
   pub known_refused : (at place : ℕ) (e : Error)
       → is_marked (get_or walk.tags.items number 0) ≡ false → IsPlaceIn walk number place
-      → IsRefusedAt known bounds place e → IfSome known (λ bytes. Explains (until_fault (remaining_entering bytes bounds walk at number))
+      → RefusesObjectAt known bounds place e → IfSome known (λ bytes. Explains (until_fault (remaining_entering bytes bounds walk at number))
       e)
   known_refused at place e free is refused = IfSome-both known k refused (λ bytes k refused.
       found_refused bytes bounds walk.tags.items walk.contents.items (open_in walk) k walk.path at

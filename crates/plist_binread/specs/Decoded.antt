@@ -109,9 +109,9 @@ abbrev pub CountsSmall : {C : Type 0} → (counts : Type 0) → (count : C → �
 CountsSmall counts count old new decoded = counts → count new ≡ count old + small_count decoded
 
 -- the counter rises by one if a small scalar was read and decoded
-abbrev pub CountsRead : {C E : Type 0} → (counts : Type 0) → (count : C → ℕ) → (old new : C)
+abbrev pub CountsSmallRead : {C E : Type 0} → (counts : Type 0) → (count : C → ℕ) → (old new : C)
     → Result Decoded E → Type 0
-CountsRead counts count old new answer = MatchResult answer
+CountsSmallRead counts count old new answer = MatchResult answer
     (CountsSmall counts count old new) (λ _. new ≡ old)
 
 -- the string is decoded, or there is no result because it has more than eight bytes
@@ -131,8 +131,8 @@ DecodesAt known bounds place decoded = IfSome known (λ bytes. bounds.trailer �
     → IsDecodedAs (bytes_at bounds place bytes) (object_at bounds place bytes) decoded)
 
 -- if the bytes are known, this is an error of the object at this offset
-abbrev pub IsRefusedAt : (known : Option (List ℕ)) → Bounds → (place : ℕ) → Error → Type 0
-IsRefusedAt known bounds place error = IfSome known (λ bytes. bounds.trailer ≤ length bytes
+abbrev pub RefusesObjectAt : (known : Option (List ℕ)) → Bounds → (place : ℕ) → Error → Type 0
+RefusesObjectAt known bounds place error = IfSome known (λ bytes. bounds.trailer ≤ length bytes
     → IsRefusedAs (object_at bounds place bytes) place error)
 
 -- what was decoded at an offset ends before the trailer and has sizes in range

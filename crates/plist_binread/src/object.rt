@@ -1,7 +1,7 @@
 //! Finds the first bytes of an object, and reads them if they aren't buffered.
 
 ghost use Rattle.std.specs.Prelude.{◌≡◌, IfErr, IfOk, IfSome};
-ghost use Rattle.plist_binread.specs.Decoded.{CountsRead, DecodesAt, FitsBefore, IsRefusedAt};
+ghost use Rattle.plist_binread.specs.Decoded.{CountsSmallRead, DecodesAt, FitsBefore, RefusesObjectAt};
 ghost use Rattle.plist_binread.specs.FaultOffsets.{ErrWithin};
 ghost use Rattle.plist_binread.specs.Front.{IsFrontAt};
 ghost use Rattle.plist_binread.specs.Slot.{SlotCountsIo, result_in};
@@ -51,10 +51,10 @@ pub fn read_object<S: Source, C: DecodeCounter>(
     ensures fits { IfOk result (FitsBefore decoder.old.bounds.trailer place) }
     // Errors.
     ensures refused { IfErr result (λ _.
-        IsRefusedAt (S.known source.old) decoder.old.bounds place decoder.new.slot.fault) }
+        RefusesObjectAt (S.known source.old) decoder.old.bounds place decoder.new.slot.fault) }
     ensures fault { ErrWithin place decoder.old.bounds.trailer (result_in result decoder.new.slot) }
     // State afterwards.
-    ensures counted { CountsRead C.counts C.count decoder.old.counter decoder.new.counter result }
+    ensures counted { CountsSmallRead C.counts C.count decoder.old.counter decoder.new.counter result }
     ensures bounds { decoder.new.bounds ≡ decoder.old.bounds }
     ensures unchanged { S.known source.new ≡ S.known source.old }
     ensures failures { SlotCountsIo S.failures result decoder.new.slot source.old source.new }
