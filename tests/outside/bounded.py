@@ -1,6 +1,6 @@
 """Runs programs with limited memory, and returns how they ended and their peak memory.
 
-A small program in C starts them. If this one did, its own memory would count: the peak that the
+A small program in C starts them. If Python did, its own memory would count: the peak that the
 system reports for a child includes what its parent had when it was started.
 """
 import collections

@@ -6,8 +6,8 @@
 docs/speed.svg shows the first table of docs/SPEED.md: for each shape of file the time and the memory
 of `plist_tool`, divided by those of a program over the crate. docs/crates.svg shows crates.txt: each
 library and the program, and which crates each uses. Each picture contains a checksum of its table.
-With `check` nothing is drawn. The status is then 1 if the checksum of a picture isn't that of its
-table any more.
+With `check` nothing is written. The status is then 1 if a picture isn't the one that would be
+written now.
 """
 import hashlib
 import pathlib
@@ -31,7 +31,7 @@ text { fill: #e6edf3 } .small { fill: #9198a1 } .axis { stroke: #6e7681 } .one {
 .edge { stroke: #6e7681 } .main { stroke: #58a6ff }
 }
 """
-# What the columns of a row mean, by the words of the table's head.
+# The bars of a shape: the class of each in STYLE, and its label.
 KINDS = (("print", "time of print"), ("convert", "time of convert"), ("memory", "memory of convert"))
 
 

@@ -5,9 +5,10 @@ Each shape of file is made in some sizes. The programs run in turn. For each pro
 processor time (user and system) and the greatest peak memory are printed. The other programs are a
 program over the Rust crate `plist` as Debian packages it (librust-plist-dev, built by cargo from
 tests/outside/peer; it reads the whole file into memory first), Python's plistlib, and plistutil
-(libplist), which converts the file to XML. Programs that aren't installed are left out, and so are
-those that fail on a shape. If the first run of a program is short, there are more runs, so that a
-difference of a few milliseconds can be seen. If it is long, there is no second run.
+(libplist), which converts the file to XML. Programs that aren't installed are left out. If a
+program fails on a shape, its cell says `fails`. If the first run of a program is short, there are
+more runs, so that a difference of a few milliseconds can be seen. If it is long, there is no second
+run.
 
 A second table compares how fast `BinaryReader` (tests/outside/items, which is proved and built in a
 copy of its crates by the kit's `rt`) and the crate read a slice into events that own their strings. It

@@ -1,4 +1,4 @@
--- A tree's last-value form has no more events than the tree, and its strings and data no more
+-- A tree's last-value form has no more events than the tree, and its strings and data have no more
 -- bytes.
 use Rattle.std.proofs.Common.{◌≡◌, ℕ, ◌+◌, ◌≤◌, Bool, true, false, List, [], ◌∷◌, ◌++◌, length, Option, refl, arith, bytes_eq, if◌then◌else◌}
 use Rattle.plist_base.specs.Events.{PlainEvent, ScalarEvent, StartArray, StartDictionary, EndCollection}
@@ -133,7 +133,7 @@ in-bytes : (es : List PlainEvent) → total_bytes es ≡ weight_of bytes_in es
 in-bytes [] = refl
 in-bytes (e ∷ es) = let rest = in-bytes es in omega arith
 
--- the last-value form of a tree has no more events, and its strings and data no more bytes
+-- the last-value form of a tree has no more events, and its strings and data have no more bytes
 pub fewer-events : (t : Tree) → length (bracketing (last_wins t)) ≤ length (bracketing t)
 fewer-events t =
     let few = lighter (λ _. 1) (λ _ _. refl) (λ _ _. refl) t in

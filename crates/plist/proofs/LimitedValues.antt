@@ -108,7 +108,7 @@ module _ (limits : Limits) where
   abbrev PassFrom : (level : ℕ) → List PlainEvent → Type 0
   PassFrom level es = (came : ℕ) × Pass came level es
 
-  -- what nests within a collection nests one level deeper with it
+  -- a collection nests one level deeper than its contents
   around : (P : ℕ → Type 0) (inside rest : List PlainEvent) (came level : ℕ)
       → limit_at limits came level (event.StartArray None) ≡ None
       → Pass (came + 1) (level + 1) ((inside ++ event.EndCollection ∷ []) ++ rest)

@@ -65,7 +65,8 @@ rows-itself rows s =
     ap last_values (values-inserts last_wins [] rows ∙ ap last_values s)
     ∙ last-values-once (last_values rows) (once-last rows)
 
--- if the trees of its values and dictionaries are their own last-value forms, so is that of a layer
+-- if the trees of a layer's values and dictionaries are their own last-value forms, so is the
+-- layer's tree
 layer-of : {V D : Type 0} (y : Value-F V D) (value : V → Value) (pairs : D → dictionary.Dictionary)
     → ((v : V) → IsItself (value v)) → ((d : D) → HasItself (pairs d))
     → Layer (map-Value V D Value dictionary.Dictionary value pairs y)
@@ -117,7 +118,7 @@ held-itself None [] = refl
 held-itself None (c ∷ cs) =
     λ i. Within (open-itself c i) (fixed last_wins_within open_of open-itself cs i)
 
--- an event changes a builder's unfinished tree as it changes that of the plain events
+-- an event that isn't rejected extends a builder's unfinished tree as `IsExtendedBy` says
 pub carry : (root : Option Value) (cs : List Contents) (e : PlainEvent) (a : Unfinished)
     → IsNested (held_in root cs) → refusal_at (held_in root cs) e ≡ None
     → and_event with_pair (held_in root cs) e ≡ Some a → IsExtendedBy (held_in root cs) e a

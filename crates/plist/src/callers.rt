@@ -1,7 +1,7 @@
-//! Proved callers whose proofs cite lemmas of this crate: values that are built from events, files
-//! that are written from a value's events, entries through which values are written, and `==` with
-//! its laws. The callers of pairs are in `plist_pairs`, and those whose proofs need only clauses
-//! are in `plist_callers`.
+//! Proved callers whose proofs cite lemmas of this crate. They build values from events, write
+//! files from a value's events, write values through entries, and use `==` and its laws. The
+//! callers of pairs are in `plist_pairs`, and those whose proofs need only clauses are in
+//! `plist_callers`.
 
 ghost use Rattle.std.specs.Prelude.{◌≡◌, IfOk, IfSome, option_map, string_bytes, true};
 ghost use Rattle.std.specs.Map.{lookup};

@@ -131,7 +131,7 @@ impl Value {
     }
 
     /// Like [`Value::from_file`], but reads ASCII in this dialect. [`Dialect::Tight`] reads the
-    /// files that other programs write with one value per line, without quotes or `;` between them.
+    /// files that other programs write with one value per line, neither quoted nor followed by `;`.
     ///
     /// # Errors
     ///

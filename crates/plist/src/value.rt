@@ -181,7 +181,7 @@ impl Value {
     /// ```
     ///
     /// ASCII is read in the lax dialect, in which a bare string doesn't end at the end of a line.
-    /// In a file with one value per line, without `;` or quotes between them, the ends of lines can
+    /// In a file with one value per line, neither quoted nor followed by `;`, the ends of lines can
     /// therefore become part of strings. [`Value::from_reader_with_dialect`] reads such files.
     ///
     /// # Errors

@@ -113,7 +113,7 @@ quoted_begins (c ∷ cs) n count text begins size is utf8 ends = λ more.
     ∙ ap (λ l. taken count (quoted_event l)) text-is
     ∙ ap (taken count) (quoted_is text utf8)
 
--- a string has a byte at least
+-- a token that is a string has at least one byte
 pub begins_some : (ends : ℕ → Bool) (bytes : List ℕ) (n : ℕ) (text : List ℕ)
     → BeginWithText ends bytes n text → 0 < n
 begins_some ends [] n text begins = absurd begins

@@ -14,7 +14,7 @@ pub ok_by : {X E : Type 0} (r : Result X E) (P Q : Type 0) → OnOk r P → (P �
 ok_by (Ok x) P Q p h = h p
 ok_by (Err f) P Q p h = tt
 
--- a fact about an optional value implies what follows about its image
+-- a fact about an optional value implies each fact about its image that follows from it
 pub some_by : {A B : Type 0} (o : Option A) (P : A → Type 0) (f : A → B) (Q : B → Type 0)
     → ((a : A) → P a → Q (f a)) → IfSome o P → IfSome (option_map f o) Q
 some_by None P f Q h p = tt
@@ -27,7 +27,8 @@ some_same (Some a) P Q h p = h a p
 
 -- ---- several bytes that are required
 
--- a fact about the fault of a part implies what follows about the fault of the whole
+-- a fact about the fault of a part implies each fact about the fault of the whole that follows from
+-- it
 pub some_from : {A : Type 0} (k : Option FaultKind) (P : Result A FaultKind → Type 0)
     (Q : FaultKind → Type 0) → ((kind : FaultKind) → P (Err kind) → Q kind)
     → IfSome (option_map (λ kind. Err kind) k) P → IfSome k Q

@@ -58,8 +58,7 @@ nothing_unread : (k : Option (List ℕ)) (p : Option ℕ) (t : ℕ) → unread_o
 unfolding unread_of
 nothing_unread k p t = refl
 
--- the first `m` elements of two lists, one after the other, begin with the first `m` of the first
--- list
+-- the first `m` elements of `xs ++ ys` begin with the first `m` of `xs`
 cut_front : (m : ℕ) (xs ys : List ℕ) → (zs : List ℕ) × (take m (xs ++ ys) ≡ take m xs ++ zs)
 cut_front zero xs ys = ([], refl)
 cut_front (suc m) [] ys = (take (suc m) ys, refl)
@@ -238,7 +237,7 @@ pub all_taken : (hand bytes : List ℕ) (n p q : ℕ) → bytes ≡ hand → q �
 all_taken hand bytes n p q same place all =
     let n-is = eqb-true n (length bytes) all in omega (arith, place, n-is, ap length same)
 
--- the bytes that remain are determined, so both lists begin with a stop or are empty
+-- two lists of the bytes that remain are equal, so both begin with a stop or are empty
 pub drops_known : (now : Option (List ℕ)) (stop : ℕ → Bool) (zs ys : List ℕ) → now ≡ Some zs
     → now ≡ Some ys → run stop zs ≡ 0 → run stop ys ≡ 0
 drops_known now stop zs ys a b h = let same : zs ≡ ys = cc in rw (sym same) h

@@ -99,7 +99,7 @@ quoted_texts : AreRead lax_stops (
     ∷ ("\"\\U12", refused UnclosedString 5 ∷ [])
     -- the letter after the backslash is missing
     ∷ ("\"\\UD83D\\", refused InvalidUtf16String 8 ∷ [])
-    -- a small letter begins no escape
+    -- a small `u` begins no escape
     ∷ ("\"\\u0080\"", refused InvalidUtf8AsciiStream 3 ∷ text "0080\"" ∷ [])
     -- escapes of letters
     ∷ ("'it\\'s\\n'", text "it's\n" ∷ []) ∷ [])

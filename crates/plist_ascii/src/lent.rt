@@ -113,8 +113,9 @@ fn front_text(stop: Stop, bytes: &[u8]) -> Option<BorrowedText<'_>>
 }
 
 impl<R: ByteReader> Input<R> {
-    /// Returns the string that is next after blanks, if it lies whole among the bytes at hand, has
-    /// no escape and spells no integer. Nothing is read or taken.
+    /// Returns the string that is next after blanks, if it is a bare string that spells no integer,
+    /// or a quoted string without escapes, and if all of it and the byte that ends it are at hand.
+    /// Nothing is read or taken.
     #[inline(always)]
     pub fn lent_text(&self, stop: Stop) -> Option<BorrowedText<'_>>
         ensures text { IfSome result (λ lent. IsAhead R.remaining stop self.now lent.count

@@ -22,7 +22,7 @@ abbrev pub mask_left : (ℕ → ℕ → Bool) → List ℕ → (number : ℕ) �
 mask_left t bytes number n =
     mask_l (map (top 7) (zip2 (λ a b. cond (t a b) 255 0) bytes (replicate n number))) % 2 ^ 64
 
--- no byte compares to the number if the mask of those that do is zero
+-- if the mask is zero, the comparison is false for each byte
 pub none_left : (t : ℕ → ℕ → Bool) (n number : ℕ) (bytes : List ℕ) → n ≤ 64 → length bytes ≡ n
     → eqb (mask_left t bytes number n) 0 ≡ true
     → (i : ℕ) → i < length bytes → t (get_or bytes i 0) number ≡ false
@@ -43,7 +43,7 @@ abbrev pub mask_right : (ℕ → ℕ → Bool) → List ℕ → (number : ℕ) �
 mask_right t bytes number n =
     mask_l (map (top 7) (zip2 (λ a b. cond (t a b) 255 0) (replicate n number) bytes)) % 2 ^ 64
 
--- no byte compares to the number if the mask of those that do is zero
+-- if the mask is zero, the comparison is false for each byte
 pub none_right : (t : ℕ → ℕ → Bool) (n number : ℕ) (bytes : List ℕ) → n ≤ 64 → length bytes ≡ n
     → eqb (mask_right t bytes number n) 0 ≡ true
     → (i : ℕ) → i < length bytes → t number (get_or bytes i 0) ≡ false

@@ -133,8 +133,7 @@ sum_is n z k e =
 whole_small : (n : ℕ) → Encoded n → whole_bits n < 2 ^ 63
 whole_small n k = omega arith
 
--- the bits are those of the second, their second is this one without a fraction, and their value is
--- exactly the second
+-- the bits are those of the second, encode it without a fraction, and have exactly its value
 pub record AreWritten (second : ℤ) (bits : ℕ) : Type 0 where
   pub is : AreBitsAt second bits
   pub back : IsWholeAt second bits

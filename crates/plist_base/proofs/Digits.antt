@@ -10,8 +10,8 @@ has_digits (suc k) n fits least below =
     let shorter = has_digits k (n / 10) (omega arith) (omega arith) (omega arith) in
     rw (decimal_step n (omega arith) fits, length-append) (omega (arith, shorter))
 
--- for each power of ten up to 10 ^ `k`, a number from this power on, and below the next one, has
--- the number of digits `digits`
+-- for each power of ten up to 10 ^ `k`: if `n` is at least this power and below the next one,
+-- `digits` is the number of digits of such a number
 abbrev Steps : (k n digits : ℕ) → Type 0
 Steps zero n digits = n < 10 → digits ≡ 1
 Steps (suc k) n digits =

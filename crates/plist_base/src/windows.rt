@@ -12,7 +12,7 @@ use std::io::{Read, Seek};
 const SHORT_WINDOW: usize = 512;
 
 // The size of a long window in bytes. The window begins at a multiple of its size. One read of a
-// file usually returns that many bytes.
+// file usually returns all bytes of a window.
 const LONG_WINDOW: usize = 8192;
 
 // The number of windows before the first doubling.

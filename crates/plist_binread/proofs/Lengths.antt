@@ -83,7 +83,7 @@ pub count_none : (m size to_trailer : ℕ) (rest more : List ℕ) → length (re
 count_none m size to_trailer rest more whole far cut meaning =
     rw (nothing_more to_trailer rest more whole (far (omega (arith, cut.0))), cut.1) refl
 
--- if all bytes of the content are among these, they are its meaning
+-- if all bytes of the content are among these, the object is what the content means
 pub content_seen : (m size count : ℕ) (rest behind more : List ℕ)
     → length_in m (rest ++ more) ≡ Some (count, behind ++ more) → count * size ≤ length behind
     → (meaning : List ℕ → Object) → meaning_counted size (λ _. meaning) (length_in m (rest ++ more))

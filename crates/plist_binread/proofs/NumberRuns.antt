@@ -74,7 +74,7 @@ numbers_whole known xs p w i n pos end all =
     let all' = rw end at all in
     IfSome_then known all' (λ bytes all fits. all ∙ numbers_of-reads _ p w n pos fits)
 
--- the bytes of a number end before those of all numbers do
+-- the bytes of a number end no later than those of all numbers
 pub number_within : (w i n : ℕ) → i < n → i * w + w ≤ n * w
 number_within w i n h =
     let le : suc i * w ≤ n * w = mul-le-mul_right w (let s : suc i ≤ n = omega arith in s) in

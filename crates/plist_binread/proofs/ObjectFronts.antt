@@ -55,7 +55,7 @@ known_prefix known p k buffered h is = IfSome_then known is (λ bytes is.
     let n = length-take-le k buffered h in
     rw n (ap (take k) is ∙ take-take k (length buffered) (drop p bytes) h))
 
--- the bytes after a front of bytes that lie at an offset lie after that front
+-- if bytes lie at an offset, those after the first `k` of them lie `k` bytes after the offset
 pub known_suffix : (known : Option (List ℕ)) (p k n place : ℕ) (found : List ℕ) → p ≤ place
     → k ≡ place - p → k ≤ n → n ≤ length found
     → IfSome known (λ bytes. LiesAt bytes p (take n found))

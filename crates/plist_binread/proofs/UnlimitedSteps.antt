@@ -47,7 +47,7 @@ walks_on_ok (Err error) after P is known walking = let no = ap is_walking is in 
 
 -- ---- the number of objects
 
--- the number of objects is also right after an error
+-- the number of objects is also correct after an error
 pub tells_fault : (known : Option (List ℕ)) (error : Error) (count : ℕ)
     → IfSome known (λ bytes. count ≡ objects_in_head bytes)
     → IfSome known (λ bytes. CountsObjects {A = PlainEvent} bytes (Err error) count)

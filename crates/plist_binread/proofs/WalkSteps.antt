@@ -154,7 +154,7 @@ module _ (table : List TableEntry) where
 
 -- ---- the number that falls with each step
 
--- opening a collection costs more than its children weigh
+-- fewer steps remain after a collection was opened than when it was about to be entered
 pub start_falls : (n k : ℕ) (fs : List Frame) → length fs < n → k < 2 ^ 64
     → k * walk_steps (n - suc (length fs)) + 1 + walk_weight n fs
     < walk_weight n fs + walk_steps (n - length fs)

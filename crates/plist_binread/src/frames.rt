@@ -95,7 +95,8 @@ impl Stack {
         }
     }
 
-    // Pushes a frame. The list grows out of line, so that a push is a few instructions.
+    // Pushes a frame. Another function makes room if there is none, so that a push is a few
+    // instructions.
     #[inline(always)]
     fn push(&mut self, frame: Frame) -> Result<(), AllocError>
         ensures value { OnOk result (self.new ≡ self.old ++ frame ∷ []) }

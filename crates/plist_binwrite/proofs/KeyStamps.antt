@@ -184,7 +184,7 @@ module _ (es : List PlainEvent) where
       → HasKeysOnce t
   all_once t is each = once_tree each t 0 (occurs_whole is)
 
-  -- at each position of such a tree, the keys of a dictionary differ
+  -- a tree begins at this index, and if it is a dictionary, its own keys differ
   abbrev Once : ℕ → Type 0
   Once p = (t : Tree) × OccursAt es t p × IfDictionary t
 

@@ -71,7 +71,7 @@ module _ (table : List TableEntry) (es : List PlainEvent) (num rank : ℕ → �
       place = place;
       object = object_of num t p;
     }))) where
-  -- what an object within those of the path unfolds to, and which numbers are entered
+  -- what an object unfolds to while those on the path are open, and which numbers are entered
   abbrev items_in : List ℕ → ℕ → ℕ → List Item
   items_in path at i = unfolding_of table (length table - length path) path at i
 

@@ -16,7 +16,7 @@ collection_of (index, tree) = (index, tree) ∷ []
 abbrev pub collections_among : List (ℕ × Tree) → List (ℕ × Tree)
 collections_among ones = flat_map collection_of ones
 
--- the scalar of a tree that is one, and nothing for a collection
+-- a tree's scalar, and nothing for a collection
 abbrev pub leaf_scalar : ℕ × Tree → List Scalar
 leaf_scalar (index, Leaf scalar) = scalar ∷ []
 leaf_scalar (index, tree) = []

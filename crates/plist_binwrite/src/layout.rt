@@ -67,8 +67,8 @@ impl FileLayout {
         })
     }
 
-    // Gives the object of the event at an index the offset after the other objects, unless it has
-    // an offset already.
+    // Appends the object of the event at an index to the layout: its offset is the one after the
+    // last object. Does nothing if the object has an offset already.
     #[inline(always)]
     fn place(
         &mut self,

@@ -38,7 +38,7 @@ pub fn date_again(alloc: Global, date: &Date) -> Result<Date, Error>
     }
 }
 
-/// Returns the error of printing half a second after 2001-01-01T00:00:00Z.
+/// Returns the error of printing the date half a second after 2001-01-01T00:00:00Z.
 pub fn half_second(alloc: Global) -> Result<String, Error>
     ensures { IsRefused FractionalDate result }
 {

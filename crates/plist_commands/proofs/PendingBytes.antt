@@ -42,7 +42,7 @@ one_of Io A h = h
 one_of OutOfMemory A h = h
 one_of kind A h = h
 
--- the source's count of failures is right after its own error, and after a failed write that
+-- the source's count of failures is correct after its own error, and after a failed write that
 -- followed the error
 pub fault_counts : {A : Type 0} (error answer : Error) (old before new : ℕ) → before ≡ old
     → CountsIo error before new → ((answer ≡ error) × A) ⊎ (fault_of answer ≡ fault_without_offset Io)

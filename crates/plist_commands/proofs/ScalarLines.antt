@@ -17,14 +17,15 @@ plain_byte byte low high backslash quote =
     let most = leb-false _ _ high in
     rw (le-leb 0x20 byte (omega arith), le-leb byte 0x7e (omega arith), backslash, quote) refl
 
--- two masks are zero if their bits together are
+-- two masks are zero if their bitwise OR is zero
 none_of_two : (a b : ℕ) → bit_or a b ≡ 0 → (a ≡ 0) × (b ≡ 0)
 none_of_two a b none = (
   omega (arith, or_add_and a b, and_le_l a b, and_le_r a b),
   omega (arith, or_add_and a b, and_le_l a b, and_le_r a b),
 )
 
--- each byte of a block passes if the four masks of those that don't are zero together
+-- each byte of a block passes if the bitwise OR of the four masks, which mark the bytes that don't
+-- pass, is zero
 pub plain_block : (n : ℕ) (bytes : List ℕ) → n ≤ 64 → length bytes ≡ n
     → eqb (bit_or (bit_or (bit_or (mask_left ltb bytes 0x20 n) (mask_right leb bytes 0x7f n))
     (mask_left eqb bytes 0x5c n)) (mask_left eqb bytes 0x22 n)) 0 ≡ true

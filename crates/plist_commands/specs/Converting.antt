@@ -60,8 +60,9 @@ SendsBytes bytes old new =
 abbrev pub IfOkIs : {A E : Type 0} → Result A E → A → Type 0 → Type 0
 IfOkIs answer wanted P = IfOk answer (λ found. found ≡ wanted → P)
 
--- What converting the bytes does. If it writes a file, that is one of the tree as which they are read. If
--- it needs a value, nothing was written. If it fails, the error is that of reading or of writing.
+-- What converting the bytes does. If it writes a file, this is a file of the tree that is read from
+-- the bytes. If it needs a value, nothing was written. If it fails, the error is that of reading or
+-- of writing.
 pub record Converts {W : Type 0} (contents : W → Option (List ℕ)) (known : Option (List ℕ))
     (answer : Result Streamed Error) (old new : W) : Type 0 where
   pub sent : IfOkIs answer Sent (SendsAll contents known old new)
@@ -91,8 +92,9 @@ ForBytesOf held P = (known : Option (List ℕ)) → HoldsTree (items_of_known kn
 abbrev pub AreNoTree : (items : Option (List Item)) → Type 0
 AreNoTree items = IfSome items (λ all. (tree : Tree) → AreItemsOfTree all tree → ⊥)
 
--- What collecting items does. If it returns `true`, the buffered events are those of their tree. If it
--- returns `false`, they aren't the items of a tree. If it fails, so does reading a value of them.
+-- What collecting items does. If it returns `true`, the buffered events are those of the items'
+-- tree. If it returns `false`, the items aren't those of a tree. If it fails, reading a value from
+-- the items may fail with the same error.
 pub record CollectsItems (items : Option (List Item)) (answer : Result Bool Error) (events : List PlainEvent)
     : Type 0 where
   pub held : IfOkIs answer true (HoldsTree items events)

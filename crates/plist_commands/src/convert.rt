@@ -168,7 +168,7 @@ fn convert_value<R: Files>(rt: &R, alloc: Global, from: &str, to: &str) -> Resul
 }
 
 /// Writes the property list of a file to another one, or to the same file. The other file is
-/// created or truncated only after everything that can fail except writing it has succeeded.
+/// created or truncated only when nothing can fail any more except writing it.
 ///
 /// # Errors
 ///

@@ -22,8 +22,9 @@ pub enum Message<'a> {
 
 /// Reports messages. It is a trait so that a clause can name what was reported.
 pub trait Messages {
-    /// What reporting a message changes: if `whole` is false, possibly only a prefix of the message
-    /// was written.
+    /// Relates the reporter before a call, the message, whether the call succeeded (`whole`), and
+    /// the reporter after the call. If the call failed, possibly only a prefix of the message was
+    /// written.
     ghost reports: { (old : Self) → PlainMessage → (whole : Bool) → (new : Self) → Type 0 };
 
     /// Writes a message, on a line of its own.

@@ -214,7 +214,7 @@ impl<V> Pairs<V> {
         }
     }
 
-    // Returns the store, or an empty one if there is none. An empty store has no allocation.
+    // Returns the store, or a new one if there is none. A new store has no allocation.
     fn into_store(self) -> Store<V>
         ensures { result ≡ self }
     {

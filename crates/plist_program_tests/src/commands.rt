@@ -51,8 +51,8 @@ fn a_missing_file(rt: HostRuntime) {
     );
 }
 
-// Checks that the whole report is passed to standard error by one write, which accepts four bytes,
-// and that no write is tried again.
+// Checks that the whole report is passed to standard error at once. Four bytes of it are accepted,
+// one per call; then a write fails, and isn't tried again.
 fn expect_status(
     rt: &(impl Abort + AllocGlobal + Env + Files),
     line: &str,

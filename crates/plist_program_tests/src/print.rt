@@ -81,8 +81,8 @@ fn a_read_that_fails(rt: HostRuntime) {
     }
 }
 
-// Buffered lines are written before the failure: the last read is that of the second reference,
-// after two lines.
+// If a read fails, the lines that are buffered by then are written. The last read is that of the
+// second reference, after two lines.
 #[test]
 fn a_later_read_that_fails(rt: HostRuntime) {
     let mut sent = 0;

@@ -108,8 +108,8 @@ fn makes_its_file_once(rt: HostRuntime) {
     expect_stored(&rt, Origin::File("to_be_read"), TEXT);
 }
 
-// A property list with a repeated key has to be read as a value, so the first file is read twice.
-// The other file is created once.
+// A property list with a repeated key has to be read as a value, so its file is read twice. The
+// file that is written is created once.
 #[test]
 fn goes_no_further_than_a_failure(rt: HostRuntime) {
     expect_failures(&rt, Origin::Memory);

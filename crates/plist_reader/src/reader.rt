@@ -242,7 +242,8 @@ impl<R: Source> Reader<R> {
     }
 
     // Hands the next event to a visitor, and returns what the visitor returns, or `None` if no
-    // event remains. A reader of ASCII hands strings over without copying them, if it can.
+    // event remains. A reader of ASCII that has no limits hands strings over without copying them,
+    // if it can.
     #[inline(always)]
     fn hand_over<V: EventVisitor>(
         &mut self,

@@ -70,11 +70,11 @@ module _ {es : List PlainEvent} {scalar class : ℕ → ℕ} {count : ℕ} {keys
       let h = class_owner owners _ _ p q s r (sym (all _ p s) ∙ e ∙ all _ q r) in
       cc
 
-  -- the index has the class of this key
+  -- the index has the class of this node
   abbrev At : Node → ℕ → Type 0
   At k p = (i : ℕ) × (class p ≡ count + i) × (slice_get keys i ≡ Some k)
 
-  -- two collections of one class have the same key
+  -- two collections of one class have the same node
   one_key : (k l : Node) (p q : ℕ) → At k p → At l q → class p ≡ class q → k ≡ l
   one_key k l p q a b e =
       let same : a.0 ≡ b.0 = omega arith in
@@ -160,7 +160,7 @@ module _ (class after : ℕ → ℕ) (lo : ℕ) (agree : (q : ℕ) → lo ≤ q 
   children_agree (Dictionary ms) p h =
       same_halves _ _ ms _ _ (pairs_agree ms (p + 1) h)
 
-  -- a class stays the same if the keys and the classes after it do
+  -- a class stays the same if the nodes, and the classes after it, stay the same
   module _ (scalar : ℕ → ℕ) (count : ℕ) (keys new : List Node)
       (kept : (i : ℕ) → i < length keys → slice_get new i ≡ slice_get keys i) where
     indexed_stays : (b : _) (t : Tree) (p c : ℕ) → lo ≤ p + 1 → IsIndexed count keys (node_by class b t p) c
@@ -178,7 +178,7 @@ module _ (class after : ℕ → ℕ) (lo : ℕ) (agree : (q : ℕ) → lo ≤ q 
     class_stays (Dictionary ms) p c h k = indexed_stays true (Dictionary ms) p c h k
 
 module _ (es : List PlainEvent) (scalar class : ℕ → ℕ) (count : ℕ) (keys : List Node) where
-  -- if a collection begins at an index, its class is one of a collection
+  -- if a collection begins at an index, its class as a collection is its class as a tree
   by_collection : (t : Tree) (p c : ℕ) → OccursAt es t p
       → shape_of (event_at es p) ≢ shape.Scalar
       → IsIndexed count keys (node_by class (is_dictionary (shape_of (event_at es p))) t p) c

@@ -18,7 +18,7 @@ stopped-more : (n old new : ℕ) → old ≡ min n (2 ^ 64 - 1) → new ≡ min 
     → new ≡ min (n + 1) (2 ^ 64 - 1)
 stopped-more n old new is more = omega arith
 
--- a count is right after one more event
+-- a count is correct after one more event
 number-more : (passes : PlainEvent → Bool) (taken : List PlainEvent) (event : PlainEvent)
     (old new : ℕ) → old ≡ count_passing passes taken → new ≡ one_more (passes event) old
     → new ≡ count_passing passes (taken ++ event ∷ [])

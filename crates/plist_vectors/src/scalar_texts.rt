@@ -32,7 +32,7 @@ fn expect_dash(rt: &(impl Abort + AllocGlobal), text: &str, place: usize) {
     }
 }
 
-// Offsets in an error count the text without white space.
+// The offset in an error is that of the byte in the text without white space.
 #[test]
 fn places_in_data_texts(rt: HostRuntime) {
     expect_dash(&rt, "A-AA", 1);

@@ -9,7 +9,7 @@ fn text(rt: &(impl Abort + AllocGlobal), text: &str) -> String {
     must(rt, String::from_str(rt.alloc(), text))
 }
 
-// Checks what `insert` returns.
+// Inserts a number at a key, and returns the old number.
 fn put(
     rt: &(impl Abort + AllocGlobal),
     pairs: &mut Dictionary,

@@ -24,7 +24,7 @@ abbrev pub IsCharOr : FaultKind → Result (List ℕ) FaultKind → Option ℕ �
 IsCharOr fault outcome char =
     MatchOption char (outcome ≡ Err fault) (λ c. outcome ≡ Ok (encode_utf8 c))
 
--- `by` is how a part of a string is taken, given how what follows it is
+-- `by` is how a part of a string is taken, given how the rest of the string is taken
 module _ (by : (List ℕ → Taken (List ℕ)) → List ℕ → Taken (List ℕ)) (bytes : List ℕ) (n : ℕ) where
   -- the string ends after n bytes, with this outcome
   abbrev pub EndsAt : Result (List ℕ) FaultKind → Type 0

@@ -16,7 +16,7 @@ pub record IsNumberedSoFar (given : Classed) (found : Numbering) : Type 0 where
   pub plan : IsPlan (events_in given) (class_in given) found.by_class found.firsts
 
 module _ (given : Classed) where
-  -- if no object had a number, that of the event at this index is now the first one
+  -- if no object had a number, the object of the event at this index now has the first one
   abbrev pub BeginsAt : (index : ℕ) → (old new : Numbering) → Type 0
   BeginsAt index old new = length old.firsts ≡ 0 → stored_number given new index ≡ 1
 
