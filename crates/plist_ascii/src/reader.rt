@@ -108,7 +108,7 @@ impl<R: ByteReader> AsciiReader<R> {
     /// Creates a reader of this dialect. Nothing is read before the first item is requested.
     ///
     /// In the tight dialect `{a=b}` yields the start of a dictionary, `a`, `b` and an end.
-    #[tactic(auto, using(crate::proofs::Unread::new_unread))]
+    #[tactic(auto, using(crate::proofs::UnreadBytes::new_unread))]
     pub fn with_dialect(alloc: Global, inner: R, dialect: Dialect) -> Self
         // Result.
         ensures bytes { untaken_bytes R.remaining result ≡ readable (R.remaining inner) }
@@ -131,7 +131,7 @@ impl<R: ByteReader> AsciiReader<R> {
     ///
     /// If such a byte was read, it is lost. After a bracket or a quoted string, no such byte has
     /// been read.
-    #[tactic(auto, using(crate::proofs::Unread::going_unread))]
+    #[tactic(auto, using(crate::proofs::UnreadBytes::going_unread))]
     pub fn into_inner(self) -> R
         ensures bytes { (HasEndedAscii self → ⊥) → HoldsLeft self R.remaining result }
         ensures inner { result ≡ device_of self }

@@ -22,7 +22,7 @@ use Rattle.plist_binwrite.proofs.WriterClasses.{class_owner, owner_class}
 use Rattle.plist_binwrite.proofs.TreeObjects.{refs_are, keys_are, values_are}
 use Rattle.plist_binwrite.proofs.Reading.{dictionary_is, length-keys_of, length-values_of}
 use Rattle.plist_binwrite.proofs.TreeStarts.{stands_single, starts_array, starts_dictionary, occurs_in}
-use Rattle.plist_share.proofs.EqualTrees.{complete}
+use Rattle.plist_share.proofs.EqualClasses.{complete}
 use Rattle.plist_share.specs.inner.Nodes.{Node, is_dictionary, node_at, node_by, IsIndexed, IsClass, HaveTreeClasses, Extends, SeparatesTrees}
 
 -- ---- a dictionary's pairs by their keys and their values, and back

@@ -1,7 +1,7 @@
 pub mod Meaning
 pub mod Parsing
 pub mod Least
-pub mod EqualTrees
+pub mod EqualClasses
 pub mod EqualKeys
 pub mod ClassTrees
 pub mod TreeEquality
