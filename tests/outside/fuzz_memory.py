@@ -3,20 +3,20 @@
 
 `print`, `convert` and `keyed` run on each file. The limit is the smallest one under which all three
 do the same with each unmutated file as they do with enough memory. There are two limits: one for
-files of some hundred bytes, little more than the program needs to start with its call stack, and one
-for files of some 200 kB. The script finds both first. Half of the larger files run under a lower
-limit, down to the first one, so that allocations fail at different points. Each run must end with
-status 0 or 1, and never by a signal:
+files of some hundred bytes, little more than the program and its call stack need to start, and one
+for files of some 200 kB. The script finds both first, unless KIB sets both. Half of the larger
+files run under a lower limit, down to the first one, so that allocations fail at different points.
+Each run must end with status 0 or 1, and never by a signal:
 
-- With status 0 nothing is printed on standard error; with status 1 one line is, which says what the
-  fault is.
+- With status 0 nothing is printed on standard error. With status 1 one line is printed there, which
+  says what the fault is.
 - OUT of `convert` is unchanged, or, with status 0, a complete binary property list whose table of
-  offsets is right before its trailer. In a tenth of the cases IN is OUT.
+  offsets ends where its trailer begins. In a tenth of the cases IN is OUT.
 - What was printed before an allocation failed is a prefix of what is printed with enough memory.
 
 If OUT is stored on a disk, most of the time is spent waiting for it; set `TMPDIR=/dev/shm`.
 
-Usage: fuzz_memory.py [CASES [SEED [WORKERS [KIB]]]]      CASES is 10,000 by default; KIB is the limit
+Usage: fuzz_memory.py [CASES [SEED [WORKERS [KIB]]]]      CASES is 10,000 by default
 
 Needs the built `plist_tool` and a C compiler. Prints its counts at the end. The status is 1 if a run
 breaks one of these rules.

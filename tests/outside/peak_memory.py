@@ -108,7 +108,7 @@ def huge_count(count):
 
 
 def far_apart(count, rounds):
-    """Returns a file of strings some 8 KiB apart, to which references are in random order."""
+    """Returns a file of strings some 8 KiB apart, and an array of random references to them."""
     rng = random.Random(1)
     objects, places, place = [], [], 8
     for number in range(count):

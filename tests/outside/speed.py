@@ -392,8 +392,8 @@ def print_growth(points):
 
 
 def print_table(path, sizes, known):
-    # the memory that the program needs apart from the objects: that for a file of few objects, whose events
-    # take long enough for the memory to be read
+    # the memory that isn't for objects, measured with a file of few objects but many events, so
+    # that the run is long enough for its memory to be read
     make(path, "doubling, 2^17 arrays")
     few = best([measure([*known["plist_tool"], path]) for _ in range(RUNS)])
     memory = (few or (0, 0))[1]

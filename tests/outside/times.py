@@ -37,7 +37,7 @@ CHANGES = {
 
 
 def jiffies():
-    """Returns the machine's processor time that was given to others, and all of it."""
+    """Returns how much of the machine's processor time was given to others, and the total."""
     numbers = [int(it) for it in open("/proc/stat", encoding="utf-8").readline().split()[1:9]]
     return numbers[7], sum(numbers)
 

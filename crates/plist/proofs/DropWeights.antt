@@ -14,7 +14,7 @@ others-le : (xs : List Value) → weights (others xs) ≤ weights xs
 others-le [] = omega arith
 others-le (x ∷ xs) = omega (arith, weights-more x xs)
 
--- the square of a smaller number is smaller by more than that number
+-- the squares of two different numbers differ by more than the smaller number
 square-less : (a k : ℕ) → a * a + a < (a + suc k) * (a + suc k)
 square-less a k = omega arith
 

@@ -97,6 +97,6 @@ abbrev pub IsReadBack : Tree → Result Tree Fault → Type 0
 IsReadBack tree (Ok read) = read ≡ tree
 IsReadBack tree (Err fault) = IsIoOrMemory fault.kind
 
--- a tree's events are those of no other tree, whatever their lengths are
+-- a tree's events, apart from lengths, are those of no other tree
 abbrev pub DetermineTrees : Type 0
 DetermineTrees = (left right : Tree) → AreAlike (bracketing left) (bracketing right) → left ≡ right

@@ -1,5 +1,5 @@
--- Definitions that are used by bodies and proofs. Public clauses rely only on `BuilderSteps` and
--- `DeferredPairs`.
+-- Definitions that are used by bodies and proofs. Of these, public clauses rely only on
+-- `BuilderSteps` and `DeferredPairs`.
 pub mod BuilderSteps
 pub mod Following
 pub mod Laws

@@ -237,7 +237,8 @@ pub all_taken : (hand bytes : List ℕ) (n p q : ℕ) → bytes ≡ hand → q �
 all_taken hand bytes n p q same place all =
     let n-is = eqb-true n (length bytes) all in omega (arith, place, n-is, ap length same)
 
--- two lists of the bytes that remain are equal, so both begin with a stop or are empty
+-- two lists of the bytes that remain are equal, so if one begins with a stop or is empty, the same
+-- is true of the other
 pub drops_known : (now : Option (List ℕ)) (stop : ℕ → Bool) (zs ys : List ℕ) → now ≡ Some zs
     → now ≡ Some ys → run stop zs ≡ 0 → run stop ys ≡ 0
 drops_known now stop zs ys a b h = let same : zs ≡ ys = cc in rw (sym same) h

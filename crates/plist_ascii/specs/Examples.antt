@@ -79,7 +79,7 @@ bare_texts = refl
 quoted_texts : AreRead lax_stops (
     -- the input ends in a string
     ("\"ab", refused UnclosedString 3 ∷ [])
-    -- three digits are taken before they are checked
+    -- the two bytes after the first digit are taken before they are checked
     ∷ ("\"\\12\"", refused InvalidOctalString 5 ∷ [])
     -- an undefined escape
     ∷ ("\"\\9\"", refused InvalidUtf8AsciiStream 3 ∷ refused UnclosedString 4 ∷ [])

@@ -56,7 +56,7 @@ limited_from limits admitted level (Ok event ∷ items) =
     (limited_from limits (admitted + 1) (level_after (shape_of event) level) items)
 limited_from limits admitted level (Err fault ∷ items) = Err fault ∷ []
 
--- the items up to the first fault; the first event that exceeds a limit becomes its fault
+-- the items up to the first fault; the first event that exceeds a limit becomes that limit's fault
 abbrev pub limited_items : Limits → List Item → List Item
 limited_items limits items = limited_from limits 0 0 items
 

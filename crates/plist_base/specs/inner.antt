@@ -1,4 +1,4 @@
--- Definitions that are used by bodies and proofs. Public clauses rely only on `Hashing`.
+-- Definitions that are used by bodies and proofs. Of these, public clauses rely only on `Hashing`.
 pub mod DateBits
 pub mod Paths
 pub mod Hashing

@@ -24,8 +24,8 @@ pub holds_head : (known : Option (List ℕ)) (bounds : Bounds) (walk : Walk) (wa
 holds_head known bounds walk walking k =
     IfSome_then known k (λ bytes k w. (k.head, sym k.size))
 
--- no list is longer than the number of objects in the file, if the bytes are known, and in the
--- reader otherwise
+-- if the bytes are known, no list is longer than the number of objects in the file; otherwise none
+-- is longer than the number of objects in the reader
 lists_within : (known : Option (List ℕ)) (tags contents : List ℕ) (fs : List Frame)
     → length fs ≤ length tags → length contents ≡ length tags
     → IfSome known (λ bytes. length tags ≤ length (places_of bytes))

@@ -74,8 +74,8 @@ fn pairs_in(kind: CountedKind, count: u64) -> Option<u64>
 }
 
 // Locates the references of the collection at the front of these bytes, or returns `None` if there
-// is no collection. The bytes reach up to the trailer, or contain at least the marker and the
-// length.
+// is no collection, or if its length is cut off. The bytes reach up to the trailer, or contain at
+// least the marker and the length.
 #[inline(always)]
 fn references_in(seen: &[u8], to_trailer: u64, width: usize, place: u64) -> Option<References>
     requires width { 0 < width }

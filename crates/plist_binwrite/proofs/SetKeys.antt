@@ -68,7 +68,7 @@ module _ {T P : Type 0} (same : T → T → Bool) (view : T → P) where
           | inr r ↦ inr r
         ]
 
-  -- if only items with the key p pass a test, the index that it finds is one of p
+  -- if only items with the key p pass a test, p is at the index that the test finds
   pub key_found : (test : T → Bool) (p : P) → ((y : T) → test y ≡ true → p ≡ view y) → (cs : List T)
       (i : ℕ) → position test cs ≡ Some i → slice_get (map view cs) i ≡ Some p
   key_found test p same_key [] i h = cc

@@ -10,7 +10,7 @@ use Rattle.std.proofs.lemmas.Bool.Decides.{eqb_tells}
 use Rattle.plist_binwrite.specs.Sizes.{total}
 use Rattle.plist_binwrite.proofs.Uniques.{few_below}
 
--- the weights of the numbers below a count
+-- the sum of the weights of the numbers below a count
 abbrev pub total_below : (ℕ → ℕ) → ℕ → ℕ
 total_below w zero = 0
 total_below w (suc n) = w n + total_below w n
@@ -76,7 +76,7 @@ module _ (w : ℕ → ℕ) where
       left q = is_member-filter nat_eq_equiv (λ y. not _) q
           (λ x e. ap (λ k. not (eqb n k)) (eqb-true q x e)) xs
 
--- the keys are distinct
+-- `eq` decides whether two keys are equal
 module _ {K : Type 0} (eq : K → K → Bool) (tells : (a b : K)
     → ((eq a b ≡ true) × (a ≡ b)) ⊎ ((eq a b ≡ false) × (a ≡ b → ⊥))) where
   member_one : (xs : List K) (x q : K) (b : Bool) → is_member eq xs x ≡ b

@@ -23,7 +23,7 @@ use Rattle.plist_binwrite.proofs.TreeStarts.{stands_single, starts_array, starts
 use Rattle.plist_binwrite.proofs.Totals.{total_one}
 use Rattle.plist_binwrite.proofs.Uniques.{unique_seen}
 
--- ---- the owner of a tree
+-- ---- the owner of a tree: its scalar, or the index at which a collection begins
 
 abbrev own_tree : Tree → ℕ → Identity
 own_tree (Leaf x) p = shared x

@@ -19,7 +19,8 @@ buffered_events pending = plain_events pending.held
 abbrev pub is_whole : EventBuffer → Bool
 is_whole pending = is_none pending.expects
 
--- what is expected in place of a rejected event: a value if no event is buffered
+-- the kind that the error of a rejected event names as expected: a value or a start if no event is
+-- buffered, and otherwise a key or an end
 abbrev pub expected_instead : List PlainEvent → EventKind
 expected_instead [] = event_kind.ValueOrStartCollection
 expected_instead (event ∷ events) = event_kind.DictionaryKeyOrEndCollection

@@ -47,7 +47,7 @@ accent = refl
 
 -- ---- files
 
--- the file of a Boolean is the smallest one
+-- no file that is written is smaller than that of a Boolean
 truth_size : file_size (Leaf (trees.Boolean true)) ≡ 42
 unfolding least_width length_form units_of chars
 truth_size = refl

@@ -1,5 +1,5 @@
--- Definitions that are used by bodies and proofs. Public clauses rely only on `Columns`, `Entries`
--- and `UnclosedStarts`.
+-- Definitions that are used by bodies and proofs. Of these, public clauses rely only on `Columns`,
+-- `Entries` and `UnclosedStarts`.
 pub mod Columns
 pub mod PlannedFiles
 pub mod Entries

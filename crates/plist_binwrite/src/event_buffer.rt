@@ -16,7 +16,8 @@ use std::alloc::{AllocError, Global};
 pub enum PushError {
     /// The event can't follow the buffered ones.
     Misplaced {
-        /// What was expected in place of the event.
+        /// What the error names as expected: a value if no event is buffered, and otherwise a key
+        /// or the end of a dictionary, even after a key, where a value is expected.
         expected: EventKind,
         /// The kind of the event.
         found: EventKind,

@@ -1,8 +1,8 @@
 //! Puts the parts of a file: scalars, lengths, references, the offset table and the trailer.
 //!
 //! The functions put their bytes into a [`Sink`]. If they return an error, it is that of
-//! [`Sink::put`]: `Io`, without an offset, after a prefix of all the bytes that were put was
-//! written.
+//! [`Sink::put`]: `Io`, without an offset. The writer has then received a prefix of all the bytes
+//! that were put.
 
 ghost use Rattle.std.specs.Prelude.{◌≡◌, ◌∷◌, [], ◌≤◌, Ok, OnOk, true, false};
 ghost use Rattle.plist_binwrite.specs.Forms.{big_endian, unsigned_form, integer_form, uid_form, length_form, boolean_form, data_form, date_form, real_form, table_form};

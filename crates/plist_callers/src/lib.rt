@@ -3,9 +3,9 @@
 //!
 //! They are listed from the lowest layer up: `faults`, `texts`, `dates`, `reals`, `hashes`,
 //! `events`, `sources`, `limits`, `data`; the readers `binary` (also over `small_files`), `ascii`
-//! and `either`, and the `writer`; `values` and their `contents`; `writers`, for what is written of
-//! values; `stored`, for files; `pairs`, `entries` and `iterators`, for dictionaries; `depths`, for
-//! recursions over dictionaries; and `archives`.
+//! and `either`, and the `writer`; `values` and their `contents`; `writers`, for values that are
+//! written; `stored`, for files; `pairs`, `entries` and `iterators`, for dictionaries; `depths`,
+//! for recursions over dictionaries; and `archives`.
 //!
 //! A caller that is named after a bug returns whether the library has that bug, or returns the
 //! result that the bug would change. Unless its documentation names other errors, a caller returns

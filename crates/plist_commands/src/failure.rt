@@ -13,7 +13,7 @@ use std::fmt;
 pub enum Failure {
     /// A property list can't be read, written or printed.
     Plist(Error),
-    /// The property list isn't an archive, or the archive has no such tree.
+    /// The property list isn't an archive, or the tree can't be made.
     Keyed(KeyedError),
     /// The archive names no object by this key.
     NoSuchTop,

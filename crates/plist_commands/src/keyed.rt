@@ -58,7 +58,7 @@ pub fn print_at<O: Write>(
     }
 }
 
-/// Prints the tree of the object that the `$top` of the archive in a file names by this key.
+/// Prints a tree of the archive in a file: that of the object that its `$top` names by this key.
 ///
 /// # Errors
 ///

@@ -1,5 +1,5 @@
-//! The bytes of a string: an escape for `"`, `\` and any byte that isn't printable ASCII, and any
-//! other byte as it is.
+//! The printed form of a string: an escape for `"`, `\` and any byte that isn't printable ASCII,
+//! and any other byte as it is.
 
 ghost use Rattle.std.specs.Prelude.{◌≡◌, ◌++◌, ◌+◌, ◌*◌, ◌≤◌, length, true};
 ghost use Rattle.plist_base.specs.Sinks.{buffered, room};

@@ -28,7 +28,7 @@ fn expect_ascii(alloc: Global, bytes: &[u8], items: &str) -> Result<(), Wrong> {
     expect_on_devices(alloc, By::Sequential, bytes, items)
 }
 
-// Checks the items of a text for which the dialect is given.
+// Checks the items of a text in the lax dialect, which is passed to the reader.
 fn expect_lax(alloc: Global, bytes: &[u8], items: &str) -> Result<(), Wrong> {
     let reader = AsciiReader::with_dialect(alloc, bytes, Dialect::Lax);
     expect_same(alloc, words_of(alloc, reader)?.as_str(), items)?;

@@ -114,7 +114,7 @@ fn begin<R: Source>(
 /// If the first eight bytes are `bplist00`, it acts as a [`BinaryReader`]. If the first byte after
 /// an optional byte order mark (EF BB BF) and white space is `<`, its only item is
 /// `XmlUnsupported`, with the offset of that byte. Otherwise, even for empty input, it acts as an
-/// [`AsciiReader`]. The reader chooses when the first item is requested.
+/// [`AsciiReader`]. The reader makes this choice when the first item is requested.
 ///
 /// # Errors
 ///

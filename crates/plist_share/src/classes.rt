@@ -155,8 +155,8 @@ fn give_class(
     }
 }
 
-// Sets the class of each tree among these events. The walk goes backwards, so that the children of
-// a collection have their classes before that of the collection is found.
+// Sets the class of each tree among these events. The walk goes backwards, so that the classes of a
+// collection's children are known before its own class is determined.
 fn give_classes(
     alloc: Global,
     events: &EventTable<'_>,

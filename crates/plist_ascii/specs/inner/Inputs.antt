@@ -89,7 +89,7 @@ TakesSomeMore old new = (old.taken < new.taken) × (old.taken < 2 ^ 64)
 abbrev pub some_event : Event → Option PlainEvent
 some_event event = Some (event_of event)
 
--- the token that a byte begins, if a bare string ends before such a stop
+-- the token that a byte begins, if `stop` says which bytes end a bare string
 abbrev pub token_until : Stop → ℕ → List ℕ → Token
 token_until stop byte = token_by (stops stop) (lead_of byte) byte
 
@@ -171,7 +171,8 @@ module _ {R : Type 0} (known : R → Option (List ℕ)) where
       × (unread known new ≡ Some (drop (run (stops stop) xs) xs))
       × (new.taken ≡ old.taken + run (stops stop) xs))
 
-  -- the first bytes were taken, and `P` is true of the bytes and of how many these are
+  -- the first n of the bytes that remained were taken, and `P` is true of the bytes that remained
+  -- and of n
   abbrev pub TakesFirst : (P : List ℕ → ℕ → Type 0) → Input R → Input R → Type 0
   TakesFirst P old new = IfKnown (unread known old) (λ xs. (n : ℕ) × P xs n
       × (unread known new ≡ Some (drop n xs)) × (new.taken ≡ old.taken + n))
