@@ -39,7 +39,7 @@ import sys
 import tempfile
 
 TOP = pathlib.Path(__file__).resolve().parents[2]
-# the script builds the program where that is needed
+# PLIST_TOOL is a script that builds PROGRAM if that is needed
 PLIST_TOOL, PROGRAM = TOP / "plist_tool", TOP / "crates/plist_tool/out/plist_tool"
 TREES_OF_A_KIND = 150
 EPOCH = datetime.datetime(2001, 1, 1)

@@ -238,7 +238,7 @@ class Tables:
         if ended.status:
             self.bad += 1
             name += f", UNEXPECTED: {ended}, {self.error.read_bytes()!r}"
-        # a file that takes less than the program alone isn't run again
+        # a command whose peak is at most START isn't run again
         short = self.ends_short(self.words(command), START + peak // 2048) if peak > START << 10 else "-"
         print(f"| `{command}`, {name} | {len(content):,} | {events:,} | {peak / 1e6:.1f} MB | {peak / events:.1f} "
               f"| {peak / len(content):,.1f} | {ended.seconds:.2f} | {short} |", flush=True)

@@ -3,8 +3,8 @@
 
 Builds tests/outside/bulk with the kit in a copy of the crates, and prints the processor time (user
 and system) of the best of five runs. The preparation, such as making the dictionaries, is measured
-apart and subtracted. The base64 texts are compared with Python's `base64`, which is written in C, on
-as many bytes.
+apart and subtracted. For comparison, Python's `base64`, which is written in C, is timed on as many
+bytes.
 
 Usage: speed_calls.py [PROGRAM]     PROGRAM is the built program; if it isn't named, it is built
 """

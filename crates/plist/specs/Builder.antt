@@ -22,7 +22,8 @@ IsBuildingStep before event answer after =
     IsNested (unfinished_of before.unfinished)
     × IsAnswered (built_of before) event answer (built_of after) (after ≡ before)
 
--- if the call failed, the builder rejected the item's event, or returned the item's fault
+-- if the call failed, the builder rejected the item's event, ran out of memory for it, or returned
+-- the item's fault
 abbrev pub RefusesWith : {A : Type 0} → (before : Builder) → Item → Result A Error → Type 0
 RefusesWith before item answer =
     IfErr answer (λ error. RefusesOne (built_of before).unfinished item (fault_of error))

@@ -78,7 +78,7 @@ TakesOne before (Ok event) after =
     (and_event with_pair before.unfinished event ≡ Some after.unfinished) × (after.failed ≡ false)
 TakesOne before (Err fault) after = ⊥
 
--- an item is an error, or its event is rejected
+-- an item is an error, or its event is rejected, or memory runs out for the event
 abbrev pub RefusesOne : Unfinished → Item → Fault → Type 0
 RefusesOne held (Ok event) fault = IsRefusal (refusal_at held event) fault
 RefusesOne held (Err error) fault = fault ≡ error

@@ -9,7 +9,8 @@ use Rattle.plist.specs.inner.BuilderSteps.{and_event}
 use Rattle.plist.specs.OpenCollections.{Contents, open_of, within}
 use Rattle.plist.specs.ValueTrees.{tree_of}
 
--- the complete tree if there is a root, and otherwise that of the open collections, innermost first
+-- the complete tree if there is a root, and otherwise the unfinished one that consists of the open
+-- collections, innermost first
 abbrev pub held_in : Option Value → List Contents → Unfinished
 held_in (Some root) collections = Complete (tree_of root)
 held_in None collections = within collections

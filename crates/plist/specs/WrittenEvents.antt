@@ -16,7 +16,7 @@ module _ {S : Type 0} (Step : S → PlainEvent → Answer → S → Type 0) wher
   TakesAll before (event ∷ events) after =
       (between : S) × Step before event (Ok tt) between × TakesAll between events after
 
-  -- the writer rejected an event
+  -- the writer returned an error for the next event
   abbrev pub RefusesNext : (before : S) → List PlainEvent → Fault → (after : S) → Type 0
   RefusesNext before [] fault after = ⊥
   RefusesNext before (event ∷ events) fault after = Step before event (Err fault) after
@@ -26,8 +26,8 @@ module _ {S : Type 0} (Step : S → PlainEvent → Answer → S → Type 0) wher
   StopsForMemory before events fault after =
       (fault ≡ fault_without_offset OutOfMemory) × BeginsWithStart events × (after ≡ before)
 
-  -- The writer took all events; or it took the first ones, and then rejected the next one, or
-  -- memory ran out.
+  -- The writer took all events; or it took the first ones, and then returned an error for the next
+  -- one, or memory ran out.
   abbrev pub WritesEvents : (before : S) → List PlainEvent → Answer → (after : S) → Type 0
   WritesEvents before events (Ok done) after = TakesAll before events after
   WritesEvents before events (Err fault) after =

@@ -6,8 +6,9 @@ use std::ops::ControlFlow;
 
 /// Takes the events of a property list one by one, and returns after each whether it wants more.
 ///
-/// A visitor doesn't check the order of events: the source that it visits hands them over in the
-/// order of the file. A visitor that can fail keeps its error and returns `Break`.
+/// A visitor may be handed any event at any time: a source hands its events over in order, but
+/// needn't check that they can follow one another. A visitor that can fail keeps its error and
+/// returns `Break`.
 ///
 /// Only [`EventVisitor::event`] is required. Each of the other methods takes the event that it
 /// names; a fast visitor implements those for the events that are frequent.

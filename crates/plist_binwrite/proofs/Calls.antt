@@ -20,7 +20,7 @@ still : (b : Bool) (x y : Type 0) → b ≡ false → y → MatchBool b x y
 still true x y e h = cc
 still false x y e h = h
 
--- the buffered events and one more are those of the tree, apart from a length
+-- an event that is appended without its length yields the same events, apart from lengths
 last_alike : (held events : List PlainEvent) (event : PlainEvent)
     → events ≡ held ++ without_length event ∷ [] → AreAlike events (held ++ event ∷ [])
 last_alike held events event is = cc (alike_last held event)

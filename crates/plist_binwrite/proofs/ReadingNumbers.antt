@@ -24,8 +24,8 @@ take_front xs rest n e = rw (← e) (take-append_seam xs _)
 pub drop_front : (xs rest : List ℕ) (n : ℕ) → length xs ≡ n → drop n (xs ++ rest) ≡ rest
 drop_front xs rest n e = rw (← e) (drop-append_seam xs _)
 
--- if the first n bytes are `xs`, a function of these and of the bytes after them is one of `xs` and
--- `rest`
+-- if the first n bytes are `xs`, applying a function to these and to the bytes after them means
+-- applying it to `xs` and `rest`
 parted : {A : Type 0} (f : List ℕ → List ℕ → A) (none : A) (xs rest : List ℕ) (n : ℕ)
     → length xs ≡ n → cond (nat_le n (length (xs ++ rest)))
     (f (take n (xs ++ rest)) (drop n (xs ++ rest))) none ≡ f xs rest

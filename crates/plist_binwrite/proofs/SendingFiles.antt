@@ -65,7 +65,7 @@ sends_nothing contents given fault old new whole (inr large) same = rw large.0 (
   ),
 )
 
--- ---- a file by the plain writer's classes is the tree's file
+-- ---- a file by the classes of `BinaryWriter` is the tree's file
 
 owned_file : {class : ℕ → ℕ} {count : ℕ} (tree : Tree) (file : List ℕ)
     → AreIdentities (lengthless tree) class count → IsFileBy class tree file → IsFileOf tree file

@@ -22,7 +22,7 @@ fn put_char<W: Write>(sink: &mut Sink<'_, W>, c: char) -> Result<(), Error>
     put_number(sink, 2, 0xdc00 + above % 0x400)
 }
 
-// Puts a character and returns `true`, if it has a single UTF-16 unit, which fits into the buffer
+// Puts a character and returns `true`, if it has a single UTF-16 unit and this fits into the buffer
 // of the sink. Otherwise puts nothing and returns `false`.
 #[inline(always)]
 fn try_put_char<W: Write>(sink: &mut Sink<'_, W>, c: char) -> bool

@@ -6,7 +6,7 @@ use plist_base::{ErrorKind, Source};
 use plist_reader::Reader;
 use std::alloc::Global;
 
-/// Returns whether an item follows the end, or follows an error that isn't one in ASCII text. It
+/// Returns whether an item follows the end, or an error of a kind that ASCII text can't have. It
 /// never does.
 pub fn comes_after_end<R: Source>(reader: &mut Reader<R>) -> bool
     ensures { result ≡ false }

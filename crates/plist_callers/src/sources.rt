@@ -67,8 +67,8 @@ pub fn read_all(alloc: Global, bytes: &[u8]) -> io::Result<Vec<u8>>
     Ok(all)
 }
 
-/// Returns the size of a reader that can seek, or the error of the seek, and the source, which
-/// counts a seek that fails.
+/// Returns the size of a reader that can seek, or the error of the seek. Also returns the source,
+/// which counts a seek that fails.
 pub fn size_of_device<R: Read + Seek + Drop>(device: R) -> (Result<u64, io::Error>, Seeking<R>)
     ensures { CountsFailure result.0 0 (failures_of result.1) }
 {
@@ -83,8 +83,8 @@ pub fn device_again<R: Read + Seek + Drop>(device: R) -> R
     Seeking::new(device).into_inner()
 }
 
-/// Reads the first bytes of a source. Returns how many were read, or the error, and the source,
-/// which counts a read that fails.
+/// Reads the first bytes of a source. Returns how many were read, or the error. Also returns the
+/// source, which counts a read that fails.
 pub fn read_front<S: Source>(source: S, buf: &mut [u8]) -> (io::Result<usize>, S)
     ensures failures { CountsFailure result.0 (S.failures source) (S.failures result.1) }
     ensures unchanged { S.known result.1 ≡ S.known source }

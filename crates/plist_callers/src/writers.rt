@@ -32,7 +32,7 @@ pub fn write_back(alloc: Global, value: &Value) -> Result<Value, Error>
     Value::from_reader(alloc, bytes)
 }
 
-/// Returns the file that a plain writer writes for a value's events.
+/// Returns the file that a `BinaryWriter` writes for a value's events.
 ///
 /// # Errors
 ///

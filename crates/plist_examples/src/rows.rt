@@ -65,8 +65,9 @@ fn first_byte(alloc: Global, text: &str) -> Result<(u8, &str), Wrong> {
     }
 }
 
-// Makes a file of objects with their offset table, followed by a slash and the numbers of the
-// trailer: both widths, the number of objects, the root, and the offset of the table.
+// Makes a file of its parts. The text has the objects with their offset table, then a slash, and
+// then the numbers of the trailer: both widths, the number of objects, the root, and the offset of
+// the table.
 fn file_given(alloc: Global, text: &str) -> Result<Vec<u8>, Wrong> {
     let Some((body, numbers)) = text.split_once('/') else {
         return unreadable(alloc, text);
@@ -80,8 +81,8 @@ fn file_given(alloc: Global, text: &str) -> Result<Vec<u8>, Wrong> {
     file(alloc, body.trim(), widths, [count, root, table])
 }
 
-// Returns the input as bytes: of a text, in hexadecimal, of the file of an object, or of the parts
-// of a file.
+// Returns the bytes of an input. After its first word it has a text, bytes in hexadecimal, an
+// object whose file is meant, or the parts of a file.
 pub(crate) fn bytes_given(alloc: Global, given: &str) -> Result<Vec<u8>, Wrong> {
     let (form, rest) = first_word(given);
     match form {

@@ -104,7 +104,7 @@ fn answer_by<S: Sharing>(
     }
 }
 
-// Checks that the event was accepted.
+// Checks that the result isn't an error.
 pub(crate) fn expect_done(alloc: Global, answer: Result<(), Error>) -> Result<(), Wrong> {
     match answer {
         Ok(()) => Ok(()),

@@ -76,7 +76,7 @@ fn expect_sent<S: Sharing>(
 
 const INTERRUPTED: DeviceFault = DeviceFault::Fails(ErrorKind::Interrupted);
 
-// The ways in which the plain writer writes, and the sharing one.
+// The ways in which `BinaryWriter` writes, and those in which `SharingWriter` does.
 const PLAIN: [Way; 3] = [Way::Events, Way::Handed, Way::Whole];
 
 const SHARED: [Way; 2] = [Way::Events, Way::Handed];
@@ -149,7 +149,7 @@ fn fault_of(alloc: Global, name: &str) -> Result<DeviceFault, Wrong> {
     }
 }
 
-// Writes the events after the name of a fault to devices with this fault.
+// Writes events to devices with a fault. The input has the fault's name, and then the events.
 fn expect_faulty<S: Sharing>(
     alloc: Global,
     given: &str,

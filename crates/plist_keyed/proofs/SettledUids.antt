@@ -223,7 +223,7 @@ module _ (objects : List (List PlainEvent)) where
   more-ends uids uid end other (member, plain, same, fewer) =
       (or_right (nat_eq end other) _ member, plain, same, fewer)
 
-  -- if the object of a Uid is another Uid, that one is among those that it leads to
+  -- if the object of a Uid is another Uid, the other one is among those to which the first leads
   pub named-member : (uid : ℕ) (uids : List ℕ) (next : ℕ) → LeadsOnlyTo objects uid uids
       → slice_get objects uid ≡ Some (ScalarEvent (Uid next) ∷ []) → IsIn next uids
   named-member uid uids next (es, found, named) at =

@@ -4,7 +4,7 @@ use Rattle.plist_base.specs.Trees as trees
 use Rattle.plist_base.specs.Trees.{Tree, Leaf, Array, Dictionary, NoTrees, TreeAnd, NoMembers, MemberAnd}
 use Rattle.plist_keyed.specs.Archives.{UidOutOfRange, RecursiveUid, resolved, resolved_tree}
 
--- the object of Uid 0 in most archives, which means that there is no object
+-- the object of Uid 0 in most archives; a reference to it means that there is no object
 abbrev null : Tree
 null = Leaf (trees.String (codes "$null"))
 

@@ -93,8 +93,8 @@ impl<'a> Archive<'a> {
     }
 
     /// Returns the tree of the object that a Uid names, in which each Uid is replaced by the tree
-    /// of the object that it names. An object that is named more than once appears as often in the
-    /// tree.
+    /// of the object that it names. An object that is reached more than once appears in the tree
+    /// each time.
     ///
     /// So the tree may be exponentially larger than the archive: thirty objects, each of which is
     /// an array that names the next one twice, make a tree of 2^30 leaves. To walk over an archive

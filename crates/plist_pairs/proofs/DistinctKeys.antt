@@ -1,4 +1,4 @@
--- Distinct keys stay distinct under inserts, and such pairs are their own last values.
+-- Distinct keys stay distinct under inserts. Pairs with distinct keys are their own last values.
 use Rattle.std.proofs.Common.{◌≡◌, ℕ, Bool, true, false, if◌then◌else◌, List, [], ◌∷◌, ◌++◌, length, map, refl, sym, ap, ◌∙◌, append_assoc, append-nil, subst, bytes_eq, suc, Some, take, drop, slice_get, drop-cons, take-suc, take-append-drop}
 use Rattle.std.specs.List.{IsDistinct, list_any}
 use Rattle.std.specs.Map.{keys_of}

@@ -11,7 +11,7 @@ use Rattle.indexmap.proofs.SetLemmas.{AllZip-push}
 use Rattle.plist_pairs.proofs.PairColumns.{get-map}
 
 module _ {X : Type 0} where
-  -- two items that aren't adjacent are swapped
+  -- two items are swapped, whatever is between them
   sets : (front : List X) (y : X) (gap : List X) (x : X) (todo : List X)
       → set (set (front ++ y ∷ (gap ++ x ∷ todo)) (length front)
       (get_or (front ++ y ∷ (gap ++ x ∷ todo)) (length (front ++ y ∷ gap)) x))

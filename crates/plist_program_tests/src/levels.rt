@@ -14,7 +14,7 @@ fn add_levels(rt: &impl Abort, all: &mut String, text: &str) {
     }
 }
 
-// Returns this many starts and their ends, between two texts.
+// Returns a start for each level and then an end for each level, between two texts.
 fn nested(rt: &(impl Abort + AllocGlobal), around: [&str; 2], parts: [&str; 2]) -> String {
     let mut all = must(rt, String::from_str(rt.alloc(), around[0]));
     add_levels(rt, &mut all, parts[0]);

@@ -11,7 +11,7 @@ use Rattle.plist_reader.specs.Reader.{AsciiGives, AsciiReaderOf, Gives, StateGiv
 use Rattle.plist_reader.proofs.AsciiItems.{ascii-gives}
 
 module _ {R : Type 0} {g : Ghosts R} (known : R → Option (List ℕ)) (failed : R → ℕ) where
-  -- what the reader of ASCII yields is what the reader yields
+  -- what the reader of ASCII yields is what the reader that chose it yields
   ascii_yields : (old new : Reader R g) (from to : AsciiReaderOf R) (item : PlainItem)
       → old.state ≡ state.Ascii from → new.state ≡ state.Ascii to
       → YieldsPlain (AsciiGives known failed) from item to
@@ -24,7 +24,7 @@ module _ {R : Type 0} {g : Ghosts R} (known : R → Option (List ℕ)) (failed :
     is,
   )
 
-  -- a turn of the reader of ASCII is one of the reader
+  -- a turn of the reader of ASCII is a turn of the reader that chose it
   pub ascii_turn : {V : Type 0} (step : V → PlainEvent → Flow → V → Type 0) (old new : Reader R g)
       (from to : AsciiReaderOf R) (v w : V) (turn : Option (Result Flow Error))
       → old.state ≡ state.Ascii from → new.state ≡ state.Ascii to

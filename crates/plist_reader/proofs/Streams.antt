@@ -34,7 +34,7 @@ read_front p n count xs part l room e =
 pub nothing_held : (from end : ℕ) (window : List ℕ) → end ≤ from → drop from (take end window) ≡ []
 nothing_held from end window h = drop_all from (take _ _) (rw length-take (omega arith))
 
--- a read leaves the bytes that remain unchanged
+-- a read doesn't change which bytes remain
 pub read_on : (k now : Option (List ℕ)) (p n count from end : ℕ) (window part : List ℕ) → now ≡ k
     → end ≤ from → n ≤ count → p + n ≤ 2 ^ 64 - 1 → IfSome k (λ bytes. GivesAt bytes p count part)
     → option_map (λ bytes. take n part ++ from_place (p + n) bytes) now

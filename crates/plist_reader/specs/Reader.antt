@@ -147,7 +147,7 @@ abbrev pub reader_is_limited : {R : Type 0} {g : Ghosts R} → Reader R g → Bo
 reader_is_limited reader = is_limited_in reader.state
 
 -- the first remaining item is yielded, or `None` if no item remains; `Io` is always possible, and
--- `OutOfMemory` if an item remains, and no item remains after them
+-- `OutOfMemory` if an item remains; after either of these two errors no item remains
 abbrev pub GivesItem : (before : List Item) → Option (Result Event Error) → (after : List Item)
     → Type 0
 GivesItem before item after =

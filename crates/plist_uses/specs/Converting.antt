@@ -11,7 +11,7 @@ use Rattle.plist.specs.ValueOfItems.{IsValueOf}
 use Rattle.plist.specs.SendingValues.{SendsValue}
 use Rattle.plist.specs.ValueTrees.{tree_of}
 
--- if the bytes of a source are known and a value is returned, their items are those of the value
+-- if the bytes of a source are known and a value is returned, it is the value of their items
 abbrev pub IsReadBy : (known : Option (List ℕ)) → Result Value Error → Type 0
 IsReadBy known answer = IfSome known (λ bytes. IfOk answer (λ value.
     IsValueOf (items_of_input bytes) (Ok (tree_of value))))

@@ -24,11 +24,12 @@ settings_in settings = pairs_of settings.pairs
 abbrev pub tree_in : Settings → Tree
 tree_in settings = Dictionary (pair_trees (settings_in settings))
 
--- if the bytes of a file are known, their items are those of this property list
+-- if the bytes of a file are known, this property list is the value of their items
 abbrev pub IsReadOf : (known : Option (List ℕ)) → Tree → Type 0
 IsReadOf known tree = IfSome known (λ bytes. IsValueOf (items_of_input bytes) (Ok tree))
 
--- the fault is `Io` or `OutOfMemory`, or the first one among the file's items
+-- if the bytes of a file are known, the fault is `Io` or `OutOfMemory`, or says why their items
+-- have no value
 abbrev pub IsFaultOfFile : (known : Option (List ℕ)) → Fault → Type 0
 IsFaultOfFile known fault = IfSome known (λ bytes. IsValueOf (items_of_input bytes) (Err fault))
 

@@ -5,7 +5,7 @@ use Rattle.std.specs.Result.{result_err}
 use Rattle.plist_base.specs.Date.{real_exponent, second_of_bits}
 use Rattle.plist_callers.proofs.dates.infinite_date.Goals as goal
 
--- a result that is an error has this one if no other error is possible
+-- a result that is an error is this error if no other one is possible
 one_error : {A E : Type 0} {error : E} (r : Result A E) → IsErr r → IfErr r (λ e. e ≡ error)
     → result_err r ≡ Some error
 one_error (Ok x) h is = absurd (false≢true h)

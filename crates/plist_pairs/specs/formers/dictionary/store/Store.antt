@@ -36,8 +36,8 @@ entry g = pair (const (List ℕ)) g
 abbrev pub the_former : Former {0} → Former {0}
 the_former g = list (entry g)
 
--- if each pair has the number of its value, the greatest number of a pair is the greatest number in
--- the list of the values
+-- if the number of a pair is that of its value, the greatest number of all pairs is the greatest
+-- number of all values
 pub most_values : {Y : Type 0} (f : Y → ℕ) (es : List (List ℕ × Y))
     → most (λ p. max 0 (f p.1)) es ≡ most f (values_of es)
 most_values f [] = refl
