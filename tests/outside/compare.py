@@ -155,7 +155,7 @@ PROGRAMS = {
     "plistlib": Program(
         lambda value, _: plistlib.dumps(value, fmt=plistlib.FMT_BINARY, sort_keys=False),
         lambda path: plistlib.loads(path.read_bytes(), fmt=plistlib.FMT_BINARY), True),
-    # It makes no Uid of XML.
+    # plistutil makes no Uid of XML.
     "plistutil": Program(
         lambda value, path: run("plistutil", "-f", "bin", "-i", xml_of(value, path, lambda v: v.data)),
         lambda path: from_xml(run("plistutil", "-f", "xml", "-i", path)), True),
@@ -229,7 +229,7 @@ def values_of(rng, scalars, trees):
 
 
 def files_of(names, folder, trees):
-    """Yields the writer and the path of each file, and which programs can read it."""
+    """Yields the writer and the bytes of each file, and which programs can read it."""
     rng, scalars = random.Random(1), []
     for readers, more in SCALARS:
         scalars += more

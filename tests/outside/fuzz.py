@@ -26,7 +26,7 @@ import second
 
 PROGRAM = pathlib.Path(__file__).resolve().parents[2] / "crates/plist_tool/out/plist_tool"
 MOST_ITEMS = 3000
-# the number of files that are run together, and the processor seconds of each
+# the number of files that are run together, and the most processor seconds of a run
 BATCH, SECONDS = 100, 60
 
 

@@ -98,7 +98,7 @@ def one_place(count):
 
 
 def one_place_each(count):
-    """Returns a file whose offsets are all of one object, with one reference to each number."""
+    """Returns a file whose root refers to each other number; all their offsets are equal."""
     return container([array(range(1, count)), b"\x10\5"], places=[8] + [8 + 6 + 4 * (count - 1)] * (count - 1))
 
 

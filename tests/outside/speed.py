@@ -307,7 +307,7 @@ def peak_of(pid, before):
 
 
 def measure(words):
-    """Returns processor seconds and peak memory in bytes, or None if it fails or takes too long.
+    """Returns the processor seconds and peak bytes of a run, or None if it fails or takes too long.
 
     The memory that the system reports for a child includes that of its parent, so it is read while
     the child runs, and is 0 if the child ended too early."""

@@ -41,7 +41,7 @@ pub to_char : (r : Option ℕ) (n : ℕ) → n < 512 → SomeIff r (IsScalar n) 
 to_char None n l h = absurd (h (low_scalar n (omega arith)))
 to_char (Some x) n l h = ap Some h.1
 
--- a fault is one that a string can have
+-- if the result is a fault, it is one that a string can have
 abbrev pub InText : {A : Type 0} → Result A FaultKind → Type 0
 InText (Ok a) = ⊤
 InText (Err kind) = IsTextFault kind

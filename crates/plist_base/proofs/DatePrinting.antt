@@ -1,5 +1,5 @@
--- What is printed for a second in UTC is parsed as that second, and which seconds are in the years
--- 0 to 9999.
+-- What is printed for a second in UTC is parsed as that second. A second is in the years 0 to 9999
+-- if its day is.
 use Rattle.std.proofs.Common.{◌≡◌, ℕ, ℤ, pos, ◌+ℤ◌, ◌*ℤ◌, ◌<ℤ◌, ◌≤ℤ◌, ◌<◌, inl, inr, refl, arith, ◌+◌, ◌*◌, ◌/◌, ◌%◌, ◌≤◌, true, false, List, [], ◌∷◌, ◌++◌, ◌-ℤ◌, Some, slice_index, sym, ap, subst, ◌∙◌}
 use Rattle.std.specs.Int.{int_div_euclid, IsInRange}
 use Rattle.jiff_core.specs.Calendar.{days_from_civil, IsEpochDay, days_in_month}

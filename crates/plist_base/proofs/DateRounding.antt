@@ -1,4 +1,5 @@
--- The second of a value is the greatest that isn't above it, and the one that a date's text spells.
+-- The second of a value is the greatest one that isn't above the value. The second of a date is the
+-- one that the date's text spells.
 use Rattle.std.proofs.Common.{◌≡◌, ℕ, zero, suc, ◌+◌, ◌*◌, ◌<◌, ◌≤◌, Bool, true, false, cond, eqb, ℤ, pos, negsuc, neg_ℤ, ◌<ℤ◌, ◌≤ℤ◌, Option, None, Some, List, slice_index, replicate, subst, refl, ap, sym, ◌∙◌, arith, ◌⊎◌, inl, inr, ◌+ℤ◌, ◌-ℤ◌, to_z, of_z, w64}
 use Rattle.std.specs.Prelude.{◌*ℤ◌, is_some, not}
 use Rattle.std.proofs.Math.Nat.{div-add-mod, mod-lt, one-le-pow, mul-le-mul_right}

@@ -150,7 +150,9 @@ impl Windows {
         }
     }
 
-    /// Returns the size of a window in bytes. Only a read of fewer bytes fills a window.
+    /// Returns the size of a window in bytes. With an allocator this is the size of a long one,
+    /// even if memory for long ones couldn't be allocated. Only a read of fewer bytes fills a
+    /// window.
     pub(crate) fn size(&self) -> usize {
         match &self.long {
             Some(_) => LONG_WINDOW,

@@ -41,7 +41,7 @@ pub struct References {
 impl References {
     ghost use Rattle.std.specs.Prelude.{◌≡◌, ◌-◌, ◌^◌};
 
-    /// Returns the location for no collection, with an offset that no object has.
+    /// Returns a location that belongs to no collection: no object has its offset.
     pub fn none() -> Self
         ensures { result.place ≡ 2 ^ 64 - 1 }
     {

@@ -1,4 +1,4 @@
--- The units of a string; and each form is read back as its object, whatever follows.
+-- The units of a string, and how each form is read back as its object, whatever follows.
 use Rattle.std.proofs.Common.{◌≡◌, inl, inr, ℕ, ◌+◌, ◌-◌, ◌/◌, ◌%◌, ◌≤◌, List, [], ◌++◌, length, flat_map, chars, encode_utf8, IsUtf8, ap, sym, ◌∙◌, arith, length-append, suc, ◌*◌, ◌^◌, ◌<◌, true, false, not, cond, ◌∷◌, map, Some, refl, is_some}
 use Rattle.std.specs.Char.Escape.{encode_utf16}
 use Rattle.std.specs.Char.{len_utf8}

@@ -132,8 +132,8 @@ impl EventBuffer {
     /// # Errors
     ///
     /// `Misplaced` if the event can't follow the buffered ones; nothing changes then. `OutOfMemory`
-    /// if an allocation fails, which is returned only for an event that can follow them; the
-    /// buffered events are unspecified then.
+    /// if the event can follow them, but an allocation fails; the buffered events are unspecified
+    /// then.
     #[inline(always)]
     pub fn try_push(&mut self, alloc: Global, event: Event<'_>) -> Result<(), PushError>
         requires still { is_whole self.old ≡ false }

@@ -277,7 +277,7 @@ impl<'e> EventTable<'e> {
     }
 
     /// Appends an event. If it is a scalar that is equal to a stored one, it is dropped, and only
-    /// its index is stored.
+    /// the index of the stored one is added.
     ///
     /// # Errors
     ///

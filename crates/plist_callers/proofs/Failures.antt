@@ -106,7 +106,7 @@ module _ {R : Type 0} {g : Ghosts R} (known : R → Option (List ℕ)) where
       never-in (source_in old.state) (source_in new.state) error
       (has-source old.state error new.state step) step.failures
 
-  -- so the value of such a source isn't refused with `Io`
+  -- so reading the value of such a source doesn't fail with `Io`
   pub never-collects-io : (reader : Reader R g) (fault : Fault)
       → Collects event_of (Gives known (λ _. 0)) reader (Err fault) → IsNotIo fault.kind
   never-collects-io reader fault collects =

@@ -27,8 +27,8 @@ PrintsUntil error items old new =
     ((first_fault items ≡ Some (fault_of error)) × Appends old new (lines_of items))
 
 -- What printing items does. If it succeeds, they have no fault, and all lines were written. Otherwise
--- the error is the first fault, and all lines before it were written. In any case a prefix of their
--- lines was written.
+-- the error is the first fault, and all lines before it were written; or the error is `Io` or
+-- `OutOfMemory`. In any case a prefix of their lines was written.
 pub record PrintsKnown (items : List Item) (answer : Result (Unit {0}) Error)
     (old new : Option (List ℕ)) : Type 0 where
   pub printed : OnOk answer (PrintsAll items old new)

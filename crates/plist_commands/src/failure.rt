@@ -15,7 +15,7 @@ pub enum Failure {
     Plist(Error),
     /// The property list isn't an archive, or the tree can't be made.
     Keyed(KeyedError),
-    /// The archive names no object by this key.
+    /// The archive names no object by the key that the command was given.
     NoSuchTop,
 }
 

@@ -1,4 +1,4 @@
--- Pairs whose values are replaced by their views.
+-- Pairs whose values are replaced by their views. The view of a value is what contracts see of it.
 use Rattle.std.specs.Prelude.{ℕ, List, map}
 
 -- the pairs, with each value replaced by its view

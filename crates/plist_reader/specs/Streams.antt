@@ -17,7 +17,7 @@ stream_place reader = reader.place
 abbrev pub held : {R : Type 0} → BufferedSource R → List ℕ
 held reader = drop reader.from (take reader.end reader.window)
 
--- all bytes that weren't consumed yet, if the source's bytes are known
+-- all bytes that haven't been consumed yet, if the source's bytes are known
 abbrev pub stream_bytes_left : {R : Type 0} → (R → Option (List ℕ)) → BufferedSource R
     → Option (List ℕ)
 stream_bytes_left known reader =

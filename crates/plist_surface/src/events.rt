@@ -8,7 +8,7 @@ use std::alloc::Global;
 use std::borrow::{CowSlice, CowStr};
 use std::io::Write;
 
-// Returns an event of the kind with this number, counted from 0.
+// Returns the event at this index, of an array in which all ten kinds of events occur.
 pub fn event_at(number: u8) -> Option<Event<'static>> {
     match number {
         0 => Some(Event::StartArray(Some(9))),

@@ -1,5 +1,5 @@
-//! Uses the public surface, item by item: each name by its path, each call with the types of its
-//! arguments and of its result, each struct by a literal, and each enum by a match over its
+//! Uses most of the public surface, item by item: each name by its path, each call with the types
+//! of its arguments and of its result, each struct by a literal, and each enum by a match over its
 //! variants. If a change would break a program that uses one of them, this crate doesn't compile.
 //!
 //! It prints what the calls return for worked examples of the formats.

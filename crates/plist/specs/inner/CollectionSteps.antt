@@ -78,7 +78,8 @@ LacksValue [] = ⊤
 LacksValue (run.Pairs pairs ∷ outer) = ⊥
 LacksValue (run.AfterKey pairs key ∷ outer) = ⊤
 
--- the innermost dictionary was removed, if no key is without a value, and these are its pairs
+-- the innermost dictionary was removed, and these are its pairs; or nothing changed, since none is
+-- open or a key has no value yet
 abbrev pub EndsInnermost : (old : List OpenDictionary) → Option Dictionary
     → (new : List OpenDictionary) → Type 0
 EndsInnermost old None new = (new ≡ old) × LacksValue old

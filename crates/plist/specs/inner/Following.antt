@@ -151,7 +151,7 @@ expect_around (InArray items) = Items
 expect_around (InDictionary pairs) = Pairs
 expect_around (AfterKey pairs key) = Pairs
 
--- what is expected after `expected_within`: if `expected_within` is the value of a key, the other
+-- what is expected after what `expected_within` returns: if that is the value of a key, the other
 -- pairs and then `round`, and otherwise `round` alone
 abbrev stack_within : OpenCollection → (round : Stack) → Stack
 stack_within (AfterKey pairs key) round = Pairs ∷ round

@@ -110,7 +110,8 @@ dictionaries_alike ms ns = (
       (λ k e. ((at_each (first_value k ms) (first_value k ns)).0 (f k)).1 e)),
 )
 
--- the first value that is found is one of the values
+-- `P` is true of the value that is found, if it is true of the first value, and of a later one that
+-- is found
 found_go : (b : Bool) (u : Tree) (o : Option Tree) (t : Tree) (P : Tree → Type 0)
     → cond b (Some u) o ≡ Some t → P u → (o ≡ Some t → P t) → P t
 found_go true u o t P e here later = rw (← same_Some u t e) here

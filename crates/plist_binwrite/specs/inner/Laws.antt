@@ -11,7 +11,8 @@ use Rattle.plist_binwrite.specs.declared.sharing.Sharing.{Ghosts as SharingGhost
 use Rattle.plist_binwrite.specs.declared.writer.FileWriter.{FileWriter}
 use Rattle.plist_binwrite.specs.FileWriter.{IsWriterStep, TakesEvent, Completes, Holds, open_events, failed_of}
 
--- a fact that depends on a fault's kind implies another one if each of its cases does
+-- a fact that depends on a fault's kind implies another one if each case of the first implies that
+-- of the other
 by_kind : (kind : FaultKind) (a b c d : Type 0) → (a → c) → (b → d) → MatchKind kind a b ⊥
     → MatchKind kind c d ⊥
 by_kind (UnexpectedEventType expected found) a b c d f g h = f h

@@ -1,4 +1,4 @@
-//! A runtime whose files are watched: which stage the written file has reached.
+//! A runtime whose files are watched, so that a test sees which stage the written file has reached.
 
 use plist_support::device_error;
 use std::alloc::Allocator;
