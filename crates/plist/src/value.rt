@@ -180,9 +180,9 @@ impl Value {
     /// Value::from_reader(alloc, Seeking::with_windows(alloc, file))
     /// ```
     ///
-    /// ASCII is read in the lax dialect, in which a bare string doesn't end at the end of a line.
-    /// In a file with one value per line, neither quoted nor followed by `;`, the ends of lines can
-    /// therefore become part of strings. [`Value::from_reader_with_dialect`] reads such files.
+    /// ASCII is read in the lax dialect, in which an LF doesn't end a bare string. In a file with
+    /// one value per line, neither quoted nor followed by `;`, the ends of lines can therefore
+    /// become part of strings. [`Value::from_reader_with_dialect`] reads such files.
     ///
     /// # Errors
     ///

@@ -21,7 +21,7 @@ pub struct BorrowedText<'a> {
 }
 
 // Returns the length of the bare string with which these bytes begin. Returns `None` if they begin
-// with anything else, or if the string may continue after the last byte.
+// with a slash or with anything else, or if the string may continue after the last byte.
 #[inline(always)]
 fn bare_length(stop: Stop, bytes: &[u8]) -> Option<usize>
     ensures within { IfSome result (λ n. n ≤ length bytes.now) }
@@ -58,8 +58,8 @@ fn quoted_length(bytes: &[u8]) -> Option<usize>
     Some(count)
 }
 
-// Returns the bare string with which these bytes begin, unless it may continue after the last byte
-// or spells an integer.
+// Returns the bare string with which these bytes begin, unless it begins with a slash, may continue
+// after the last byte, or spells an integer.
 #[inline(always)]
 fn bare_front(stop: Stop, bytes: &[u8]) -> Option<BorrowedText<'_>>
     ensures text { IfSome result (λ lent. BeginWithText (stops stop) bytes.now lent.count
@@ -113,9 +113,9 @@ fn front_text(stop: Stop, bytes: &[u8]) -> Option<BorrowedText<'_>>
 }
 
 impl<R: ByteReader> Input<R> {
-    /// Returns the string that is next after blanks, if it is a bare string that spells no integer,
-    /// or a quoted string without escapes, and if all of it and the byte that ends it are at hand.
-    /// Nothing is read or taken.
+    /// Returns the string that is next after blanks, if it is a quoted string without escapes, or a
+    /// bare string that spells no integer and doesn't begin with a slash, and if all of it and the
+    /// byte that ends it are at hand. Nothing is read or taken.
     #[inline(always)]
     pub fn lent_text(&self, stop: Stop) -> Option<BorrowedText<'_>>
         ensures text { IfSome result (λ lent. IsAhead R.remaining stop self.now lent.count

@@ -177,9 +177,10 @@ impl<R: ByteReader + Drop> AsciiReader<R> {
     }
 
     /// Hands the next event to a visitor, and returns what the visitor returns, or `None` if no
-    /// event remains. A bare string that spells no integer, or a quoted string without escapes, is
-    /// borrowed from the buffer of the inner reader if that has all of the string and the byte that
-    /// ends it. Any other string is handed over as an owned one.
+    /// event remains. A quoted string without escapes, or a bare string that spells no integer and
+    /// doesn't begin with a slash, is borrowed from the buffer of the inner reader if that has all
+    /// of the string and the byte that ends it, and if no comment lies between the previous event
+    /// and the string. Any other string is handed over as an owned one.
     ///
     /// # Errors
     ///

@@ -36,7 +36,8 @@ impl ContentKind {
     }
 }
 
-/// Describes the content of a string or data, which hasn't been read yet.
+/// Describes the content of a string or data: how it is encoded, where it begins, and how long it
+/// is.
 #[derive(Clone, Copy)]
 pub struct Content {
     /// How the content is encoded.
@@ -90,8 +91,7 @@ pub enum Decoded {
     Small(PackedKind, u64),
     /// The eight bytes of a date. The date may be out of range.
     Date(u64),
-    /// A string or data that can't be cached. Only its length was read, and the fields are those of
-    /// [`Content`].
+    /// A string or data that can't be cached. The fields are those of [`Content`].
     Long(ContentKind, u8, u64),
     /// An array of this many items.
     Array(u64),

@@ -76,8 +76,8 @@ pub fn decode_signed(rest: &[u8], to_trailer: u64) -> Decoded
     }
 }
 
-/// Decodes an integer of sixteen bytes. The first eight bytes have to be zero, because a larger
-/// integer doesn't fit into a `u64`.
+/// Decodes an integer of sixteen bytes. The first eight bytes have to be zero, because no other
+/// integer fits into a `u64`.
 pub fn decode_wide_integer(rest: &[u8], to_trailer: u64) -> Decoded
     requires { ShowsContent to_trailer rest.now }
     ensures { DecodesFixed to_trailer 16 wide_integer rest.now result }

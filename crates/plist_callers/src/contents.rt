@@ -174,8 +174,8 @@ pub fn lent_again(number: &u64) -> Option<u64>
     Value::from(number).as_unsigned_integer()
 }
 
-/// Returns whether the string that is borrowed from a value has as many bytes as this one, which is
-/// always true.
+/// Converts a string to a value. Returns whether the string that is borrowed from the value has as
+/// many bytes as the converted one, which is always true.
 pub fn lends_its_text(text: String) -> bool
     ensures { result ≡ true }
 {

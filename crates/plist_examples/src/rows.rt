@@ -1,7 +1,8 @@
 //! The rows of a table: a check, the name of the example, the input and the expected output,
 //! separated by ` | `. If there is no name, the input is the name.
 //!
-//! `%0a` stands for the byte 0A, in texts and in the expected output.
+//! `%0a` stands for the byte 0A in texts and, for the checks of the modules `reading` and
+//! `scalars`, in the expected output.
 
 use percent_encoding::percent_decode;
 use plist_base::Limits;

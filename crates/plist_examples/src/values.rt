@@ -108,7 +108,7 @@ fn expect_equal(alloc: Global, row: Row<'_>, equal: bool) -> Result<(), Wrong> {
     expect_that(alloc, (first == second) == equal, row.check)
 }
 
-// Returns which of the accessors return something, by the kind of each.
+// Returns for each accessor whether it returns something, and the word that names it in a row.
 fn kinds_of(value: &Value) -> [(bool, &'static str); 10] {
     [
         (value.as_array().is_some(), "array"),

@@ -209,9 +209,9 @@ fn expect_sent<S: Sharing>(
     Ok(())
 }
 
-// Returns whether the test makes this call fail. For a file of 200 bytes or more, only three calls
-// fail: the one that writes the last byte, and those that write the bytes at offsets 65,535 and
-// 65,537, around the end of the first full buffer.
+// Returns whether the test makes this write fail. For a file of 200 bytes or more, at most three
+// writes fail: that of the last byte, and those of the bytes at offsets 65,535 and 65,537, around
+// the end of the first full buffer.
 fn is_tried(call: u64, size: usize) -> bool {
     size < 200 || call.saturating_add(1) == size as u64 || call == 65_535 || call == 65_537
 }

@@ -81,14 +81,15 @@ const PLAIN: [Way; 3] = [Way::Events, Way::Handed, Way::Whole];
 
 const SHARED: [Way; 2] = [Way::Events, Way::Handed];
 
-// Checks that events that aren't a value's are written as this file and read back, also on devices.
+// Checks that events that aren't a value's are written as this file, also to devices, and that they
+// are read back.
 fn expect_repeating(alloc: Global, words: &str, bytes: &[u8]) -> Result<(), Wrong> {
     expect_events(alloc, words, bytes)?;
     expect_sent::<EqualScalars>(alloc, words, bytes, INTERRUPTED, &[Way::Events])
 }
 
-// Checks that the events and their value are written as this file, and that both are read back,
-// also on devices.
+// Checks that the events and their value are written as this file, also to devices, and that both
+// are read back.
 fn expect_file(alloc: Global, words: &str, bytes: &[u8]) -> Result<(), Wrong> {
     expect_events(alloc, words, bytes)?;
     expect_value_read(alloc, bytes, words)?;

@@ -138,8 +138,8 @@ impl<'a> Check<'a> {
         }
     }
 
-    // Returns the Uid at which the chain that begins with this one ends. All other Uids of the
-    // chain are settled.
+    // Returns the end of the chain that begins with this Uid. All other Uids of the chain are
+    // settled.
     fn end_of(&self, uid: u64) -> u64
         requires { LeadsOnlyTo (objects_checked self.now) uid (settled_uids self.now) }
         ensures { HasEnd self.now uid result }

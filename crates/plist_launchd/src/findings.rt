@@ -8,7 +8,7 @@ use std::fmt;
 /// An error or a warning.
 #[derive(Debug, Drop)]
 pub enum Finding<'a> {
-    /// A key that every job needs is missing.
+    /// Something that every job needs is missing: a key, one of two keys, or the first argument.
     Missing(&'static str),
     /// A value has the wrong type.
     WrongType {
@@ -168,8 +168,8 @@ fn check_program<'a>(job: &'a Dictionary, to: &mut Findings<'a>) -> Result<(), E
     Ok(())
 }
 
-/// Checks a job, and returns the findings: first those about missing keys, and then those about its
-/// keys, in the order of the keys.
+/// Checks a job, and returns the findings: first those about what every job needs, and then those
+/// about its keys, in the order of the keys.
 ///
 /// # Errors
 ///

@@ -43,7 +43,7 @@ struct Calls {
 }
 
 impl Calls {
-    // Adds a call of this name, and whether memory ran out for it.
+    // Adds the call of this name if memory ran out for it.
     fn add(&mut self, rt: &impl Abort, name: &str, has_run_out: bool) {
         if has_run_out {
             must(rt, self.names.push_str(name));
@@ -187,7 +187,7 @@ impl Calls {
         );
     }
 
-    // Adds the calls of an archive of `$null` and an array.
+    // Adds `tree` of an archive of `$null` and an array if memory ran out for it.
     fn add_archive(&mut self, rt: &impl Abort) {
         let text = b"{ '$objects' = ( '$null', () ); '$top' = { }; }".as_slice();
         let root = must(rt, Value::from_reader_ascii(self.alloc, text));

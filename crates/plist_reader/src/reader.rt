@@ -137,7 +137,7 @@ impl<R: Source> Reader<R> {
     ghost use Rattle.plist_reader.specs.Reader.{FirstAdvances, GivesFirst, IsNewReader, IsUnread, reader_is_limited, items_of_dialect, items_of_input, limited_input, reader_items, reader_source};
 
     /// Creates a reader over a source. Nothing is read before the first item is requested. ASCII is
-    /// read in the lax dialect, in which a bare string doesn't end at the end of a line.
+    /// read in the lax dialect, in which an LF doesn't end a bare string.
     pub fn new(alloc: Global, source: R) -> Self
         ensures items { reader_items R.known result ≡ option_map items_of_input (R.known source) }
         ensures source { reader_source result ≡ Some source }

@@ -1,6 +1,7 @@
 //! A settings tool. It executes its arguments in turn: `open=FILE`, `list`, `get=PATH`,
-//! `set=PATH=TEXT`, `delete=PATH` and `save=FILE`. A path consists of keys, separated by dots. The
-//! program is the port of `examples/settings.rs`, which uses the Rust crate `plist`.
+//! `set=PATH=TEXT`, `delete=PATH`, `save=FILE`, and `idioms=FILE`, which runs the idioms that a
+//! file lists. A path consists of keys, separated by dots. Apart from the idioms, the program is
+//! the port of `examples/settings.rs`, which uses the Rust crate `plist`.
 #![tactic(auto)]
 
 mod idioms;

@@ -29,7 +29,7 @@ pub fn device_error(kind: ErrorKind) -> io::Error {
     io::Error::new(kind, DEVICE_MESSAGE)
 }
 
-/// The kinds of errors of a device in the examples. Each of them must end a reader.
+/// The kinds of errors of a device in tests of readers. Each of them must end a reader.
 pub const READ_FAILURES: [ErrorKind; 4] = [
     ErrorKind::Interrupted,
     ErrorKind::TimedOut,

@@ -27,7 +27,7 @@ fn number_of(alloc: Global, digits: &str) -> Result<u64, Wrong> {
     }
 }
 
-// Returns the length after a bracket, or `None` if no digit follows it.
+// Returns the length after a bracket, or `None` if nothing follows it.
 fn length_of(alloc: Global, digits: &str) -> Result<Option<u64>, Wrong> {
     if digits.is_empty() {
         return Ok(None);

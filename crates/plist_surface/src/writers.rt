@@ -11,7 +11,7 @@ use std::io::Write;
 
 pub fn is_sealed<T: Sealed>(_writer: &T) {}
 
-// Writes an array of a value of each kind, by the ten methods.
+// Writes an array of a value of each other kind, by the ten methods.
 pub fn write_each<W: Writer>(writer: &mut W, date: Date) -> Result<(), Error> {
     is_sealed(writer);
     writer.write_start_array(Some(8))?;
@@ -27,7 +27,7 @@ pub fn write_each<W: Writer>(writer: &mut W, date: Date) -> Result<(), Error> {
     writer.write_end_collection()
 }
 
-// Writes an array of a value of each kind, each event by `write`.
+// Writes an array in which all ten kinds of events occur, each event by `write`.
 pub fn write_events<W: Writer>(writer: &mut W) -> Result<(), Error> {
     for number in 0..=10_u8 {
         if let Some(event) = event_at(number) {

@@ -144,9 +144,9 @@ const OF_ONE: [u32; 4] = [0, 32_768, 65_536, 98_304];
 // Four parts of the last slot, even if there are twice as many slots.
 const OF_LAST: [u32; 4] = [57_344, 122_880, 188_416, 253_952];
 
-// The number of windows doubles when a window is filled again for the ninth time, after which the
-// four parts have two slots. The parts of the last slot have two slots only when the number doubles
-// once more, at the seventeenth such fill after that.
+// The number of windows doubles at the ninth fill with a part of the file that was read before.
+// After that the four parts have two slots. The parts of the last slot have two slots only when the
+// number doubles once more, at the seventeenth such fill after the first doubling.
 #[test]
 fn windows_grow(rt: HostRuntime) {
     assert_eq!(rt; calls_of_rounds(&rt, true, OF_ONE, 3), 24);

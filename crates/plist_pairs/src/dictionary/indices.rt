@@ -1,4 +1,4 @@
-//! Access to pairs by index, for calls that look up a key only once.
+//! Access to pairs by index, so that a caller has to look up a key only once.
 
 ghost use Rattle.std.specs.Prelude.{◌≡◌, ◌<◌, ◌++◌, ◌∷◌, Some, MatchOption, slice_get, swap, take, [], length, string_bytes, OnOk, IfErr, OnErr};
 ghost use Rattle.std.specs.Str.{bytes_eq};
