@@ -20,8 +20,8 @@ pub struct BorrowedText<'a> {
     pub text: &'a str,
 }
 
-// Returns the length of the bare string with which these bytes begin. Returns `None` if they begin
-// with a slash or with anything else, or if the string may continue after the last byte.
+// Returns the length of the bare string with which these bytes begin. Returns `None` if there is
+// none, if its first byte is a slash, or if it may continue after the last byte.
 #[inline(always)]
 fn bare_length(stop: Stop, bytes: &[u8]) -> Option<usize>
     ensures within { IfSome result (λ n. n ≤ length bytes.now) }

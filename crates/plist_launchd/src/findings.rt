@@ -169,7 +169,7 @@ fn check_program<'a>(job: &'a Dictionary, to: &mut Findings<'a>) -> Result<(), E
 }
 
 /// Checks a job, and returns the findings: first those about what every job needs, and then those
-/// about its keys, in the order of the keys.
+/// about its keys, in the order in which the job has them.
 ///
 /// # Errors
 ///

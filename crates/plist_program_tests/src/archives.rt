@@ -154,7 +154,8 @@ fn a_long_chain_visited_often(rt: HostRuntime) {
     assert_eq!(rt; count_texts(&rt, &tree), 20_000);
 }
 
-// The last Uid names one in the middle of the chain, which is the first that is reached again.
+// The last Uid names one in the middle of the chain. The error names the first Uid that is reached
+// again.
 #[test]
 fn a_long_chain_that_ends_in_a_circle(rt: HostRuntime) {
     let root = visited_chain(&rt, 20_000, 20_000, 10_000);

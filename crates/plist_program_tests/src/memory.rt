@@ -187,7 +187,7 @@ impl Calls {
         );
     }
 
-    // Adds `tree` of an archive of `$null` and an array if memory ran out for it.
+    // Makes the tree of an array in an archive, and adds the call if memory ran out for it.
     fn add_archive(&mut self, rt: &impl Abort) {
         let text = b"{ '$objects' = ( '$null', () ); '$top' = { }; }".as_slice();
         let root = must(rt, Value::from_reader_ascii(self.alloc, text));

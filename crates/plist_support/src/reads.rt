@@ -37,7 +37,7 @@ struct Reading<'a> {
     bytes: &'a [u8],
 }
 
-// Each example has fewer items than this.
+// Each example that is read from failing devices has fewer items than this.
 const MAX_ITEMS: usize = 100;
 
 /// Returns the words of the items of a source, up to this many.

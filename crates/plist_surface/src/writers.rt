@@ -11,7 +11,7 @@ use std::io::Write;
 
 pub fn is_sealed<T: Sealed>(_writer: &T) {}
 
-// Writes an array of a value of each other kind, by the ten methods.
+// Writes an array that contains a value of each of the other eight kinds, by the ten methods.
 pub fn write_each<W: Writer>(writer: &mut W, date: Date) -> Result<(), Error> {
     is_sealed(writer);
     writer.write_start_array(Some(8))?;

@@ -47,9 +47,9 @@ const KINDS: [ErrorKind; 7] = [
     ErrorKind::Other,
 ];
 
-// The size takes one seek. Filling a window takes a seek and a read, and so do a read of the bytes
-// past it, and a read of more bytes than a window has. A failure of any of these is passed on, and
-// nothing is tried again.
+// The size takes one seek. Filling a window takes a seek and a read. So does reading bytes that it
+// lacks after a short read, and so does reading more bytes than a window has. A failure of any of
+// these is passed on, and nothing is tried again.
 #[test]
 fn tries_nothing_twice(rt: HostRuntime) {
     for kind in KINDS {
