@@ -168,7 +168,7 @@ module _ {R : Type 0} {g : Ghosts R} (known : R → Option (List ℕ)) (failed :
       (λ old item new gives all. tt) (λ old error new gives all. limit-tells old error new gives)
       limited answer tt collects
 
-  -- the same is true of a reader under limits and within a budget of bytes
+  -- a reader under limits and within a budget of bytes fails only with such a fault, too
   pub budgeted-tells : (budgeted : LimitedItems (LimitedItems (Reader R g) LimitCounter) ByteBudget)
       (answer : Result Value Error)
       → Collects event_of (GivesWithinBudget (GivesLimited (Gives known failed))) budgeted

@@ -155,7 +155,8 @@ pub fn enter<S: Source, C: DecodeCounter, V: EventVisitor>(
     // Result.
     ensures handed { Hands V.step visitor.old visitor.new result (λ event.
         IfSome (S.known source.old) (λ bytes.
-        YieldsResult (remaining_entering bytes decoder.old.bounds walk.old reference.at reference.number)
+        YieldsResult
+        (remaining_entering bytes decoder.old.bounds walk.old reference.at reference.number)
         (result_in result decoder.new.slot) event (remaining_in bytes decoder.old.bounds walk.new))
         × CachesEntered (S.known source.old) reference.number (result_in result decoder.new.slot)
         event walk.new) }

@@ -54,7 +54,8 @@ pub fn read_object<S: Source, C: DecodeCounter>(
         RefusesObjectAt (S.known source.old) decoder.old.bounds place decoder.new.slot.fault) }
     ensures fault { ErrWithin place decoder.old.bounds.trailer (result_in result decoder.new.slot) }
     // State afterwards.
-    ensures counted { CountsSmallRead C.counts C.count decoder.old.counter decoder.new.counter result }
+    ensures counted { CountsSmallRead C.counts C.count decoder.old.counter decoder.new.counter
+        result }
     ensures bounds { decoder.new.bounds ≡ decoder.old.bounds }
     ensures unchanged { S.known source.new ≡ S.known source.old }
     ensures failures { SlotCountsIo S.failures result decoder.new.slot source.old source.new }

@@ -25,7 +25,8 @@ use std::io::Write;
 ///
 /// The first fault, or `OutOfMemory` if an allocation fails.
 pub fn print_bytes(alloc: Global, bytes: &[u8], out: &mut Vec<u8>) -> Result<(), Error>
-    ensures { PrintsKnown (items_of_file bytes.now) result (Some out.old.items) (Some out.new.items) }
+    ensures { PrintsKnown (items_of_file bytes.now) result (Some out.old.items)
+        (Some out.new.items) }
 {
     print_events(alloc, bytes, out)
 }
