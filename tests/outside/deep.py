@@ -36,7 +36,7 @@ ROOM = 2 << 30
 def program(folder):
     """Proves and builds the program in a repository of its own, and returns its path."""
     every = (CRATES.parent / "crates.txt").read_text().splitlines()
-    above = ("plist_callers", "plist_uses", "plist_commands", "plist_tool", "plist_vectors",
+    above = ("plist_callers", "plist_uses", "plist_print", "plist_commands", "plist_tool", "plist_vectors",
              "plist_examples", "plist_program_tests", "#")
     lines = [line for line in every if line.strip() and not line.startswith(above)]
     root = folder / "repository"

@@ -128,33 +128,71 @@ def level(below, name):
     return 1 + max((level(below, it) for it in below[name]), default=-1)
 
 
+def paths(below):
+    """Returns a path for each direct use, from the user down to the crate that it uses.
+
+    A path has an item for each row that it crosses. An item between the two crates is a pair of them
+    and the row: lines leave room for it, so that no line is drawn behind a box.
+    """
+    found = []
+    for name in below:
+        for it in direct(below, name):
+            between = [(name, it, row) for row in range(level(below, name) - 1, level(below, it), -1)]
+            found.append([name, *between, it])
+    return found
+
+
+def arranged(below):
+    """Returns the rows of the picture from the top, each with its items from left to right."""
+    rows = [[] for _ in range(1 + max(level(below, name) for name in below))]
+    above = {}
+    for path in paths(below):
+        for upper, lower in zip(path, path[1:]):
+            above.setdefault(lower, []).append(upper)
+    for name in below:
+        rows[level(below, name)].append(name)
+    for path in paths(below):
+        for it in path[1:-1]:
+            rows[it[2]].append(it)
+    centre = {}
+    for row in reversed(rows):
+        row.sort(key=lambda it: (sum(centre[up] for up in above.get(it, ())) / max(1, len(above.get(it, ()))), str(it)))
+        for i, it in enumerate(row):
+            centre[it] = (i + 0.5) / len(row)
+    return rows[::-1]
+
+
 def crates_picture():
     source, below = crates()
-    levels = {}
-    for name in below:
-        levels.setdefault(level(below, name), []).append(name)
+    rows = arranged(below)
     program = reached(below, "plist_tool")
-    wide, high, box, tall = 175, 78, 150, 34
-    most = max(map(len, levels.values()))
-    width, height = most * wide + 20, len(levels) * high + 30
+    wide, gap, high, box, tall = 175, 40, 78, 150, 34
+    sizes = [[wide if isinstance(it, str) else gap for it in row] for row in rows]
+    width, height = max(map(sum, sizes)) + 20, len(rows) * high + 30
     place = {}
-    for depth, names in levels.items():
-        start = (width - len(names) * wide) / 2
-        for i, name in enumerate(sorted(names, key=lambda it: (it not in program, it))):
-            place[name] = (start + i * wide + (wide - box) / 2, height - 20 - (depth + 1) * high + (high - tall))
+    for depth, (row, size) in enumerate(zip(rows, sizes)):
+        x = (width - sum(size)) / 2
+        for it, its in zip(row, size):
+            place[it] = (x + its / 2, 10 + depth * high + (high - tall))
+            x += its
     body, described = [], []
+    for path in paths(below):
+        style = "main" if {path[0], path[-1]} <= program else "edge"
+        line = []
+        for upper, lower in zip(path, path[1:]):
+            (x, y), (u, v) = place[upper], place[lower]
+            if isinstance(upper, str):
+                line.append(f"M {x} {y + tall}")
+            line.append(f"C {x} {y + tall + 22}, {u} {v - 22}, {u} {v}")
+            if not isinstance(lower, str):
+                line.append(f"L {u} {v + tall}")
+        body.append(f'<path class="{style}" d="{" ".join(line)}"/>')
     for name in below:
-        x, y = place[name]
-        for it in direct(below, name):
-            u, v = place[it]
-            style = "main" if {name, it} <= program else "edge"
-            body.append(f'<path class="{style}" d="M {x + box / 2} {y + tall} C {x + box / 2} {y + tall + 22}, '
-                        f'{u + box / 2} {v - 22}, {u + box / 2} {v}"/>')
         described.append(f"{name} uses {', '.join(below[name]) or 'the kit alone'}")
-    for name, (x, y) in place.items():
+        x, y = place[name]
         style = "path" if name in program else "box"
-        body.append(f'<rect class="{style}" x="{x}" y="{y}" width="{box}" height="{tall}" rx="6"/>'
-                    f'<text x="{x + box / 2}" y="{y + 22}" text-anchor="middle">{name}</text>')
+        body.append(f'<rect class="{style}" x="{x - box / 2}" y="{y}" width="{box}" height="{tall}" rx="6"/>'
+                    f'<text x="{x}" y="{y + 22}" text-anchor="middle">{name}</text>')
     return picture(width, height, "The crates, and which others each uses", "; ".join(described), source, body)
 
 

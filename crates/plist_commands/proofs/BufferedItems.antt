@@ -25,7 +25,7 @@ use Rattle.plist.proofs.ForeseenItems.{all-events, event-more, no-events, stops-
 use Rattle.plist.proofs.KeysOnce.{keys-once}
 use Rattle.plist_keyed.proofs.WalkValues.{same_of}
 use Rattle.plist_commands.specs.Converting.{HoldsTree, AreNoTree, BytesHaveKeysOnce, SendsRead, items_of_known}
-use Rattle.plist_commands.specs.Items.{ComesIfKnown, GivesNext}
+use Rattle.plist_print.proofs.SourceItems.{ComesIfKnown, GivesNext}
 
 -- the items are some events, which are equal to the buffered ones up to lengths, and then those
 -- that remain

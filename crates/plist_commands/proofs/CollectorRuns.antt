@@ -18,18 +18,19 @@ use Rattle.plist.specs.ValueOfItems.{IsReadIfKnown}
 use Rattle.plist_base.specs.declared.source.Source.{Ghosts}
 use Rattle.plist_binread.specs.BinaryReader.{binary_source}
 use Rattle.plist_reader.specs.Reader.{BinaryReaderOf}
-use Rattle.plist_commands.specs.Converting.{CollectsItems, items_left}
+use Rattle.plist_commands.specs.Converting.{CollectsItems}
+use Rattle.plist_print.specs.Printing.{items_left}
 use Rattle.plist_commands.specs.declared.collector.Collector.{Collector}
 use Rattle.plist_commands.specs.declared.collector.StopReason.{StopReason}
 use Rattle.plist_commands.specs.declared.collector.StopReason.TheVariants.{Failed, Misplaced, Paused}
 use Rattle.plist_commands.specs.CollectorSteps.{AnswersVisit, HasPaused, HoldsMore, IsEmpty, MatchStop, MayPause, CollectsEvent, collected, is_complete}
-use Rattle.plist_commands.specs.Items.{ComesIfKnown}
-use Rattle.plist_commands.specs.Printing.{CountsReads}
+use Rattle.plist_print.proofs.SourceItems.{ComesIfKnown}
+use Rattle.plist_print.specs.Printing.{CountsReads}
 use Rattle.plist_binread.specs.ReaderSteps.{Steps}
-use Rattle.plist_commands.specs.ReaderRuns.{BuffersRun}
-use Rattle.plist_commands.proofs.SourceItems.{binary_comes}
-use Rattle.plist_commands.proofs.PendingBytes.{fault_counts, memory_own, own_counts}
-use Rattle.plist_commands.proofs.Runs.{HasHeld, held_faulted, held_more, held_none, held_refused, held_stopped, held_whole}
+use Rattle.plist_commands.specs.BufferRuns.{BuffersRun}
+use Rattle.plist_print.proofs.SourceItems.{binary_comes}
+use Rattle.plist_print.proofs.PendingBytes.{fault_counts, memory_own, own_counts}
+use Rattle.plist_commands.proofs.BufferedRuns.{HasHeld, held_faulted, held_more, held_none, held_refused, held_stopped, held_whole}
 use Rattle.plist_commands.proofs.BufferedItems.{HasTaken, came_next, goes_on, held_at_end, taken_none, tells_next, tells_none, took_event, took_fault, whole_at_end}
 
 -- `OutOfMemory` is possible for any items

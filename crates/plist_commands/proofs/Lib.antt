@@ -1,12 +1,6 @@
-pub mod Blocks
-pub mod SourceItems
+pub mod ReaderItems
 pub mod CollectorRuns
-pub mod PendingBytes
-pub mod LineParts
-pub mod PlainBytes
-pub mod Runs
-pub mod ScalarLines
-pub mod Printers
+pub mod BufferedRuns
 pub mod BufferedItems
 pub mod Trees
 pub mod ErrorMessages

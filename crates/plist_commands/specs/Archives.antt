@@ -10,7 +10,7 @@ use Rattle.plist.specs.ValueTrees.{tree_of}
 use Rattle.plist_keyed.specs.Archives.{ArchiveFault, resolved_tree}
 use Rattle.plist_keyed.specs.Contents.{IsArchive, IsArchiveOf, IsUidAt}
 use Rattle.plist_keyed.specs.Errors.{MatchError}
-use Rattle.plist_commands.specs.EscapedLines.{lines_of_events}
+use Rattle.plist_print.specs.EscapedLines.{lines_of_events}
 use Rattle.plist_commands.specs.Failures.{PlainFailure, OfPlist, OfArchive, NoSuchTop}
 
 -- the property list is an archive, in which the key names an object with this tree, or this fault

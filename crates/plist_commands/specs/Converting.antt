@@ -3,14 +3,10 @@ use Rattle.std.specs.Prelude.{◌≡◌, ◌⊎◌, ℕ, Bool, true, List, false
 use Rattle.std.specs.Option.{option_map}
 use Rattle.plist_base.specs.Bracketing.{bracketing, AreAlike, AreTreeEvents}
 use Rattle.plist_base.specs.declared.error.Error.{Error}
-use Rattle.plist_base.specs.declared.source.Source.{Ghosts}
 use Rattle.plist_base.specs.Events.{PlainEvent, Item}
 use Rattle.plist_base.specs.Faults.{Fault, fault_of}
 use Rattle.plist_base.specs.Trees.{Tree}
 use Rattle.plist_base.specs.Writing.{Answer}
-use Rattle.plist_binread.specs.BinaryReader.{binary_source, items_to_come}
-use Rattle.plist_binread.specs.declared.counter.DecodeCounter.{Ghosts as CounterGhosts}
-use Rattle.plist_binread.specs.declared.reader.BinaryReader.{BinaryReader}
 use Rattle.plist_binwrite.specs.Files.{IsFileOf}
 use Rattle.plist_commands.specs.declared.convert.Streamed.{Streamed}
 use Rattle.plist_commands.specs.declared.convert.Streamed.TheVariants.{NeedsValue, Sent}
@@ -70,12 +66,6 @@ pub record Converts {W : Type 0} (contents : W → Option (List ℕ)) (known : O
   pub refused : IfErr answer (λ error. IsStopped contents known (fault_of error) old new)
 
 -- ---- the buffered events of a reader
-
--- the items that a reader hasn't yielded yet, if the bytes of its source are known
-abbrev pub items_left : {S C : Type 0} {g : Ghosts S} {h : CounterGhosts C}
-    → (known : S → Option (List ℕ)) → BinaryReader S C g h → Option (List Item)
-items_left known reader = option_map (λ bytes. items_to_come bytes reader) (known
-    (binary_source reader))
 
 -- the buffered events are those of a tree, and known items are those of the same tree
 abbrev pub HoldsTree : (items : Option (List Item)) → (held : List PlainEvent) → Type 0

@@ -1,9 +1,5 @@
-pub mod EscapedLines
-pub mod Examples
-pub mod Printing
-pub mod Printers
-pub mod ReaderRuns
-pub mod Items
+pub mod PrintedValues
+pub mod BufferRuns
 pub mod Messages
 pub mod Commands
 pub mod Failures

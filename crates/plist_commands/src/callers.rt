@@ -5,17 +5,17 @@ ghost use Rattle.std.specs.Prelude.{◌≡◌, ◌++◌, Bool, Err, IfSome, Ok, 
 ghost use Rattle.plist_commands.specs.Commands.{Answered};
 ghost use Rattle.plist_commands.specs.Failures.{PlainFailure, plain_failure_of, failure_text};
 ghost use Rattle.plist_commands.specs.Converting.{IfOkIs, LeavesToValue, SendsBytes};
-ghost use Rattle.plist_commands.specs.Messages.{Fault, Usage};
-ghost use Rattle.plist_commands.specs.Printing.{PrintsKnown};
+ghost use Rattle.plist_print.specs.Printing.{PrintsKnown};
 ghost use Rattle.plist_commands.specs.declared.convert.Streamed.TheVariants.{NeedsValue, Sent};
 ghost use Rattle.plist_format.specs.Unfolding.{items_of_file};
+ghost use Rattle.plist_commands.specs.Messages.{Fault, Usage};
 
 use crate::commands::{Commands, run_words};
 use crate::convert::{Streamed, convert_binary};
 use crate::failure::Failure;
 use crate::messages::{Message, Messages};
-use crate::print::print_events;
 use plist_base::Error;
+use plist_print::print_events;
 use std::alloc::Global;
 use std::io::Write;
 

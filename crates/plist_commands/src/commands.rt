@@ -2,16 +2,16 @@
 
 ghost use Rattle.std.specs.Prelude.{◌≡◌, ℕ, ◌↔◌, List, Option, Bool, map, string_bytes, IfSome, IsNone};
 ghost use Rattle.plist_commands.specs.Failures.{CommandOutcome};
-ghost use Rattle.plist_commands.specs.Messages.{Usage};
 ghost use Rattle.plist_commands.specs.Commands.{PlainCommand, plain_command_of, words_for, IsNoCommand, MayEnd, RunEnds, Performs};
+ghost use Rattle.plist_commands.specs.Messages.{Usage};
 
 use crate::convert::convert_file;
 use crate::failure::Failure;
 use crate::keyed::keyed_file;
 use crate::messages::{Message, Messages};
 use crate::open::open_source;
-use crate::print::print_events;
 use plist_base::Error;
+use plist_print::print_events;
 use std::alloc::Global;
 use std::io::Write;
 use std::rt::Files;

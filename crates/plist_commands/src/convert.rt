@@ -8,7 +8,7 @@ ghost use Rattle.plist_binwrite.specs.Sending.{Sends};
 ghost use Rattle.plist_reader.specs.Formats.{format_of};
 ghost use Rattle.plist_commands.specs.Converting.{CollectsItems, Converts, IfOkIs, ForBytesOf, items_of_known};
 ghost use Rattle.plist_commands.specs.CollectorSteps.{IsEmpty, collected, is_complete};
-ghost use Rattle.plist_commands.specs.ReaderRuns.{ConvertsSource, HoldsBinary, HoldsOther, ReadsSource};
+ghost use Rattle.plist_commands.specs.BufferRuns.{ConvertsSource, HoldsBinary, HoldsOther, ReadsSource};
 ghost use Rattle.plist_commands.specs.declared.convert.Streamed.TheVariants.{Sent};
 
 use crate::collector::Collector;

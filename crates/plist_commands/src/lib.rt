@@ -1,7 +1,6 @@
 //! The commands of `plist_tool`, over any source, any writer and any runtime.
 //!
-//! The main contract is that of [`print_events`]: over known bytes, exactly the lines of their
-//! items are written, or those before the first fault.
+//! The main contracts are those of `print_events` (in `plist_print`) and of [`convert_binary`].
 #![tactic(auto)]
 
 mod arguments;
@@ -10,12 +9,9 @@ mod collector;
 mod commands;
 mod convert;
 mod failure;
-mod hexadecimal;
 mod keyed;
-mod lines;
 mod messages;
 mod open;
-mod plain_bytes;
 mod print;
 
 pub use arguments::program_arguments;
@@ -24,4 +20,5 @@ pub use convert::{Streamed, convert_binary, convert_file};
 pub use failure::Failure;
 pub use keyed::{keyed_file, print_at};
 pub use messages::{Message, Messages};
-pub use print::{print_events, print_reader, print_value};
+pub use plist_print::{print_events, print_reader};
+pub use print::print_value;

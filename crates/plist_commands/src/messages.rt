@@ -2,7 +2,7 @@
 
 ghost use Rattle.std.specs.Prelude.{◌≡◌, Bool, IfOk, is_ok};
 ghost use Rattle.plist_commands.specs.Failures.{plain_failure_of};
-ghost use Rattle.plist_commands.specs.Messages.{Fault, PlainMessage, message_text, plain_message_of, TakesMessage};
+ghost use Rattle.plist_commands.specs.Messages.{PlainMessage, message_text, plain_message_of, TakesMessage, Fault};
 
 use crate::failure::Failure;
 use arrayvec::ArrayString;

@@ -1,8 +1,8 @@
 use Rattle.std.proofs.Common.{◌≡◌, ℕ, ◌≤◌, ◌<◌, List, [], ◌∷◌, length, get_or, map, codes, sym, ◌∙◌, arith, true}
 use Rattle.std.specs.Str.{bytes_eq}
 use Rattle.std.proofs.lemmas.Slice.Eq.{bytes_eq-Decides}
-use Rattle.plist_commands.specs.Commands.{Print, Convert, Keyed}
 use Rattle.plist_commands.proofs.commands.command_of.Goals as goal
+use Rattle.plist_commands.specs.Commands.{Print, Convert, Keyed}
 
 -- a list of two words, and one of three, consists of these items
 two : {A : Type 0} (text : A → List ℕ) (word : List ℕ) (items : List A) (first second : A)

@@ -2,11 +2,11 @@ use Rattle.std.proofs.Common.{ap, false, inl, refl, subst}
 use Rattle.std.specs.Prelude.{is_some}
 use Rattle.plist_reader.specs.Reader.{reader_items}
 use Rattle.plist_commands.specs.Converting.{CollectsItems}
-use Rattle.plist_commands.specs.Items.{failures_in}
+use Rattle.plist_commands.specs.BufferRuns.{failures_in}
 use Rattle.plist_commands.specs.CollectorSteps.{collected}
-use Rattle.plist_commands.specs.ReaderRuns.{StepsReader}
+use Rattle.plist_commands.specs.BufferRuns.{StepsReader}
 use Rattle.plist_commands.proofs.CollectorRuns.{Concludes, concludes, held_first}
-use Rattle.plist_commands.proofs.SourceItems.{IsOpen, reader_comes, reader_counts}
+use Rattle.plist_commands.proofs.ReaderItems.{IsOpen, reader_comes, reader_counts}
 use Rattle.plist_commands.proofs.convert.collect_other.Goals as goal
 use Rattle.plist_commands.proofs.convert.collect_other.Goals.{After-answer}
 

@@ -1,8 +1,9 @@
 use Rattle.std.proofs.lemmas.Result.{on_ok_weaker}
 use Rattle.plist_base.specs.Visits.{YieldsPlain}
 use Rattle.plist.specs.Events.{GivesEvent}
-use Rattle.plist_commands.specs.Items.{items_of_events}
-use Rattle.plist_commands.proofs.SourceItems.{events_come, run_front, run_printed}
+use Rattle.plist_commands.proofs.ReaderItems.{items_of_events}
+use Rattle.plist_commands.proofs.ReaderItems.{events_come}
+use Rattle.plist_print.proofs.SourceItems.{run_front, run_printed}
 use Rattle.plist_commands.proofs.print.print_value.Goals as goal
 
 pub returns-clause-printed : goal.returns-clause-printed

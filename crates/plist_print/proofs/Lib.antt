@@ -1,0 +1,9 @@
+pub mod Blocks
+pub mod LineParts
+pub mod PendingBytes
+pub mod PlainBytes
+pub mod Printers
+pub mod Runs
+pub mod ScalarLines
+pub mod SourceItems
+pub mod LineExamples

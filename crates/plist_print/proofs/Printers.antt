@@ -1,0 +1,112 @@
+-- What is written for the events that a printer takes.
+use Rattle.std.proofs.Common.{◌≡◌, ℕ, List, [], Option, None, Some, Result, Ok, Err, sym, ◌∙◌, append-nil}
+use Rattle.std.specs.Io.KnownBytes.{Appends}
+use Rattle.std.specs.Prelude.{IfErr, OnOk}
+use Rattle.plist_base.specs.declared.error.Error.{Error}
+use Rattle.plist_base.specs.declared.sink.Sink.{Sink}
+use Rattle.plist_base.specs.declared.visitor.Visited.TheVariants.{Ended, Stopped}
+use Rattle.plist_base.specs.Events.{PlainEvent}
+use Rattle.plist_base.specs.Faults.{Io, fault_without_offset, fault_of}
+use Rattle.plist_base.specs.Prefixes.{AppendsPrefix}
+use Rattle.plist_base.specs.Sinks.{Puts, pending, written}
+use Rattle.plist_base.specs.Visits.{HandsOverAll, PlainItem, Visits}
+use Rattle.plist_base.proofs.WriterBytes.{Appends-at}
+use Rattle.plist_base.proofs.SinkSteps.{same_itself, same_then}
+use Rattle.plist_base.proofs.Visits.{kept_all}
+use Rattle.plist_print.specs.declared.printer.Printer.{Printer}
+use Rattle.plist_print.specs.Printers.{IsSamePrinter, PrintsLine, pending_lines}
+use Rattle.plist_print.specs.Printers.{printed}
+use Rattle.plist_print.specs.PrintRuns.{PrintsRun}
+use Rattle.plist_print.proofs.Runs.{HasRun, run_more, run_none, run_stopped}
+
+module _ {W : Type 0} (contents : W → Option (List ℕ)) where
+  -- the pending bytes are written, or a prefix of them if a write fails
+  pub record Empties (old : Sink W) (answer : Result (Unit {0}) Error) (new : Sink W) : Type 0 where
+    pub sent : OnOk answer (Appends (written contents old) (written contents new) (pending old))
+    pub fault : IfErr answer (λ error. fault_of error ≡ fault_without_offset Io)
+    pub prefix : AppendsPrefix (written contents old) (written contents new) (pending old)
+
+  pub empties : (old new : Sink W) (answer : Result (Unit {0}) Error) → Puts contents old [] answer new
+      → OnOk answer (pending new ≡ []) → Empties old answer new
+  empties old new (Ok done) put none =
+      let (sent, appended, is) = put.follows in
+      let all : pending old ≡ sent = sym (append-nil (pending old)) ∙ rw none at is ∙ append-nil sent in
+      record {
+        sent = Appends-at (written contents old) (written contents new) _ _ (sym all) appended;
+        fault = tt;
+        prefix = (sent, [], appended, all ∙ sym (append-nil sent));
+      }
+  empties old new (Err error) put none = record {
+    sent = tt;
+    fault = put.follows.0;
+    prefix = rw (append-nil (pending old)) at put.follows.1;
+  }
+
+module _ {I W : Type 0} (yields : I → PlainItem → I → Type 0) (contents : W → Option (List ℕ)) where
+  -- the events that were yielded so far were printed
+  abbrev Ran : (old now : I × Printer W) → Type 0
+  Ran old now =
+      HasRun yields old.0 now.0 (printed contents old.1) (printed contents now.1)
+      (pending_lines now.1)
+      × IsSamePrinter old.1 now.1
+
+  ran_all : (old new : I × Printer W) (events : List PlainEvent) → pending_lines old.1 ≡ []
+      → HandsOverAll yields (PrintsLine contents) old events new → Ran old new
+  ran_all old new events none handed =
+      kept_all yields (PrintsLine contents) (Ran old)
+      (λ now next event (run, same) one. (
+        run_more yields old.0 now.0 next.0 event (printed contents old.1) (printed contents now.1)
+            (printed contents next.1) (pending_lines now.1) (pending_lines next.1) run one.given
+            one.taken.follows,
+        same_then same one.taken.same,
+      ))
+      old new events (
+        run_none yields old.0 (printed contents old.1) (pending_lines old.1) none,
+        same_itself,
+      )
+      handed
+
+  -- the source ended
+  pub visited_ended : (old new : I × Printer W) → pending_lines old.1 ≡ []
+      → Visits yields (PrintsLine contents) old (Ok Ended) new
+      → (left : I) × yields left None new.0
+      × HasRun yields old.0 left (printed contents old.1) (printed contents new.1)
+      (pending_lines new.1)
+      × IsSamePrinter old.1 new.1
+  visited_ended old new none visit =
+      let ran = ran_all old visit.left visit.events none visit.handed in (
+        visit.left.0,
+        visit.ended.0,
+        rw visit.ended.1 ran.0,
+        rw visit.ended.1 ran.1,
+      )
+
+  -- the source yielded an error
+  pub visited_error : (old new : I × Printer W) (error : Error) → pending_lines old.1 ≡ []
+      → Visits yields (PrintsLine contents) old (Err error) new
+      → (left : I) × yields left (Some (Err error)) new.0
+      × HasRun yields old.0 left (printed contents old.1) (printed contents new.1)
+      (pending_lines new.1)
+      × IsSamePrinter old.1 new.1
+  visited_error old new error none visit =
+      let ran = ran_all old visit.left visit.events none visit.handed in (
+        visit.left.0,
+        visit.ended.0,
+        rw visit.ended.1 ran.0,
+        rw visit.ended.1 ran.1,
+      )
+
+  -- the printer stopped because a write failed
+  pub visited_stopped : (old new : I × Printer W) → pending_lines old.1 ≡ []
+      → Visits yields (PrintsLine contents) old (Ok Stopped) new
+      → PrintsRun yields old.0 (Err new.1.failure) new.0 (printed contents old.1)
+      (printed contents new.1)
+      × IsSamePrinter old.1 new.1
+  visited_stopped old new none visit =
+      let ran = ran_all old visit.left visit.events none visit.handed in
+      let (event, one) = visit.ended in (
+        run_stopped yields old.0 visit.left.0 new.0 event (printed contents old.1)
+            (printed contents visit.left.1) (printed contents new.1) (pending_lines visit.left.1)
+            new.1.failure ran.0 one.given one.taken.follows.0 one.taken.follows.1,
+        same_then ran.1 one.taken.same,
+      )

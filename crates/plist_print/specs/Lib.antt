@@ -1,0 +1,4 @@
+pub mod EscapedLines
+pub mod Printing
+pub mod Printers
+pub mod PrintRuns

@@ -1,0 +1,60 @@
+-- What printing the items of a file writes, and what it returns.
+use Rattle.std.specs.Prelude.{option_map, ◌≡◌, ℕ, ◌⊎◌, List, Option, None, Some, ⊤, IfErr, MatchResult, OnOk, Result}
+use Rattle.std.specs.Io.KnownBytes.{Appends}
+use Rattle.plist_base.specs.declared.error.Error.{Error}
+use Rattle.plist_base.specs.Faults.{Fault, MatchFault, IsIoOrMemory, kind_of, error_kind_of, fault_of, offset_of}
+use Rattle.plist_base.specs.declared.source.Source.{Ghosts}
+use Rattle.plist_base.specs.Events.{Item}
+use Rattle.plist_base.specs.Sources.{Rises}
+use Rattle.plist_binread.specs.BinaryReader.{binary_source, items_to_come}
+use Rattle.plist_binread.specs.declared.counter.DecodeCounter.{Ghosts as CounterGhosts}
+use Rattle.plist_binread.specs.declared.reader.BinaryReader.{BinaryReader}
+use Rattle.plist_base.specs.Prefixes.{AppendsPrefix}
+use Rattle.plist_print.specs.EscapedLines.{lines_of, first_fault}
+
+-- the items have no fault, and all lines were written
+abbrev pub PrintsAll : List Item → (old new : Option (List ℕ)) → Type 0
+PrintsAll items old new = (first_fault items ≡ None) × Appends old new (lines_of items)
+
+-- the error is the first fault, and all lines before it were written; `Io` and `OutOfMemory` say
+-- nothing of the items
+abbrev pub PrintsUntil : Error → List Item → (old new : Option (List ℕ)) → Type 0
+PrintsUntil error items old new =
+    MatchFault (kind_of (error_kind_of error)) ⊤ ⊤
+    ((first_fault items ≡ Some (fault_of error)) × Appends old new (lines_of items))
+
+-- What printing items does. If it succeeds, they have no fault, and all lines were written. Otherwise
+-- the error is the first fault, and all lines before it were written; or the error is `Io` or
+-- `OutOfMemory`. In any case a prefix of their lines was written.
+pub record PrintsKnown (items : List Item) (answer : Result (Unit {0}) Error)
+    (old new : Option (List ℕ)) : Type 0 where
+  pub printed : OnOk answer (PrintsAll items old new)
+  pub refused : IfErr answer (λ error. PrintsUntil error items old new)
+  pub prefix : AppendsPrefix old new (lines_of items)
+
+-- a write or an allocation failed; neither error has an offset
+abbrev pub IsWriterFault : Fault → Type 0
+IsWriterFault fault = (fault.offset ≡ None) × IsIoOrMemory fault.kind
+
+-- the error is such a fault
+abbrev pub IsWriterError : Error → Type 0
+IsWriterError error = IsWriterFault (fault_of error)
+
+-- the count of failures rose only if the call returned `Io`; an `Io` without an offset may be the
+-- error of a write
+abbrev pub CountsReads : {A : Type 0} → Result A Error → (old new : ℕ) → Type 0
+CountsReads answer old new = MatchResult answer (λ _. new ≡ old)
+    (λ error. MatchFault (kind_of (error_kind_of error))
+    (((offset_of error ≡ None) × (new ≡ old)) ⊎ Rises old new) (new ≡ old) (new ≡ old))
+
+-- the count of failures of a reader's source changes with the result as `CountsReads` says
+abbrev pub CountsReadsOf : {S C A : Type 0} {g : Ghosts S} {h : CounterGhosts C}
+    → (failures : S → ℕ) → BinaryReader S C g h → Result A Error → BinaryReader S C g h → Type 0
+CountsReadsOf failures old answer new =
+    CountsReads answer (failures (binary_source old)) (failures (binary_source new))
+
+-- the items that a reader hasn't yielded yet, if the bytes of its source are known
+abbrev pub items_left : {S C : Type 0} {g : Ghosts S} {h : CounterGhosts C}
+    → (known : S → Option (List ℕ)) → BinaryReader S C g h → Option (List Item)
+items_left known reader = option_map (λ bytes. items_to_come bytes reader) (known
+    (binary_source reader))

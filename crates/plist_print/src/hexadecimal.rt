@@ -1,0 +1,84 @@
+//! Bytes as hexadecimal digits.
+
+ghost use Rattle.std.specs.Prelude.{◌≡◌, ◌++◌, ◌+◌, ◌*◌, ◌<◌, ◌≤◌, length};
+ghost use Rattle.plist_base.specs.Sinks.{buffered, room};
+ghost use Rattle.plist_print.specs.EscapedLines.{hexadecimal, hexadecimal_digit};
+
+use plist_base::FixedBuffer;
+
+/// Returns the hexadecimal digit of a value.
+#[inline(always)]
+pub fn digit_of(value: u8) -> u8
+    requires { value < 16 }
+    ensures { result ≡ hexadecimal_digit value }
+{
+    if value < 10 {
+        b'0' + value
+    } else {
+        b'a' + (value - 10)
+    }
+}
+
+// Returns the hexadecimal digits of a block. The fixed length lets the compiler compute the digits
+// of many bytes at once.
+#[inline(always)]
+fn digits_of_block(bytes: &[u8; 64]) -> [u8; 128]
+    ensures { result ≡ hexadecimal bytes.now }
+{
+    let mut digits = [0; 128];
+    for index in 0..64 {
+        digits[2 * index] = digit_of(bytes[index] / 16);
+        digits[2 * index + 1] = digit_of(bytes[index] % 16);
+    }
+    digits
+}
+
+// Returns the hexadecimal digits of eight bytes.
+#[inline(always)]
+fn digits_of_eight(bytes: &[u8; 8]) -> [u8; 16]
+    ensures { result ≡ hexadecimal bytes.now }
+{
+    let mut digits = [0; 16];
+    for index in 0..8 {
+        digits[2 * index] = digit_of(bytes[index] / 16);
+        digits[2 * index + 1] = digit_of(bytes[index] % 16);
+    }
+    digits
+}
+
+// Pushes two hexadecimal digits for each byte, one byte at a time.
+fn push_digits(line: &mut FixedBuffer, bytes: &[u8])
+    requires { 2 * length bytes.now ≤ room line.old }
+    ensures pushed { buffered line.new ≡ buffered line.old ++ hexadecimal bytes.now }
+    ensures room { room line.old ≤ room line.new + 2 * length bytes.now }
+{
+    for &byte in bytes {
+        line.push(&[digit_of(byte / 16), digit_of(byte % 16)]);
+    }
+}
+
+// Pushes two hexadecimal digits for each byte, eight bytes at a time.
+fn push_by_eights(line: &mut FixedBuffer, bytes: &[u8])
+    requires { 2 * length bytes.now ≤ room line.old }
+    ensures pushed { buffered line.new ≡ buffered line.old ++ hexadecimal bytes.now }
+    ensures room { room line.old ≤ room line.new + 2 * length bytes.now }
+{
+    let (blocks, rest) = bytes.as_chunks::<8>();
+    for block in blocks {
+        line.push(&digits_of_eight(block));
+    }
+    push_digits(line, rest);
+}
+
+/// Pushes two hexadecimal digits for each byte.
+pub fn push_hexadecimal(line: &mut FixedBuffer, bytes: &[u8])
+    requires { 2 * length bytes.now ≤ room line.old }
+    ensures pushed { buffered line.new ≡ buffered line.old ++ hexadecimal bytes.now }
+    ensures room { room line.old ≤ room line.new + 2 * length bytes.now }
+{
+    let (blocks, rest) = bytes.as_chunks::<64>();
+    for block in blocks {
+        line.push(&digits_of_block(block));
+    }
+    push_by_eights(line, rest);
+}

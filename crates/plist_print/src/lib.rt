@@ -1,0 +1,13 @@
+//! Prints the events of a source, each on a line of its own.
+//!
+//! The main contract is that of [`print_events`]: over known bytes, exactly the lines of their
+//! items are written, or those before the first fault.
+#![tactic(auto)]
+
+mod hexadecimal;
+mod lines;
+mod plain_bytes;
+mod print;
+mod printer;
+
+pub use print::{print_events, print_reader, print_source};

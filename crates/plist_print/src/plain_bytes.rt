@@ -1,0 +1,117 @@
+//! The printed form of a string: an escape for `"`, `\` and any byte that isn't printable ASCII,
+//! and any other byte as it is.
+
+ghost use Rattle.std.specs.Prelude.{◌≡◌, ◌++◌, ◌+◌, ◌*◌, ◌≤◌, length, true};
+ghost use Rattle.plist_base.specs.Sinks.{buffered, room};
+ghost use Rattle.plist_print.specs.EscapedLines.{escaped_byte, escaped_text, stands_for_itself};
+
+use crate::hexadecimal::digit_of;
+use plist_base::{ByteTest, FixedBuffer, all_pass};
+use std::simd::prelude::*;
+
+// `PLAIN[byte]` says whether this byte of a string is printed as it is.
+const PLAIN: [bool; 256] = [
+    false, false, false, false, false, false, false, false, false, false, false, false, false,
+    false, false, false, false, false, false, false, false, false, false, false, false, false,
+    false, false, false, false, false, false, true, true, false, true, true, true, true, true,
+    true, true, true, true, true, true, true, true, true, true, true, true, true, true, true, true,
+    true, true, true, true, true, true, true, true, true, true, true, true, true, true, true, true,
+    true, true, true, true, true, true, true, true, true, true, true, true, true, true, true, true,
+    true, true, true, true, false, true, true, true, true, true, true, true, true, true, true,
+    true, true, true, true, true, true, true, true, true, true, true, true, true, true, true, true,
+    true, true, true, true, true, true, true, true, false, false, false, false, false, false,
+    false, false, false, false, false, false, false, false, false, false, false, false, false,
+    false, false, false, false, false, false, false, false, false, false, false, false, false,
+    false, false, false, false, false, false, false, false, false, false, false, false, false,
+    false, false, false, false, false, false, false, false, false, false, false, false, false,
+    false, false, false, false, false, false, false, false, false, false, false, false, false,
+    false, false, false, false, false, false, false, false, false, false, false, false, false,
+    false, false, false, false, false, false, false, false, false, false, false, false, false,
+    false, false, false, false, false, false, false, false, false, false, false, false, false,
+    false, false, false, false, false, false, false, false, false, false, false, false, false,
+    false, false, false, false, false, false,
+];
+
+// Returns whether a byte of a string is printed as it is. For a single byte, a look-up in the table
+// is faster than the comparisons.
+#[tactic(auto, using(crate::proofs::PlainBytes::is_marked))]
+fn is_marked_plain(byte: u8) -> bool
+    ensures { result ≡ stands_for_itself byte }
+{
+    PLAIN[byte as usize]
+}
+
+// Tests whether bytes of a string are printed as they are.
+struct Plain;
+
+impl ByteTest for Plain {
+    ghost use Rattle.std.specs.Prelude.{◌≡◌, true};
+    ghost use Rattle.plist_print.specs.EscapedLines.{stands_for_itself};
+
+    ghost passes = { λ byte. stands_for_itself byte ≡ true };
+
+    #[inline(always)]
+    fn sixteen(bytes: u8x16) -> bool {
+        let control = bytes.simd_lt(u8x16::splat(0x20)).to_bitmask();
+        let high = bytes.simd_ge(u8x16::splat(0x7f)).to_bitmask();
+        let backslash = bytes.simd_eq(u8x16::splat(b'\\')).to_bitmask();
+        let quote = bytes.simd_eq(u8x16::splat(b'"')).to_bitmask();
+        control | high | backslash | quote == 0
+    }
+
+    #[inline(always)]
+    fn eight(bytes: u8x8) -> bool {
+        let control = bytes.simd_lt(u8x8::splat(0x20)).to_bitmask();
+        let high = bytes.simd_ge(u8x8::splat(0x7f)).to_bitmask();
+        let backslash = bytes.simd_eq(u8x8::splat(b'\\')).to_bitmask();
+        let quote = bytes.simd_eq(u8x8::splat(b'"')).to_bitmask();
+        control | high | backslash | quote == 0
+    }
+
+    #[inline(always)]
+    fn one(byte: u8) -> bool {
+        is_marked_plain(byte)
+    }
+}
+
+// Pushes a byte of a string, or its escape.
+#[inline(always)]
+fn push_byte(line: &mut FixedBuffer, byte: u8)
+    requires { 4 ≤ room line.old }
+    ensures pushed { buffered line.new ≡ buffered line.old ++ escaped_byte byte }
+    ensures room { room line.old ≤ room line.new + 4 }
+{
+    if is_marked_plain(byte) {
+        line.push(&[byte]);
+        return;
+    }
+    line.push(&[b'\\', b'x', digit_of(byte / 16), digit_of(byte % 16)]);
+}
+
+// Pushes a string byte by byte. It isn't inlined, so that the variables of the loop stay in
+// registers.
+#[inline(never)]
+fn push_escaped(line: &mut FixedBuffer, text: &[u8])
+    requires { 4 * length text.now ≤ room line.old }
+    ensures pushed { buffered line.new ≡ buffered line.old ++ escaped_text text.now }
+    ensures room { room line.old ≤ room line.new + 4 * length text.now }
+{
+    for &byte in text {
+        push_byte(line, byte);
+    }
+}
+
+/// Pushes the printed form of a string, which has at most four bytes for each byte of the string. A
+/// string that needs no escape is copied as a whole.
+#[inline(always)]
+pub fn push_text(line: &mut FixedBuffer, text: &[u8])
+    requires { 4 * length text.now ≤ room line.old }
+    ensures pushed { buffered line.new ≡ buffered line.old ++ escaped_text text.now }
+    ensures room { room line.old ≤ room line.new + 4 * length text.now }
+{
+    if all_pass::<Plain>(text) {
+        line.push(text);
+        return;
+    }
+    push_escaped(line, text);
+}
