@@ -4,7 +4,7 @@
 //! crate doesn't have, and prints more about a missing file. Its port is
 //! `crates/plist_settings/src/idioms.rt`.
 //!
-//! Built with version 1.3.1 and its feature
+//! It is built with version 1.3.1 of the crate and its feature
 //! `enable_unstable_features_that_may_break_with_minor_version_bumps`.
 
 use plist::stream::{BinaryWriter, Event, Reader, Writer};

@@ -1,6 +1,6 @@
-//! Checks launchd jobs, by the Rust crate `plist`. Its arguments are files, and it prints a line for
-//! each error and each warning. The status is 0 if there are none, 1 if there are only warnings, and
-//! otherwise 2. Its port is `crates/plist_launchd`.
+//! Checks launchd jobs with the Rust crate `plist`. Its arguments are files, and it prints a line
+//! for each error and each warning. The status is 0 if there are none, 1 if there are only warnings,
+//! and otherwise 2. Its port is `crates/plist_launchd`.
 
 use plist::{Dictionary, Error, Value};
 use std::env;
@@ -63,7 +63,7 @@ impl fmt::Display for Shape {
     }
 }
 
-// The keys that launchd.plist(5) describes.
+// Most of the keys that launchd.plist(5) describes.
 const KEYS: [(&str, Shape); 48] = [
     ("AbandonProcessGroup", Shape::Boolean),
     ("Debug", Shape::Boolean),
@@ -138,7 +138,7 @@ fn advice_for(key: &str) -> Option<&'static str> {
 /// An error or a warning.
 #[derive(Debug)]
 enum Finding<'a> {
-    /// A key that every job needs is missing.
+    /// Something that every job needs is missing: a key, one of two keys, or the first argument.
     Missing(&'static str),
     /// A value has the wrong type.
     WrongType {
@@ -284,7 +284,8 @@ fn check_program<'a>(job: &'a Dictionary, to: &mut Findings<'a>) {
     }
 }
 
-// Checks a job. The findings are first about missing keys, and then about its keys in their order.
+// Checks a job. The findings are first those about what every job needs, and then those about its
+// keys, in their order.
 fn check(job: &Dictionary) -> Findings<'_> {
     let mut findings = Vec::new();
     if !job.contains_key("Label") {

@@ -1,4 +1,4 @@
-//! Merges property lists, by the Rust crate `plist`, and prints their differences. It executes its
+//! Merges property lists with the Rust crate `plist`, and prints their differences. It executes its
 //! arguments in turn: `diff=OLD,NEW` and `merge=BASE,OVER,OUT`. Its port is `crates/plist_merge`.
 
 use plist::{Dictionary, Error, Value};

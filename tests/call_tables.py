@@ -51,7 +51,10 @@ def in_binary(i, item):
 
 
 def in_visit(i, item):
-    """Strings and data are borrowed, except strings in UTF-16."""
+    """Returns whether memory may run out for this item of a visit.
+
+    Strings and data are borrowed, except strings in UTF-16.
+    """
     return i == 0 or item[0] in "[{" or not item.isascii()
 
 

@@ -1,9 +1,9 @@
 #!/usr/bin/env python3
-"""Each word of specs, and each type that more than one file sees, is defined in one place.
+"""Checks that each word of specs, and each type that more than one file sees, is defined in one place.
 
 Usage: tests/one_meaning.py [TOP]
 
-Prints a line for each word that is defined twice. The status is 1 if there is such a word.
+Prints a line for each word or type that is defined more than once. The status is 1 if there is one.
 A word of specs may have the name of a function: it says what that function returns.
 """
 import collections, pathlib, re, sys

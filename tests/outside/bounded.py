@@ -72,7 +72,10 @@ class Starter:
         return self.run_all([(words, room, seconds, out, err)])[0]
 
     def run_all(self, runs):
-        """Runs some hundred programs one after the other, without waiting for each here."""
+        """Runs up to some hundred programs one after the other, and returns how each of them ended.
+
+        All of them are requested at once, so that none waits for this process.
+        """
         for words, room, seconds, out, err in runs:
             line = "\t".join(str(word) for word in [room, seconds, out, err, *words])
             self.child.stdin.write(line + "\n")

@@ -7,7 +7,7 @@ Compares the clauses of functions and the ghost items of traits, impls and types
 them out, but not `specs/`. Prints each public function (`pub`, or of a trait) that is gone or
 private now, that has a clause that is gone, changed or under another label, or that has a new
 `requires`; with --all it prints private functions, too. A function that moved within its crate is
-found by its name. Ends with status 1 if it prints any function, and otherwise with counts.
+found by its name. The status is 1 if it prints any function. Otherwise it prints counts.
 """
 import collections
 import io

@@ -76,7 +76,7 @@ def run(*words, room=resource.RLIM_INFINITY, stack=STACK, wanted=0):
 
 
 def least_stack(*words, wanted=0):
-    """Returns the least call stack, in KiB, with which a command succeeds."""
+    """Returns the least call stack, in KiB, with which a command ends with the wanted status."""
     fails, works = 0, STACK >> 10
     while works - fails > 1:
         middle = (fails + works) // 2

@@ -2,10 +2,11 @@
 """Runs `plist_tool` on mutated files under a small limit of its address space, as `ulimit -v` sets it.
 
 `print`, `convert` and `keyed` run on each file. The limit is the smallest one under which all three
-do the same with each unmutated file as they do with enough memory. There are two limits: one for
-files of some hundred bytes, little more than the program and its call stack need to start, and one
-for files of some 200 kB. The script finds both first, unless KIB sets both. Half of the larger
-files run under a lower limit, down to the first one, so that allocations fail at different points.
+do the same with each unmutated file as they do with enough memory. There are two limits. The one
+for files of some hundred bytes is little more than what the program and its call stack need to
+start. The other one is for files of some 200 kB. The script finds both first, unless KIB sets both.
+Half of the larger files run under a lower limit, down to the first one, so that allocations fail at
+different points.
 Each run must end with status 0 or 1, and never by a signal:
 
 - With status 0 nothing is printed on standard error. With status 1 one line is printed there, which

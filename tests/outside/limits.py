@@ -3,10 +3,10 @@
 
 An array refers to one string many times: 99,998 times to one of 1 MiB, 100 times to one of 100,000
 bytes; others do so with a UTF-16 string and with data. The limits are 64 collections, 100,000 items
-and a number of bytes. If the value is larger, the call must return `OutOfMemory`, and its peak memory
-may exceed this number of bytes by at most 2 MiB, the longest string or data of the file, and what an
-empty array needs. Otherwise it must return the value. While a UTF-16 string is read, both its units
-and its UTF-8 bytes are in memory.
+and a number of bytes. If the strings and data of the value have more bytes than this number, the call
+must return `OutOfMemory`, and otherwise the value. Its peak memory may exceed this number by at most
+the sum of 2 MiB, the size of the longest string or data of the file, and the peak memory for an empty
+array. While a UTF-16 string is read, both its units and its UTF-8 bytes are in memory.
 
 Usage: limits.py [PROGRAM]
 

@@ -1,11 +1,12 @@
 #!/usr/bin/env python3
 """Measures the peak memory of `plist_tool` on files that are made to need much.
 
-The first table is for `print`. It has the peak memory beyond that for a file with one empty array,
-and the part of it that exceeds 2 MiB and 12 bytes for each object for which the file has room. Beside
-it is the same for `BinaryReader` alone, which reads the same bytes from memory (the bytes themselves
-don't count). The program for this is `tests/outside/items`, which is proved and built in a copy of its
-crates unless ITEMS names it.
+The first table is for `print`. For each file it has the peak memory, less that for a file with one
+empty array, and how much of this exceeds 2 MiB plus 12 bytes for each object for which the file has
+room. The next column has the peak memory of `BinaryReader` alone, again less that for a file with one
+empty array. `BinaryReader` reads the same bytes from memory, and these bytes themselves don't count.
+The program for this is `tests/outside/items`, which is proved and built in a copy of its crates unless
+ITEMS names it.
 
 The second table is for `convert` and `keyed`, which have no limits. It has the peak memory for each
 file: in all, for each event, and for each byte of the file. If a file takes more than 4 MiB, the

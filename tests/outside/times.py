@@ -10,10 +10,11 @@ function  a check of some crates after one function was changed
 user      a check of the README's first program, as a crate of its own over the built libraries
 gate      .ci/run, if nothing was proved before
 
-Each line has the wall time in seconds, and the processor time (user and system) of all processes. If
-much of the machine's time is taken by others, only the second is of use; the last column has their
-share. `rt` reuses what other checkouts on the same machine have proved. It keeps this in the folder
-that `RT_KEPT` names, which is moved away for the measurements from nothing.
+Each line has the wall time in seconds, and the processor time (user and system) of all processes. The
+last column has the share of the machine's time that other virtual machines have stolen. If it is large,
+only the processor time is of use. `rt` reuses what other checkouts on the same machine have proved. It
+keeps this in the folder that `RT_KEPT` names, which is moved away for the measurements that start
+without proofs.
 """
 import os
 import pathlib
@@ -37,7 +38,7 @@ CHANGES = {
 
 
 def jiffies():
-    """Returns how much of the machine's processor time was given to others, and the total."""
+    """Returns how much processor time other virtual machines have stolen from this one, and the total."""
     numbers = [int(it) for it in open("/proc/stat", encoding="utf-8").readline().split()[1:9]]
     return numbers[7], sum(numbers)
 

@@ -28,13 +28,13 @@ module _ {A : Type 0} (lets : A → List Item → List Item) where
   AdmitsEvent old event new =
       (items : List Item) → lets old (Ok event ∷ items) ≡ Ok event ∷ lets new items
 
-  -- the inner iterator's items that the allowance leaves
+  -- the inner iterator's items that the allowance admits, or none after the end
   abbrev pub items_allowed : {I : Type 0} → LimitedItems I A → List Item → List Item
   items_allowed limited items = cond limited.ended [] (lets limited.limiter items)
 
 module _ {A : Type 0} (lets : A → List Item → List Item) (may_reach : Fault → Type 0) where
-  -- `given` is yielded for the inner item `asked`, and `left` is the allowance that is left and
-  -- whether the items have ended; a fault may replace an event, and ends the items
+  -- `given` is yielded for the inner item `asked`, and `left` is a pair of the new allowance and
+  -- whether the items have ended; a fault may replace an event, and any error ends the items
   abbrev pub Passes : (old : A) → (asked given : Result Event Error) → (left : A × Bool) → Type 0
   Passes old (Ok event) given left = MatchResult given
       (λ passed. (passed ≡ event) × AdmitsEvent lets old (event_of event) left.0 × (left.1 ≡ false))
@@ -47,7 +47,7 @@ module _ {A : Type 0} (lets : A → List Item → List Item) (may_reach : Fault 
   PassesNext old None given left = (given ≡ None) × (left.0 ≡ old) × (left.1 ≡ true)
   PassesNext old (Some asked) given left = MatchOption given ⊥ (λ item. Passes old asked item left)
 
-  -- one call of `next`: it yields `None` after the end, and else calls the inner iterator
+  -- one call of `next`: it yields `None` after the end, and otherwise calls the inner iterator
   abbrev pub GivesAllowed : {I : Type 0} → (I → Option (Result Event Error) → I → Type 0)
       → LimitedItems I A → Option (Result Event Error) → LimitedItems I A → Type 0
   GivesAllowed inner_gives old item new = MatchBool old.ended

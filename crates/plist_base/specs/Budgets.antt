@@ -25,9 +25,9 @@ within_bytes left (Ok event ∷ items) =
     (Ok event ∷ within_bytes (left - bytes_in event) items)
 within_bytes left (Err fault ∷ items) = Err fault ∷ []
 
--- ---- the items that a budget leaves
+-- ---- the items that a budget admits
 
--- the items that the budget leaves of a list of items
+-- the items of a list that the budget admits
 abbrev pub within_budget : ByteBudget → List Item → List Item
 within_budget budget = within_bytes budget.left
 

@@ -48,7 +48,7 @@ abbrev pub event_or_limit : Option Limit → PlainEvent → (more : List Item) �
 event_or_limit None event more = Ok event ∷ more
 event_or_limit (Some limit) event more = Err (fault_without_offset (LimitReached limit)) ∷ []
 
--- the items that limits leave after `admitted` events, while `level` collections are open
+-- the items that limits admit after `admitted` events, while `level` collections are open
 abbrev pub limited_from : Limits → (admitted level : ℕ) → List Item → List Item
 limited_from limits admitted level [] = []
 limited_from limits admitted level (Ok event ∷ items) =
@@ -60,9 +60,9 @@ limited_from limits admitted level (Err fault ∷ items) = Err fault ∷ []
 abbrev pub limited_items : Limits → List Item → List Item
 limited_items limits items = limited_from limits 0 0 items
 
--- ---- the items that a counter under limits leaves
+-- ---- the items that a counter under limits admits
 
--- the items that the counter leaves of a list of items
+-- the items of a list that the counter admits
 abbrev pub limited_by : LimitCounter → List Item → List Item
 limited_by limiter = limited_from limiter.limits limiter.admitted limiter.level
 
@@ -82,7 +82,7 @@ Refuses = RefusesEvent limited_by IsLimitReached
 abbrev pub RefusesBy : LimitCounter → PlainEvent → Limit → Type 0
 RefusesBy limiter event limit = Refuses limiter event (fault_without_offset (LimitReached limit))
 
--- the items that a counter leaves, or all of them without a counter
+-- the items that a counter admits, or all of them without a counter
 abbrev pub limited_by_any : Option LimitCounter → List Item → List Item
 limited_by_any None items = items
 limited_by_any (Some limiter) items = limited_by limiter items
@@ -97,7 +97,7 @@ abbrev pub RefusesAny : Option LimitCounter → PlainEvent → Fault → Type 0
 RefusesAny None event fault = ⊥
 RefusesAny (Some limiter) event fault = Refuses limiter event fault
 
--- the inner iterator's items that the limits leave
+-- the inner iterator's items that the limits admit, or none after the end
 abbrev pub items_admitted : {I : Type 0} → LimitedItems I LimitCounter → List Item → List Item
 items_admitted = items_allowed limited_by
 

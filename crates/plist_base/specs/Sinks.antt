@@ -44,7 +44,8 @@ module _ {W : Type 0} (contents : W → Option (List ℕ)) where
   abbrev pub written : Sink W → Option (List ℕ)
   written sink = contents sink.writer.now
 
-  -- a prefix of the pending bytes and `bytes` is written; the rest is pending unless a write failed
+  -- a prefix of the pending bytes followed by `bytes` is written; the rest is pending unless a
+  -- write failed
   abbrev pub Follows : (old : Sink W) → (bytes : List ℕ) → Answer → (new : Sink W) → Type 0
   Follows old bytes (Ok done) new =
       WritesBut (written old) (written new) (pending old ++ bytes) (pending new)

@@ -26,11 +26,11 @@ abbrev pub CountsIo : Error → ℕ → ℕ → Type 0
 CountsIo error old new =
     MatchFault (kind_of (error_kind_of error)) (Rises old new) (new ≡ old) (new ≡ old)
 
--- the count of failures rose if the call returned `Io`, and else is unchanged
+-- the count of failures rose if the call returned `Io`, and is unchanged otherwise
 abbrev pub ResultCountsIo : {A : Type 0} → Result A Error → ℕ → ℕ → Type 0
 ResultCountsIo answer old new = MatchResult answer (λ _. new ≡ old) (λ error. CountsIo error old new)
 
--- the count of failures rose if the iterator yielded `Io`, and else is unchanged
+-- the count of failures rose if the iterator yielded `Io`, and is unchanged otherwise
 abbrev pub ItemCountsIo : {A : Type 0} → Option (Result A Error) → ℕ → ℕ → Type 0
 ItemCountsIo item old new = MatchOption item (new ≡ old) (λ answer. ResultCountsIo answer old new)
 

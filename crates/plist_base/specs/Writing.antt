@@ -14,7 +14,8 @@ abbrev pub answer_of : Result (Unit {0}) Error → Answer
 answer_of (Ok done) = Ok done
 answer_of (Err error) = Err (fault_of error)
 
--- a fact for a fault that rejects the event, one for a failure of the writer, and one for any other
+-- `refused` for a fault that rejects the event, `failed` for one that makes the writer fail, and
+-- `other` for any other fault
 abbrev pub MatchKind : FaultKind → (refused failed other : Type 0) → Type 0
 MatchKind (UnexpectedEventType expected found) refused failed other = refused
 MatchKind (ExpectedEndOfEventStream found) refused failed other = refused
@@ -23,7 +24,7 @@ MatchKind OutOfMemory refused failed other = failed
 MatchKind PlistTooLarge refused failed other = failed
 MatchKind kind refused failed other = other
 
--- a fact for an accepted event; otherwise the fault has no offset, and its kind selects the fact
+-- `accepted` after `Ok`; after a fault, which has no offset, the fact that `MatchKind` selects
 abbrev pub MatchAnswer : Answer → (accepted refused failed other : Type 0) → Type 0
 MatchAnswer (Ok done) accepted refused failed other = accepted
 MatchAnswer (Err fault) accepted refused failed other =

@@ -28,8 +28,8 @@ pub trait Allowance: Drop {
     ///
     /// # Errors
     ///
-    /// The error that replaces the event if the event isn't allowed. Which events are admitted
-    /// after an error is unspecified.
+    /// The error that replaces the event if the event isn't allowed. After an error it is
+    /// unspecified which events are admitted.
     fn admit(&mut self, event: &Event<'_>) -> Result<(), Error>
         ensures admitted { OnOk result (AdmitsEvent lets self.old (event_of event.now) self.new) }
         ensures refused { IfFault result (RefusesEvent lets may_reach self.old

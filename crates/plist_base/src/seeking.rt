@@ -43,8 +43,8 @@ impl<R: Read + Seek> Seeking<R> {
     /// Creates a source with windows of 8 KiB over this reader.
     ///
     /// It allocates eight windows when it fills the first one. If windows have to be filled again,
-    /// it doubles their number, up to 8,192 windows (68 MB). Unless there are only eight, there are
-    /// fewer than twice as many windows as the file has parts of 8 KiB. If the first allocation
+    /// it doubles their number, up to 8,192 windows (68 MB). If there are more than eight, their
+    /// number is less than twice the number of parts of 8 KiB in the file. If the first allocation
     /// fails, it uses the windows of [`Seeking::new`]. If a later one fails, it continues with the
     /// windows that it has.
     pub fn with_windows(alloc: Global, inner: R) -> Self

@@ -32,12 +32,13 @@ struct ShortWindows {
     bytes: [u8; INITIAL_WINDOWS * (SHORT_WINDOW + OVERLAP)],
 }
 
-// Long windows on the heap; there are none at first.
+// Long windows on the heap. None are allocated before one has to be filled.
 //
 // Their number doubles when refills outnumber the windows, up to 8,192 windows. Each first fill
-// cancels an eighth of a refill, so that a file that is read in order keeps few windows. Unless
-// there are only eight, there are fewer than twice as many windows as the file has parts of 8 KiB:
-// once there are as many, no window replaces another.
+// cancels an eighth of a refill, so that a file that is read in order keeps few windows. If there
+// are more than eight, their number is less than twice the number of parts of 8 KiB in the file:
+// once there are as many windows as parts, each window is replaced at most once, so that refills
+// don't outnumber the windows any more.
 #[derive(Drop)]
 struct LongWindows {
     headers: Vec<Header>,
@@ -45,7 +46,8 @@ struct LongWindows {
     // Has a bit for each tracked window of the file, which is set once the window was filled.
     ever_filled: Vec<u64>,
     // The number of refills since the last doubling times `REFILL_WEIGHT`, minus the number of
-    // first fills. A first fill changes nothing if this is 0.
+    // first fills. Each fill of a window that isn't tracked counts as a first fill. A first fill
+    // changes nothing if this is 0.
     refills: u64,
 }
 

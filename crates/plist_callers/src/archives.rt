@@ -21,8 +21,8 @@ pub fn object_at<'a>(archive: &Archive<'a>, key: &str) -> Option<&'a Value>
     }
 }
 
-/// Requests the tree of a Uid below which the Uid `nested` is reached while its own object is open.
-/// Returns whether the error names another Uid.
+/// Requests a tree that can't be made, because the object of the Uid `nested` contains `nested`
+/// again, possibly through other Uids. Returns whether the error names another Uid.
 pub fn names_another_open_uid(alloc: Global, archive: &Archive<'_>, uid: Uid, nested: u64) -> bool
     requires { resolved_tree (trees_in archive.now) uid ≡ Err (RecursiveUid nested) }
     ensures { result ≡ false }

@@ -38,7 +38,8 @@ pub fn comes_to_bracket<R: ByteReader + Drop>(reader: &mut AsciiReader<R>) -> bo
 }
 
 /// Reads a comment that contains a star, and the start of an array after the comment. Returns
-/// whether the comment ends at that star, so that a string follows it. It ends at `*/`.
+/// whether the first event is a string, as it would be if the comment ended at that star. It never
+/// is, since a comment ends at `*/`.
 #[tactic(auto, using(crate::proofs::SmallInputs::of_comment_and_array))]
 pub fn comment_closed_by_any_byte(alloc: Global, text: &[u8]) -> bool
     requires { text.now ≡ comment_and_array }

@@ -55,7 +55,7 @@ pub fn are_same(first: &Data, other: &Data) -> bool
     first == other
 }
 
-/// Prints the error of parsing a text that isn't that of data.
+/// Prints the error of parsing a text that doesn't encode data.
 ///
 /// # Errors
 ///
@@ -91,7 +91,7 @@ pub fn text_of_bytes(alloc: Global, bytes: Vec<u8>) -> Result<String, Error>
     Data::from(bytes).to_xml_format(alloc)
 }
 
-/// Returns the data of data's own text, which is that data.
+/// Converts data to its text, and parses the text again. The result is equal to `first`.
 ///
 /// # Errors
 ///

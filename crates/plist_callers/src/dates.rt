@@ -9,7 +9,8 @@ ghost use Rattle.plist_base.specs.Faults.{FractionalDate, InvalidDateString, Yea
 use plist_base::{Date, Error, ErrorKind};
 use std::alloc::Global;
 
-/// Returns the text of the date that a text spells. It is the same text if that has `T` and `Z`.
+/// Parses a text as a date, and returns the text of that date. This is `text` itself if `text` has
+/// `T` at index 10 and `Z` at index 19.
 ///
 /// # Errors
 ///
@@ -23,7 +24,7 @@ pub fn text_again(alloc: Global, text: &str) -> Result<String, Error>
     date.to_xml_format(alloc)
 }
 
-/// Returns the date of a date's own text, which is that date.
+/// Converts a date to its text, and parses the text again. The result is equal to `date`.
 ///
 /// # Errors
 ///

@@ -319,7 +319,7 @@ fn merge_each(over: Dictionary, base: &mut Dictionary) -> Result<(), Error> {
 ///
 /// # Errors
 ///
-/// `OverflowOrNanDate` if a date is met in the first dictionary.
+/// `OverflowOrNanDate` if the recursion reaches a date in the first dictionary.
 pub fn try_count_common(pairs: &Dictionary, others: &Dictionary) -> Result<u64, Error> {
     let mut count = 0;
     for (key, value) in pairs {

@@ -1,5 +1,5 @@
-//! Proved callers of the property-list crates: small functions, each of which is proved from the
-//! clauses of what it calls alone, so that none of these clauses can be weakened unnoticed.
+//! Proved callers of the property-list crates: small functions. Each is proved only from the
+//! clauses of the functions that it calls, so that none of these clauses can be weakened unnoticed.
 //!
 //! They are listed from the lowest layer up: `faults`, `texts`, `dates`, `reals`, `hashes`,
 //! `events`, `sources`, `limits`, `data`; the readers `binary` (also over `small_files`), `ascii`

@@ -16,7 +16,7 @@ use plist_binwrite::EqualScalars;
 use plist_share::EqualTrees;
 use std::alloc::Global;
 
-/// Returns the value of a value's own file, which is that value.
+/// Writes a value as a file, and reads the file again. The result is equal to `value`.
 ///
 /// # Errors
 ///

@@ -82,8 +82,8 @@ fn file_given(alloc: Global, text: &str) -> Result<Vec<u8>, Wrong> {
     file(alloc, body.trim(), widths, [count, root, table])
 }
 
-// Returns the bytes of an input. After its first word it has a text, bytes in hexadecimal, an
-// object whose file is meant, or the parts of a file.
+// Returns the bytes of an input. Its first word says what follows: a text, bytes in hexadecimal, an
+// object, whose file is returned, or the parts of a file.
 pub(crate) fn bytes_given(alloc: Global, given: &str) -> Result<Vec<u8>, Wrong> {
     let (form, rest) = first_word(given);
     match form {

@@ -72,7 +72,7 @@ fn date_text(alloc: Global, date: &Date) -> Result<String, AllocError> {
     }
 }
 
-// Returns the second of a date's text, and the text of that date.
+// Parses a text as a date, and returns the second and the text of that date.
 fn date_words(alloc: Global, text: &str) -> Result<String, AllocError> {
     match Date::from_xml_format(text) {
         Ok(date) => {
@@ -99,7 +99,7 @@ fn second_text(alloc: Global, second: i64) -> Result<String, AllocError> {
     }
 }
 
-// Returns the bytes of the text of data, or the text of the error.
+// Parses a text as data, and returns its bytes in hexadecimal, or the text of the error.
 fn data_words(alloc: Global, text: &str) -> Result<String, AllocError> {
     match Data::from_xml_format(alloc, text) {
         Ok(data) => hex::encode(alloc, data.as_ref()),

@@ -43,7 +43,8 @@ fn expect_value_written(alloc: Global, value: &Value, bytes: &[u8]) -> Result<()
     expect_bytes(alloc, found.as_slice(), bytes)
 }
 
-// Checks that the events of these words are written as this file, whatever lengths they have.
+// Checks that the events of these words are written as this file. The lengths of the starts may be
+// wrong.
 fn expect_hinted(alloc: Global, words: &str, bytes: &[u8]) -> Result<(), Wrong> {
     let writer = BinaryWriter::new(alloc, Vec::new(alloc));
     expect_written(alloc, writer, words, bytes)

@@ -58,7 +58,7 @@ impl fmt::Display for Shape {
     }
 }
 
-// The keys that launchd.plist(5) describes.
+// Most of the keys that launchd.plist(5) describes.
 const KEYS: [(&str, Shape); 48] = [
     ("AbandonProcessGroup", Shape::Boolean),
     ("Debug", Shape::Boolean),

@@ -29,8 +29,8 @@ module _ {F V : Type 0} (g : Shared F (Bor (String Global) × (Bor V × Unit {0}
       × (new ≡ items_where_true answers old)
 
 module _ {I V : Type 0} (next_gives : I → Option (String Global × V) → I → Type 0) (iter : I) where
-  -- all pairs of the iterator are inserted; or, after an error, those before a pair whose key is
-  -- new
+  -- all pairs of the iterator are inserted; or, after an error, only those that precede the pair
+  -- that couldn't be stored, whose key isn't present
   abbrev pub ExtendsBy : Rows V → Result (Unit {0}) Error → Rows V → Type 0
   ExtendsBy old (Ok _) new =
       (taken : List (String Global × V)) × Drains next_gives iter taken

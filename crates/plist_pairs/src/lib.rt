@@ -1,4 +1,4 @@
-//! Pairs of a key and a value, each key once, in the order in which the keys were inserted.
+//! Pairs of a key and a value, each key once, in an order in which a new key is last.
 //!
 //! The main contract is that each call of [`Pairs`] is an operation on the list of the pairs.
 #![tactic(auto)]

@@ -1,5 +1,6 @@
-//! Tests, by public calls alone, of what is built on values: archives, the examples to copy, values
-//! of very many levels, and what the commands of `plist_tool` print, report and store in files.
+//! Tests what is built on values: archives, the examples to copy, values of very many levels, and
+//! what the commands of `plist_tool` print, report and store in files. The tests use only public
+//! calls.
 #![tactic(auto)]
 
 #[cfg(test)]

@@ -29,7 +29,8 @@ fn stops_where_the_writer_fails(rt: HostRuntime) {
     expect_taken(&rt, &writer, front(LINES, 20), 22, 20);
 }
 
-// Forty arrays, each of which contains the next one twice, and an empty one: 2^42 - 2 events.
+// Forty arrays. Each of them contains the next one twice, and the last one contains an empty array
+// twice. The file has 2^42 - 2 events.
 const DOUBLING: &[u8] = b"bplist00\
     \xa2\x01\x01\xa2\x02\x02\xa2\x03\x03\xa2\x04\x04\xa2\x05\x05\
     \xa2\x06\x06\xa2\x07\x07\xa2\x08\x08\xa2\x09\x09\xa2\x0a\x0a\

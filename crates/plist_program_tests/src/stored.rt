@@ -1,4 +1,5 @@
-//! When the file to which a value or a property list is written is created, and when it is stored.
+//! Tests when a file is created, and when the system is told to store it, if a value or a property
+//! list is written to it.
 
 use crate::support::{
     FailingCall, Stage, Watched, expect_holds, expect_missing, must, path_of, put, remove,
@@ -119,7 +120,8 @@ fn goes_no_further_than_a_failure(rt: HostRuntime) {
     expect_failures(&rt, Origin::File("unstored_value"));
 }
 
-// Returns the error of a property list for which a command failed.
+// Returns the error if a command failed because a property list couldn't be read, written or
+// printed, and otherwise `Ok(())`.
 fn error_of(answer: Result<(), Failure>) -> Result<(), Error> {
     match answer {
         Err(Failure::Plist(error)) => Err(error),

@@ -174,7 +174,7 @@ impl Write for Device {
     }
 }
 
-// What remains of a text that is compared, part by part, with what is written.
+// What remains of a string that is compared, part by part, with what is written.
 #[derive(Drop)]
 struct Remaining<'a> {
     text: &'a str,

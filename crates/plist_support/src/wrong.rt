@@ -12,7 +12,7 @@ pub enum Wrong {
     NoFault,
     /// The error, which wasn't expected, has this offset and, if it is an I/O error, this kind.
     OtherFault(Option<u64>, Option<ErrorKind>),
-    /// An I/O error has a text that wasn't expected.
+    /// An I/O error has a message that wasn't expected.
     OtherMessage,
     /// Anything else, in words.
     Words(String),

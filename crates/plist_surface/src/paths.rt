@@ -1,5 +1,6 @@
-//! The paths by which `plist` re-exports items of the crates below it. Each function returns its
-//! argument, whose type it names by the other path.
+//! The paths by which `plist` re-exports items of the crates below it. Each function names an item
+//! by both paths. Most functions return their argument, and name its type by the other path. The
+//! last two call a method of a trait.
 
 pub fn data(it: plist::Data) -> plist_base::Data {
     it

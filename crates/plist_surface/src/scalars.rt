@@ -76,7 +76,7 @@ pub fn uid_calls(uid: Uid) -> u64 {
     uid.get()
 }
 
-// Returns the bytes of a real, by a match over its two widths.
+// Returns the bytes of a real as a big-endian number, by a match over its two widths.
 pub fn bytes_of_real(bits: RealBits) -> u64 {
     is_copy(bits);
     is_eq(&bits);

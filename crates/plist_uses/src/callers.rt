@@ -33,7 +33,8 @@ pub fn text_of<'a>(settings: &'a Settings, name: &str) -> Option<&'a str>
     }
 }
 
-/// Reads the settings of a file, sets one of them, and returns the bytes of a binary file of them.
+/// Reads the settings of a file, sets one setting, and returns the bytes of a binary file with the
+/// changed settings.
 ///
 /// # Errors
 ///

@@ -58,8 +58,8 @@ impl Counts {
     }
 }
 
-/// Counts the content of a property list, binary or in ASCII. It keeps no events, so it takes no
-/// more memory for a larger file than the reader does.
+/// Counts the content of a property list, binary or in ASCII. It keeps no events, so it needs no
+/// more memory than the reader does, however large the file is.
 ///
 /// # Errors
 ///

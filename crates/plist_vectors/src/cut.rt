@@ -72,8 +72,8 @@ impl<'a> Source for &'a mut Cut {
     }
 }
 
-// Checks that the items found are a prefix of the expected ones, followed by the end at the last
-// read, which was at a missing byte.
+// Checks that the items found are a prefix of the expected ones, followed by `UnexpectedEof` with
+// the offset of the last read, which is the offset of a missing byte.
 fn expect_end(rt: &(impl Abort + AllocGlobal), cut: &Cut, found: &str, items: &str) {
     let fault = must(
         rt,

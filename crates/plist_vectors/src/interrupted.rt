@@ -62,8 +62,8 @@ fn tries_nothing_twice(rt: HostRuntime) {
     }
 }
 
-// Four of ten bytes are read from offset 2 on, one per call. A failure has its own offset and the
-// device's error, and isn't tried again.
+// Four of ten bytes are read from offset 2 on, one per call. If a read fails, the error has the
+// offset of this read and the device's I/O error, and the read isn't tried again.
 #[test]
 fn a_failed_read_has_its_place(rt: HostRuntime) {
     for call in 0..4 {

@@ -1,5 +1,5 @@
-//! Tests, by public calls alone, of sequences of calls, and of calls that fail. What fits in a line
-//! is in the tables of `plist_examples`.
+//! Tests sequences of calls, and calls that fail. The tests use only public calls. Whatever can be
+//! tested in one line is in the tables of `plist_examples`.
 #![tactic(auto)]
 
 #[cfg(test)]

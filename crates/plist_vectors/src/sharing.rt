@@ -24,8 +24,8 @@ fn doubled_arrays(rt: HostRuntime) {
     }
 }
 
-// Three arrays, each of which contains the next one twice, and an empty one are fifteen objects if
-// nothing is shared.
+// The root is an array that contains an array twice. This contains an array twice, too, which
+// contains an empty array twice. If nothing is shared, these are fifteen objects.
 #[test]
 fn beside_the_plain_writer(rt: HostRuntime) {
     let words = "[2 [2 [2 [0 end [0 end end [2 [0 end [0 end end end \

@@ -5,8 +5,8 @@ use plist_binwrite::BinaryWriter;
 use plist_support::{Device, file};
 use std::process::Abort;
 
-// Checks that two files were written to the device, a byte per call and a flush after each, and
-// that no call failed.
+// Checks that two files were written to the device, one byte per call, that each file was followed
+// by one flush, and that no call failed.
 fn expect_two_sent(rt: &(impl Abort + AllocGlobal), device: &Device) {
     let mut both = file_of_true(rt);
     let second = must(rt, file(rt.alloc(), "a20101 5161 080b", [1, 1], [2, 0, 13]));

@@ -19,7 +19,7 @@ pub(crate) enum Stage {
     Written,
     Flushed,
     Stored,
-    // A call was out of order. In order are: reads of other files, the creation of the written
+    // A call was out of order. The order is: reads of other files, the creation of the written
     // file, its writes, one flush of it, and one sync of it.
     OutOfTurn,
 }

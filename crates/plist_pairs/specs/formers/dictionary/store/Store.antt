@@ -36,8 +36,7 @@ entry g = pair (const (List ℕ)) g
 abbrev pub the_former : Former {0} → Former {0}
 the_former g = list (entry g)
 
--- if the number of a pair is that of its value, the greatest number of all pairs is the greatest
--- number of all values
+-- the greatest number `f p.1` of the pairs `p` is the greatest number `f v` of their values `v`
 pub most_values : {Y : Type 0} (f : Y → ℕ) (es : List (List ℕ × Y))
     → most (λ p. max 0 (f p.1)) es ≡ most f (values_of es)
 most_values f [] = refl
