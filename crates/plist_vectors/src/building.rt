@@ -22,7 +22,7 @@ fn nothing_comes_after_the_root(rt: HostRuntime) {
     expect_finished(&rt, &mut builder, "UnexpectedEndOfEventStream");
 }
 
-// Writes each scalar into an array, by the writer's own methods.
+// Writes an array of a scalar of each kind and an empty dictionary, by the writer's own methods.
 fn write_scalars<W: Writer>(rt: &impl Abort, writer: &mut W, date: Date) {
     must(rt, writer.write_start_array(None));
     must(rt, writer.write_boolean(true));

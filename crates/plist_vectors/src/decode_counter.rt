@@ -1,5 +1,5 @@
 //! A `Ledger` of the kit can be the counter of a reader. Its count doesn't exist at run time, so
-//! this test can't check it; the examples in `decoded` check counts.
+//! this test can't check it; the examples in the table `decoded` of `plist_examples` check counts.
 
 ghost use Rattle.std.specs.Prelude.{◌≡◌, ◌<◌};
 

@@ -31,7 +31,8 @@ fn texts_of_kinds(rt: HostRuntime) {
     expect_text(&rt, end.without_position(), text);
 }
 
-// The texts of errors that no file can cause. The tables have the others.
+// The texts of `OutOfMemory` and of two errors that no reader returns. The tables of
+// `plist_examples` have the texts of most other errors.
 #[test]
 fn texts_of_writers_kinds(rt: HostRuntime) {
     expect_text(

@@ -1,4 +1,4 @@
-//! Dictionaries that keep their order, and values.
+//! Dictionaries, whose pairs are ordered, and values.
 
 use crate::support::must;
 use plist::{Dictionary, Value, kind_of_value};
