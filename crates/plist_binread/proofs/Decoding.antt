@@ -17,7 +17,7 @@ use Rattle.plist_base.specs.Trees as trees
 use Rattle.plist_base.proofs.Refusals.{MatchFault-at}
 use Rattle.plist_format.specs.Object.{Object, Scalar, Array, Dictionary, Faulty, date, date_if_any, length_in, object_in, text, text_of_units}
 use Rattle.plist_binread.specs.CountedContent.{content_means, counted_with, unit_size}
-use Rattle.plist_binread.specs.Decoded.{DecodesAfter, DecodesAt, DecodesSeen, FitsBefore, FitsWalk, IsDecodedAs, IsObjectFault, IsLongCount, SetsContentAt, SetsDecoded, SetsEvent, content_size, event_of_object, kind_of_object_fault, small_count}
+use Rattle.plist_binread.specs.Decoded.{DecodesAfter, DecodesAt, DecodesSeen, FitsBefore, FitsWalk, IsDecodedAs, IsObjectFault, MeansDecoded, IsLongCount, SetsContentAt, SetsDecoded, SetsEvent, content_size, event_of_object, kind_of_object_fault, small_count}
 use Rattle.plist_binread.specs.Decoding.{Allocates, IsCollection, IsRefusedAs, scalar_event_in}
 use Rattle.plist_binread.specs.FaultOffsets.{FailsWithin, MatchReader}
 use Rattle.plist_binread.specs.Front.{IsFrontAt}
@@ -88,9 +88,9 @@ pub long_decoded : (kind : ContentKind) (low count first : ℕ) (rest behind mor
     → length_in low (rest ++ more) ≡ Some (count, behind ++ more)
     → count * unit_size kind ≤ length (behind ++ more) → length behind ≤ length rest
     → drop (length rest - length behind) rest ≡ behind → IsLongCount kind count
-    → IsDecodedAs (first ∷ (rest ++ more)) (counted_with kind low (rest ++ more))
+    → (width : ℕ) → IsDecodedAs width (first ∷ (rest ++ more)) (counted_with kind low (rest ++ more))
     (decoded.Long kind (1 + (length rest - length behind)) count)
-long_decoded kind low count first rest behind more is fits short lies long =
+long_decoded kind low count first rest behind more is fits short lies long width =
     let k = length rest - length behind in
     let next : 1 + k ≡ suc k = omega arith in
     let there : drop (1 + k) (first ∷ (rest ++ more)) ≡ behind ++ more =
@@ -105,9 +105,10 @@ long_decoded kind low count first rest behind more is fits short lies long =
 pub small_data : (low count content first : ℕ) (rest behind bytes more : List ℕ)
     → length_in low (rest ++ more) ≡ Some (count, behind ++ more) → count ≤ length behind → count ≤ 8
     → bytes ≡ take count behind → take (length bytes) (content_bytes content) ≡ bytes
-    → IsDecodedAs (first ∷ (rest ++ more)) (counted_with content_kind.Data low (rest ++ more))
+    → (width : ℕ)
+    → IsDecodedAs width (first ∷ (rest ++ more)) (counted_with content_kind.Data low (rest ++ more))
     (decoded.Small (kind.Data count) content)
-small_data low count content first rest behind bytes more is seen small cut packed =
+small_data low count content first rest behind bytes more is seen small cut packed width =
     let one : count * 1 ≡ count = omega arith in
     let n : length bytes ≡ count = ap length cut ∙ length-take-le count behind seen in (
       trees.Data bytes,
@@ -122,35 +123,35 @@ pub few_bytes : (kind : ContentKind) (low count size first : ℕ) (rest behind b
     (answer : Decoded)
     → length_in low (rest ++ more) ≡ Some (count, behind ++ more) → size ≡ count * unit_size kind
     → size ≤ length behind → bytes ≡ take size behind
-    → ((all : List ℕ) → IsDecodedAs all (content_means kind bytes) answer)
-    → IsDecodedAs (first ∷ (rest ++ more)) (counted_with kind low (rest ++ more)) answer
-few_bytes kind low count size first rest behind bytes more answer is same seen cut means =
+    → MeansDecoded (content_means kind bytes) answer → (width : ℕ)
+    → IsDecodedAs width (first ∷ (rest ++ more)) (counted_with kind low (rest ++ more)) answer
+few_bytes kind low count size first rest behind bytes more answer is same seen cut means width =
     let e : counted_with kind low (rest ++ more) ≡ content_means kind bytes =
     content_seen low (unit_size kind) count rest behind more is (rw same at seen)
     (content_means kind)
     ∙ ap (content_means kind) (ap (λ k. take k behind) (sym same) ∙ sym cut) in
-    subst (λ object. IsDecodedAs (first ∷ (rest ++ more)) object answer) (sym e)
-    (means (first ∷ (rest ++ more)))
+    subst (λ object. IsDecodedAs width (first ∷ (rest ++ more)) object answer) (sym e)
+    (means width (first ∷ (rest ++ more)))
 
 -- ---- the bytes that were read of an object
 
 -- the bytes that were read are a marker and the bytes after it
 pub seen_after : (w m to_trailer : ℕ) (seen rest : List ℕ) (answer : Decoded)
-    → seen ≡ m ∷ rest → DecodesAfter (to_trailer - 1) (object_with w m) rest answer
-    → DecodesSeen to_trailer (object_in w) seen answer
+    → seen ≡ m ∷ rest → DecodesAfter (to_trailer - 1) w (object_with w m) rest answer
+    → DecodesSeen to_trailer w seen answer
 seen_after w m to_trailer seen rest answer is means = λ more whole.
     let e : seen ++ more ≡ m ∷ (rest ++ more) = ap (λ xs. xs ++ more) is in
     let n : length (rest ++ more) ≡ to_trailer - 1 = omega (arith, ap length e, whole) in
     let o : object_in w (seen ++ more) ≡ object_with w m (rest ++ more) =
     object_front w m (seen ++ more) (rest ++ more) e in
-    subst (λ object. IsDecodedAs (seen ++ more) object answer) (sym o)
-    (subst (λ all. IsDecodedAs all (object_with w m (rest ++ more)) answer) (sym e)
+    subst (λ object. IsDecodedAs w (seen ++ more) object answer) (sym o)
+    (subst (λ all. IsDecodedAs w all (object_with w m (rest ++ more)) answer) (sym e)
     (means m more n))
 
 -- if the bytes are known, the object at the offset is the one that was decoded
 pub seen_decodes : (known : Option (List ℕ)) (bounds : Bounds) (place : ℕ) (seen : List ℕ)
     (answer : Decoded) → IsFrontAt known bounds place seen
-    → DecodesSeen (bounds.trailer - place) (object_in bounds.reference_width) seen answer
+    → DecodesSeen (bounds.trailer - place) bounds.reference_width seen answer
     → DecodesAt known bounds place answer
 seen_decodes known bounds place seen answer front means =
     IfSome_then known front.lies (λ bytes is fits.
@@ -158,26 +159,27 @@ seen_decodes known bounds place seen answer front means =
     (sym (take-length _)) is fits in
     let to_trailer = ap length (sym cut.1) ∙ length-drop place (take bounds.trailer bytes)
     ∙ ap (λ m. m - place) (length-take-le bounds.trailer bytes fits) in
-    subst (λ all. IsDecodedAs all (object_in bounds.reference_width all) answer) (sym cut.1)
+    subst (λ all. IsDecodedAs bounds.reference_width all (object_in bounds.reference_width all)
+    answer) (sym cut.1)
     (means cut.0 to_trailer))
 
 -- what was decoded ends before the trailer, whatever the bytes are
-decoded_fits : (trailer place : ℕ) (all : List ℕ) (object : Object) (d : Decoded)
-    → place + length all ≤ trailer → IsDecodedAs all object d → FitsBefore trailer place d
-decoded_fits trailer place all object (decoded.Small kind content) h is = is.3
-decoded_fits trailer place all object (decoded.Date content) h is = tt
-decoded_fits trailer place all object (decoded.Long kind start count) h is =
+decoded_fits : (trailer place width : ℕ) (all : List ℕ) (object : Object) (d : Decoded)
+    → place + length all ≤ trailer → IsDecodedAs width all object d → FitsBefore trailer place d
+decoded_fits trailer place width all object (decoded.Small kind content) h is = is.3
+decoded_fits trailer place width all object (decoded.Date content) h is = tt
+decoded_fits trailer place width all object (decoded.Long kind start count) h is =
     (omega (arith, h, is.0), is.2)
-decoded_fits trailer place all object (decoded.Array count) h is = tt
-decoded_fits trailer place all object (decoded.Dictionary count) h is = omega (arith, h, is.1)
-decoded_fits trailer place all object (decoded.Faulty fault) h is = tt
+decoded_fits trailer place width all object (decoded.Collection kind start count) h is =
+    (omega (arith, h, is.1), is.2)
+decoded_fits trailer place width all object (decoded.Faulty fault) h is = tt
 
 -- some bytes before the trailer decode to this result
 pub seen_as : (bounds : Bounds) (place : ℕ) (seen : List ℕ) (answer : Decoded)
     → place + length seen ≤ bounds.trailer
-    → DecodesSeen (bounds.trailer - place) (object_in bounds.reference_width) seen answer
+    → DecodesSeen (bounds.trailer - place) bounds.reference_width seen answer
     → (all : List ℕ) × (place + length all ≤ bounds.trailer)
-    × IsDecodedAs all (object_in bounds.reference_width all) answer
+    × IsDecodedAs bounds.reference_width all (object_in bounds.reference_width all) answer
 seen_as bounds place seen answer h means =
     let k = bounds.trailer - place - length seen in
     let more = replicate k 0 in
@@ -187,11 +189,11 @@ seen_as bounds place seen answer h means =
 
 pub seen_fits : (bounds : Bounds) (place : ℕ) (seen : List ℕ) (answer : Decoded)
     → place + length seen ≤ bounds.trailer
-    → DecodesSeen (bounds.trailer - place) (object_in bounds.reference_width) seen answer
+    → DecodesSeen (bounds.trailer - place) bounds.reference_width seen answer
     → FitsBefore bounds.trailer place answer
 seen_fits bounds place seen answer h means =
     let a = seen_as bounds place seen answer h means in
-    decoded_fits bounds.trailer place a.0 _ answer a.1 a.2
+    decoded_fits bounds.trailer place bounds.reference_width a.0 _ answer a.1 a.2
 
 pub fits_walk : (bounds : Bounds) (place : ℕ) (d : Decoded) → FitsBefore bounds.trailer place d
     → FitsWalk d
@@ -199,9 +201,8 @@ fits_walk bounds place (decoded.Small kind content) h = h
 fits_walk bounds place (decoded.Date content) h = tt
 fits_walk bounds place (decoded.Long kind start count) h = tt
 fits_walk bounds place (decoded.Faulty fault) h = tt
-fits_walk bounds place (decoded.Array count) h = tt
-fits_walk bounds place (decoded.Dictionary count) h =
-    let small = bounds.small in omega (arith, h, small)
+fits_walk bounds place (decoded.Collection kind start count) h =
+    let small = bounds.small in (omega (arith, h.0, small), h.1)
 
 -- ---- the event of an object
 
@@ -261,10 +262,11 @@ collection-named (Scalar scalar) start count h = absurd h
 collection-named (Faulty kind) start count h = absurd h
 
 -- the event of a small scalar that is unpacked is the event of its object
-pub small-named : (all : List ℕ) (object : Object) (kind : PackedKind) (content : ℕ)
+pub small-named : (width : ℕ) (all : List ℕ) (object : Object) (kind : PackedKind) (content : ℕ)
     (current : PlainEvent) → scalar_event (unpacked kind content) ≡ Some current
-    → IsDecodedAs all object (decoded.Small kind content) → event_of_object object ≡ Some current
-small-named all object kind content current unpacks is =
+    → IsDecodedAs width all object (decoded.Small kind content)
+    → event_of_object object ≡ Some current
+small-named width all object kind content current unpacks is =
     ap event_of_object is.1 ∙ sym (ap scalar_event is.2) ∙ unpacks
 
 grows-small : (scalar : trees.Scalar) → MayAllocate (Some scalar) → Allocates (Scalar scalar)
@@ -273,10 +275,10 @@ grows-small (trees.Data bytes) h = tt
 grows-small scalar h = absurd h
 
 -- `OutOfMemory` is the error of a small scalar that may need memory
-pub small-refused : (all : List ℕ) (object : Object) (place : ℕ) (kind : PackedKind) (content : ℕ)
-    (e : Error) → fault_of e ≡ fault_without_offset OutOfMemory → MayAllocate (unpacked kind content)
-    → IsDecodedAs all object (decoded.Small kind content) → IsRefusedAs object place e
-small-refused all object place kind content e memory wanted is =
+pub small-refused : (width : ℕ) (all : List ℕ) (object : Object) (place : ℕ) (kind : PackedKind)
+    (content : ℕ) (e : Error) → fault_of e ≡ fault_without_offset OutOfMemory → MayAllocate (unpacked kind content)
+    → IsDecodedAs width all object (decoded.Small kind content) → IsRefusedAs object place e
+small-refused width all object place kind content e memory wanted is =
     MatchFault-at _ _ _ _ _ (ap (λ (f : Fault). f.kind) memory)
     (subst Allocates (sym is.1) (grows-small is.0 (subst MayAllocate is.2 wanted)))
 
@@ -381,10 +383,10 @@ cached_if known number (Err error) slot current d tags small caches = IfSome-all
 -- a statement about the event, for all bytes that decode to this result, is true of the known ones
 pub sets_all : {A : Type 0} (known : Option (List ℕ)) (bounds : Bounds) (place : ℕ) (d : Decoded)
     (answer : Result A Error) (current : PlainEvent)
-    → ((all : List ℕ) (object : Object) → IsDecodedAs all object d
+    → ((width : ℕ) (all : List ℕ) (object : Object) → IsDecodedAs width all object d
     → SetsEvent object place answer current) → SetsDecoded known bounds place d answer current
 sets_all None bounds place d answer current h = tt
-sets_all (Some bytes) bounds place d answer current h = λ fits is. h _ _ is
+sets_all (Some bytes) bounds place d answer current h = λ fits is. h _ _ _ is
 
 -- if the content is short, all of its bytes are among those that were read
 pub content_enough : (size to_trailer rest behind : ℕ) → (rest < 25 → to_trailer ≤ rest)

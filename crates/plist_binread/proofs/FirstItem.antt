@@ -23,6 +23,7 @@ use Rattle.plist_binread.specs.declared.fault_slot.StepError.{StepError}
 use Rattle.plist_binread.specs.DecodeOutcome.{YieldsResult}
 use Rattle.plist_binread.specs.Walking.{walk_objects}
 use Rattle.plist_binread.specs.declared.walk.Walk.{Walk}
+use Rattle.plist_binread.specs.Packed.{is_marked}
 use Rattle.plist_binread.specs.inner.Heads.{head_seen}
 use Rattle.plist_binread.proofs.WalkSteps.{items_beyond, items_step, remaining_at}
 use Rattle.plist_format.proofs.Tables.{slice_get-within, slice_get-beyond}
@@ -89,6 +90,8 @@ module _ (bytes : List ℕ) (head : code.Head) (bounds : Bounds)
     size = ap (λ head. length (places_with head)) is
         ∙ sym (ap length zeros ∙ length-replicate n 0 ∙ count);
     held = λ number less. held number (rw (zeros, length-replicate, count) at less);
+    refers = λ number less marked. absurd
+        (cc (ap (λ ts. is_marked (get_or ts number 0)) zeros ∙ ap is_marked (get_or-zeros n number)));
     counts = tt;
   }
     where

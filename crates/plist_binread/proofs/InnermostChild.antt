@@ -1,29 +1,22 @@
 -- The next child of the innermost collection, or the collection's end.
-use Rattle.std.proofs.Common.{◌≡◌, cond, ℕ, suc, ◌+◌, ◌-◌, ◌*◌, ◌<◌, ◌≤◌, List, [], ◌∷◌, ◌++◌, length, drop, get_or, Ok, Err, refl, ap, sym, ◌∙◌, arith, append_assoc, add-one, None, Some, false}
+use Rattle.std.proofs.Common.{◌≡◌, cond, ℕ, suc, ◌+◌, ◌-◌, ◌*◌, ◌<◌, ◌≤◌, List, [], ◌∷◌, ◌++◌, length, drop, get_or, Ok, Err, refl, ap, sym, ◌∙◌, arith, append_assoc, add-one, None, Some}
 use Rattle.std.specs.List.{flat_map, slice_get}
 use Rattle.std.proofs.lemmas.Bool.{lt-ltb}
 use Rattle.std.proofs.Math.Seq.{drop-cons}
 use Rattle.plist_base.specs.Events.{PlainEvent, EndCollection, Item}
 use Rattle.plist_binread.specs.declared.frames.Frame.{Frame}
-use Rattle.plist_binread.specs.Packed.{MarkChanged}
+use Rattle.plist_binread.specs.Frames.{advanced}
+use Rattle.plist_binread.specs.Packed.{KeepsOtherTags}
 use Rattle.plist_format.specs.Unfolding.{TableEntry, unfolding_of, until_fault}
 use Rattle.plist_binread.specs.declared.head.Bounds.{Bounds}
 use Rattle.plist_binread.specs.Remaining.{path_of, MarksOpenPath, MatchesFile, children_at, place_at, entries_of, remaining_items, SomeRemain, next_number, walk_steps, walk_weight}
 use Rattle.std.proofs.lemmas.List.{drop_all, get_or_default}
-use Rattle.plist_binread.proofs.WalkInvariant.{known_with}
+use Rattle.plist_binread.proofs.OpenObjects.{first_below, first_open}
+use Rattle.plist_binread.proofs.WalkInvariant.{known_closed, known_with}
 
--- the frame with this number as the index of its next child
-abbrev pub with_next : Frame → ℕ → Frame
-with_next f n = record { object = f.object; next = n; count = f.count }
-
--- the frame after its next child was taken
-abbrev pub after : Frame → Frame
-after f = with_next f (f.next + 1)
-
-pub next_path : (tags : List ℕ) (f : Frame) (n : ℕ) (fs : List Frame) → MarksOpenPath tags (f ∷ fs)
-    → MarksOpenPath tags (with_next f n ∷ fs)
-next_path tags f n fs o =
-    record { distinct = o.distinct; below = o.below; marks = o.marks; uncached = o.uncached }
+pub next_path : (tags : List ℕ) (f : Frame) (fs : List Frame) → MarksOpenPath tags (f ∷ fs)
+    → MarksOpenPath tags (advanced f ∷ fs)
+next_path tags f fs o = record { distinct = o.distinct; below = o.below; marks = o.marks }
 
 child_flat : (step : ℕ → List Item) (xs : List ℕ) (more : List Item) (i x : ℕ) → i < length xs
     → x ≡ get_or xs i x → flat_map step (drop i xs) ++ more ≡ step x
@@ -49,42 +42,43 @@ module _ (bytes tags contents : List ℕ) (bounds : Bounds) (f : Frame) (fs : Li
 
   -- if a child is left, its items are the first of those that remain
   pub child_remaining : f.next < f.count
-      → ((remaining_items table (f ∷ fs) ≡ unfolding_of table (length table - length (after f ∷ fs))
-      (path_of (after f ∷ fs)) (place_at (slice_get table f.object)) (get_or children f.next 0)
-      ++ remaining_items table (after f ∷ fs))
-      × (f.next < length children)
+      → ((remaining_items table (f ∷ fs) ≡ unfolding_of table (length table - length (advanced f ∷ fs))
+      (path_of (advanced f ∷ fs)) (place_at (slice_get table f.object)) (get_or children f.next 0)
+      ++ remaining_items table (advanced f ∷ fs))
+      × (length children ≡ f.count)
       × SomeRemain (until_fault (remaining_items table (f ∷ fs)))
       × (next_number table (f ∷ fs) ≡ Some (get_or children f.next 0)))
-      × MatchesFile bytes bounds tags contents (after f ∷ fs)
+      × MatchesFile bytes bounds tags contents (advanced f ∷ fs)
   child_remaining h = (
     (
       child_flat (λ c. unfolding_of table (length table - suc (length fs)) (f.object ∷ path_of fs)
           (place_at (slice_get table f.object)) c) children _
           _ _ (rw k.counts.0 h)
           (get_or_default children _ 0 _ (rw k.counts.0 h)),
-      rw k.counts.0 h,
+      k.counts.0,
       until_some _ _ _,
       ap (λ b. cond b (Some (get_or children f.next 0)) None) (lt-ltb _ _ h),
     ),
-    known_with bytes bounds tags contents (f ∷ fs) k tags contents (after f ∷ fs) refl k.held
-        (k.counts.0, k.counts.1),
+    known_with bytes bounds tags contents (f ∷ fs) k tags contents (advanced f ∷ fs) refl
+        (λ q less. (k.held q less, k.refers q less)) (k.counts.0, k.counts.1),
   )
 
   -- if no child is left, the end is the first item that remains
-  pub closed_remaining : (new : List ℕ) → f.count ≤ f.next → MarkChanged f.object false tags new
+  pub closed_remaining : (new : List ℕ) → MarksOpenPath tags (f ∷ fs) → f.count ≤ f.next
+      → KeepsOtherTags f.object tags new → get_or new f.object 0 ≡ 0
       → (remaining_items table (f ∷ fs) ≡ Ok EndCollection ∷ remaining_items table fs)
       × MatchesFile bytes bounds new contents fs
-  closed_remaining new h m = (
+  closed_remaining new o h m closed = (
     rw (drop_all f.next children (rw k.counts.0 h)) refl,
-    known_with bytes bounds tags contents (f ∷ fs) k new contents fs m.size
-        (λ q less. rw (m.tags q) (k.held q less)) k.counts.1,
+    known_closed bytes bounds tags contents (f ∷ fs) k new f (first_below tags f fs o)
+        (first_open tags f fs o) m closed fs k.counts.1,
   )
 
 one_less : (l i s w : ℕ) → i < l → (l - i) * s + 1 + w ≡ (l - (i + 1)) * s + 1 + w + s
 one_less l i s w h = let e : l - i ≡ suc (l - (i + 1)) = omega arith in rw e (omega arith)
 
 pub child_weight : (n : ℕ) (f : Frame) (fs : List Frame) → f.next < f.count
-    → walk_weight n (f ∷ fs) ≡ walk_weight n (after f ∷ fs) + walk_steps (n - length (after f ∷ fs))
+    → walk_weight n (f ∷ fs) ≡ walk_weight n (advanced f ∷ fs) + walk_steps (n - length (advanced f ∷ fs))
 child_weight n f fs h = one_less _ _ _ _ h
 
 pub closed_weight : (n : ℕ) (f : Frame) (fs : List Frame) → f.count ≤ f.next

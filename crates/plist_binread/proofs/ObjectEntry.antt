@@ -1,5 +1,5 @@
 -- What is true when an object is entered.
-use Rattle.std.proofs.Common.{◌≡◌, ℕ, ◌<◌, ◌≤◌, false, List, length, get_or, Option, Some, Result, Ok, Err, IfSome, ap, sym, subst, ◌∙◌}
+use Rattle.std.proofs.Common.{◌≡◌, ℕ, ◌<◌, ◌≤◌, false, List, length, get_or, Option, Some, Result, Ok, Err, IfSome, ap, subst, ◌∙◌}
 use Rattle.std.specs.List.{slice_get}
 use Rattle.plist_base.specs.Events.{PlainEvent}
 use Rattle.plist_base.specs.declared.error.Error.{Error}
@@ -15,7 +15,7 @@ use Rattle.plist_binread.specs.declared.head.Bounds.{Bounds}
 use Rattle.plist_binread.specs.declared.walk.Walk.{Walk}
 use Rattle.plist_binread.specs.FirstStep.{IsKnownWalk}
 use Rattle.plist_binread.specs.Remaining.{Explains, entries_of}
-use Rattle.plist_binread.specs.Decoded.{DecodesAt, IsDecodedAs, RefusesObjectAt, SetsDecoded, SetsEvent, bytes_at, event_of_object, is_refused}
+use Rattle.plist_binread.specs.Decoded.{DecodesAt, IsDecodedThere, RefusesObjectAt, SetsDecoded, SetsEvent, event_of_object, is_refused}
 use Rattle.plist_binread.specs.Decoding.{IsRefusedAs}
 use Rattle.plist_binread.specs.DecodeOutcome.{YieldsResult, YieldsCurrent}
 use Rattle.plist_binread.specs.Step.{OpensObject}
@@ -33,16 +33,22 @@ use Rattle.plist_binread.proofs.UnknownBytes.{IfSome-both, IfSome-three}
 pub record IsDecodedAt (bytes : List ℕ) (bounds : Bounds) (number place : ℕ) (d : Decoded) : Type 0
   where
     pub entry : slice_get (entries_of bytes bounds) number ≡ Some (entry_of bytes bounds number)
-    pub there : (entry_of bytes bounds number).object ≡ object_at bounds place bytes
     pub at_place : place ≡ (entry_of bytes bounds number).place
     pub within : bounds.trailer ≤ length bytes
-    pub decoded : IsDecodedAs (bytes_at bounds place bytes) (object_at bounds place bytes) d
+    pub decoded : IsDecodedThere bytes bounds place d
+
+-- the object of this number was decoded
+entered : (bytes : List ℕ) (bounds : Bounds) (number place : ℕ) (d : Decoded)
+    → IsDecodedAt bytes bounds number place d
+    → IsDecodedThere bytes bounds (entry_of bytes bounds number).place d
+entered bytes bounds number place d t =
+    subst (λ p. IsDecodedThere bytes bounds p d) t.at_place t.decoded
 
 -- a string or data of which only the length was decoded is entered without a change of the walk
 pub long_opens : (number start count : ℕ) (kind : ContentKind) (walk : Walk)
     → number < walk_objects walk → get_or walk.tags.items number 0 ≡ 0
     → OpensObject number (decoded.Long kind start count) walk walk
-long_opens number start count kind walk below new bytes bounds entry all k is found = (
+long_opens number start count kind walk below new bytes bounds entry k is found = (
   (λ at event _ named. yields_scalar _ _ (as_many _ _ _ _ _ k) _ at _ _ walk.path below is
       (not_open walk.path below new) event (named-long entry.object _ _ event found.1 named)),
   k,
@@ -90,7 +96,6 @@ module _ (known : Option (List ℕ)) (bounds : Bounds) (walk : Walk) (number : �
       → DecodesAt known bounds place d → IfSome known (λ bytes. IsDecodedAt bytes bounds number place d)
   known_decoded place d is decodes = IfSome-both known k decodes (λ bytes k decodes. record {
     entry = entry_there bytes bounds walk.tags.items walk.contents.items (open_in walk) k number h;
-    there = ap (λ p. object_at bounds p bytes) (sym (place_is bytes bounds walk k number place h is));
     at_place = place_is bytes bounds walk k number place h is;
     within = k.within;
     decoded = decodes k.within;
@@ -108,10 +113,8 @@ module _ (known : Option (List ℕ)) (bounds : Bounds) (walk : Walk) (number : �
       current (remaining_in bytes bounds new))
   known_set {A = A} at place d new now answer current same free there opens sets found =
       IfSome-three known k there (rw same at sets) (λ bytes k t sets.
-      by bytes k t (opens bytes bounds (entry_of bytes bounds number)
-      (bytes_at bounds place bytes) k t.entry
-      (subst (λ o. IsDecodedAs (bytes_at bounds place bytes) o d) (sym t.there) t.decoded)).0
-      answer found (sets t.within t.decoded))
+      by bytes k t (opens bytes bounds (entry_of bytes bounds number) k t.entry
+      (entered bytes bounds number place d t)).0 answer found (sets t.within t.decoded))
     where
       by : (bytes : List ℕ) → IsWalkOf bytes bounds walk → IsDecodedAt bytes bounds number place d
           → ((at : ℕ) (event : PlainEvent) → is_refused d ≡ false
@@ -123,7 +126,8 @@ module _ (known : Option (List ℕ)) (bounds : Bounds) (walk : Walk) (number : �
           → YieldsResult (remaining_entering bytes bounds walk at number) answer current
           (remaining_in bytes bounds new)
       by bytes k t yields (Ok value) found sets =
-          yields at current found (ap event_of_object t.there ∙ sets)
+          yields at current found
+          (subst (λ p. event_of_object (object_at bounds p bytes) ≡ Some current) t.at_place sets)
       by bytes k t yields (Err e) found sets =
           found_refused bytes bounds walk.tags.items walk.contents.items (open_in walk) k walk.path
           at number h free e (subst (λ p. IsRefusedAs (object_at bounds p bytes) p e) t.at_place sets)
@@ -133,5 +137,5 @@ module _ (known : Option (List ℕ)) (bounds : Bounds) (walk : Walk) (number : �
       → IfSome known (λ bytes. IsDecodedAt bytes bounds number place d)
       → OpensObject number d walk new → IfSome known (λ bytes. IsWalkOf bytes bounds new)
   known_opens place d new there opens = IfSome-both known k there (λ bytes k t.
-      (opens bytes bounds (entry_of bytes bounds number) (bytes_at bounds place bytes) k t.entry
-      (subst (λ o. IsDecodedAs (bytes_at bounds place bytes) o d) (sym t.there) t.decoded)).1)
+      (opens bytes bounds (entry_of bytes bounds number) k t.entry
+      (entered bytes bounds number place d t)).1)

@@ -1,12 +1,8 @@
 -- What the bytes at an object's front say, whatever follows them.
-use Rattle.std.proofs.Common.{◌≡◌, ℕ, suc, ◌+◌, ◌-◌, ◌<◌, ◌≤◌, List, ◌∷◌, ◌++◌, length, take, drop, Option, Some, IfSome, refl, ap, sym, ◌∙◌, arith}
-use Rattle.std.proofs.lemmas.List.{take-take, drop-take, drop-drop, length-append, drop-append-le, length-drop, length-take-le, take-append-drop}
-use Rattle.std.proofs.Math.Seq.{take-length}
+use Rattle.std.proofs.Common.{◌≡◌, ℕ, ◌+◌, ◌-◌, ◌≤◌, List, ◌∷◌, ◌++◌, length, take, drop, Option, IfSome, refl, ap, sym, ◌∙◌, arith}
+use Rattle.std.proofs.lemmas.List.{take-take, drop-take, drop-drop, length-drop, length-take-le, take-append-drop}
 use Rattle.plist_base.specs.Sources.{LiesAt}
-use Rattle.plist_binread.specs.Reading.{HasPairs, object_counted, object_with}
-use Rattle.plist_format.specs.declared.marker.CountedKind.{CountedKind}
-use Rattle.plist_binread.specs.DecodeOutcome.{AreReferencesAt}
-use Rattle.plist_format.specs.Object.{Object, layout_of, length_in, object_after_marker, object_in}
+use Rattle.plist_format.specs.Object.{layout_of, object_after_marker, object_in}
 use Rattle.plist_binread.proofs.NumberRuns.{take-drop-take}
 use Rattle.std.proofs.lemmas.Option.{IfSome_then}
 
@@ -35,18 +31,6 @@ known_front known outcome found t p w buffered h cut is = IfSome_then known is (
       ∙ ap (λ ys. ys ++ drop w (drop p (take t bytes))) (sym cut),
 ))
 
--- what is true of each object that begins with these bytes is true of the object at the offset
-pub known_seen : (known : Option (List ℕ)) (t w p : ℕ) (seen : List ℕ) (P : Object → Type 0)
-    → p + length seen ≤ t → IfSome known (λ bytes. LiesAt bytes p seen)
-    → ((more : List ℕ) → length (seen ++ more) ≡ t - p → P (object_in w (seen ++ more)))
-    → IfSome known (λ bytes. t ≤ length bytes → P (object_in w (drop p (take t bytes))))
-known_seen known t w p seen P buffered is means = IfSome_then known is (λ bytes is fits.
-    let cut = known_front (Some bytes) seen seen t p _ buffered (omega arith)
-    (sym (take-length _)) is fits in
-    let to_trailer = ap length (sym cut.1)
-    ∙ length-drop p (take t bytes) ∙ ap (λ m. m - p) (length-take-le t bytes fits) in
-    rw cut.1 (means _ to_trailer))
-
 -- a front of bytes that lie at an offset lies there, too
 pub known_prefix : (known : Option (List ℕ)) (p k : ℕ) (buffered : List ℕ) → k ≤ length buffered
     → IfSome known (λ bytes. LiesAt bytes p buffered)
@@ -73,19 +57,3 @@ known_suffix known p k n place found above is within short lies = IfSome_then kn
     rw (rest, at) (cut ∙ ap (drop k) there
     ∙ ap (λ m. drop k (take m (drop p bytes))) whole ∙ drop-take k (n - k) (drop p bytes)
     ∙ ap (take (n - k)) (drop-drop k p bytes)))
-
--- if the length of a collection was read, its references begin after the length
-pub front_slots : (w m low : ℕ) (k : CountedKind) (count pairs start : ℕ)
-    (seen rest behind more : List ℕ) → HasPairs k count pairs → 0 < w
-    → object_with w m (rest ++ more) ≡ object_counted w k low (rest ++ more)
-    → seen ≡ m ∷ rest → length behind ≤ length rest → start ≡ length seen - length behind
-    → length_in low (rest ++ more) ≡ Some (count, behind ++ more)
-    → drop (length rest - length behind) rest ≡ behind → AreReferencesAt w (seen ++ more) start pairs
-front_slots w m low k count pairs start seen rest behind more has some same is short at counted lies =
-    let whole = ap length is in
-    let next : start ≡ suc (length rest - length behind) = omega arith in
-    let cut : drop start seen ≡ behind = rw (next, is) lies in
-    has w low start (seen ++ more) _ some (omega (arith, length-append seen more))
-    (object_front w m (seen ++ more) (rest ++ more) (ap (λ xs. xs ++ more) is) ∙ same)
-    (counted ∙ ap (λ ys. Some (count, ys))
-    (sym (drop-append-le start seen more (omega arith) ∙ ap (λ ys. ys ++ more) cut)))

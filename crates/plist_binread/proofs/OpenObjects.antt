@@ -1,14 +1,15 @@
 -- Which objects are open, and how many are open or cached.
-use Rattle.std.proofs.Common.{◌≡◌, ℕ, zero, suc, ◌+◌, ◌<◌, ◌≤◌, inl, inr, Bool, true, false, cond, ◌||◌, nat_eq, nat_lt, List, [], ◌∷◌, length, get_or, reverse, replicate, refl, ap, sym, ◌∙◌, arith}
+use Rattle.std.proofs.Common.{◌≡◌, ℕ, zero, suc, ◌+◌, ◌<◌, ◌≤◌, inl, inr, true, false, cond, ◌||◌, nat_eq, nat_lt, List, [], ◌∷◌, length, get_or, reverse, replicate, Some, refl, ap, sym, ◌∙◌, arith}
 use Rattle.std.specs.List.{list_any, IsDistinct}
 use Rattle.std.proofs.lemmas.Bool.Decides.{eqb_tells}
 use Rattle.std.proofs.Math.Dec.{eqb-suc-suc, eqb-suc-zero, eqb-zero-suc}
 use Rattle.std.proofs.lemmas.Bool.{or_right, eq-eqb, lt-ltb}
 use Rattle.plist_base.proofs.Paths.{none_equal, any_none, below_cons, path_fuel, path_rises}
 use Rattle.plist_binread.specs.declared.frames.Frame.{Frame}
-use Rattle.plist_binread.specs.Packed.{is_marked, unmarked, KindChanged, MarkChanged}
+use Rattle.plist_binread.specs.Packed.{is_marked, packed_kind, unmarked, KeepsOtherTags}
 use Rattle.plist_binread.specs.declared.packed.PackedKind.{PackedKind}
 use Rattle.plist_binread.proofs.PackedScalars.{kind_of_tag-some}
+use Rattle.plist_binread.proofs.Tags.{kept_everywhere}
 use Rattle.plist_binread.specs.Remaining.{path_of, MarksOpenPath, cached_count}
 use Rattle.std.proofs.lemmas.List.{nil_from_length}
 
@@ -17,34 +18,24 @@ length-path_of [] = refl
 length-path_of (f ∷ fs) = ap suc (length-path_of fs)
 
 -- after one more object was opened, the marks are those of the longer path
-marks_push : (i q : ℕ) (tags new xs : List ℕ) → MarkChanged i true tags new
-    → is_marked (get_or tags q 0) ≡ list_any (nat_eq q) xs
+marks_push : (i q : ℕ) (tags new xs : List ℕ) → KeepsOtherTags i tags new
+    → is_marked (get_or new i 0) ≡ true → is_marked (get_or tags q 0) ≡ list_any (nat_eq q) xs
     → is_marked (get_or new q 0) ≡ list_any (nat_eq q) (i ∷ xs)
-marks_push i q tags new xs m was =
+marks_push i q tags new xs m marked was =
     elim (eqb_tells q i) [
       | inl e ↦ cc
       | inr e ↦ cc (m.others q e.0)
     ]
 
 -- after the innermost object was closed, the marks are those of the shorter path
-marks_pop : (i q : ℕ) (tags new xs : List ℕ) → MarkChanged i false tags new
+marks_pop : (i q : ℕ) (tags new xs : List ℕ) → KeepsOtherTags i tags new → get_or new i 0 ≡ 0
     → list_any (nat_eq i) xs ≡ false → is_marked (get_or tags q 0) ≡ list_any (nat_eq q) (i ∷ xs)
     → is_marked (get_or new q 0) ≡ list_any (nat_eq q) xs
-marks_pop i q tags new xs m none was =
+marks_pop i q tags new xs m closed none was =
+    let free : is_marked (get_or new i 0) ≡ false = ap is_marked closed in
     elim (eqb_tells q i) [
       | inl e ↦ cc
       | inr e ↦ cc (m.others q e.0)
-    ]
-
--- an object that is marked isn't cached, if its tag is unchanged or it was opened now
-uncached_with : (i q : ℕ) (marked : Bool) (tags new : List ℕ) → MarkChanged i marked tags new
-    → unmarked (get_or tags i 0) ≡ 0
-    → (is_marked (get_or tags q 0) ≡ true → unmarked (get_or tags q 0) ≡ 0)
-    → is_marked (get_or new q 0) ≡ true → unmarked (get_or new q 0) ≡ 0
-uncached_with i q marked tags new m none was h =
-    elim (eqb_tells q i) [
-      | inl e ↦ cc (m.tags q)
-      | inr e ↦ cc (m.others q e.0, was (sym (ap is_marked (m.others q e.0)) ∙ h))
     ]
 
 -- an object whose tag is 0 isn't open
@@ -58,35 +49,35 @@ pub first_below : (tags : List ℕ) (f : Frame) (fs : List Frame) → MarksOpenP
 first_below tags f fs o =
     o.below _ (ap (λ b. b || list_any (nat_eq f.object) (path_of fs)) (eq-eqb f.object _ refl))
 
-pub first_uncached : (tags : List ℕ) (f : Frame) (fs : List Frame) → MarksOpenPath tags (f ∷ fs)
-    → unmarked (get_or tags f.object 0) ≡ 0
-first_uncached tags f fs o =
-    o.uncached _ (cc (o.marks f.object (first_below tags f fs o), eq-eqb f.object f.object refl))
+-- the innermost object is marked
+pub first_open : (tags : List ℕ) (f : Frame) (fs : List Frame) → MarksOpenPath tags (f ∷ fs)
+    → is_marked (get_or tags f.object 0) ≡ true
+first_open tags f fs o =
+    cc (o.marks f.object (first_below tags f fs o), eq-eqb f.object f.object refl)
 
 -- after one more object was opened, exactly the open objects are marked
 pub IsOpen-push : (tags new : List ℕ) (f : Frame) (fs : List Frame) → MarksOpenPath tags fs
     → f.object < length tags → list_any (nat_eq f.object) (path_of fs) ≡ false
-    → unmarked (get_or tags f.object 0) ≡ 0 → MarkChanged f.object true tags new → MarksOpenPath new (f ∷ fs)
+    → KeepsOtherTags f.object tags new → is_marked (get_or new f.object 0) ≡ true
+    → MarksOpenPath new (f ∷ fs)
 unfolding IsDistinct
-IsOpen-push tags new f fs o h apart none m = record {
+IsOpen-push tags new f fs o h apart m marked = record {
   distinct = (none_equal f.object (path_of fs) apart, o.distinct);
   below = λ q any. rw m.size (below_cons f.object (length tags) q (path_of fs) h o.below any);
-  marks = λ q less. marks_push f.object q tags new (path_of fs) m (o.marks q (rw m.size at less));
-  uncached = λ q. uncached_with f.object q true tags new m none (o.uncached q);
+  marks = λ q less. marks_push f.object q tags new (path_of fs) m marked
+      (o.marks q (rw m.size at less));
 }
 
 -- after the innermost object was closed, exactly the open objects are marked
 pub IsOpen-pop : (tags new : List ℕ) (f : Frame) (fs : List Frame) → MarksOpenPath tags (f ∷ fs)
-    → MarkChanged f.object false tags new → MarksOpenPath new fs
+    → KeepsOtherTags f.object tags new → get_or new f.object 0 ≡ 0 → MarksOpenPath new fs
 unfolding IsDistinct
-IsOpen-pop tags new f fs o m = record {
+IsOpen-pop tags new f fs o m closed = record {
   distinct = o.distinct.1;
   below = λ q any. rw m.size (o.below q
       (or_right (nat_eq q f.object) (list_any (nat_eq q) (path_of fs)) any));
-  marks = λ q less. marks_pop f.object q tags new (path_of fs) m
+  marks = λ q less. marks_pop f.object q tags new (path_of fs) m closed
       (any_none f.object (path_of fs) o.distinct.0) (o.marks q (rw m.size at less));
-  uncached = λ q. uncached_with f.object q false tags new m (first_uncached tags f fs o)
-      (o.uncached q);
 }
 
 -- no more objects are open than there are objects
@@ -114,7 +105,6 @@ IsOpen-none n tags [] is h = record {
   distinct = tt;
   below = λ q any. absurd (cc);
   marks = λ q less. ap (λ ts. is_marked (get_or ts q 0)) is ∙ ap is_marked (get_or-zeros n q);
-  uncached = λ q marked. ap (λ ts. unmarked (get_or ts q 0)) is ∙ ap unmarked (get_or-zeros n q);
 }
 IsOpen-none n tags (f ∷ fs) is h = absurd (omega arith)
 
@@ -156,17 +146,18 @@ one_more (suc n) (x ∷ xs) (y ∷ ys) h less all was now =
     (λ t. cond {A = ℕ} (nat_lt 0 (unmarked t)) 1 0) (all 0 (eqb-zero-suc n)) in
     omega arith
 
--- a mark doesn't change the number of cached objects
-pub cached_count-mark : (i : ℕ) (marked : Bool) (tags new : List ℕ) → MarkChanged i marked tags new
-    → cached_count new ≡ cached_count tags
-cached_count-mark i marked tags new m = same_count new _ m.size m.tags
+-- opening or closing an object doesn't change the number of cached objects
+pub cached_count-kept : (i : ℕ) (tags new : List ℕ) → KeepsOtherTags i tags new
+    → unmarked (get_or new i 0) ≡ unmarked (get_or tags i 0) → cached_count new ≡ cached_count tags
+cached_count-kept i tags new m same =
+    same_count new _ m.size (kept_everywhere unmarked i tags new m same)
 
 -- caching an object raises the number of cached objects by one
-pub cached_count-keep : (i : ℕ) (kind : PackedKind) (tags new : List ℕ) → i < length tags
-    → unmarked (get_or tags i 0) ≡ 0 → KindChanged i kind tags new
-    → cached_count new ≡ cached_count tags + 1
-cached_count-keep i kind tags new h none m =
-    one_more i _ new (sym m.size) h m.others none (kind_of_tag-some _ kind m.here)
+pub cached_count-more : (i : ℕ) (kind : PackedKind) (tags new : List ℕ) → i < length tags
+    → unmarked (get_or tags i 0) ≡ 0 → KeepsOtherTags i tags new
+    → packed_kind (get_or new i 0) ≡ Some kind → cached_count new ≡ cached_count tags + 1
+cached_count-more i kind tags new h none m is =
+    one_more i _ new (sym m.size) h m.others none (kind_of_tag-some _ kind is)
 
 zero_count : (n : ℕ) → cached_count (replicate n 0) ≡ 0
 zero_count zero = refl

@@ -1,5 +1,5 @@
 -- What a walk has stored about the file's objects, and how each step changes it.
-use Rattle.std.proofs.Common.{◌≡◌, ℕ, ◌-◌, ◌<◌, ◌≤◌, inl, inr, Bool, true, false, nat_eq, List, [], ◌∷◌, ◌++◌, length, take, drop, get_or, slice_set, Option, None, Some, Ok, Err, IfSome, refl, ap, sym, ◌∙◌, arith}
+use Rattle.std.proofs.Common.{◌≡◌, ℕ, ◌-◌, ◌<◌, ◌≤◌, inl, inr, Bool, true, false, nat_eq, List, [], ◌∷◌, ◌++◌, length, take, drop, get_or, slice_set, Option, None, Some, Ok, Err, IfSome, refl, ap, sym, subst, ◌∙◌, arith}
 use Rattle.std.specs.Prelude.{⊤}
 use Rattle.std.specs.List.{AllByRecursion, slice_get}
 use Rattle.std.proofs.lemmas.Bool.Decides.{eqb_tells, nat_tests}
@@ -10,7 +10,7 @@ use Rattle.plist_base.specs.Events.{PlainEvent, ScalarEvent, Item}
 use Rattle.plist_base.specs.Trees.{Scalar}
 use Rattle.plist_base.proofs.Refusals.{MatchFault-at, MatchFault-weaker}
 use Rattle.plist_binread.specs.declared.frames.Frame.{Frame}
-use Rattle.plist_binread.specs.Decoded.{IsDecodedAs, bytes_at}
+use Rattle.plist_binread.specs.Decoded.{DecodesAt, IsDecodedAs}
 use Rattle.plist_binread.specs.Reading.{object_at}
 use Rattle.plist_binread.specs.declared.decoded.Decoded.{Decoded}
 use Rattle.plist_binread.specs.declared.decoded.Decoded.TheVariants as decoded
@@ -19,16 +19,18 @@ use Rattle.plist_binread.specs.Walking.{IsWalkOf, open_in, walk_objects}
 use Rattle.plist_binread.specs.declared.walk.Walk.{Walk}
 use Rattle.plist_binread.specs.declared.head.Bounds.{Bounds}
 use Rattle.plist_format.specs.Object.{Object, object_in}
-use Rattle.plist_binread.specs.Packed.{is_marked, unmarked, unpacked, cached, scalar_event, IsTextOrData, MayAllocate, KindChanged, MarkChanged}
+use Rattle.plist_binread.specs.Packed.{is_marked, kind_of_tag, open_tag, packed_kind, scalar_of_kind, unmarked, unpacked, cached, scalar_event, IsTextOrData, MayAllocate, KeepsOtherTags}
+use Rattle.plist_binread.specs.declared.decoded.CollectionKind.{CollectionKind}
+use Rattle.plist_binread.proofs.Tags.{cached_closed, open_tag-kind, open_tag-marked, open_tag-start, open_uncached}
 use Rattle.plist_binread.specs.declared.packed.PackedKind.{PackedKind}
 use Rattle.plist_binread.proofs.PackedScalars.{kind_of_tag-some}
 use Rattle.plist_format.specs.Unfolding.{TableEntry, unfolding_of, until_fault}
-use Rattle.plist_binread.specs.Remaining.{children_at, place_at, scalar_at, path_of, MarksOpenPath, HoldsPlaceOr, IsHeld, MatchesFile, places_of, entries_of, remaining_items, Explains}
-use Rattle.plist_binread.specs.Decoding.{IsCollection, IsRefusedAs, scalar_event_in, scalar_in}
+use Rattle.plist_binread.specs.Remaining.{bytes_at, children_at, place_at, scalar_at, path_of, MarksOpenPath, HoldsPlaceOr, IsHeld, LocatesReferences, MatchesFile, places_of, entries_of, remaining_items, Explains}
+use Rattle.plist_binread.specs.Decoding.{AreReferencesAt, IsCollection, IsRefusedAs, children_in, scalar_event_in, scalar_in}
 use Rattle.plist_binread.proofs.WalkSteps.{collection_count, items_beyond, items_open, yields_refused, yields_scalar, refused_cached, refused_memory}
 use Rattle.plist_format.proofs.Tables.{slice_get-within, slice_get-beyond, length-table_of}
 use Rattle.std.proofs.lemmas.Option.{IfSome_then}
-use Rattle.std.proofs.lemmas.Bool.{eqb-false}
+use Rattle.std.proofs.lemmas.Bool.{eqb-false, false≢true}
 
 not_zero : (t : ℕ) → 0 < t → nat_eq t 0 ≡ false
 not_zero t h = grind (arith, nat_tests)
@@ -62,6 +64,10 @@ from_scalar false (Some s) content entry event b is h =
 module _ (bytes : List ℕ) (bounds : Bounds) where
   abbrev table : List TableEntry
   table = entries_of bytes bounds
+
+  -- what is stored about an object is true of its entry
+  abbrev IsStored : Option TableEntry → (tag content : ℕ) → Type 0
+  IsStored entry tag content = IsHeld entry tag content × LocatesReferences bytes bounds entry tag
 
   -- the entry of a number: the object's offset, and the object there
   abbrev pub entry_of : ℕ → TableEntry
@@ -106,54 +112,87 @@ module _ (bytes : List ℕ) (bounds : Bounds) where
       -- a walk with other tags, contents and open collections is a walk over the file, if these
       -- are right
       pub known_with : (new others : List ℕ) (gs : List Frame) → length new ≡ length tags
-          → ((q : ℕ) → q < length tags
-          → IsHeld (slice_get table q) (get_or new q 0) (get_or others q 0))
+          → ((q : ℕ) → q < length tags → IsStored (slice_get table q) (get_or new q 0)
+          (get_or others q 0))
           → AllByRecursion (λ f. length (children_at (slice_get table f.object)) ≡ f.count) gs
           → MatchesFile bytes bounds new others gs
-      known_with new others gs size held counts = record {
+      known_with new others gs size stored counts = record {
         head = k.head;
         within = k.within;
         size = k.size ∙ sym size;
-        held = λ q less. held q (rw size at less);
+        held = λ q less. (stored q (rw size at less)).0;
+        refers = λ q less. (stored q (rw size at less)).1;
         counts = counts;
       }
 
+      -- the tags and contents of all other objects are right
+      kept_others : (number : ℕ) (new others : List ℕ) → KeepsOtherTags number tags new
+          → ((q : ℕ) → nat_eq q number ≡ false → get_or others q 0 ≡ get_or contents q 0)
+          → IsStored (slice_get table number) (get_or new number 0) (get_or others number 0)
+          → (q : ℕ) → q < length tags
+          → IsStored (slice_get table q) (get_or new q 0) (get_or others q 0)
+      kept_others number new others m same here q less = elim (eqb_tells q number) [
+        | inl e ↦ rw e.1 here
+        | inr e ↦ rw (m.others q e.0, same q e.0) (k.held q less, k.refers q less)
+      ]
+
       -- after one more object was opened, the walk is still one over the file
-      pub known_opened : (new : List ℕ) (f : Frame) (start : PlainEvent) (entry : TableEntry)
-          → MarkChanged f.object true tags new → slice_get table f.object ≡ Some entry
-          → IsCollection entry.object start f.count → MatchesFile bytes bounds new contents (f ∷ fs)
-      known_opened new f start entry m is collection =
-          known_with new contents (f ∷ fs) m.size (λ q less. rw (m.tags q) (k.held q less))
+      pub known_opened : (new : List ℕ) (f : Frame) (kind : CollectionKind) (first : ℕ)
+          (start : PlainEvent) (entry : TableEntry) → f.object < length tags
+          → unmarked (get_or tags f.object 0) ≡ 0 → KeepsOtherTags f.object tags new
+          → get_or new f.object 0 ≡ open_tag kind first → first < 16
+          → slice_get table f.object ≡ Some entry → IsCollection entry.object start f.count
+          → AreReferencesAt bounds.reference_width (bytes_at bounds entry.place bytes)
+          (children_in entry.object) kind first
+          → MatchesFile bytes bounds new contents (f ∷ fs)
+      known_opened new f kind first start entry less none m tag small is collection refers =
+          known_with new contents (f ∷ fs) m.size (kept_others f.object new contents m (λ q _. refl)
+          (
+            subst (λ t. HoldsPlaceOr (nat_eq t 0) (scalar_of_kind (kind_of_tag t)
+                (get_or contents f.object 0)) (get_or contents f.object 0)
+                (slice_get table f.object))
+                (none ∙ sym (open_uncached _ (ap is_marked tag ∙ open_tag-marked kind first)))
+                (k.held f.object less),
+            λ _. rw (is, tag, open_tag-kind kind first small, open_tag-start kind first small)
+                refers,
+          ))
           (rw is (collection_count entry.object start f.count collection), k.counts)
 
+      -- after an object was closed, the walk is still one over the file
+      pub known_closed : (new : List ℕ) (f : Frame) → f.object < length tags
+          → is_marked (get_or tags f.object 0) ≡ true → KeepsOtherTags f.object tags new
+          → get_or new f.object 0 ≡ 0
+          → (gs : List Frame) → AllByRecursion
+          (λ f. length (children_at (slice_get table f.object)) ≡ f.count) gs
+          → MatchesFile bytes bounds new contents gs
+      known_closed new f less marked m tag gs counts =
+          known_with new contents gs m.size (kept_others f.object new contents m (λ q _. refl)
+          (
+            subst (λ t. HoldsPlaceOr (nat_eq t 0) (scalar_of_kind (kind_of_tag t)
+                (get_or contents f.object 0)) (get_or contents f.object 0)
+                (slice_get table f.object)) (open_uncached _ marked ∙ sym (ap unmarked tag))
+                (k.held f.object less),
+            λ marked. absurd (cc),
+          )) counts
+
       -- after one more object was cached, the walk is still one over the file
-      pub known_kept : (number : ℕ) (kind : PackedKind) (content : ℕ) (new : List ℕ)
+      pub known_cached : (number : ℕ) (kind : PackedKind) (content : ℕ) (new : List ℕ)
           (event : PlainEvent) → number < length tags → length contents ≡ length tags
-          → KindChanged number kind tags new → scalar_event (unpacked kind content) ≡ Some event
+          → KeepsOtherTags number tags new → packed_kind (get_or new number 0) ≡ Some kind
+          → scalar_event (unpacked kind content) ≡ Some event
           → scalar_event (scalar_at (slice_get table number)) ≡ Some event
           → MatchesFile bytes bounds new (slice_set contents number content) fs
-      known_kept number kind content new event h same m packs is =
-          known_with new (slice_set contents number content) fs m.size held k.counts
-        where
-          here : IsHeld (slice_get table number) (get_or new number 0)
-              (get_or (slice_set contents number content) number 0)
-          here = from_scalar _ _ _ _ _
-              (not_zero _ (kind_of_tag-some _ kind m.here))
-              (cc (get_or-set_same contents number content 0 (rw same h), m.here))
-              is
-
-          held : (q : ℕ) → q < length tags
-              → IsHeld (slice_get table q) (get_or new q 0)
-              (get_or (slice_set contents number content) q 0)
-          held q less = elim (eqb_tells q number) [
-            | inl e ↦ rw e.1 here
-            | inr e ↦ rw (
-              m.others q e.0,
-              get_or-set_other contents number q content 0
-                  (eqb-false q number e.0),
-            )
-                (k.held q less)
-          ]
+      known_cached number kind content new event h same m here packs is =
+          let some = kind_of_tag-some _ kind here in
+          known_with new (slice_set contents number content) fs m.size
+          (kept_others number new (slice_set contents number content) m
+          (λ q e. get_or-set_other contents number q content 0 (eqb-false q number e))
+          (
+            from_scalar _ _ _ _ _ (not_zero _ some)
+                (cc (get_or-set_same contents number content 0 (rw same h), here)) is,
+            λ marked. absurd (false≢true
+                (sym (cached_closed (get_or new number 0) some) ∙ marked)),
+          )) k.counts
 
       -- ---- an object that isn't entered
 
@@ -191,8 +230,7 @@ module _ (bytes : List ℕ) (bounds : Bounds) where
             (items_open _ _ _ at number (entry_of _)
             (entry_there _ h) (cc (o.marks number h))
             ∙ ap (λ p. Err (fault_at RecursiveObject p) ∷ [])
-            (sym (held_place _ h (o.uncached _ marked)
-            ∙ ap place_at (entry_there _ h))))
+            (sym (held_place _ h (open_uncached _ marked) ∙ ap place_at (entry_there _ h))))
 
         module _ (h : number < length tags) (free : is_marked (get_or tags number 0) ≡ false) where
           -- the object of this number is a scalar, whose event is the first item that remains
@@ -245,15 +283,13 @@ place_is bytes bounds walk k number place h is = cc (
 -- an allocation for a collection failed
 pub known_full : (known : Option (List ℕ)) (bounds : Bounds) (place : ℕ) (d : Decoded) (e : Error)
     → fault_of e ≡ fault_without_offset OutOfMemory → IsCollectionStart d
-    → IfSome known (λ bytes. bounds.trailer ≤ length bytes
-    → IsDecodedAs (bytes_at bounds place bytes) (object_at bounds place bytes) d)
-    → IfSome known (λ bytes. bounds.trailer ≤ length bytes
+    → DecodesAt known bounds place d → IfSome known (λ bytes. bounds.trailer ≤ length bytes
     → IsRefusedAs (object_at bounds place bytes) place e)
 known_full known bounds place d e memory wanted decodes =
-    IfSome_then known decodes (λ bytes decodes fits. by _ _ d wanted (decodes fits))
+    IfSome_then known decodes (λ bytes decodes fits. by _ _ _ d wanted (decodes fits))
   where
-    by : (all : List ℕ) (object : Object) (d : Decoded) → IsCollectionStart d
-        → IsDecodedAs all object d → IsRefusedAs object place e
-    by all object (decoded.Array count) wanted h = refused_memory object place e _ _ memory h
-    by all object (decoded.Dictionary count) wanted h = refused_memory object place e _ _ memory h.0
-    by all object other wanted h = absurd wanted
+    by : (width : ℕ) (all : List ℕ) (object : Object) (d : Decoded) → IsCollectionStart d
+        → IsDecodedAs width all object d → IsRefusedAs object place e
+    by width all object (decoded.Collection kind start count) wanted h =
+        refused_memory object place e _ _ memory h.0
+    by width all object other wanted h = absurd wanted

@@ -4,10 +4,11 @@ use Rattle.plist_base.specs.declared.error.Error.{Error}
 use Rattle.plist_base.specs.Events.{PlainEvent, StartArray, StartDictionary, ScalarEvent}
 use Rattle.plist_base.specs.Faults.{FaultKind, ObjectOffsetTooLarge, NullObjectUnimplemented, FillObjectUnimplemented, UnknownObjectType, IntegerOutOfRange, OverflowOrNanDate, InvalidUtf8String, InvalidUtf16String, OutOfMemory}
 use Rattle.plist_base.specs.Trees as trees
-use Rattle.plist_format.specs.Object.{Object, Scalar, Array, Dictionary, Faulty, date, meaning_of_front}
+use Rattle.plist_format.specs.Object.{Object, Scalar, Array, Dictionary, Faulty, date, meaning_of_front, object_in}
 use Rattle.plist_binread.specs.CountedContent.{content_means, unit_size}
 use Rattle.plist_base.specs.declared.event.Event.{Event}
-use Rattle.plist_binread.specs.Decoding.{Allocates, Decodes, IsCollection, IsRefusedAs}
+use Rattle.plist_binread.specs.Decoding.{Allocates, AreReferencesAt, Decodes, IsCollection, IsRefusedAs, child_count, children_in, start_event}
+use Rattle.plist_binread.specs.Remaining.{bytes_at}
 use Rattle.plist_binread.specs.Packed.{FitsContent, content_bytes, is_small_event, unpacked}
 use Rattle.plist_binread.specs.FaultOffsets.{ErrWithin}
 use Rattle.plist_binread.specs.Reading.{object_at}
@@ -60,19 +61,20 @@ abbrev pub IsLongBytes : ContentKind → List ℕ → Type 0
 IsLongBytes kind bytes = IsLongCount kind (length bytes)
 
 -- the object, whose bytes up to the trailer are these, was decoded as this
-abbrev pub IsDecodedAs : (bytes : List ℕ) → Object → Decoded → Type 0
-IsDecodedAs bytes object (decoded.Small kind content) =
+abbrev pub IsDecodedAs : (width : ℕ) (bytes : List ℕ) → Object → Decoded → Type 0
+IsDecodedAs width bytes object (decoded.Small kind content) =
     (scalar : trees.Scalar) × (object ≡ Scalar scalar) × (unpacked kind content ≡ Some scalar)
     × FitsContent kind
-IsDecodedAs bytes object (decoded.Date content) = object ≡ date (content_bytes content)
-IsDecodedAs bytes object (decoded.Long kind start count) =
+IsDecodedAs width bytes object (decoded.Date content) = object ≡ date (content_bytes content)
+IsDecodedAs width bytes object (decoded.Long kind start count) =
     (start + count * unit_size kind ≤ length bytes) × (object
     ≡ content_means kind (take (count * unit_size kind) (drop start bytes)))
     × IsLongCount kind count
-IsDecodedAs bytes object (decoded.Array count) = IsCollection object (StartArray (Some count)) count
-IsDecodedAs bytes object (decoded.Dictionary count) =
-    IsCollection object (StartDictionary (Some count)) (2 * count) × (2 * count ≤ length bytes)
-IsDecodedAs bytes object (decoded.Faulty fault) = IsObjectFault object fault
+IsDecodedAs width bytes object (decoded.Collection kind start count) =
+    IsCollection object (start_event kind count) (child_count kind count)
+    × (child_count kind count ≤ length bytes) × (start < 16)
+    × AreReferencesAt width bytes (children_in object) kind start
+IsDecodedAs width bytes object (decoded.Faulty fault) = IsObjectFault object fault
 
 -- whether the object is faulty, so that it has no event
 abbrev pub is_refused : Decoded → Bool
@@ -80,23 +82,31 @@ is_refused (decoded.Faulty fault) = true
 is_refused other = false
 
 -- the object that begins with these bytes is decoded, whatever follows them before the trailer
-abbrev pub DecodesSeen : (to_trailer : ℕ) → (List ℕ → Object) → (seen : List ℕ)
-    → Decoded → Type 0
-DecodesSeen to_trailer object seen decoded = (more : List ℕ) → length (seen ++ more) ≡ to_trailer
-    → IsDecodedAs (seen ++ more) (object (seen ++ more)) decoded
+abbrev pub DecodesSeen : (to_trailer width : ℕ) → (seen : List ℕ) → Decoded → Type 0
+DecodesSeen to_trailer width seen decoded = (more : List ℕ) → length (seen ++ more) ≡ to_trailer
+    → IsDecodedAs width (seen ++ more) (object_in width (seen ++ more)) decoded
 
 -- like `DecodesSeen`, for an object whose first byte precedes `rest`
-abbrev pub DecodesAfter : (to_trailer : ℕ) → (List ℕ → Object) → (rest : List ℕ)
+abbrev pub DecodesAfter : (to_trailer width : ℕ) → (List ℕ → Object) → (rest : List ℕ)
     → Decoded → Type 0
-DecodesAfter to_trailer object rest decoded = (first : ℕ) (more : List ℕ)
+DecodesAfter to_trailer width object rest decoded = (first : ℕ) (more : List ℕ)
     → length (rest ++ more) ≡ to_trailer
-    → IsDecodedAs (first ∷ (rest ++ more)) (object (rest ++ more)) decoded
+    → IsDecodedAs width (first ∷ (rest ++ more)) (object (rest ++ more)) decoded
 
--- like `DecodesAfter`, for an object of a fixed size
+-- like `DecodesAfter`, for an object that has no references
+abbrev pub DecodesScalar : (to_trailer : ℕ) → (List ℕ → Object) → (rest : List ℕ) → Decoded → Type 0
+DecodesScalar to_trailer object rest decoded =
+    (width : ℕ) → DecodesAfter to_trailer width object rest decoded
+
+-- like `DecodesScalar`, for an object of a fixed size
 abbrev pub DecodesFixed : (to_trailer size : ℕ) → (List ℕ → Object) → (rest : List ℕ)
     → Decoded → Type 0
 DecodesFixed to_trailer size meaning rest decoded =
-    DecodesAfter to_trailer (meaning_of_front size meaning) rest decoded
+    DecodesScalar to_trailer (meaning_of_front size meaning) rest decoded
+
+-- the object, whatever its bytes are, was decoded as this
+abbrev pub MeansDecoded : Object → Decoded → Type 0
+MeansDecoded object decoded = (width : ℕ) (bytes : List ℕ) → IsDecodedAs width bytes object decoded
 
 -- 1 if a small scalar was decoded, or else 0
 abbrev pub small_count : Decoded → ℕ
@@ -116,19 +126,19 @@ CountsSmallRead counts count old new answer = MatchResult answer
 
 -- the string is decoded, or there is no result because it has more than eight bytes
 abbrev pub DecodesIfShort : Object → Option Decoded → Type 0
-DecodesIfShort object answer =
-    IfSome answer (λ decoded. (bytes : List ℕ) → IsDecodedAs bytes object decoded)
+DecodesIfShort object answer = IfSome answer (MeansDecoded object)
 
 -- ---- at an offset
 
--- the bytes from the offset of an object up to the trailer
-abbrev pub bytes_at : Bounds → (place : ℕ) → List ℕ → List ℕ
-bytes_at bounds place bytes = drop place (take bounds.trailer bytes)
+-- the object at this offset was decoded as this
+abbrev pub IsDecodedThere : List ℕ → Bounds → (place : ℕ) → Decoded → Type 0
+IsDecodedThere bytes bounds place decoded = IsDecodedAs bounds.reference_width
+    (bytes_at bounds place bytes) (object_at bounds place bytes) decoded
 
 -- if the bytes are known, the object at this offset was decoded
 abbrev pub DecodesAt : (known : Option (List ℕ)) → Bounds → (place : ℕ) → Decoded → Type 0
 DecodesAt known bounds place decoded = IfSome known (λ bytes. bounds.trailer ≤ length bytes
-    → IsDecodedAs (bytes_at bounds place bytes) (object_at bounds place bytes) decoded)
+    → IsDecodedThere bytes bounds place decoded)
 
 -- if the bytes are known, this is an error of the object at this offset
 abbrev pub RefusesObjectAt : (known : Option (List ℕ)) → Bounds → (place : ℕ) → Error → Type 0
@@ -141,14 +151,14 @@ FitsBefore trailer place (decoded.Small kind content) = FitsContent kind
 FitsBefore trailer place (decoded.Date content) = ⊤
 FitsBefore trailer place (decoded.Long kind start count) =
     (place + start + count * unit_size kind ≤ trailer) × IsLongCount kind count
-FitsBefore trailer place (decoded.Array count) = ⊤
-FitsBefore trailer place (decoded.Dictionary count) = 2 * count ≤ trailer
+FitsBefore trailer place (decoded.Collection kind start count) =
+    (child_count kind count ≤ trailer) × (start < 16)
 FitsBefore trailer place (decoded.Faulty fault) = ⊤
 
 -- the walk can store what was decoded: the tag and the number of children aren't too large
 abbrev pub FitsWalk : Decoded → Type 0
 FitsWalk (decoded.Small kind content) = FitsContent kind
-FitsWalk (decoded.Dictionary count) = 2 * count < 2 ^ 64
+FitsWalk (decoded.Collection kind start count) = (child_count kind count < 2 ^ 64) × (start < 16)
 FitsWalk other = ⊤
 
 -- ---- the event of an object
@@ -195,8 +205,7 @@ FailsInContent place content answer =
 abbrev pub SetsDecoded : {A : Type 0} → (known : Option (List ℕ)) → Bounds → (place : ℕ) → Decoded
     → Result A Error → (current : PlainEvent) → Type 0
 SetsDecoded known bounds place decoded answer current = IfSome known (λ bytes.
-    bounds.trailer ≤ length bytes
-    → IsDecodedAs (bytes_at bounds place bytes) (object_at bounds place bytes) decoded
+    bounds.trailer ≤ length bytes → IsDecodedThere bytes bounds place decoded
     → SetsEvent (object_at bounds place bytes) place answer current)
 
 -- the current event is that of a small scalar only if the object was decoded as one

@@ -18,6 +18,10 @@ abbrev pub with_innermost : (outer : List Frame) → Option Frame → List Frame
 with_innermost outer None = outer
 with_innermost outer (Some frame) = outer ++ frame ∷ []
 
+-- the frame after its next child was taken
+abbrev pub advanced : Frame → Frame
+advanced frame = frame_of frame.object (frame.next + 1) frame.count
+
 -- the last frame was removed, or there was none
 abbrev pub PopsLast : (old : List Frame) → Option Frame → (new : List Frame) → Type 0
 PopsLast old last new = (old ≡ with_innermost new last) × (last ≡ None → new ≡ [])
@@ -28,6 +32,6 @@ abbrev pub NextOf : (old : List Frame) → NextChild → (new : List Frame) → 
 NextOf old child.Nothing new = (old ≡ []) × (new ≡ [])
 NextOf old (child.End object) new =
     (next : ℕ) × (count : ℕ) × (old ≡ frame_of object next count ∷ new) × (count ≤ next)
-NextOf old (child.Child object index) new =
-    (count : ℕ) × (below : List Frame) × (old ≡ frame_of object index count ∷ below)
-    × (new ≡ frame_of object (index + 1) count ∷ below) × (index < count)
+NextOf old (child.Child frame) new =
+    (below : List Frame) × (old ≡ frame ∷ below) × (new ≡ advanced frame ∷ below)
+    × (frame.next < frame.count)

@@ -9,7 +9,7 @@ use Rattle.plist_binread.specs.declared.frames.NextChild.{NextChild}
 use Rattle.plist_binread.specs.declared.frames.NextChild.TheVariants as child
 use Rattle.plist_binread.specs.declared.head.Bounds.{Bounds}
 use Rattle.plist_format.specs.Container.{Head, head_of}
-use Rattle.plist_binread.specs.Packed.{is_small_event, unmarked, cached, unpacked}
+use Rattle.plist_binread.specs.Packed.{is_marked, is_small_event, unmarked, cached, unpacked}
 use Rattle.plist_binread.specs.declared.enter.Known.{Known}
 use Rattle.plist_binread.specs.declared.enter.Known.TheVariants as looked
 use Rattle.plist_binread.specs.declared.reader.WalkState.{WalkState}
@@ -26,19 +26,21 @@ abbrev pub TakesNextChild : List TableEntry → List Frame → NextChild → Lis
 TakesNextChild table old child.Nothing new = (old ≡ []) × (new ≡ [])
 TakesNextChild table old (child.End object) new = remaining_items table old ≡ Ok EndCollection
     ∷ remaining_items table new
-TakesNextChild table old (child.Child object index) new =
+TakesNextChild table old (child.Child frame) new =
     (remaining_items table old ≡ unfolding_of table (length table - length new) (path_of new)
-    (place_at (slice_get table object)) (get_or (children_at (slice_get table object)) index 0)
+    (place_at (slice_get table frame.object))
+    (get_or (children_at (slice_get table frame.object)) frame.next 0)
     ++ remaining_items table new)
-    × (index < length (children_at (slice_get table object)))
+    × (length (children_at (slice_get table frame.object)) ≡ frame.count)
     × SomeRemain (until_fault (remaining_items table old))
-    × (next_number table old ≡ Some (get_or (children_at (slice_get table object)) index 0))
+    × (next_number table old
+    ≡ Some (get_or (children_at (slice_get table frame.object)) frame.next 0))
 
 -- the weight falls by 1 at an end, and at a child by the greatest number of steps below it
 abbrev pub WeightFalls : (count : ℕ) → List Frame → NextChild → List Frame → Type 0
 WeightFalls count old child.Nothing new = Unit {0}
 WeightFalls count old (child.End object) new = walk_weight count old ≡ walk_weight count new + 1
-WeightFalls count old (child.Child object index) new =
+WeightFalls count old (child.Child frame) new =
     walk_weight count old ≡ walk_weight count new + walk_steps (count - length new)
 
 -- whether no item has been requested yet
@@ -84,11 +86,11 @@ ReadsChild object index answer =
     → MatchResult answer (λ number. number ≡ get_or (children_in object) index 0)
     (λ error. IsIo (kind_of (error_kind_of error)))
 
--- the collection that contains the next child isn't cached
-abbrev pub ParentIsUncached : (tags : List ℕ) → NextChild → Type 0
-ParentIsUncached tags (child.Child object index) =
-    (object < length tags) × (unmarked (get_or tags object 0) ≡ 0)
-ParentIsUncached tags _ = Unit {0}
+-- the collection that contains the next child is open, and it has this child
+abbrev pub ParentIsOpen : (tags : List ℕ) → NextChild → Type 0
+ParentIsOpen tags (child.Child frame) = (frame.object < length tags)
+    × (is_marked (get_or tags frame.object 0) ≡ true) × (frame.next < frame.count)
+ParentIsOpen tags _ = Unit {0}
 
 -- ---- which object is next
 

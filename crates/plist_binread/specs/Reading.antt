@@ -1,5 +1,5 @@
 -- What is read from known bytes: numbers, objects, and the references of collections.
-use Rattle.std.specs.Prelude.{◌≡◌, ℕ, ◌+◌, ◌*◌, ◌<◌, ◌≤◌, List, [], ◌++◌, length, map, take, drop, Option, Some, Result, Err, IfSome, MatchResult}
+use Rattle.std.specs.Prelude.{◌≡◌, ℕ, ◌+◌, ◌*◌, ◌≤◌, List, length, map, take, drop, Option, Result, IfSome}
 use Rattle.std.specs.List.{range_with_len}
 use Rattle.plist_base.specs.declared.error.Error.{Error}
 use Rattle.plist_base.specs.Outcomes.{DecodesBy, IfRefused}
@@ -8,11 +8,14 @@ use Rattle.plist_base.specs.Faults.{Fault, IsIoOrMemory}
 use Rattle.plist_base.specs.declared.real.RealBits.TheVariants.{Four, Eight}
 use Rattle.plist_base.specs.Trees.{Data, Real, Uid}
 use Rattle.plist_format.specs.Container.{number_at, number_of, numbers_spelled}
-use Rattle.plist_binread.specs.Decoding.{children_in}
-use Rattle.plist_binread.specs.DecodeOutcome.{AreReferences, AreReferencesAt}
-use Rattle.plist_format.specs.Object.{Object, Scalar, layout_of, length_in, object_after_marker, object_in}
+use Rattle.plist_binread.specs.Decoding.{AreReferencesAt, children_in, reference_index}
+use Rattle.plist_binread.specs.Remaining.{bytes_at}
+use Rattle.plist_format.specs.Object.{Object, Scalar, layout_of, object_after_marker, object_in}
 use Rattle.plist_format.specs.Marker.{counted_layout}
 use Rattle.plist_format.specs.declared.marker.CountedKind.{CountedKind}
+use Rattle.plist_format.specs.declared.marker.CountedKind.TheVariants as counted
+use Rattle.plist_binread.specs.declared.decoded.CollectionKind.{CollectionKind}
+use Rattle.plist_binread.specs.declared.decoded.CollectionKind.TheVariants as collection
 use Rattle.plist_binread.specs.NextChild.{ReadsChild}
 use Rattle.plist_binread.specs.declared.references.References.{References}
 use Rattle.std.specs.declared.alloc.Global.{Global}
@@ -83,14 +86,18 @@ data_of_content content = Scalar (Data content)
 abbrev pub object_with : (width marker : ℕ) → List ℕ → Object
 object_with width marker rest = object_after_marker marker (layout_of width marker) rest
 
+-- the kind of a collection among the kinds of objects that have a length
+abbrev pub counted_kind : CollectionKind → CountedKind
+counted_kind collection.Array = counted.Array
+counted_kind collection.Dictionary = counted.Dictionary
+
 -- the object of this kind that has these bytes after its marker
 abbrev pub object_counted : (width : ℕ) → CountedKind → (low : ℕ) → List ℕ → Object
 object_counted width kind low rest = object_after_marker low (counted_layout width kind) rest
 
 -- the object at an offset
 abbrev pub object_at : Bounds → (place : ℕ) → List ℕ → Object
-object_at bounds place bytes =
-    object_in bounds.reference_width (drop place (take bounds.trailer bytes))
+object_at bounds place bytes = object_in bounds.reference_width (bytes_at bounds place bytes)
 
 -- ---- references to children
 
@@ -100,38 +107,15 @@ abbrev pub ReadsChildAt : Result ℕ Error → (known : Option (List ℕ)) → B
 ReadsChildAt answer known bounds place index = IfSome known (λ bytes.
     bounds.trailer ≤ length bytes → ReadsChild (object_at bounds place bytes) index answer)
 
--- if the bytes are known, the references of the collection lie where `references` says
+-- the offset of the reference to a child
+abbrev pub reference_place : References → (index width : ℕ) → ℕ
+reference_place references index width = references.place + references.start
+    + reference_index references.kind references.count index * width
+
+-- if the bytes are known, the references to the children of the collection lie where `references`
+-- says
 abbrev pub AreReferencesOf : (known : Option (List ℕ)) → Bounds → References → Type 0
-AreReferencesOf known bounds references =
-    IfSome known (λ bytes. bounds.trailer ≤ length bytes → AreReferences bytes bounds references)
-
--- these are the references of the object at an offset, or no child of that object can be read
-abbrev pub FindsReferences : Result References Error → (known : Option (List ℕ)) → Bounds → (place : ℕ)
-    → Type 0
-FindsReferences answer known bounds place = MatchResult answer (AreReferencesOf known bounds)
-    (λ error. (index : ℕ) → ReadsChildAt (Err error) known bounds place index)
-
--- the references of the object that begins with these bytes lie where `references` says
-abbrev pub AreReferencesOfSeen : (width : ℕ) → (seen : List ℕ) → References → Type 0
-AreReferencesOfSeen width seen references =
-    (more : List ℕ) → AreReferencesAt width (seen ++ more) references.start references.pairs
-
--- an object of this kind and length has this many pairs, and its references follow the length
-abbrev pub HasPairs : CountedKind → (count pairs : ℕ) → Type 0
-HasPairs kind count pairs = (width low start : ℕ) (object rest : List ℕ) → 0 < width
-    → start ≤ length object → object_in width object ≡ object_counted width kind low rest
-    → length_in low rest ≡ Some (count, drop start object) → AreReferencesAt width object start pairs
-
--- no object of this kind has children
-abbrev pub HasNoChildren : CountedKind → Type 0
-HasNoChildren kind =
-    (width low : ℕ) (rest : List ℕ) → children_in (object_counted width kind low rest) ≡ []
-
--- no object that begins with these bytes has children
-abbrev pub HasNoChild : (width to_trailer : ℕ) → (seen : List ℕ) → Type 0
-HasNoChild width to_trailer seen = (more : List ℕ) → length (seen ++ more) ≡ to_trailer
-    → children_in (object_in width (seen ++ more)) ≡ []
-
--- the bytes of the object reach up to the trailer, or there are at least 10
-abbrev pub ShowsLength : (to_trailer : ℕ) (seen : List ℕ) → Type 0
-ShowsLength to_trailer seen = length seen < 10 → to_trailer ≤ length seen
+AreReferencesOf known bounds references = IfSome known (λ bytes.
+    (length (children_in (object_at bounds references.place bytes)) ≡ references.count)
+    × AreReferencesAt bounds.reference_width (bytes_at bounds references.place bytes)
+    (children_in (object_at bounds references.place bytes)) references.kind references.start)

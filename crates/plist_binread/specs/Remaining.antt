@@ -9,11 +9,11 @@ use Rattle.plist_base.specs.Trees.{Data, String}
 use Rattle.plist_binread.specs.declared.frames.Frame.{Frame}
 use Rattle.plist_binread.specs.declared.head.Bounds.{Bounds}
 use Rattle.plist_format.specs.Container.{Head, head_of}
-use Rattle.plist_binread.specs.Packed.{is_marked, unmarked, cached}
+use Rattle.plist_binread.specs.Packed.{is_marked, unmarked, cached, open_kind, open_start}
 use Rattle.plist_binread.specs.declared.reader.WalkState.{WalkState}
 use Rattle.plist_binread.specs.declared.reader.WalkState.TheVariants.{Fresh, Walking, Ended}
 use Rattle.plist_format.specs.Unfolding.{TableEntry, table_of, unfolding_of, until_fault, items_of_file}
-use Rattle.plist_binread.specs.Decoding.{children_in, scalar_in}
+use Rattle.plist_binread.specs.Decoding.{AreReferencesAt, children_in, scalar_in}
 
 -- ---- the path
 
@@ -22,14 +22,12 @@ abbrev pub path_of : List Frame → List ℕ
 path_of [] = []
 path_of (frame ∷ below) = frame.object ∷ path_of below
 
--- exactly the open objects are marked; each is open once, has a tag and isn't cached
+-- exactly the open objects are marked, and each is open once and has a tag
 pub record MarksOpenPath (tags : List ℕ) (frames : List Frame) : Type 0 where
   pub distinct : IsDistinct nat_eq (path_of frames)
   pub below : (number : ℕ) → list_any (nat_eq number) (path_of frames) ≡ true → number < length tags
   pub marks : (number : ℕ) → number < length tags
       → is_marked (get_or tags number 0) ≡ list_any (nat_eq number) (path_of frames)
-  pub uncached : (number : ℕ) → is_marked (get_or tags number 0) ≡ true
-      → unmarked (get_or tags number 0) ≡ 0
 
 -- the number of cached objects
 abbrev pub cached_count : (tags : List ℕ) → ℕ
@@ -84,6 +82,10 @@ abbrev pub entries_of : List ℕ → Bounds → List TableEntry
 entries_of bytes bounds =
     table_of (take bounds.trailer bytes) bounds.reference_width (places_of bytes)
 
+-- the bytes from the offset of an object up to the trailer
+abbrev pub bytes_at : Bounds → (place : ℕ) → List ℕ → List ℕ
+bytes_at bounds place bytes = drop place (take bounds.trailer bytes)
+
 -- a file with this head has these bounds
 abbrev pub AreBoundsOf : Result Head Fault → Bounds → Type 0
 AreBoundsOf answer bounds =
@@ -102,6 +104,12 @@ HoldsPlaceOr is_place scalar content entry =
 abbrev pub IsHeld : Option TableEntry → (tag content : ℕ) → Type 0
 IsHeld entry tag content = HoldsPlaceOr (nat_eq (unmarked tag) 0) (cached tag content) content entry
 
+-- the tag of an open collection says where the references to its children lie
+abbrev pub LocatesReferences : List ℕ → Bounds → Option TableEntry → (tag : ℕ) → Type 0
+LocatesReferences bytes bounds entry tag = is_marked tag ≡ true → AreReferencesAt
+    bounds.reference_width (bytes_at bounds (place_at entry) bytes) (children_at entry)
+    (open_kind tag) (open_start tag)
+
 -- what a reader has stored about the objects is true of the file with these bytes
 pub record MatchesFile (bytes : List ℕ) (bounds : Bounds) (tags contents : List ℕ)
     (frames : List Frame) : Type 0 where
@@ -111,6 +119,9 @@ pub record MatchesFile (bytes : List ℕ) (bounds : Bounds) (tags contents : Lis
   pub held : (number : ℕ) → number < length tags
       → IsHeld (slice_get (entries_of bytes bounds) number) (get_or tags number 0)
       (get_or contents number 0)
+  pub refers : (number : ℕ) → number < length tags
+      → LocatesReferences bytes bounds (slice_get (entries_of bytes bounds) number)
+      (get_or tags number 0)
   pub counts : AllByRecursion (λ frame. length
       (children_at (slice_get (entries_of bytes bounds) frame.object)) ≡ frame.count) frames
 

@@ -5,8 +5,6 @@ use Rattle.std.proofs.lemmas.Bool.{both_ways}
 use mathlib.Core.HLevel.{Stable, Stable-paths→set}
 use Rattle.plist_base.specs.Scalars.{bytes_is, bytes_refl}
 use Rattle.plist_base.specs.Sources.{LiesAt}
-use Rattle.plist_binread.specs.Reading.{AreReferencesOf}
-use Rattle.plist_binread.specs.declared.head.Bounds.{Bounds}
 use Rattle.plist_binread.specs.declared.run.Run.{Run}
 use Rattle.plist_binread.specs.declared.references.ReferenceReader.{ReferenceReader}
 
@@ -21,11 +19,6 @@ IsRunOf known run = LieAt known run.at (take run.len run.bytes)
 -- the runs of a reader are copies of bytes of the source
 abbrev pub AreRunsOf : (known : Option (List ℕ)) → ReferenceReader → Type 0
 AreRunsOf known references = IsRunOf known references.near × IsRunOf known references.values
-
--- the location of the references is right, and the runs are copies of bytes of the source
-abbrev pub KnowsReferences : (known : Option (List ℕ)) → Bounds → ReferenceReader → Type 0
-KnowsReferences known bounds references =
-    AreReferencesOf known bounds references.site × AreRunsOf known references
 
 -- ---- equations between lists of bytes
 

@@ -1,13 +1,13 @@
 -- What a step does to the walk, to the current event and to the remaining items.
-use Rattle.std.specs.Prelude.{◌≡◌, ℕ, ◌<◌, List, false, get_or, Option, Some, Result, Err, IfSome, OnOk, ⊤}
+use Rattle.std.specs.Prelude.{◌≡◌, ℕ, ◌<◌, List, false, get_or, Option, Some, Result, IfSome, OnOk, ⊤}
 use Rattle.std.specs.List.{slice_get}
 use Rattle.plist_base.specs.Events.{PlainEvent}
-use Rattle.plist_binread.specs.Reading.{ReadsChildAt}
-use Rattle.plist_binread.specs.Remaining.{Explains, entries_of, next_number, walk_weight}
-use Rattle.plist_binread.specs.Decoding.{IsCollection}
+use Rattle.plist_binread.specs.Remaining.{Explains, bytes_at, entries_of, next_number, walk_weight}
 use Rattle.plist_binread.specs.Decoded.{IsDecodedAs, event_of_object, is_refused, small_count}
 use Rattle.plist_binread.specs.DecodeOutcome.{YieldsNext, YieldsCurrent}
-use Rattle.plist_binread.specs.Packed.{unmarked}
+use Rattle.plist_binread.specs.Packed.{open_kind, open_start, unmarked}
+use Rattle.plist_binread.specs.declared.references.References.{References}
+use Rattle.plist_binread.specs.declared.frames.Frame.{Frame}
 use Rattle.plist_binread.specs.declared.fault_slot.StepError.{StepError}
 use Rattle.plist_base.specs.Faults.{MatchFault, kind_of, error_kind_of}
 use Rattle.plist_base.specs.declared.error.Error.{Error}
@@ -50,6 +50,15 @@ WalkTakesNextChild old child new = (bytes : List ℕ) (bounds : Bounds) → IsWa
     TakesNextChild (entries_of bytes bounds) (open_in old) child (open_in new)
     × IsWalkOf bytes bounds new
 
+-- where the references of an open collection lie
+abbrev pub references_of : Walk → Frame → References
+references_of walk frame = record {
+  place = get_or walk.contents.items frame.object 0;
+  kind = open_kind (get_or walk.tags.items frame.object 0);
+  start = open_start (get_or walk.tags.items frame.object 0);
+  count = frame.count;
+}
+
 -- the weight of the walk falls as `WeightFalls` says
 abbrev pub WalkWeightFalls : (old : Walk) → NextChild → (new : Walk) → Type 0
 WalkWeightFalls old child new = (count : ℕ) → WeightFalls count (open_in old) child (open_in new)
@@ -60,12 +69,6 @@ WalkWeightFalls old child new = (count : ℕ) → WeightFalls count (open_in old
 abbrev pub IsFoundAt : (number : ℕ) → Walk → Known → Type 0
 IsFoundAt number walk found = IsFound (get_or walk.tags.items number 0)
     (get_or walk.contents.items number 0) found
-
--- no child of the collection at this offset can be read, because of the error in the slot
-abbrev pub RefusesEach : (known : Option (List ℕ)) → Bounds → (place : ℕ) → FaultSlot → StepError
-    → Type 0
-RefusesEach known bounds place slot refused =
-    (index : ℕ) → ReadsChildAt (Err slot.fault) known bounds place index
 
 -- the object of this number can't be entered, because of the error in the slot
 abbrev pub RefusesEntering : Walk → (at number : ℕ) → FaultSlot → StepError → Type 0
@@ -87,28 +90,17 @@ CachesDecoded decoded number walk =
 -- the object's first event is the first item that remained, and the walk has entered the object
 abbrev pub OpensObject : (number : ℕ) → Decoded → (old new : Walk) → Type 0
 OpensObject number decoded old new = (bytes : List ℕ) (bounds : Bounds) (entry : TableEntry)
-    (all : List ℕ) → IsWalkOf bytes bounds old
-    → slice_get (entries_of bytes bounds) number ≡ Some entry → IsDecodedAs all entry.object decoded
+    → IsWalkOf bytes bounds old → slice_get (entries_of bytes bounds) number ≡ Some entry
+    → IsDecodedAs bounds.reference_width (bytes_at bounds entry.place bytes) entry.object decoded
     → ((at : ℕ) (event : PlainEvent) → is_refused decoded ≡ false
     → event_of_object entry.object ≡ Some event
     → YieldsCurrent (remaining_entering bytes bounds old at number) event
     (remaining_in bytes bounds new))
     × IsWalkOf bytes bounds new
 
--- the start is the first item that remained, and the collection is open
-abbrev pub OpensCollection : (number count : ℕ) → (old new : Walk) → Type 0
-OpensCollection number count old new = (bytes : List ℕ) (bounds : Bounds) (entry : TableEntry)
-    (start : PlainEvent) → IsWalkOf bytes bounds old
-    → slice_get (entries_of bytes bounds) number ≡ Some entry
-    → IsCollection entry.object start count
-    → ((at : ℕ) → YieldsCurrent (remaining_entering bytes bounds old at number) start
-    (remaining_in bytes bounds new))
-    × IsWalkOf bytes bounds new
-
--- the start of an array or of a dictionary was decoded
+-- the start of a collection was decoded
 abbrev pub IsCollectionStart : Decoded → Type 0
-IsCollectionStart (decoded.Array count) = ⊤
-IsCollectionStart (decoded.Dictionary count) = ⊤
+IsCollectionStart (decoded.Collection kind start count) = ⊤
 IsCollectionStart other = ⊥
 
 -- ---- over known bytes

@@ -7,7 +7,7 @@ ghost use Rattle.plist_binread.specs.Handovers.{HandsItem};
 ghost use Rattle.plist_binread.specs.Slot.{ItemSlotCountsIo, item_in};
 ghost use Rattle.plist_binread.specs.Walking.{IsWalkOf, cached_in, walk_objects, open_in};
 ghost use Rattle.plist_binread.specs.FaultOffsets.{ItemWithin};
-ghost use Rattle.plist_binread.specs.Runs.{KnowsReferences};
+ghost use Rattle.plist_binread.specs.Runs.{AreRunsOf};
 ghost use Rattle.plist_binread.specs.Step.{CachesNext, LightensNext, YieldsItem};
 
 use crate::counter::DecodeCounter;
@@ -32,7 +32,7 @@ pub fn advance<S: Source, C: DecodeCounter, V: EventVisitor>(
     requires known { IfSome (S.known source.old) (λ bytes.
         IsWalkOf bytes decoder.old.bounds walk.old) }
     requires counted { C.counts → C.count decoder.old.counter ≡ cached_in walk.old }
-    requires references { KnowsReferences (S.known source.old) decoder.old.bounds references.old }
+    requires references { AreRunsOf (S.known source.old) references.old }
     // Result.
     ensures handed { HandsItem V.step visitor.old visitor.new result (λ event.
         YieldsItem (S.known source.old) decoder.old.bounds walk.old
@@ -48,7 +48,7 @@ pub fn advance<S: Source, C: DecodeCounter, V: EventVisitor>(
         IsWalkOf bytes decoder.old.bounds walk.new) }
     ensures bounds { decoder.new.bounds ≡ decoder.old.bounds }
     ensures counted { C.counts → C.count decoder.new.counter ≡ cached_in walk.new }
-    ensures references { KnowsReferences (S.known source.old) decoder.old.bounds references.new }
+    ensures references { AreRunsOf (S.known source.old) references.new }
     ensures falls { LightensNext walk.old result walk.new }
     ensures unchanged { S.known source.new ≡ S.known source.old }
     ensures failures { ItemSlotCountsIo S.failures result decoder.new.slot source.old source.new }
@@ -56,11 +56,14 @@ pub fn advance<S: Source, C: DecodeCounter, V: EventVisitor>(
     match walk.next_child() {
         NextChild::Nothing => None,
         NextChild::End(_) => Some(Ok(visitor.end_collection())),
-        NextChild::Child(object, index) => {
-            let at = walk.contents[object as usize];
-            match references.read_child(source, decoder, at, index) {
+        NextChild::Child(frame) => {
+            let location = walk.references(frame);
+            match references.read_child(source, decoder, location, frame.next) {
                 Ok(number) => {
-                    let reference = Reference { at, number };
+                    let reference = Reference {
+                        at: location.place,
+                        number,
+                    };
                     Some(enter(source, decoder, walk, reference, visitor))
                 }
                 Err(refused) => Some(Err(refused)),

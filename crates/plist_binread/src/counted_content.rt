@@ -3,18 +3,17 @@
 //! Each function reads the bytes that follow the marker. These reach up to the trailer, or there
 //! are at least 25 of them, which is enough for any object except a long string or long data.
 
-ghost use Rattle.std.specs.Prelude.{ℕ, ◌≡◌, ◌+◌, ◌-◌, ◌*◌, ◌%◌, ◌^◌, ◌<◌, ◌≤◌, List, length, IfNone, IfSome};
-ghost use Rattle.plist_format.specs.declared.marker.CountedKind.TheVariants.{Array as ArrayKind, Dictionary as DictionaryKind};
+ghost use Rattle.std.specs.Prelude.{◌≡◌, ◌+◌, ◌-◌, ◌*◌, ◌%◌, ◌^◌, ◌<◌, ◌≤◌, length, IfNone, IfSome};
 ghost use Rattle.plist_base.specs.Trees.{String};
 ghost use Rattle.plist_format.specs.Object.{Scalar, text, wide_text};
 ghost use Rattle.plist_binread.specs.CountedContent.{AreUnits, EndsBefore, IsCount, IsLength, IsLengthCut, LiesAfter, RefusesCounted, counted_with};
-ghost use Rattle.plist_binread.specs.Decoded.{DecodesAfter, DecodesIfShort, IsDecodedAs};
+ghost use Rattle.plist_binread.specs.Decoded.{DecodesAfter, DecodesIfShort, DecodesScalar, MeansDecoded};
 ghost use Rattle.plist_binread.specs.Front.{ShowsContent};
-ghost use Rattle.plist_binread.specs.Reading.{object_counted};
+ghost use Rattle.plist_binread.specs.Reading.{counted_kind, object_counted};
 ghost use Rattle.plist_binread.specs.declared.decoded.ContentKind.TheVariants.{Data as KindData, Text as KindText, WideText as KindWideText};
 ghost use Rattle.plist_binread.specs.declared.decoded.Decoded.TheVariants.{Long as LongContent};
 
-use crate::decoded::{ContentKind, Decoded, ObjectFault};
+use crate::decoded::{CollectionKind, ContentKind, Decoded, ObjectFault};
 use crate::numbers::{number_from, write_units};
 use crate::packed::{PackedKind, content_from};
 use crate::utf8::short_text_in;
@@ -35,10 +34,10 @@ fn number_width(byte: u64) -> u64
     }
 }
 
-/// Returns the length of an object and the bytes that follow it, or `None` if the length is cut
-/// off.
+// Returns the length of an object and the bytes that follow it, or `None` if the length is cut
+// off.
 #[inline(always)]
-pub fn split_length(low: LowHalf, rest: &[u8]) -> Option<(u64, &[u8])>
+fn split_length(low: LowHalf, rest: &[u8]) -> Option<(u64, &[u8])>
     ensures length { IfSome result (IsLength low rest.now) }
     ensures short { IfSome result (λ found. length found.1.now ≤ length rest.now) }
     ensures near { IfSome result (λ found. length rest.now ≤ length found.1.now + 9) }
@@ -94,7 +93,7 @@ fn long_content(kind: ContentKind, rest: &[u8], behind: &[u8], count: u64) -> De
 pub fn decode_data(low: LowHalf, rest: &[u8], to_trailer: u64) -> Decoded
     requires to_trailer { length rest.now ≤ to_trailer }
     requires shown { ShowsContent to_trailer rest.now }
-    ensures { DecodesAfter to_trailer (counted_with KindData low) rest.now result }
+    ensures { DecodesScalar to_trailer (counted_with KindData low) rest.now result }
 {
     let Some((count, behind)) = split_count(low, rest, to_trailer, 1) else {
         return Decoded::Faulty(ObjectFault::Overrun);
@@ -109,7 +108,7 @@ pub fn decode_data(low: LowHalf, rest: &[u8], to_trailer: u64) -> Decoded
 // Packs a string of at most eight bytes.
 fn small_text(text: &str) -> Decoded
     requires { length text.now ≤ 8 }
-    ensures { (all : List ℕ) → IsDecodedAs all (Scalar (String text.now)) result }
+    ensures { MeansDecoded (Scalar (String text.now)) result }
 {
     Decoded::Small(
         PackedKind::Text(text.len() as u8),
@@ -120,7 +119,7 @@ fn small_text(text: &str) -> Decoded
 // Decodes a UTF-8 string of at most eight bytes.
 fn short_text(bytes: &[u8]) -> Decoded
     requires { length bytes.now ≤ 8 }
-    ensures { (all : List ℕ) → IsDecodedAs all (text bytes.now) result }
+    ensures { MeansDecoded (text bytes.now) result }
 {
     let content = content_from(bytes);
     match short_text_in(&content.to_be_bytes(), bytes.len()) {
@@ -134,7 +133,7 @@ fn short_text(bytes: &[u8]) -> Decoded
 pub fn decode_text(low: LowHalf, rest: &[u8], to_trailer: u64) -> Decoded
     requires to_trailer { length rest.now ≤ to_trailer }
     requires shown { ShowsContent to_trailer rest.now }
-    ensures { DecodesAfter to_trailer (counted_with KindText low) rest.now result }
+    ensures { DecodesScalar to_trailer (counted_with KindText low) rest.now result }
 {
     let Some((count, behind)) = split_count(low, rest, to_trailer, 1) else {
         return Decoded::Faulty(ObjectFault::Overrun);
@@ -172,7 +171,7 @@ fn short_wide_text(alloc: Global, bytes: &[u8]) -> Option<Decoded>
 pub fn decode_wide_text(alloc: Global, low: LowHalf, rest: &[u8], to_trailer: u64) -> Decoded
     requires to_trailer { length rest.now ≤ to_trailer }
     requires shown { ShowsContent to_trailer rest.now }
-    ensures { DecodesAfter to_trailer (counted_with KindWideText low) rest.now result }
+    ensures { DecodesScalar to_trailer (counted_with KindWideText low) rest.now result }
 {
     let Some((count, behind)) = split_count(low, rest, to_trailer, 2) else {
         return Decoded::Faulty(ObjectFault::Overrun);
@@ -187,31 +186,26 @@ pub fn decode_wide_text(alloc: Global, low: LowHalf, rest: &[u8], to_trailer: u6
     }
 }
 
-/// Decodes the start of an array. The references of the array have to end before the trailer.
-#[inline(always)]
-pub fn decode_array(low: LowHalf, rest: &[u8], to_trailer: u64, width: usize) -> Decoded
-    requires to_trailer { length rest.now ≤ to_trailer }
-    requires shown { ShowsContent to_trailer rest.now }
-    requires width { 0 < width }
-    ensures { DecodesAfter to_trailer (object_counted width ArrayKind low) rest.now result }
-{
-    match split_count(low, rest, to_trailer, width as u64) {
-        Some((count, _)) => Decoded::Array(count),
-        None => Decoded::Faulty(ObjectFault::Overrun),
-    }
-}
-
-/// Decodes the start of a dictionary. The references of the dictionary have to end before the
+/// Decodes the start of a collection. The references of the collection have to end before the
 /// trailer.
 #[inline(always)]
-pub fn decode_dictionary(low: LowHalf, rest: &[u8], to_trailer: u64, width: usize) -> Decoded
+pub fn decode_collection(
+    kind: CollectionKind,
+    low: LowHalf,
+    rest: &[u8],
+    to_trailer: u64,
+    width: usize,
+) -> Decoded
     requires to_trailer { length rest.now ≤ to_trailer }
     requires shown { ShowsContent to_trailer rest.now }
     requires width { (0 < width) × (width ≤ 8) }
-    ensures { DecodesAfter to_trailer (object_counted width DictionaryKind low) rest.now result }
+    ensures { DecodesAfter to_trailer width (object_counted width (counted_kind kind) low) rest.now
+        result }
 {
-    match split_count(low, rest, to_trailer, 2 * width as u64) {
-        Some((count, _)) => Decoded::Dictionary(count),
+    match split_count(low, rest, to_trailer, kind.children(width as u64)) {
+        Some((count, behind)) => {
+            Decoded::Collection(kind, 1 + (rest.len() - behind.len()) as u8, count)
+        }
         None => Decoded::Faulty(ObjectFault::Overrun),
     }
 }

@@ -81,6 +81,32 @@ impl Content {
     }
 }
 
+/// The kind of a collection.
+#[derive(Clone, Copy)]
+pub enum CollectionKind {
+    /// An array, which has a reference to each item.
+    Array,
+    /// A dictionary, which has references to all keys, followed by those to all values.
+    Dictionary,
+}
+
+impl CollectionKind {
+    ghost use Rattle.std.specs.Prelude.{◌≡◌, ◌^◌, ◌<◌};
+    ghost use Rattle.plist_binread.specs.Decoding.{child_count};
+
+    /// Returns the number of children of a collection of this many items or pairs.
+    #[inline(always)]
+    pub fn children(self, count: u64) -> u64
+        requires { child_count self count < 2 ^ 64 }
+        ensures { result ≡ child_count self count }
+    {
+        match self {
+            CollectionKind::Array => count,
+            CollectionKind::Dictionary => 2 * count,
+        }
+    }
+}
+
 /// An object that was decoded from its first bytes, or the reason why it couldn't be decoded.
 ///
 /// Each variant has a few small fields followed by at most one `u64`, so that a value is passed in
@@ -93,10 +119,9 @@ pub enum Decoded {
     Date(u64),
     /// A string or data that can't be cached. The fields are those of [`Content`].
     Long(ContentKind, u8, u64),
-    /// An array of this many items.
-    Array(u64),
-    /// A dictionary of this many pairs.
-    Dictionary(u64),
+    /// A collection. The fields are its kind, the number of bytes from the object's offset to the
+    /// first reference, and the number of items or pairs.
+    Collection(CollectionKind, u8, u64),
     /// An object that can't be decoded.
     Faulty(ObjectFault),
 }

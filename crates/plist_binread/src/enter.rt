@@ -7,12 +7,13 @@ ghost use Rattle.plist_binread.specs.Walking.{IsWalkOf, cached_in, remaining_ent
 ghost use Rattle.plist_binread.specs.DecodeOutcome.{YieldsResult};
 ghost use Rattle.plist_binread.specs.FaultOffsets.{ErrWithin};
 ghost use Rattle.plist_binread.specs.Decoded.{FitsWalk, small_count};
-ghost use Rattle.plist_binread.specs.Step.{IsFoundAt, IsLighterEntered, IsUnchanged, CachesDecoded, CachesEntered, IsCollectionStart, OpensCollection, OpensObject, RefusesEntering, RefusesWithoutIo};
+ghost use Rattle.plist_binread.specs.Step.{IsFoundAt, IsLighterEntered, IsUnchanged, CachesDecoded, CachesEntered, IsCollectionStart, OpensObject, RefusesEntering, RefusesWithoutIo};
 ghost use Rattle.plist_binread.specs.Handovers.{Hands};
+ghost use Rattle.plist_binread.specs.declared.decoded.Decoded.TheVariants.{Collection as OpenCollection};
 ghost use Rattle.plist_binread.specs.Slot.{SlotCountsIo, result_in};
 
 use crate::counter::DecodeCounter;
-use crate::decoded::{Content, Decoded};
+use crate::decoded::{CollectionKind, Content, Decoded};
 use crate::decoder::Decoder;
 use crate::fault_slot::{FaultSlot, StepError};
 use crate::front::decode_front;
@@ -76,28 +77,28 @@ fn look_up(walk: &Walk, slot: &mut FaultSlot, at: u64, number: u64) -> Result<Kn
     if is_open(tag) {
         return Err(refuse_open(slot, content));
     }
-    match PackedKind::of_tag(tag) {
-        None => Ok(Known::At(content)),
-        Some(kind) => Ok(Known::Small(kind, content)),
-    }
+    Ok(Known::Small(PackedKind::of_tag(tag), content))
 }
 
-// Opens a collection of `count` children. Returns `false` if an allocation fails.
+// Opens a collection of `count` items or pairs, whose references begin `start` bytes after its
+// offset. Returns `false` if an allocation fails.
 #[inline(always)]
-fn open(walk: &mut Walk, number: u64, count: u64) -> bool
+fn open(walk: &mut Walk, number: u64, kind: CollectionKind, start: u8, count: u64) -> bool
     requires below { number < walk_objects walk.old }
     requires new { get_or walk.old.tags.items number 0 ≡ 0 }
+    requires fits { FitsWalk (OpenCollection kind start count) }
     // Result.
-    ensures yields { result ≡ true → OpensCollection number count walk.old walk.new }
+    ensures yields { result ≡ true
+        → OpensObject number (OpenCollection kind start count) walk.old walk.new }
     // State afterwards.
     ensures size { walk_objects walk.new ≡ walk_objects walk.old }
     ensures counted { cached_in walk.new ≡ cached_in walk.old }
     ensures falls { result ≡ true → IsLighterEntered walk.old walk.new }
     ensures unchanged { result ≡ false → IsUnchanged walk.old walk.new }
 {
-    match walk.frames.push(number, count) {
+    match walk.frames.push(number, kind.children(count)) {
         Ok(()) => {
-            mark_open(&mut walk.tags, number as usize);
+            mark_open(&mut walk.tags, number as usize, kind, start);
             true
         }
         Err(_) => false,
@@ -132,8 +133,7 @@ fn cache_or_open(walk: &mut Walk, number: u64, decoded: Decoded) -> bool
             );
             true
         }
-        Decoded::Array(count) => open(walk, number, count),
-        Decoded::Dictionary(count) => open(walk, number, 2 * count),
+        Decoded::Collection(kind, start, count) => open(walk, number, kind, start, count),
         Decoded::Date(_) => true,
         Decoded::Long(..) => true,
         Decoded::Faulty(_) => true,

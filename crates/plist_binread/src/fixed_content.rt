@@ -3,9 +3,9 @@
 //! Each function reads the bytes that follow the marker. These reach up to the trailer, or there
 //! are at least 25 of them, which is enough for any of these objects.
 
-ghost use Rattle.std.specs.Prelude.{ℕ, List, ◌^◌, ◌<◌, ◌≤◌, length, IfNone, IfSome};
+ghost use Rattle.std.specs.Prelude.{◌^◌, ◌<◌, ◌≤◌, length, IfNone, IfSome};
 ghost use Rattle.plist_format.specs.Object.{Scalar, date, signed, signed_integer, unsigned_integer, wide_integer};
-ghost use Rattle.plist_binread.specs.Decoded.{DecodesFixed, IsDecodedAs};
+ghost use Rattle.plist_binread.specs.Decoded.{DecodesFixed, MeansDecoded};
 ghost use Rattle.plist_base.specs.Trees.{Integer};
 ghost use Rattle.plist_binread.specs.Front.{IsContent, IsNumber, ShowsContent};
 ghost use Rattle.plist_binread.specs.Reading.{short_real, long_real, uid_of_content};
@@ -55,7 +55,7 @@ pub fn decode_unsigned(rest: &[u8], to_trailer: u64, width: usize) -> Decoded
 
 // Packs the signed integer that these 64 bits represent in two's complement.
 fn signed_number(bits: u64) -> Decoded
-    ensures { (all : List ℕ) → IsDecodedAs all (Scalar (Integer (signed 64 bits))) result }
+    ensures { MeansDecoded (Scalar (Integer (signed 64 bits))) result }
 {
     if bits < 1 << 63 {
         Decoded::Small(PackedKind::Unsigned, bits)

@@ -35,9 +35,8 @@ pub enum NextChild {
     Nothing,
     /// The collection had no more children and was closed. The field is the number of its object.
     End(u64),
-    /// A child is next. The fields are the number of the collection's object and the index of the
-    /// child.
-    Child(u64, u64),
+    /// A child of this collection is next. Its index is how many children were entered before it.
+    Child(Frame),
 }
 
 // Returns the frame with numbers of four bytes, or `None` if one of them doesn't fit.
@@ -203,7 +202,7 @@ impl Frames {
                     next: frame.next + 1,
                     count: frame.count,
                 });
-                NextChild::Child(frame.object, frame.next)
+                NextChild::Child(frame)
             }
         }
     }

@@ -7,16 +7,13 @@
 //! the object doesn't end before the trailer, or the content is invalid.
 
 ghost use Rattle.std.specs.Prelude.{◌≡◌, ◌-◌, ◌<◌, ◌≤◌, cond, length};
-ghost use Rattle.plist_format.specs.Object.{object_in};
 ghost use Rattle.plist_binread.specs.Decoded.{CountsSmall, DecodesAfter, DecodesSeen, small_count};
 ghost use Rattle.plist_binread.specs.Front.{IsFront, ShowsContent};
 ghost use Rattle.plist_binread.specs.Reading.{object_with};
 
-use crate::counted_content::{
-    decode_array, decode_data, decode_dictionary, decode_text, decode_wide_text,
-};
+use crate::counted_content::{decode_collection, decode_data, decode_text, decode_wide_text};
 use crate::counter::DecodeCounter;
-use crate::decoded::{Decoded, ObjectFault};
+use crate::decoded::{CollectionKind, Decoded, ObjectFault};
 use crate::decoder::Decoder;
 use crate::fixed_content::{
     decode_date, decode_real, decode_short_real, decode_signed, decode_uid, decode_unsigned,
@@ -38,7 +35,7 @@ fn decode_after_marker(
     requires to_trailer { length rest.now ≤ to_trailer }
     requires shown { ShowsContent to_trailer rest.now }
     requires width { (0 < width) × (width ≤ 8) }
-    ensures { DecodesAfter to_trailer (object_with width marker) rest.now result }
+    ensures { DecodesAfter to_trailer width (object_with width marker) rest.now result }
 {
     match Marker::decode(marker) {
         Marker::Null => Decoded::Faulty(ObjectFault::Null),
@@ -56,8 +53,12 @@ fn decode_after_marker(
             CountedKind::Data => decode_data(low, rest, to_trailer),
             CountedKind::Text => decode_text(low, rest, to_trailer),
             CountedKind::WideText => decode_wide_text(alloc, low, rest, to_trailer),
-            CountedKind::Array => decode_array(low, rest, to_trailer, width),
-            CountedKind::Dictionary => decode_dictionary(low, rest, to_trailer, width),
+            CountedKind::Array => {
+                decode_collection(CollectionKind::Array, low, rest, to_trailer, width)
+            }
+            CountedKind::Dictionary => {
+                decode_collection(CollectionKind::Dictionary, low, rest, to_trailer, width)
+            }
         },
         Marker::Uid(size) => decode_uid(rest, to_trailer, size),
         Marker::Unknown(byte) => Decoded::Faulty(ObjectFault::Unknown(byte)),
@@ -71,11 +72,8 @@ fn is_small(decoded: Decoded) -> bool
 {
     match decoded {
         Decoded::Small(_, _) => true,
-        Decoded::Date(_)
-        | Decoded::Long(..)
-        | Decoded::Array(_)
-        | Decoded::Dictionary(_)
-        | Decoded::Faulty(_) => false,
+        Decoded::Date(_) | Decoded::Long(..) | Decoded::Collection(..) | Decoded::Faulty(_) =>
+            false,
     }
 }
 
@@ -97,7 +95,7 @@ pub fn decode_front<C: DecodeCounter>(decoder: &mut Decoder<C>, place: u64, seen
     requires { IsFront decoder.old.bounds place seen.now }
     // Result.
     ensures decoded { DecodesSeen (decoder.old.bounds.trailer - place)
-        (object_in decoder.old.bounds.reference_width) seen.now result }
+        decoder.old.bounds.reference_width seen.now result }
     // State afterwards.
     ensures counted { CountsSmall C.counts C.count decoder.old.counter decoder.new.counter result }
     ensures bounds { decoder.new.bounds ≡ decoder.old.bounds }

@@ -5,6 +5,7 @@ ghost use Rattle.plist_base.specs.Sources.{ResultCountsIo};
 ghost use Rattle.plist_format.specs.Object.{date, text, wide_text};
 ghost use Rattle.plist_binread.specs.CountedContent.{AreUnits, content_means, unit_size};
 ghost use Rattle.plist_binread.specs.Decoded.{EndsIn64Bits, FailsInContent, FitsBefore, IsLong, IsLongBytes, SetsAsSmall, SetsContentAt, SetsDecoded, SetsEvent, is_refused};
+ghost use Rattle.plist_binread.specs.Decoding.{start_event};
 ghost use Rattle.plist_binread.specs.FaultOffsets.{ErrWithin};
 ghost use Rattle.plist_binread.specs.Handovers.{Hands, HandsRead, HandsSmall};
 ghost use Rattle.plist_binread.specs.Packed.{content_bytes, is_small_event, text_if_any, unpacked};
@@ -12,7 +13,7 @@ ghost use Rattle.plist_binread.specs.Slot.{SlotCountsIo, result_in};
 ghost use Rattle.plist_binread.specs.declared.decoded.ContentKind.TheVariants.{Text as KindText};
 
 use crate::counter::DecodeCounter;
-use crate::decoded::{Content, ContentKind, Decoded, ObjectFault};
+use crate::decoded::{CollectionKind, Content, ContentKind, Decoded, ObjectFault};
 use crate::decoder::Decoder;
 use crate::fault_slot::{FaultSlot, StepError};
 use crate::long_content::{read_long, wide_text_event};
@@ -204,6 +205,17 @@ fn hand_far<S: Source, V: EventVisitor>(
     hand_read(read, slot, visitor)
 }
 
+// Hands over the start of a collection of this many items or pairs.
+#[inline(always)]
+fn hand_start<V: EventVisitor>(kind: CollectionKind, count: u64, visitor: &mut V) -> ControlFlow<()>
+    ensures { V.step visitor.old (start_event kind count) result visitor.new }
+{
+    match kind {
+        CollectionKind::Array => visitor.start_array(Some(count)),
+        CollectionKind::Dictionary => visitor.start_dictionary(Some(count)),
+    }
+}
+
 /// Hands over the first event of the object at this offset, or stores its error if it is faulty. A
 /// long string or long data is read into new memory.
 #[inline(always)]
@@ -239,8 +251,7 @@ pub fn hand_decoded<S: Source, C: DecodeCounter, V: EventVisitor>(
             let content = Content { kind, start, count };
             hand_far(source, place, content, &mut decoder.slot, visitor)
         }
-        Decoded::Array(count) => Ok(visitor.start_array(Some(count))),
-        Decoded::Dictionary(count) => Ok(visitor.start_dictionary(Some(count))),
+        Decoded::Collection(kind, _, count) => Ok(hand_start(kind, count, visitor)),
         Decoded::Faulty(fault) => Err(decoder.slot.refuse_object(fault, place)),
     }
 }

@@ -3,17 +3,18 @@
 ghost use Rattle.std.specs.Prelude.{◌≡◌, ◌<◌, length, reverse, true};
 ghost use Rattle.std.proofs.Props.{props};
 ghost use Rattle.plist_binread.specs.Remaining.{MarksOpenPath};
-ghost use Rattle.plist_binread.specs.NextChild.{IsEnd, ParentIsUncached, closes};
+ghost use Rattle.plist_binread.specs.NextChild.{IsEnd, ParentIsOpen, closes};
 
-use crate::frames::{Frames, NextChild};
-use crate::packed::unmark_open;
+use crate::frames::{Frame, Frames, NextChild};
+use crate::packed::{open_kind, open_start, unmark_open};
+use crate::references::References;
 use std::alloc::Global;
 
 /// The state of a walk over the objects of a file.
 #[derive(Drop)]
 pub struct Walk {
-    /// The tag of each object, by its number. It encodes what the content is and whether the object
-    /// is open.
+    /// The tag of each object, by its number. It encodes what the content is, or that the object is
+    /// an open collection, and where its references lie.
     pub tags: Vec<u8>,
     /// The content of each object, which is its offset or a small scalar that is cached.
     pub contents: Vec<u64>,
@@ -24,7 +25,7 @@ pub struct Walk {
 }
 
 impl Walk {
-    ghost use Rattle.plist_binread.specs.Step.{WalkWeightFalls, WalkTakesNextChild};
+    ghost use Rattle.plist_binread.specs.Step.{WalkWeightFalls, WalkTakesNextChild, references_of};
     ghost use Rattle.plist_binread.specs.Walking.{IsEmptyWalk, cached_in, walk_objects, open_in};
 
     /// Creates a walk over a file whose objects aren't known yet.
@@ -43,7 +44,7 @@ impl Walk {
     pub fn next_child(&mut self) -> NextChild
         // Result.
         ensures remaining { WalkTakesNextChild self.old result self.new }
-        ensures within { ParentIsUncached self.new.tags.items result }
+        ensures within { ParentIsOpen self.new.tags.items result }
         ensures closes { closes (open_in self.old) ≡ true → IsEnd result }
         // State afterwards.
         ensures size { walk_objects self.new ≡ walk_objects self.old }
@@ -57,7 +58,22 @@ impl Walk {
                 unmark_open(&mut self.tags, object as usize);
                 NextChild::End(object)
             }
-            NextChild::Child(object, index) => NextChild::Child(object, index),
+            NextChild::Child(frame) => NextChild::Child(frame),
+        }
+    }
+
+    /// Returns where the references of an open collection lie.
+    #[inline(always)]
+    pub fn references(&self, frame: Frame) -> References
+        requires { frame.object < walk_objects self.now }
+        ensures { result ≡ references_of self.now frame }
+    {
+        let tag = self.tags[frame.object as usize];
+        References {
+            place: self.contents[frame.object as usize],
+            kind: open_kind(tag),
+            start: open_start(tag),
+            count: frame.count,
         }
     }
 }

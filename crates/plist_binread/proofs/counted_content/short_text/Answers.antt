@@ -5,7 +5,7 @@ use Rattle.plist_binread.proofs.PackedScalars.{packed_text}
 use Rattle.plist_binread.proofs.counted_content.short_text.Goals as goal
 
 pub returns-in-Some : goal.returns-in-Some
-returns-in-Some c = λ all.
+returns-in-Some c = λ width all.
     let valid : IsUtf8 c.args.bytes.now = rw (c.to_be_bytes.ensures, c.content_from-content.ensures) at c.in-Some.ensures.1 in (
       String c.args.bytes.now,
       text-utf8 c.args.bytes.now valid,
@@ -14,5 +14,5 @@ returns-in-Some c = λ all.
     )
 
 pub returns-in-None : goal.returns-in-None
-returns-in-None c = λ all.
+returns-in-None c = λ width all.
     text-not_utf8 _ (λ valid. c.in-None.ensures (rw (c.to_be_bytes.ensures, c.content_from-content.ensures) valid))

@@ -14,11 +14,11 @@ write_units-requires c =
     omega (arith, c.requires.units.1, units)
 
 pub returns-else-len-gt8 : goal.returns-else-len-gt8
-returns-else-len-gt8 c = λ all.
+returns-else-len-gt8 c = λ width all.
     let made = rw c.in-Ok-Ok.field-0-is at c.in-Ok-Ok.ensures in
     let is : wide_text c.args.bytes.now ≡ Scalar (String c.as_str.result.now) =
     units_text (numbers_spelled 2 c.args.bytes.now) c.as_str.result.now
     (rw (← c.write_units.ensures) (sym made.unpaired))
     (rw (← c.write_units.ensures) (c.as_str.ensures.value ∙ made.chars)) in
-    subst (λ (object : Object). IsDecodedAs all object c.small_text.result) (sym is)
-    (c.small_text.ensures all)
+    subst (λ (object : Object). IsDecodedAs width all object c.small_text.result) (sym is)
+    (c.small_text.ensures width all)

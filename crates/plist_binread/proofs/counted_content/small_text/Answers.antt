@@ -4,7 +4,7 @@ use Rattle.plist_binread.proofs.PackedScalars.{packed_text}
 use Rattle.plist_binread.proofs.counted_content.small_text.Goals as goal
 
 pub returns : goal.returns
-returns c = λ all. (
+returns c = λ width all. (
   String c.args.text.now,
   refl,
   packed_text _ _ c.utf8.text c.requires (rw c.as_bytes.ensures.value at c.content_from.ensures),

@@ -5,7 +5,7 @@ use Rattle.plist_format.specs.Object.{Scalar}
 use Rattle.plist_binread.proofs.fixed_content.decode_real.Goals as goal
 
 pub returns-in-Some : goal.returns-in-Some
-returns-in-Some c = λ first more whole. (
+returns-in-Some c = λ width first more whole. (
   Real (Eight c.in-Some.bytes),
   c.in-Some.ensures.content _ (λ content. Scalar (Real (Eight content))),
   ap (λ bytes. Some (Real (Eight bytes))) c.content_of.ensures,

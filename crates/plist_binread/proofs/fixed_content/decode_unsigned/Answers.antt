@@ -4,7 +4,7 @@ use Rattle.plist_format.specs.Object.{Scalar}
 use Rattle.plist_binread.proofs.fixed_content.decode_unsigned.Goals as goal
 
 pub returns-in-Some : goal.returns-in-Some
-returns-in-Some c = λ first more whole. (
+returns-in-Some c = λ width first more whole. (
   Integer (pos c.in-Some.number),
   c.in-Some.ensures.value _ (λ n. Scalar (Integer (pos n))),
   refl,

@@ -6,7 +6,7 @@ use Rattle.plist_binread.proofs.Contents.{negative_bits}
 use Rattle.plist_binread.proofs.fixed_content.signed_number.Goals as goal
 
 pub returns-then-bits : goal.returns-then-bits
-returns-then-bits c = λ all. (
+returns-then-bits c = λ width all. (
   Integer (signed 64 c.args.bits),
   refl,
   (let t = lt-ltb c.args.bits (2 ^ 63) c.if-bits.true in rw t refl),
@@ -14,7 +14,7 @@ returns-then-bits c = λ all. (
 )
 
 pub returns-else-bits : goal.returns-else-bits
-returns-else-bits c = λ all. (
+returns-else-bits c = λ width all. (
   Integer (signed 64 c.args.bits),
   refl,
   ap (λ z. Some (Integer z)) (negative_bits c.args.bits c.if-bits.false (omega arith)),

@@ -14,7 +14,6 @@ returns-then-frame c = (
 
 pub returns-else-frame : goal.returns-else-frame
 returns-else-frame c = (
-  c.in-Some.frame.count,
   reverse c.self.inside.outer,
   rw (← c.self.view_is, c.in-Some.is) (reverse-append c.self.inside.outer _),
   reverse-append c.self.inside.outer _,

@@ -1,7 +1,6 @@
 use Rattle.std.proofs.Common.{refl, Some}
 use Rattle.plist_base.specs.Events.{EndCollection}
 use Rattle.plist_binread.proofs.ReaderCalls.{left_behind, nothing_ended}
-use Rattle.plist_binread.proofs.Children.{known_no_references}
 use Rattle.plist_binread.proofs.UnknownBytes.{IfSome-all, IfSome-never}
 use Rattle.plist_binread.proofs.UnlimitedSteps.{first_walks, item_walks, not_fresh, walks_on_ok}
 use Rattle.plist_binread.proofs.reader.BinaryReader.step.Goals as goal
@@ -62,11 +61,7 @@ invariant_of-self g c = record {
   bounded = rw c.begin.ensures.unchanged c.begin.ensures.bounded;
   known = λ walking. rw c.begin.ensures.unchanged
       (walks_on_ok c.begin.result _ _ c.state_after-self.ensures c.begin.ensures.known walking);
-  refers = λ _. (
-    known_no_references (g.R.Source.known c.begin.new.source) c.begin.new.decoder.bounds
-        c.new-self.result.site c.new-self.ensures.place,
-    c.new-self.ensures.runs _,
-  );
+  refers = rw c.begin.ensures.unchanged c.args.self.now.refers;
 }
 
 pub invariant_of-self-in-Walking : goal.invariant_of-self-in-Walking
@@ -78,6 +73,5 @@ invariant_of-self-in-Walking g c = record {
       c.args.self.now.bounded;
   known = λ _. rw (c.advance-item.ensures.unchanged, c.advance-item.ensures.bounds)
       c.advance-item.ensures.known;
-  refers = λ _. rw (c.advance-item.ensures.unchanged, c.advance-item.ensures.bounds)
-      c.advance-item.ensures.references;
+  refers = rw c.advance-item.ensures.unchanged c.advance-item.ensures.references;
 }

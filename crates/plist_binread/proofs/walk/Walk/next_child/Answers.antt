@@ -3,7 +3,9 @@ use Rattle.std.proofs.lemmas.Bool.{lt-ltb}
 use Rattle.plist_binread.specs.Frames.{frame_of}
 use Rattle.plist_binread.specs.NextChild.{closes}
 use Rattle.plist_binread.proofs.InnermostChild.{next_path, child_remaining, closed_remaining, child_weight, closed_weight}
-use Rattle.plist_binread.proofs.OpenObjects.{IsOpen-pop, first_below, first_uncached, cached_count-mark}
+use Rattle.plist_binread.specs.Packed.{unmarked}
+use Rattle.plist_binread.proofs.OpenObjects.{IsOpen-pop, first_below, first_open, cached_count-kept}
+use Rattle.plist_binread.proofs.Tags.{open_uncached}
 use Rattle.plist_binread.proofs.walk.Walk.next_child.Goals as goal
 
 pub returns-in-Nothing-clause-closes : goal.returns-in-Nothing-clause-closes
@@ -24,20 +26,22 @@ pub invariant_of-self-in-End : goal.invariant_of-self-in-End
 invariant_of-self-in-End c =
     let is = c.in-End.ensures in
     record {
-      same = c.args.self.now.same ∙ sym c.unmark_open.ensures.size;
+      same = c.args.self.now.same ∙ sym c.unmark_open.ensures.tags.size;
       path = IsOpen-pop c.args.self.now.tags.items _ _ _ (rw is.2 at c.args.self.now.path)
-          c.unmark_open.ensures;
+          c.unmark_open.ensures.tags c.unmark_open.ensures.tag;
     }
 
 pub returns-in-End-clause-counted : goal.returns-in-End-clause-counted
-returns-in-End-clause-counted c = cached_count-mark _ _ _ _ c.unmark_open.ensures
+returns-in-End-clause-counted c =
+    let is = c.in-End.ensures in
+    cached_count-kept _ _ _ c.unmark_open.ensures.tags (ap unmarked c.unmark_open.ensures.tag
+    ∙ sym (open_uncached _ (first_open _ _ _ (rw is.2 at c.args.self.now.path))))
 
 pub returns-in-End-clause-remaining : goal.returns-in-End-clause-remaining
 returns-in-End-clause-remaining c =
     let is = c.in-End.ensures in
-    λ bytes bounds k. rw is.2
-    (closed_remaining _ _ _ _ _ _
-    (rw is.2 at k) _ is.3 c.unmark_open.ensures)
+    λ bytes bounds k. rw is.2 (closed_remaining _ _ _ _ _ _ (rw is.2 at k) _
+    (rw is.2 at c.args.self.now.path) is.3 c.unmark_open.ensures.tags c.unmark_open.ensures.tag)
 
 pub returns-in-End-clause-weight : goal.returns-in-End-clause-weight
 returns-in-End-clause-weight c =
@@ -49,32 +53,27 @@ invariant_of-self-in-Child-1 c =
     let is = c.in-Child.ensures in
     record {
       same = c.args.self.now.same;
-      path = rw is.3 (next_path c.args.self.now.tags.items
-          (frame_of c.in-Child.object c.in-Child.index is.0) _ is.1
-          (rw is.2 at c.args.self.now.path));
+      path = rw is.2 (next_path c.args.self.now.tags.items c.in-Child.frame _
+          (rw is.1 at c.args.self.now.path));
     }
 
 pub returns-in-Child-clause-within : goal.returns-in-Child-clause-within
 returns-in-Child-clause-within c =
-    let is = c.in-Child.ensures in (
-      first_below _ _ _ (rw is.2 at c.args.self.now.path),
-      first_uncached _ _ _ (rw is.2 at c.args.self.now.path),
-    )
+    let is = c.in-Child.ensures in
+    let path = rw is.1 at c.args.self.now.path in
+    (first_below _ _ _ path, first_open _ _ _ path, is.3)
 
 pub returns-in-Child-clause-closes : goal.returns-in-Child-clause-closes
 returns-in-Child-clause-closes c =
     let is = c.in-Child.ensures in
-    let no = ap closes is.2 ∙ ap not (lt-ltb _ _ is.4) in λ e. absurd (cc)
+    let no = ap closes is.1 ∙ ap not (lt-ltb _ _ is.3) in λ e. absurd (cc)
 
 pub returns-in-Child-clause-remaining : goal.returns-in-Child-clause-remaining
 returns-in-Child-clause-remaining c =
     let is = c.in-Child.ensures in
-    λ bytes bounds k. rw (is.2, is.3)
-    (child_remaining _ _ _ _
-    _ _ (rw is.2 at k) is.4)
+    λ bytes bounds k. rw (is.1, is.2) (child_remaining _ _ _ _ _ _ (rw is.1 at k) is.3)
 
 pub returns-in-Child-clause-weight : goal.returns-in-Child-clause-weight
 returns-in-Child-clause-weight c =
     let is = c.in-Child.ensures in
-    λ n. rw (is.2, is.3) (child_weight n
-    (frame_of c.in-Child.object _ _) _ is.4)
+    λ n. rw (is.1, is.2) (child_weight n c.in-Child.frame _ is.3)
