@@ -1,15 +1,14 @@
 -- How limits change the result of one call.
-use Rattle.std.proofs.Common.{◌≡◌, ℕ, Bool, true, List, [], ◌∷◌, Option, None, Some, Ok, Err, IfSome, refl, arith}
+use Rattle.std.proofs.Common.{◌≡◌, ℕ, Bool, true, List, [], ◌∷◌, Option, None, Some, Ok, Err, IfSome, refl}
 use Rattle.std.specs.Option.{is_some}
 use Rattle.plist_base.specs.declared.error.Error.{Error}
 use Rattle.plist_base.specs.declared.limits.Limit.{Limit}
 use Rattle.plist_base.specs.declared.limits.LimitCounter.{LimitCounter}
 use Rattle.plist_base.specs.Events.{PlainEvent, Item}
 use Rattle.plist_base.specs.Faults.{Fault, LimitReached, MatchFault, fault_of, fault_without_offset}
-use Rattle.plist_base.specs.Limits.{RefusesAny, event_or_limit, limited_by_any}
+use Rattle.plist_base.specs.Limits.{RefusesAny, limited_by_any}
 use Rattle.plist_base.specs.Visits.{PlainItem}
 use Rattle.plist_binread.specs.BinaryReader.{GivesAs}
-use Rattle.plist_binread.specs.Remaining.{SomeRemain}
 use Rattle.plist_binread.specs.FaultOffsets.{IsGivenWithin}
 use Rattle.std.proofs.lemmas.Option.{IfSome_then}
 
@@ -43,33 +42,9 @@ pub refused-given : (start end : ℕ) (limiter : Option LimitCounter) (event : P
 refused-given start end limiter event fault r =
     let by = by-limit limiter event fault r in limit-given start end _ fault by.1 by.0 by.2
 
--- ---- the remaining items
-
 none-under : (limiter : Option LimitCounter) → limited_by_any limiter [] ≡ []
 none-under None = refl
 none-under (Some limiter) = refl
-
-one-remaining : (x : Item) (xs : List Item) → SomeRemain (x ∷ xs)
-one-remaining x xs = omega arith
-
--- a fact about a list that depends on its first item alone is true of the list under limits, if it
--- is true of the error of a limit
-module _ (P : List Item → Type 0)
-    (first : (event : PlainEvent) (items others : List Item) → P (Ok event ∷ items)
-    → P (Ok event ∷ others))
-    (cut : (fault : Fault) (items : List Item) → P (Err fault ∷ items) → P (Err fault ∷ []))
-    (limits : (limit : Limit) → P (Err (fault_without_offset (LimitReached limit)) ∷ [])) where
-  choice-of : (o : Option Limit) (event : PlainEvent) (items behind : List Item)
-      → P (Ok event ∷ items) → P (event_or_limit o event behind)
-  choice-of None event items behind h = first event items behind h
-  choice-of (Some limit) event items behind h = limits limit
-
-  under-of : (limiter : Option LimitCounter) (items : List Item) → P items
-      → P (limited_by_any limiter items)
-  under-of None items h = h
-  under-of (Some limiter) [] h = h
-  under-of (Some limiter) (Ok event ∷ items) h = choice-of _ event items _ h
-  under-of (Some limiter) (Err fault ∷ items) h = cut fault items h
 
 -- ---- the result of a call
 
