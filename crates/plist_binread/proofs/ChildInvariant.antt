@@ -17,7 +17,7 @@ use Rattle.plist_binread.proofs.Tags.{open_uncached}
 use Rattle.plist_format.specs.Unfolding.{until_fault}
 use Rattle.plist_binread.specs.Reading.{AreReferencesOf, ReadsChildAt, object_at}
 use Rattle.plist_binread.specs.Remaining.{place_at, children_at, entries_of, next_number, Explains}
-use Rattle.plist_binread.specs.Step.{WalkTakesNextChild, references_of}
+use Rattle.plist_binread.specs.Step.{WalkTakesNextChild, stored_references}
 use Rattle.plist_binread.specs.NextChild.{IsCurrentCached, ParentIsOpen, TakesNextChild}
 use Rattle.plist_binread.specs.Walking.{IsWalkOf, open_in, remaining_entering, remaining_in}
 use Rattle.plist_binread.proofs.WalkInvariant.{as_many, entry_there, held_place}
@@ -47,8 +47,10 @@ module _ (known : Option (List ℕ)) (bounds : Bounds) (old mid : Walk) (frame :
   -- the object of the frame is the one at the offset that is stored for it
   there : (bytes : List ℕ) → IsWalkOf bytes bounds mid
       → slice_get (entries_of bytes bounds) frame.object
-      ≡ Some (record { place = get_or mid.contents.items frame.object 0;
-          object = object_at bounds (get_or mid.contents.items frame.object 0) bytes })
+      ≡ Some (record {
+        place = get_or mid.contents.items frame.object 0;
+        object = object_at bounds (get_or mid.contents.items frame.object 0) bytes;
+      })
   there bytes k =
       let entry = entry_there bytes bounds mid.tags.items mid.contents.items (open_in mid) k
       frame.object parent.0 in
@@ -58,7 +60,7 @@ module _ (known : Option (List ℕ)) (bounds : Bounds) (old mid : Walk) (frame :
       (sym place)
 
   -- the references to the children of the collection lie as the walk has stored
-  pub child_references : AreReferencesOf known bounds (references_of mid frame)
+  pub child_references : AreReferencesOf known bounds (stored_references mid frame)
   child_references = IfSome_then known taken (λ bytes taken.
       let k = taken.1 in
       let is = there bytes k in

@@ -14,14 +14,13 @@ use Rattle.plist_base.specs.Faults.{Fault, FaultKind, MatchFault, OutOfMemory, e
 use Rattle.plist_base.specs.Faults as faults
 use Rattle.plist_base.specs.Sources.{CountsIo, LiesAt}
 use Rattle.plist_base.specs.Trees as trees
-use Rattle.plist_base.proofs.Refusals.{MatchFault-at}
 use Rattle.plist_format.specs.Object.{Object, Scalar, Array, Dictionary, Faulty, date, date_if_any, length_in, object_in, text, text_of_units}
 use Rattle.plist_binread.specs.CountedContent.{content_means, counted_with, unit_size}
 use Rattle.plist_binread.specs.Decoded.{DecodesAfter, DecodesAt, DecodesSeen, FitsBefore, FitsWalk, IsDecodedAs, IsObjectFault, MeansDecoded, IsLongCount, SetsContentAt, SetsDecoded, SetsEvent, content_size, event_of_object, kind_of_object_fault, small_count}
-use Rattle.plist_binread.specs.Decoding.{Allocates, IsCollection, IsRefusedAs, scalar_event_in}
+use Rattle.plist_binread.specs.Decoding.{IsCollection, IsRefusedAs, scalar_event_in}
 use Rattle.plist_binread.specs.FaultOffsets.{FailsWithin, MatchReader}
 use Rattle.plist_binread.specs.Front.{IsFrontAt}
-use Rattle.plist_binread.specs.Packed.{MayAllocate, content_bytes, is_small_event, scalar_event, unmarked, unpacked}
+use Rattle.plist_binread.specs.Packed.{content_bytes, is_small_event, unmarked}
 use Rattle.plist_binread.specs.NextChild.{IsCurrentCached}
 use Rattle.plist_binread.specs.Reading.{data_of_content, object_with}
 use Rattle.plist_binread.specs.Slot.{result_in}
@@ -35,7 +34,6 @@ use Rattle.plist_binread.specs.declared.decoded.ObjectFault.TheVariants as fault
 use Rattle.plist_binread.specs.declared.fault_slot.FaultSlot.{FaultSlot}
 use Rattle.plist_binread.specs.declared.fault_slot.StepError.{StepError}
 use Rattle.plist_binread.specs.declared.head.Bounds.{Bounds}
-use Rattle.plist_binread.specs.declared.packed.PackedKind.{PackedKind}
 use Rattle.plist_binread.specs.declared.packed.PackedKind.TheVariants as kind
 use Rattle.plist_binread.proofs.NumberRuns.{take-drop-take}
 use Rattle.plist_binread.proofs.Contents.{refused_as}
@@ -206,13 +204,6 @@ fits_walk bounds place (decoded.Collection kind start count) h =
 
 -- ---- the event of an object
 
-pub scalar_event-named : (object : Object) (event : PlainEvent) → scalar_event_in object ≡ Some event
-    → event_of_object object ≡ Some event
-scalar_event-named (Scalar scalar) event h = h
-scalar_event-named (Array items) event h = absurd (cc)
-scalar_event-named (Dictionary pairs) event h = absurd (cc)
-scalar_event-named (Faulty kind) event h = absurd (cc)
-
 pub named-scalar : (object : Object) (scalar : trees.Scalar) (event : PlainEvent)
     → object ≡ Scalar scalar → event_of_object object ≡ Some event
     → scalar_event_in object ≡ Some event
@@ -261,27 +252,6 @@ collection-named (Dictionary pairs) start count h = ap Some (sym h.0)
 collection-named (Scalar scalar) start count h = absurd h
 collection-named (Faulty kind) start count h = absurd h
 
--- the event of a small scalar that is unpacked is the event of its object
-pub small-named : (width : ℕ) (all : List ℕ) (object : Object) (kind : PackedKind) (content : ℕ)
-    (current : PlainEvent) → scalar_event (unpacked kind content) ≡ Some current
-    → IsDecodedAs width all object (decoded.Small kind content)
-    → event_of_object object ≡ Some current
-small-named width all object kind content current unpacks is =
-    ap event_of_object is.1 ∙ sym (ap scalar_event is.2) ∙ unpacks
-
-grows-small : (scalar : trees.Scalar) → MayAllocate (Some scalar) → Allocates (Scalar scalar)
-grows-small (trees.String text) h = tt
-grows-small (trees.Data bytes) h = tt
-grows-small scalar h = absurd h
-
--- `OutOfMemory` is the error of a small scalar that may need memory
-pub small-refused : (width : ℕ) (all : List ℕ) (object : Object) (place : ℕ) (kind : PackedKind)
-    (content : ℕ) (e : Error) → fault_of e ≡ fault_without_offset OutOfMemory → MayAllocate (unpacked kind content)
-    → IsDecodedAs width all object (decoded.Small kind content) → IsRefusedAs object place e
-small-refused width all object place kind content e memory wanted is =
-    MatchFault-at _ _ _ _ _ (ap (λ (f : Fault). f.kind) memory)
-    (subst Allocates (sym is.1) (grows-small is.0 (subst MayAllocate is.2 wanted)))
-
 -- ---- a content
 
 pub long_bytes : (kind : ContentKind) (count : ℕ) (bytes : List ℕ)
@@ -309,16 +279,6 @@ borrowed_sets known place content seen answer current lies within sets =
     ∙ ap (take size) (drop-drop start place bytes) in
     subst (λ xs. SetsEvent (content_means content.kind xs) place answer current) e sets)
 
--- the event of a content that was read is that of the content in the file, too
-pub read_sets : (known : Option (List ℕ)) (kind : ContentKind) (start size : ℕ)
-    (event current : PlainEvent) → current ≡ event
-    → IfSome known (λ bytes. start + size ≤ length bytes
-    → scalar_event_in (content_means kind (take size (drop start bytes))) ≡ Some event)
-    → IfSome known (λ bytes. start + size ≤ length bytes
-    → event_of_object (content_means kind (take size (drop start bytes))) ≡ Some current)
-read_sets known kind start size event current same read = IfSome_then known read (λ bytes read fits.
-    scalar_event-named _ _ (read fits) ∙ ap Some (sym same))
-
 -- a content's event is the event of the object that has this content
 pub long_sets : {A : Type 0} (known : Option (List ℕ)) (bounds : Bounds) (place : ℕ)
     (content : Content) (answer : Result A Error) (current : PlainEvent)
@@ -339,12 +299,6 @@ long_sets known bounds place content answer current lies sets =
 
 -- ---- strings and data that aren't small
 
-pub large_data : (bytes : List ℕ) (current : PlainEvent) → 8 < length bytes
-    → event_of_object (data_of_content bytes) ≡ Some current → is_small_event current ≡ false
-large_data bytes current h is =
-    let e : current ≡ ScalarEvent (trees.Data bytes) = cc in
-    ap is_small_event e ∙ leb_short _ 8 h
-
 pub large_text : (bytes : List ℕ) (current : PlainEvent) → 8 < length bytes
     → event_of_object (text bytes) ≡ Some current → is_small_event current ≡ false
 large_text bytes current h is = by _ is
@@ -355,13 +309,6 @@ large_text bytes current h is = by _ is
         let e : current ≡ ScalarEvent (trees.String bytes) = cc in
         ap is_small_event e ∙ leb_short _ 8 h
     by false is = absurd (cc)
-
-pub large_on : {A : Type 0} (answer : Result A Error) (object : Object) (place : ℕ)
-    (current : PlainEvent) → SetsEvent object place answer current
-    → (event_of_object object ≡ Some current → is_small_event current ≡ false)
-    → OnOk answer (is_small_event current ≡ false)
-large_on (Ok value) object place current sets large = large sets
-large_on (Err error) object place current sets large = tt
 
 -- if the event isn't that of a small scalar, the object need not have been decoded as one
 pub large_unlike : {A E : Type 0} (answer : Result A E) (d : Decoded) (current : PlainEvent)
@@ -380,14 +327,6 @@ cached_if known number (Ok value) slot current d tags small caches =
     IfSome-all known (λ _ is. caches (small is))
 cached_if known number (Err error) slot current d tags small caches = IfSome-all known (λ _. tt)
 
--- a statement about the event, for all bytes that decode to this result, is true of the known ones
-pub sets_all : {A : Type 0} (known : Option (List ℕ)) (bounds : Bounds) (place : ℕ) (d : Decoded)
-    (answer : Result A Error) (current : PlainEvent)
-    → ((width : ℕ) (all : List ℕ) (object : Object) → IsDecodedAs width all object d
-    → SetsEvent object place answer current) → SetsDecoded known bounds place d answer current
-sets_all None bounds place d answer current h = tt
-sets_all (Some bytes) bounds place d answer current h = λ fits is. h _ _ _ is
-
 -- if the content is short, all of its bytes are among those that were read
 pub content_enough : (size to_trailer rest behind : ℕ) → (rest < 25 → to_trailer ≤ rest)
     → rest - behind + size ≤ to_trailer → behind ≤ rest → rest ≤ behind + 9 → size ≤ 16 → size ≤ behind
@@ -395,13 +334,6 @@ content_enough size to_trailer rest behind shown within short near few = elim (c
   | inl less ↦ let whole = shown less in omega arith
   | inr more ↦ omega arith
 ]
-
-pub large_on_slot : {A : Type 0} (answer : Result A StepError) (slot : FaultSlot) (object : Object)
-    (place : ℕ) (current : PlainEvent) → SetsEvent object place (result_in answer slot) current
-    → (event_of_object object ≡ Some current → is_small_event current ≡ false)
-    → OnOk answer (is_small_event current ≡ false)
-large_on_slot (Ok value) slot object place current sets large = large sets
-large_on_slot (Err refused) slot object place current sets large = tt
 
 -- UTF-16 units without an unpaired surrogate mean this string
 pub units_text : (units bytes : List ℕ) → has_unpaired_surrogate units ≡ false

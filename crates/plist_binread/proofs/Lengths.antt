@@ -1,10 +1,9 @@
 -- The length of an object, and the bytes that follow it.
-use Rattle.std.proofs.Common.{◌≡◌, ℕ, suc, ◌-◌, ◌*◌, ◌%◌, ◌^◌, ◌<◌, ◌≤◌, List, [], ◌∷◌, ◌++◌, length, take, drop, None, Some, refl, ap, ◌∙◌, arith}
+use Rattle.std.proofs.Common.{◌≡◌, ℕ, suc, ◌-◌, ◌*◌, ◌%◌, ◌^◌, ◌<◌, ◌≤◌, List, ◌∷◌, ◌++◌, length, take, drop, None, Some, refl, ap, ◌∙◌, arith}
 use Rattle.std.proofs.lemmas.Bool.{le-leb}
-use Rattle.std.proofs.lemmas.List.{append-nil, length-append, length-drop, take_all, take-append-le, drop-append-le}
-use Rattle.plist_base.specs.Faults.{ObjectOffsetTooLarge}
+use Rattle.std.proofs.lemmas.List.{length-append, length-drop, take_all, take-append-le, drop-append-le}
 use Rattle.plist_format.specs.Container.{number_of}
-use Rattle.plist_format.specs.Object.{Object, Faulty, length_in, meaning_counted}
+use Rattle.plist_format.specs.Object.{Object, length_in, meaning_counted}
 use Rattle.plist_binread.proofs.Extents.{leb_short, length_beyond}
 
 -- ---- the length
@@ -44,44 +43,6 @@ lies_behind byte w rest behind tail is h cut =
     rw (cut, n, is) refl
 
 -- ---- what follows the length
-
-module _ (m size left count : ℕ) (rest behind more : List ℕ)
-    (is : length_in m (rest ++ more) ≡ Some (count, behind ++ more))
-    (buffered : length (behind ++ more) ≡ left) where
-  -- the content ends before the trailer
-  pub count_there : count * size ≤ left
-      → (length_in m (rest ++ more) ≡ Some (count, behind ++ more))
-      × (count * size ≤ length (behind ++ more))
-  count_there fits = (is, omega arith)
-
-  -- the content doesn't end before the trailer
-  pub count_cut : left < count * size → (meaning : ℕ → List ℕ → Object)
-      → meaning_counted size meaning (length_in m (rest ++ more)) ≡ Faulty ObjectOffsetTooLarge
-  count_cut cut meaning =
-      let short : length (behind ++ more) < count * size = omega arith in
-      rw (is, leb_short (count * size) (length (behind ++ more)) short) refl
-
--- this is the number of bytes between the length and the trailer
-pub length_left : (to_trailer : ℕ) (rest behind more : List ℕ) → length (rest ++ more) ≡ to_trailer
-    → length behind ≤ length rest
-    → length (behind ++ more) ≡ to_trailer - (length rest - length behind)
-length_left to_trailer rest behind more whole short =
-    omega (arith, length-append rest more, length-append behind more)
-
--- if the bytes reach up to the trailer, no bytes follow them
-pub nothing_more : (to_trailer : ℕ) (seen more : List ℕ) → length (seen ++ more) ≡ to_trailer
-    → to_trailer ≤ length seen → seen ++ more ≡ seen
-nothing_more to_trailer seen [] whole far = append-nil seen
-nothing_more to_trailer seen (x ∷ more) whole far =
-    absurd (omega (arith, length-append seen (x ∷ more)))
-
--- if the length is cut off, the object doesn't end before the trailer
-pub count_none : (m size to_trailer : ℕ) (rest more : List ℕ) → length (rest ++ more) ≡ to_trailer
-    → (length rest < 16 → to_trailer ≤ length rest) → (length rest < 9) × (length_in m rest ≡ None)
-    → (meaning : ℕ → List ℕ → Object)
-    → meaning_counted size meaning (length_in m (rest ++ more)) ≡ Faulty ObjectOffsetTooLarge
-count_none m size to_trailer rest more whole far cut meaning =
-    rw (nothing_more to_trailer rest more whole (far (omega (arith, cut.0))), cut.1) refl
 
 -- if all bytes of the content are among these, the object is what the content means
 pub content_seen : (m size count : ℕ) (rest behind more : List ℕ)

@@ -1,19 +1,15 @@
 -- How limits change the result of one call.
-use Rattle.std.proofs.Common.{◌≡◌, ℕ, Bool, true, false, List, [], ◌∷◌, length, Option, None, Some, Ok, Err, IfSome, MatchBool, refl, ap, ◌∙◌, arith}
+use Rattle.std.proofs.Common.{◌≡◌, ℕ, Bool, true, List, [], ◌∷◌, Option, None, Some, Ok, Err, IfSome, refl}
 use Rattle.std.specs.Option.{is_some}
 use Rattle.plist_base.specs.declared.error.Error.{Error}
 use Rattle.plist_base.specs.declared.limits.Limit.{Limit}
 use Rattle.plist_base.specs.declared.limits.LimitCounter.{LimitCounter}
-use Rattle.plist_base.specs.Events.{PlainEvent, Item, StartArray, StartDictionary, ScalarEvent}
-use Rattle.plist_base.specs.Trees.{Data, String}
-use Rattle.plist_base.specs.Faults.{FaultKind, Fault, LimitReached, MatchFault, fault_of, fault_without_offset, kind_of, error_kind_of}
-use Rattle.plist_base.specs.Limits.{AdmitsAny, RefusesAny, event_or_limit, limited_by_any}
-use Rattle.plist_base.specs.Sources.{IsOffsetWithin}
+use Rattle.plist_base.specs.Events.{PlainEvent, Item}
+use Rattle.plist_base.specs.Faults.{Fault, LimitReached, MatchFault, fault_of, fault_without_offset}
+use Rattle.plist_base.specs.Limits.{RefusesAny, limited_by_any}
 use Rattle.plist_base.specs.Visits.{PlainItem}
 use Rattle.plist_binread.specs.BinaryReader.{GivesAs}
-use Rattle.plist_binread.specs.Remaining.{SomeRemain, AllocatesFirst}
-use Rattle.plist_binread.specs.FaultOffsets.{HasOffset, IsGivenWithin, MatchGiven}
-use Rattle.plist_base.proofs.Refusals.{MatchFault-weaker}
+use Rattle.plist_binread.specs.FaultOffsets.{IsGivenWithin}
 use Rattle.std.proofs.lemmas.Option.{IfSome_then}
 
 -- ---- the error of a limit
@@ -46,72 +42,9 @@ pub refused-given : (start end : ℕ) (limiter : Option LimitCounter) (event : P
 refused-given start end limiter event fault r =
     let by = by-limit limiter event fault r in limit-given start end _ fault by.1 by.0 by.2
 
-pub still-given : (start end : ℕ) (limited : Bool) (fault : Fault)
-    → IsGivenWithin start end false fault → IsGivenWithin start end limited fault
-still-given start end limited fault h = record { placed = by fault.kind h.placed }
-  where
-    by : (kind : FaultKind) → MatchGiven kind (IsOffsetWithin start end fault.offset)
-        (fault.offset ≡ None) (HasOffset fault.offset) ((false ≡ true) × (fault.offset ≡ None))
-        → MatchGiven kind (IsOffsetWithin start end fault.offset) (fault.offset ≡ None)
-        (HasOffset fault.offset) ((limited ≡ true) × (fault.offset ≡ None))
-    by (LimitReached limit) h = let no : false ≡ true → ⊥ = λ q. cc in absurd (no h.0)
-    by kind h = h
-
--- ---- the remaining items
-
 none-under : (limiter : Option LimitCounter) → limited_by_any limiter [] ≡ []
 none-under None = refl
 none-under (Some limiter) = refl
-
-fault-under : (limiter : Option LimitCounter) (fault : Fault)
-    → limited_by_any limiter (Err fault ∷ []) ≡ Err fault ∷ []
-fault-under None fault = refl
-fault-under (Some limiter) fault = refl
-
-one-remaining : (x : Item) (xs : List Item) → SomeRemain (x ∷ xs)
-one-remaining x xs = omega arith
-
--- a fact about a list that depends on its first item alone is true of the list under limits, if it
--- is true of the error of a limit
-module _ (P : List Item → Type 0)
-    (first : (event : PlainEvent) (items others : List Item) → P (Ok event ∷ items)
-    → P (Ok event ∷ others))
-    (cut : (fault : Fault) (items : List Item) → P (Err fault ∷ items) → P (Err fault ∷ []))
-    (limits : (limit : Limit) → P (Err (fault_without_offset (LimitReached limit)) ∷ [])) where
-  choice-of : (o : Option Limit) (event : PlainEvent) (items behind : List Item)
-      → P (Ok event ∷ items) → P (event_or_limit o event behind)
-  choice-of None event items behind h = first event items behind h
-  choice-of (Some limit) event items behind h = limits limit
-
-  under-of : (limiter : Option LimitCounter) (items : List Item) → P items
-      → P (limited_by_any limiter items)
-  under-of None items h = h
-  under-of (Some limiter) [] h = h
-  under-of (Some limiter) (Ok event ∷ items) h = choice-of _ event items _ h
-  under-of (Some limiter) (Err fault ∷ items) h = cut fault items h
-
-event-allocates : (event : PlainEvent) (items others : List Item) → AllocatesFirst (Ok event ∷ items)
-    → AllocatesFirst (Ok event ∷ others)
-event-allocates (StartArray length) items others h = tt
-event-allocates (StartDictionary length) items others h = tt
-event-allocates (ScalarEvent (Data bytes)) items others h = tt
-event-allocates (ScalarEvent (String text)) items others h = tt
-event-allocates event items others h = h
-
-remaining-under : (limiter : Option LimitCounter) (items : List Item) → SomeRemain items
-    → SomeRemain (limited_by_any limiter items)
-remaining-under =
-    under-of SomeRemain (λ event items others _. one-remaining (Ok event) others)
-    (λ fault items _. one-remaining (Err fault) [])
-    (λ limit. one-remaining (Err (fault_without_offset (LimitReached limit))) [])
-
-either-under : (new : Bool) (limiter : Option LimitCounter) (items : List Item)
-    → MatchBool new (SomeRemain items) (AllocatesFirst items)
-    → MatchBool new (SomeRemain (limited_by_any limiter items)) (AllocatesFirst (limited_by_any
-    limiter items))
-either-under true limiter items h = remaining-under limiter items h
-either-under false limiter items h =
-    under-of AllocatesFirst event-allocates (λ fault items h. h) (λ limit. tt) limiter items h
 
 -- ---- the result of a call
 
@@ -124,22 +57,6 @@ module _ (new : Bool) (current : PlainEvent) (known : Option (List ℕ)) (old no
   abbrev GivesUnder : PlainItem → (List ℕ → List Item) → Type 0
   GivesUnder item rest = IfSome known (λ bytes. GivesAs (λ event. event) new
       (limited_by_any old (before bytes)) item (limited_by_any now (rest bytes)))
-
-  pub none-current : Gave None → GivesUnder None after
-  none-current h = IfSome_then known h (λ bytes h. (cc (none-under old), cc (none-under now)))
-
-  pub fault-current : (error : Error) → Gave (Some (Err error))
-      → GivesUnder (Some (Err error)) after
-  fault-current error h = IfSome_then known h (λ bytes h. (
-    cc (none-under now),
-    MatchFault-weaker (kind_of (error_kind_of error))
-        (remaining-under old (before bytes)) (either-under new old (before bytes))
-        (λ b. ap (limited_by_any old) b ∙ fault-under old _) h.1,
-  ))
-
-  pub event-current : AdmitsAny old current now → Gave (Some (Ok current))
-      → GivesUnder (Some (Ok current)) after
-  event-current a h = IfSome_then known h (λ bytes h. cc (a (after bytes)))
 
   pub limit-current : (error : Error) → RefusesAny old current (fault_of error)
       → Gave (Some (Ok current)) → GivesUnder (Some (Err error)) (λ bytes. [])

@@ -146,8 +146,7 @@ module _ (bytes : List ℕ) (bounds : Bounds) where
           (children_in entry.object) kind first
           → MatchesFile bytes bounds new contents (f ∷ fs)
       known_opened new f kind first start entry less none m tag small is collection refers =
-          known_with new contents (f ∷ fs) m.size (kept_others f.object new contents m (λ q _. refl)
-          (
+          known_with new contents (f ∷ fs) m.size (kept_others f.object new contents m (λ q _. refl) (
             subst (λ t. HoldsPlaceOr (nat_eq t 0) (scalar_of_kind (kind_of_tag t)
                 (get_or contents f.object 0)) (get_or contents f.object 0)
                 (slice_get table f.object))
@@ -166,8 +165,7 @@ module _ (bytes : List ℕ) (bounds : Bounds) where
           (λ f. length (children_at (slice_get table f.object)) ≡ f.count) gs
           → MatchesFile bytes bounds new contents gs
       known_closed new f less marked m tag gs counts =
-          known_with new contents gs m.size (kept_others f.object new contents m (λ q _. refl)
-          (
+          known_with new contents gs m.size (kept_others f.object new contents m (λ q _. refl) (
             subst (λ t. HoldsPlaceOr (nat_eq t 0) (scalar_of_kind (kind_of_tag t)
                 (get_or contents f.object 0)) (get_or contents f.object 0)
                 (slice_get table f.object)) (open_uncached _ marked ∙ sym (ap unmarked tag))
@@ -186,8 +184,7 @@ module _ (bytes : List ℕ) (bounds : Bounds) where
           let some = kind_of_tag-some _ kind here in
           known_with new (slice_set contents number content) fs m.size
           (kept_others number new (slice_set contents number content) m
-          (λ q e. get_or-set_other contents number q content 0 (eqb-false q number e))
-          (
+          (λ q e. get_or-set_other contents number q content 0 (eqb-false q number e)) (
             from_scalar _ _ _ _ _ (not_zero _ some)
                 (cc (get_or-set_same contents number content 0 (rw same h), here)) is,
             λ marked. absurd (false≢true

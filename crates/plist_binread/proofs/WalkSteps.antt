@@ -14,7 +14,7 @@ use Rattle.plist_format.specs.Object.{Object, Scalar, Array, Dictionary, Faulty}
 use Rattle.plist_format.specs.Unfolding.{TableEntry, items_of, unfolding_of, until_fault}
 use Rattle.plist_binread.specs.Remaining.{path_of, MarksOpenPath, remaining_items, SomeRemain, AllocatesFirst, Explains, walk_steps, walk_weight}
 use Rattle.plist_binread.specs.Decoding.{IsCollection, children_in, scalar_in, scalar_event_in, Allocates, IsRefusedAs}
-use Rattle.plist_binread.specs.Packed.{is_small_event, IsTextOrData}
+use Rattle.plist_binread.specs.Packed.{IsTextOrData}
 use Rattle.plist_binread.proofs.OpenObjects.{admits_more}
 
 -- ---- the first item of an object
@@ -42,13 +42,6 @@ pub collection_count : (object : Object) (start : PlainEvent) (count : ℕ)
 collection_count (Array items) start count h = h.1
 collection_count (Dictionary pairs) start count h = h.1
 collection_count object start count h = absurd h
-
--- the start of a collection isn't the event of a small scalar
-pub collection_large : (object : Object) (start : PlainEvent) (count : ℕ)
-    → IsCollection object start count → is_small_event start ≡ false
-collection_large (Array items) start count h = ap is_small_event h.0
-collection_large (Dictionary pairs) start count h = ap is_small_event h.0
-collection_large object start count h = absurd h
 
 pub remaining_at : (object : Object) (place : ℕ) (child : ℕ → List Item) (more : List Item)
     → SomeRemain (until_fault (items_of place object child ++ more))

@@ -9,12 +9,7 @@ use Rattle.plist_base.specs.Visits.{Flow, PlainItem}
 use Rattle.plist_binread.specs.declared.reader.BinaryReader.{BinaryReader}
 use Rattle.plist_binread.specs.declared.counter.DecodeCounter.{Ghosts as CounterGhosts}
 use Rattle.plist_binread.specs.declared.within.Within.{Within}
-use Rattle.plist_binread.specs.BinaryReader.{GivesAs, GivesBinaryBy, HasEndedBinary, has_limits, binary_steps, items_to_come, unlimited_items}
-
--- like `GivesBinaryItem`, where the event is `current`
-abbrev pub GivesCurrent : {A : Type 0} → (new : Bool) (before : List Item) → Option (Result A Error)
-    → (current : PlainEvent) → (after : List Item) → Type 0
-GivesCurrent new before item current after = GivesAs (λ _. current) new before item after
+use Rattle.plist_binread.specs.BinaryReader.{GivesBinaryBy, HasEndedBinary, has_limits, binary_steps, items_to_come, unlimited_items}
 
 -- the item, in which a value is replaced by this event
 abbrev pub item_with : {A : Type 0} → Option (Result A Error) → PlainEvent → PlainItem

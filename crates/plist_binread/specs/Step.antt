@@ -51,8 +51,8 @@ WalkTakesNextChild old child new = (bytes : List ℕ) (bounds : Bounds) → IsWa
     × IsWalkOf bytes bounds new
 
 -- where the references of an open collection lie
-abbrev pub references_of : Walk → Frame → References
-references_of walk frame = record {
+abbrev pub stored_references : Walk → Frame → References
+stored_references walk frame = record {
   place = get_or walk.contents.items frame.object 0;
   kind = open_kind (get_or walk.tags.items frame.object 0);
   start = open_start (get_or walk.tags.items frame.object 0);

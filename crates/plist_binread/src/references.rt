@@ -160,7 +160,7 @@ impl ReferenceReader {
         match self.near.number_at(at, width) {
             Some(number) => Some(number),
             None if is_value => self.values.read(source, at, width),
-            None => self.near.read(source, at, width),
+            None => self.near.refill(source, at, width),
         }
     }
 

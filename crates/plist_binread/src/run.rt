@@ -100,10 +100,19 @@ impl Run {
     {
         match self.number_at(place, width) {
             Some(number) => Some(number),
-            None => {
-                self.fill(source, place);
-                self.number_at(place, width)
-            }
+            None => self.refill(source, place, width),
         }
+    }
+
+    /// Fills the run from the source's buffer, and returns the number in the `width` bytes at an
+    /// offset, or `None` if they aren't buffered.
+    #[inline(always)]
+    pub fn refill<S: Source>(&mut self, source: &S, place: u64, width: usize) -> Option<u64>
+        requires { width ≤ 8 }
+        ensures value { IfFound result (S.known source.now) (IsNumberAt place width) }
+        ensures run { IsRunOf (S.known source.now) self.new }
+    {
+        self.fill(source, place);
+        self.number_at(place, width)
     }
 }

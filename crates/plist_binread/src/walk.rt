@@ -25,7 +25,7 @@ pub struct Walk {
 }
 
 impl Walk {
-    ghost use Rattle.plist_binread.specs.Step.{WalkWeightFalls, WalkTakesNextChild, references_of};
+    ghost use Rattle.plist_binread.specs.Step.{WalkWeightFalls, WalkTakesNextChild, stored_references};
     ghost use Rattle.plist_binread.specs.Walking.{IsEmptyWalk, cached_in, walk_objects, open_in};
 
     /// Creates a walk over a file whose objects aren't known yet.
@@ -66,7 +66,7 @@ impl Walk {
     #[inline(always)]
     pub fn references(&self, frame: Frame) -> References
         requires { frame.object < walk_objects self.now }
-        ensures { result ≡ references_of self.now frame }
+        ensures { result ≡ stored_references self.now frame }
     {
         let tag = self.tags[frame.object as usize];
         References {

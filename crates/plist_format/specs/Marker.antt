@@ -1,5 +1,5 @@
 -- The byte of each marker, and what follows it (CFBinaryPList.c, "OBJECT TABLE").
-use Rattle.std.specs.Prelude.{ℕ, ◌+◌, ◌*◌, Option, None, Some, if◌then◌else◌}
+use Rattle.std.specs.Prelude.{ℕ, ◌+◌, ◌*◌, if◌then◌else◌}
 use Rattle.plist_base.specs.Faults.{NullObjectUnimplemented, FillObjectUnimplemented, UnknownObjectType}
 use Rattle.plist_base.specs.declared.real.RealBits.TheVariants.{Four, Eight}
 use Rattle.plist_base.specs.Trees.{Boolean, Data, Real, Uid}
@@ -34,11 +34,6 @@ byte_of marker.Date = 0x33
 byte_of (marker.Counted kind low) = high_half kind * 16 + low
 byte_of (marker.Uid width) = 0x7f + width
 byte_of (marker.Unknown byte) = byte
-
--- the kind of object and the low half, or `None` if objects with this marker have no length
-abbrev pub counted_in : Marker → Option (CountedKind × ℕ)
-counted_in (marker.Counted kind low) = Some (kind, low)
-counted_in other = None
 
 -- the layout of an object of this kind, for references of this width
 abbrev pub counted_layout : (width : ℕ) → CountedKind → Layout

@@ -1,7 +1,7 @@
 //! The marker of an object, which is its first byte and determines what follows.
 
 ghost use Rattle.std.specs.Prelude.{◌≡◌, ℕ, ◌%◌, ◌<◌, ◌≤◌, IfNone, IfSome};
-ghost use Rattle.plist_format.specs.Marker.{byte_of, counted_in, high_half, layout_after_marker};
+ghost use Rattle.plist_format.specs.Marker.{byte_of, high_half, layout_after_marker};
 ghost use Rattle.plist_format.specs.Object.{layout_of};
 
 use std::marker::Model;
@@ -201,30 +201,6 @@ impl Marker {
             0xa0..=0xaf => Marker::Counted(CountedKind::Array, LowHalf::of_byte(byte)),
             0xd0..=0xdf => Marker::Counted(CountedKind::Dictionary, LowHalf::of_byte(byte)),
             other => Marker::Unknown(other),
-        }
-    }
-
-    /// Returns the kind of object and the low half, or `None` if objects with this marker have no
-    /// length.
-    #[inline(always)]
-    pub fn counted(self) -> Option<(CountedKind, LowHalf)>
-        ensures { result ≡ counted_in self }
-    {
-        match self {
-            Marker::Counted(kind, low) => Some((kind, low)),
-            Marker::Null
-            | Marker::Boolean(_)
-            | Marker::Fill
-            | Marker::Integer1
-            | Marker::Integer2
-            | Marker::Integer4
-            | Marker::Integer8
-            | Marker::Integer16
-            | Marker::Real4
-            | Marker::Real8
-            | Marker::Date
-            | Marker::Uid(_)
-            | Marker::Unknown(_) => None,
         }
     }
 

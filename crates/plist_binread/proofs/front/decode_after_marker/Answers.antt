@@ -1,7 +1,6 @@
 use Rattle.std.proofs.Common.{◌++◌, length, refl, arith}
 use Rattle.std.proofs.lemmas.Bool.{le-leb}
 use Rattle.plist_base.specs.Trees.{Boolean}
-use Rattle.plist_format.specs.declared.marker.Marker.TheVariants.{Counted}
 use Rattle.plist_binread.proofs.Markers.{object_by_half}
 use Rattle.plist_binread.proofs.front.decode_after_marker.Goals as goal
 
@@ -43,30 +42,30 @@ returns-in-Uid c = rw (c.in-Uid.ensures.layout _) (c.decode_uid.ensures _)
 
 pub returns-in-Data : goal.returns-in-Data
 returns-in-Data c = λ first more whole.
-    rw (object_by_half c.args.width c.args.marker (Counted c.in-Counted.kind c.in-Counted.low) _ _
-    c.in-Counted.ensures.byte (c.in-Counted.ensures.layout _) refl)
+    rw (object_by_half c.args.width c.args.marker c.in-Counted.kind c.in-Counted.low _
+    c.in-Counted.ensures.byte (c.in-Counted.ensures.layout _))
     (rw c.in-Data.is (c.decode_data.ensures _ first more whole))
 
 pub returns-in-Text : goal.returns-in-Text
 returns-in-Text c = λ first more whole.
-    rw (object_by_half c.args.width c.args.marker (Counted c.in-Counted.kind c.in-Counted.low) _ _
-    c.in-Counted.ensures.byte (c.in-Counted.ensures.layout _) refl)
+    rw (object_by_half c.args.width c.args.marker c.in-Counted.kind c.in-Counted.low _
+    c.in-Counted.ensures.byte (c.in-Counted.ensures.layout _))
     (rw c.in-Text.is (c.decode_text.ensures _ first more whole))
 
 pub returns-in-WideText : goal.returns-in-WideText
 returns-in-WideText c = λ first more whole.
-    rw (object_by_half c.args.width c.args.marker (Counted c.in-Counted.kind c.in-Counted.low) _ _
-    c.in-Counted.ensures.byte (c.in-Counted.ensures.layout _) refl)
+    rw (object_by_half c.args.width c.args.marker c.in-Counted.kind c.in-Counted.low _
+    c.in-Counted.ensures.byte (c.in-Counted.ensures.layout _))
     (rw c.in-WideText.is (c.decode_wide_text.ensures _ first more whole))
 
 pub returns-in-Array : goal.returns-in-Array
 returns-in-Array c = λ first more whole.
-    rw (object_by_half c.args.width c.args.marker (Counted c.in-Counted.kind c.in-Counted.low) _ _
-    c.in-Counted.ensures.byte (c.in-Counted.ensures.layout _) refl)
+    rw (object_by_half c.args.width c.args.marker c.in-Counted.kind c.in-Counted.low _
+    c.in-Counted.ensures.byte (c.in-Counted.ensures.layout _))
     (rw c.in-Array.is (c.decode_collection.ensures first more whole))
 
 pub returns-in-Dictionary : goal.returns-in-Dictionary
 returns-in-Dictionary c = λ first more whole.
-    rw (object_by_half c.args.width c.args.marker (Counted c.in-Counted.kind c.in-Counted.low) _ _
-    c.in-Counted.ensures.byte (c.in-Counted.ensures.layout _) refl)
+    rw (object_by_half c.args.width c.args.marker c.in-Counted.kind c.in-Counted.low _
+    c.in-Counted.ensures.byte (c.in-Counted.ensures.layout _))
     (rw c.in-Dictionary.is (c.decode_collection-in-Dictionary.ensures first more whole))
