@@ -17,9 +17,9 @@ use Rattle.plist_ascii.specs.Kinds.{IfBracket, IsAsciiEvent}
 use Rattle.plist_ascii.specs.TokenPrefixes.{Taken, past_one, run, taken}
 use Rattle.plist_ascii.specs.Quoted.{ends_run, quoted, quoted_outcome, run_end}
 use Rattle.plist_ascii.specs.Texts.{bare_event, number_or_text, quoted_event}
-use Rattle.plist_ascii.specs.Unread.{stops}
-use Rattle.plist_ascii.specs.inner.Inputs.{DropsFirst, hand_of}
-use Rattle.plist_ascii.specs.inner.FrontTexts.{BeginWithText, IsAhead, IsBareFront, IsQuotedFront, LeadsToText}
+use Rattle.plist_ascii.specs.Unread.{IfKnown, stops, unread}
+use Rattle.plist_ascii.specs.inner.Inputs.{hand_of}
+use Rattle.plist_ascii.specs.inner.FrontTexts.{BeginWithText, IsBareFront, IsQuotedFront, LeadsToText}
 use Rattle.plist_ascii.proofs.Items.{going_start, going_blanks, going_event}
 use Rattle.plist_ascii.proofs.UnreadBytes.{ended_hand}
 use Rattle.std.proofs.lemmas.Bool.{eq-eqb}
@@ -168,8 +168,9 @@ lent_item stops xs p q count text ahead place =
 pub lent_gives : {R : Type 0} (known : R → Option (List ℕ)) (failed : R → Option ℕ)
     (old : AsciiReader R) (new : Input R) (count : ℕ) (text : List ℕ) (event : Event)
     → event_of event ≡ ScalarEvent (String text)
-    → IsAhead known (stop.Bare old.dialect) old.input count text
-    → (old.input.ended ≡ true → ⊥) → DropsFirst known count old.input new
+    → IfKnown (unread known old.input) (λ bytes. LeadsToText (stops (stop.Bare old.dialect)) bytes count text)
+    → (old.input.ended ≡ true → ⊥)
+    → IfKnown (unread known old.input) (λ bytes. unread known new ≡ Some (drop count bytes))
     → new.taken ≡ old.input.taken + count → 0 < count
     → new.peeked ≡ None → failed new.inner ≡ failed old.input.inner
     → GivesAscii known failed old (Some (Ok event))

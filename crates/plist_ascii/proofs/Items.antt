@@ -10,7 +10,7 @@ use Rattle.plist_ascii.specs.inner.TokenFaults.{kind_in_bytes, fault_after}
 use Rattle.plist_base.specs.Events.{PlainEvent, Item}
 use Rattle.plist_ascii.specs.TokenPrefixes.{taken, run}
 use Rattle.plist_ascii.specs.Texts.{Token}
-use Rattle.plist_ascii.specs.Unread.{TakesFront}
+use Rattle.plist_ascii.proofs.TokenOutcomes.{TakesFront}
 use Rattle.plist_ascii.specs.declared.token.Lead.{Lead}
 use Rattle.plist_ascii.specs.declared.token.Lead.TheVariants as lead
 use Rattle.plist_ascii.specs.Ascii.{PlacedItem, placed, begins_nothing, is_blank, item_then, items_in, items_of_ascii, placed_items, token, token_by, lead_of, IsTextToken, BeginsWithText, FirstIsQuoted}

@@ -5,7 +5,8 @@ use Rattle.plist_base.specs.Faults.{FaultKind, IncompleteComment}
 use Rattle.plist_base.specs.Events.{PlainEvent}
 use Rattle.plist_ascii.specs.declared.input.Input.{Input}
 use Rattle.plist_ascii.specs.TokenPrefixes.{Taken, taken, run, past, past_one}
-use Rattle.plist_ascii.specs.Unread.{unread, IfKnown, TakesFront}
+use Rattle.plist_ascii.specs.Unread.{unread, IfKnown}
+use Rattle.plist_ascii.proofs.TokenOutcomes.{TakesFront}
 use Rattle.std.proofs.lemmas.Bool.{eq-eqb}
 use Rattle.std.proofs.lemmas.List.Folds.{prefix_len-append}
 use Rattle.std.proofs.Math.Seq.{take-append-add, drop-append-add}

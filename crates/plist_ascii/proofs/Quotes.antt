@@ -6,7 +6,7 @@ use Rattle.plist_base.specs.Faults.{FaultKind, UnclosedString}
 use Rattle.plist_ascii.specs.TokenPrefixes.{Taken, taken, past_one, run}
 use Rattle.plist_ascii.specs.Escapes.{escape}
 use Rattle.plist_ascii.specs.Quoted.{piece_then, with_front, ends_run, run_end, quoted_by, quoted_in, quoted, escape_then}
-use Rattle.plist_ascii.specs.Unread.{TakesFront}
+use Rattle.plist_ascii.proofs.TokenOutcomes.{TakesFront}
 use Rattle.plist_ascii.proofs.Loops.{Behind, behind_more, behind_ends}
 
 -- ---- what follows a run

@@ -1,10 +1,10 @@
 //! Takes the bytes of a reader one after another.
 
-ghost use Rattle.std.specs.Prelude.{◌≡◌, ◌+◌, ◌++◌, ◌^◌, ◌<◌, ◌≤◌, [], length, None, Some, true, false, IfOk, IfErr, OnOk};
-ghost use Rattle.plist_ascii.specs.Unread.{unread};
-ghost use Rattle.plist_base.specs.Faults.{fault_of};
-ghost use Rattle.plist_ascii.specs.inner.TokenFaults.{fault_after};
-ghost use Rattle.plist_ascii.specs.inner.Inputs.{AddsPart, CountsByte, CountsFailed, CountsRead, DropsFirst, EndsInput, HasFailed, IfCame, IsAtStop, IsUnclosedText, Looks, SkipsPart, StartsWithHand, TakesHand, TakesIf, TakesNext, TakesOneMore, hand};
+ghost use Rattle.std.specs.Prelude.{◌≡◌, ◌+◌, ◌++◌, ◌^◌, ◌<◌, ◌≤◌, ℕ, List, [], drop, length, None, Some, true, false, IfOk, IfErr, IfSome, OnOk};
+ghost use Rattle.plist_ascii.specs.Unread.{IfKnown, unread};
+ghost use Rattle.plist_base.specs.Faults.{UnclosedString, fault_of};
+ghost use Rattle.plist_ascii.specs.inner.TokenFaults.{fault_after, kind_in_bytes};
+ghost use Rattle.plist_ascii.specs.inner.Inputs.{AddsPart, CountsByte, CountsFailed, CountsRead, EndsInput, HasFailed, HasNothingLeft, IfCame, IsAtStop, Looks, SkipsPart, TakesHand, TakesIf, TakesNext, TakesOneMore, hand};
 
 use crate::byte_reader::ByteReader;
 use crate::fault::TokenFault;
@@ -62,7 +62,8 @@ impl<R: ByteReader> Input<R> {
     #[inline(always)]
     pub fn at_hand(&self) -> &[u8]
         ensures hand { result.now ≡ hand R.held self.now }
-        ensures next { StartsWithHand R.remaining R.held self.now }
+        ensures next { IfKnown (unread R.remaining self.now) (λ xs. (rest : List ℕ)
+            × (xs ≡ hand R.held self.now ++ rest)) }
     {
         if self.ended {
             return &[];
@@ -88,7 +89,8 @@ impl<R: ByteReader> Input<R> {
     pub fn take_first(&mut self, count: usize)
         requires within { count ≤ length (hand R.held self.old) }
         // Result.
-        ensures bytes { DropsFirst R.remaining count self.old self.new }
+        ensures bytes { IfKnown (unread R.remaining self.old) (λ xs.
+            unread R.remaining self.new ≡ Some (drop count xs)) }
         // State afterwards.
         ensures place { self.new.taken ≡ self.old.taken + count }
         ensures fits { self.new.taken < 2 ^ 64 }
@@ -206,7 +208,8 @@ impl<R: ByteReader> Input<R> {
         // Result.
         ensures value { IfOk result (λ c. TakesNext R.remaining self.old (Some c) self.new) }
         // Errors.
-        ensures fault { IfErr result (IsUnclosedText R.remaining self.old self.new) }
+        ensures fault { IfErr result (λ f. IfSome (kind_in_bytes f) (λ kind. (kind ≡ UnclosedString)
+            × HasNothingLeft R.remaining self.old self.new)) }
         // State afterwards.
         ensures peeked { IfOk result (λ _. self.new.peeked ≡ None) }
         ensures place { OnOk result (TakesOneMore self.old self.new) }

@@ -1,9 +1,9 @@
 //! Finds strings that can be borrowed from the bytes at hand.
 
 ghost use Rattle.std.specs.Prelude.{◌+◌, ◌<◌, ◌≤◌, ℕ, Bool, length, IfSome};
-ghost use Rattle.plist_ascii.specs.Unread.{stops};
+ghost use Rattle.plist_ascii.specs.Unread.{IfKnown, stops, unread};
 ghost use Rattle.plist_ascii.specs.inner.Inputs.{hand};
-ghost use Rattle.plist_ascii.specs.inner.FrontTexts.{BeginWithText, IsAhead, IsBareFront, IsQuotedFront};
+ghost use Rattle.plist_ascii.specs.inner.FrontTexts.{BeginWithText, IsBareFront, IsQuotedFront, LeadsToText};
 
 use crate::byte_reader::ByteReader;
 use crate::input::Input;
@@ -118,8 +118,8 @@ impl<R: ByteReader> Input<R> {
     /// byte that ends it are at hand. Nothing is read or taken.
     #[inline(always)]
     pub fn lent_text(&self, stop: Stop) -> Option<BorrowedText<'_>>
-        ensures text { IfSome result (λ lent. IsAhead R.remaining stop self.now lent.count
-            lent.text.now) }
+        ensures text { IfSome result (λ lent. IfKnown (unread R.remaining self.now)
+            (λ bytes. LeadsToText (stops stop) bytes lent.count lent.text.now)) }
         ensures within { IfSome result (λ lent. lent.count ≤ length (hand R.held self.now)) }
         ensures some { IfSome result (λ lent. 0 < lent.count) }
     {
