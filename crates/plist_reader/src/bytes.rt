@@ -49,12 +49,12 @@ pub struct BufferedSource<R> {
 impl<R: Source> BufferedSource<R> {
     ghost use Rattle.std.specs.Prelude.{◌≡◌, [], OnOk};
     ghost use Rattle.std.specs.Io.KnownBytes.{IsAtEnd};
-    ghost use Rattle.plist_reader.specs.Streams.{stream_source, stream_place, held, stream_bytes_left, ReadCounts};
+    ghost use Rattle.plist_reader.specs.Streams.{stream_source, held, stream_bytes_left};
 
     /// Creates a `BufferedSource` from which no byte has been read.
     pub fn new(source: R) -> Self
         ensures source { stream_source result ≡ source }
-        ensures place { stream_place result ≡ 0 }
+        ensures place { result.place ≡ 0 }
         ensures held { held result ≡ [] }
     {
         BufferedSource {
@@ -73,7 +73,8 @@ impl<R: Source> BufferedSource<R> {
             ≡ stream_bytes_left R.known self.old) }
         ensures end { OnOk result (held self.new ≡ [] → IsAtEnd
             (stream_bytes_left R.known self.new)) }
-        ensures failures { ReadCounts R.failures self.old result self.new }
+        ensures failures { CountsFailure result (R.failures self.old.source)
+            (R.failures self.new.source) }
     {
         if self.from < self.end {
             return Ok(());
