@@ -11,7 +11,7 @@ use Rattle.plist_base.proofs.Grammar.{alike_with}
 use Rattle.plist.specs.LastWins.{with_pair, last_wins}
 use Rattle.plist.specs.Building.{Unfinished, NotBegun, Within, Complete, Built, IsNested, nothing_built, complete_tree, events_so_far, last_wins_so_far, refusal_at, IsUnfinishedFor, IsUnfinished}
 use Rattle.plist.specs.inner.BuilderSteps.{and_pair, and_event}
-use Rattle.plist.specs.inner.Following.{complete, refusal-last, extended}
+use Rattle.plist.proofs.Following.{complete, refusal-last, extended}
 use Rattle.std.proofs.lemmas.Option.{none-some, same_Some}
 use Rattle.plist_base.specs.Faults.{fault_of}
 use Rattle.plist.specs.declared.value.Value.{Value}

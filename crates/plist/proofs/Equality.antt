@@ -18,7 +18,7 @@ use Rattle.plist.specs.declared.equal.Pair.{Pair}
 use Rattle.plist.specs.declared.value.Value.{Value, Value-F, fold_out-Value}
 use Rattle.plist_pairs.specs.inner.PairsSame.{as_map}
 use Rattle.plist.specs.inner.DeferredPairs.{Compares, ComparesItems, ComparesPairs, ComparesValues, ItemsLeft, PairsLeft, are_covered, are_same, same_values, to_compare, waiting}
-use Rattle.plist.specs.Equal.{same, same_items}
+use Rattle.plist_pairs.specs.TreeEquality.{same, same_items}
 use Rattle.plist_pairs.specs.Equal.{same_pairs}
 use Rattle.plist.specs.ValueTrees.{item_trees, pair_trees}
 use Rattle.plist.specs.inner.Weights.{pairs_step, weight, weight_step, weights}

@@ -11,7 +11,7 @@ use Rattle.plist_base.specs.Trees.{Tree}
 use Rattle.plist_base.specs.Bracketing.{bracketing, without_length, AreAlike}
 use Rattle.plist.specs.Building.{Unfinished, events_so_far, refusal_at, IsNested}
 use Rattle.plist.specs.Collecting.{Collects, IsRefusal, RefusesOne, item_by}
-use Rattle.plist.specs.inner.Following.{refused-ends}
+use Rattle.plist.proofs.Following.{refused-ends}
 use Rattle.plist.specs.ValueOfItems.{AreItemsOfTree, IsValueOf, IsReadIfKnown, BeginsWith, BeginsWithIfKnown, IsReadBack, ForeseesItems}
 use Rattle.plist.specs.LastWins.{last_wins}
 use Rattle.plist_base.proofs.OneTree.{one_tree}

@@ -1,5 +1,7 @@
 pub mod LastValues
 pub mod BuilderLaws
+pub mod Following
+pub mod StepLaws
 pub mod Tops
 pub mod ValueLastWins
 pub mod Starts

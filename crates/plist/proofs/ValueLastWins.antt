@@ -17,7 +17,7 @@ use Rattle.plist.specs.UnfinishedValues.{held_in}
 use Rattle.plist.specs.ValueTrees.{members_step, tree_of, tree_step, tree_pairs}
 use Rattle.plist_pairs.proofs.DistinctKeys.{last-values-once, once-last, values-inserts}
 use Rattle.plist.specs.inner.BuilderSteps.{and_event}
-use Rattle.plist.specs.inner.Following.{taken_before}
+use Rattle.plist.proofs.Following.{taken_before}
 use Rattle.plist.proofs.BuilderLaws.{items-last, pairs-last, extended-last}
 
 abbrev IsItself : Value → Type 0

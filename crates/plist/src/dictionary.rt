@@ -294,12 +294,16 @@ impl fmt::Debug for Dictionary {
 /// doesn't matter.
 impl PartialEq for Dictionary {
     ghost use Rattle.std.specs.Cmp.{partial_equiv_from_equiv};
+    ghost use Rattle.std.proofs.lemmas.Cmp.{on_equiv};
+    ghost use Rattle.plist_pairs.specs.inner.PairsSame.{same_pairs_equiv};
+    ghost use Rattle.plist_pairs.proofs.TreeEquality.{same_by_equiv};
     ghost use Rattle.plist.specs.inner.DeferredPairs.{same_values_at};
-    ghost use Rattle.plist.specs.inner.SameDictionaries.{same_dictionaries_equiv};
+    ghost use Rattle.plist.specs.ValueTrees.{tree_of};
 
     ghost eq = { λ a b. same_values_at (pairs_of a) (pairs_of b) };
 
-    ghost laws = { partial_equiv_from_equiv same_dictionaries_equiv };
+    ghost laws = { partial_equiv_from_equiv
+        (on_equiv pairs_of (same_pairs_equiv (same_by_equiv tree_of))) };
 
     fn eq(&self, other: &Dictionary) -> bool {
         self.pairs == other.pairs
@@ -307,7 +311,10 @@ impl PartialEq for Dictionary {
 }
 
 impl Eq for Dictionary {
-    ghost use Rattle.plist.specs.inner.SameDictionaries.{same_dictionaries_equiv};
+    ghost use Rattle.std.proofs.lemmas.Cmp.{on_equiv};
+    ghost use Rattle.plist_pairs.specs.inner.PairsSame.{same_pairs_equiv};
+    ghost use Rattle.plist_pairs.proofs.TreeEquality.{same_by_equiv};
+    ghost use Rattle.plist.specs.ValueTrees.{tree_of};
 
-    ghost laws = { same_dictionaries_equiv };
+    ghost laws = { on_equiv pairs_of (same_pairs_equiv (same_by_equiv tree_of)) };
 }
