@@ -6,7 +6,7 @@ pub mod Tops
 pub mod ValueLastWins
 pub mod Starts
 pub mod BuilderItems
-pub mod ForeseenItems
+pub mod PredictedItems
 pub mod ReadFaults
 pub mod LastWinsSizes
 pub mod Allowances

@@ -61,9 +61,9 @@ impl<R: ByteReader> Input<R> {
     /// Returns the bytes that can be taken without a read.
     #[inline(always)]
     pub fn at_hand(&self) -> &[u8]
-        ensures hand { result.now ≡ hand R.held self.now }
+        ensures hand { result.now ≡ hand R.window self.now }
         ensures next { IfKnown (unread R.remaining self.now) (λ xs. (rest : List ℕ)
-            × (xs ≡ hand R.held self.now ++ rest)) }
+            × (xs ≡ hand R.window self.now ++ rest)) }
     {
         if self.ended {
             return &[];
@@ -87,7 +87,7 @@ impl<R: ByteReader> Input<R> {
     /// Takes the first `count` of the bytes that `at_hand` returns.
     #[inline(always)]
     pub fn take_first(&mut self, count: usize)
-        requires within { count ≤ length (hand R.held self.old) }
+        requires within { count ≤ length (hand R.window self.old) }
         // Result.
         ensures bytes { IfKnown (unread R.remaining self.old) (λ xs.
             unread R.remaining self.new ≡ Some (drop count xs)) }
@@ -111,11 +111,11 @@ impl<R: ByteReader> Input<R> {
     // without a read. It returns `None` if the input has ended, or if 2^64 - 1 bytes were taken.
     #[inline(never)]
     fn read_ahead(&mut self) -> Result<Option<u8>, TokenFault>
-        requires { hand R.held self.old ≡ [] }
+        requires { hand R.window self.old ≡ [] }
         // Result.
         ensures next { IfOk result (λ byte. Looks R.remaining self.old byte self.new) }
         // State afterwards.
-        ensures hand { IfCame result (λ _. 0 < length (hand R.held self.new)) }
+        ensures hand { IfCame result (λ _. 0 < length (hand R.window self.new)) }
         ensures place { self.new.taken ≡ self.old.taken }
         ensures failures { CountsRead R.failures self.old result self.new }
     {
@@ -148,7 +148,7 @@ impl<R: ByteReader> Input<R> {
         // Result.
         ensures next { IfOk result (λ byte. Looks R.remaining self.old byte self.new) }
         // State afterwards.
-        ensures hand { IfCame result (λ _. 0 < length (hand R.held self.new)) }
+        ensures hand { IfCame result (λ _. 0 < length (hand R.window self.new)) }
         ensures place { self.new.taken ≡ self.old.taken }
         ensures failures { CountsRead R.failures self.old result self.new }
     {
@@ -178,11 +178,11 @@ impl<R: ByteReader> Input<R> {
         }
     }
 
-    /// Takes the next byte if it is `wanted`, and returns whether it is. The only error is `Io`.
+    /// Takes the next byte if it is `expected`, and returns whether it is. The only error is `Io`.
     #[inline(always)]
-    pub fn take_if(&mut self, wanted: u8) -> Result<bool, TokenFault>
+    pub fn take_if(&mut self, expected: u8) -> Result<bool, TokenFault>
         // Result.
-        ensures next { IfOk result (λ is. TakesIf R.remaining wanted self.old is self.new) }
+        ensures next { IfOk result (λ is. TakesIf R.remaining expected self.old is self.new) }
         // State afterwards.
         ensures peeked { IfOk result (λ is. is ≡ true → self.new.peeked ≡ None) }
         ensures rises { IfOk result (λ is. is ≡ true → TakesOneMore self.old self.new) }
@@ -192,7 +192,7 @@ impl<R: ByteReader> Input<R> {
     {
         match self.peek()? {
             Some(byte) => {
-                if byte == wanted {
+                if byte == expected {
                     self.take_first(1);
                     return Ok(true);
                 }
@@ -230,7 +230,7 @@ impl<R: ByteReader> Input<R> {
         ensures bytes { SkipsPart R.remaining stop self.old self.new }
         ensures end { result ≡ false → IsAtStop R.remaining stop self.old self.new }
         // State afterwards.
-        ensures whole { result ≡ true → TakesHand R.held self.old self.new }
+        ensures whole { result ≡ true → TakesHand R.window self.old self.new }
         ensures place { self.old.taken ≤ self.new.taken }
         ensures failures { R.failures self.new.inner ≡ R.failures self.old.inner }
     {
@@ -258,7 +258,7 @@ impl<R: ByteReader> Input<R> {
             → IsAtStop R.remaining stop self.old self.new) }
         // State afterwards.
         ensures whole { IfOk result (λ more. more ≡ true
-            → TakesHand R.held self.old self.new) }
+            → TakesHand R.window self.old self.new) }
         ensures place { self.old.taken ≤ self.new.taken }
         ensures failures { R.failures self.new.inner ≡ R.failures self.old.inner }
     {

@@ -22,7 +22,7 @@ use Rattle.plist.specs.ValueOfItems.{AreItemsOfTree, IsValueOf}
 use Rattle.plist.specs.LastWins.{last_wins}
 use Rattle.plist.proofs.Following.{taken_before, continues-accepted}
 use Rattle.plist.proofs.EventTables.{sends_tree}
-use Rattle.plist.proofs.ForeseenItems.{all-events, event-more, no-events, stops-there}
+use Rattle.plist.proofs.PredictedItems.{all-events, event-more, no-events, stops-there}
 use Rattle.plist.proofs.KeysOnce.{keys-once}
 use Rattle.plist_keyed.proofs.WalkValues.{same_of}
 use Rattle.plist_commands.specs.Converting.{HoldsTree, AreNoTree, BytesHaveKeysOnce, SendsRead, items_of_known}

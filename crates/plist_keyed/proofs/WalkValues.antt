@@ -12,7 +12,7 @@ use Rattle.plist.specs.declared.value.Value.{Value}
 use Rattle.plist.specs.ValueOfItems.{AreItemsOfTree, IsValueOf}
 use Rattle.plist.specs.LastWins.{last_wins}
 use Rattle.plist.specs.ValueTrees.{tree_of}
-use Rattle.plist.proofs.ForeseenItems.{all-events, no-events}
+use Rattle.plist.proofs.PredictedItems.{all-events, no-events}
 use Rattle.plist.proofs.KeysOnce.{keys-once}
 use Rattle.plist_keyed.specs.declared.error.KeyedError.{KeyedError}
 use Rattle.plist_keyed.specs.declared.error.WalkError.{WalkError}

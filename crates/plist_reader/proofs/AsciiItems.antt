@@ -14,7 +14,7 @@ use Rattle.plist_base.specs.Allowances.{PassesNext as PassesAllowed, iterator_of
 use Rattle.plist_base.specs.Limits.{GivesLimited, IsLimitReached, items_admitted, event_or_limit, limited_items, limited_by}
 use Rattle.plist_base.specs.Faults.{FaultKind, Fault, Io, OutOfMemory, InvalidUtf16String, UnclosedString, IncompleteComment, InvalidUtf8AsciiStream, InvalidOctalString, LimitReached, MatchFault, fault_without_offset, kind_of, error_kind_of, fault_of}
 use Rattle.plist_base.specs.Sequential.{from_place}
-use Rattle.plist_reader.specs.Streams.{stream_bytes_left, stream_source, held}
+use Rattle.plist_reader.specs.Streams.{stream_bytes_left, stream_source, buffered_bytes}
 use Rattle.plist_base.specs.Sources.{ItemCountsIo}
 use Rattle.plist_base.proofs.Refusals.{MatchFault-weaker}
 use Rattle.plist_binread.specs.FaultOffsets.{HasOffset}
@@ -161,10 +161,10 @@ limit-other : (kind : FaultKind) (limit : Limit) (X Y Z : Type 0) → kind ≡ L
     → MatchFault kind X Y Z
 limit-other kind limit X Y Z is z = rw is z
 
-reached-remain : (reached : Option Limit) (event : PlainEvent) (behind : List Item)
-    → SomeRemain (event_or_limit reached event behind)
-reached-remain None event behind = one-remain {A = Item} (Ok event) behind
-reached-remain (Some limit) event behind =
+reached-remain : (reached : Option Limit) (event : PlainEvent) (following : List Item)
+    → SomeRemain (event_or_limit reached event following)
+reached-remain None event following = one-remain {A = Item} (Ok event) following
+reached-remain (Some limit) event following =
     one-remain {A = Item} (Err (fault_without_offset (LimitReached limit))) []
 
 limits-remain : (limiter : LimitCounter) (items : List Item) → SomeRemain items
@@ -241,7 +241,7 @@ module _ (now : Bool) (old new : LimitCounter) where
 
 -- a reader of ASCII that has yielded nothing has all items of its source left
 fresh-text : {R : Type 0} (known : R → Option (List ℕ)) (dialect : Dialect) (source : R) (sequence : BufferedSource R) (reader : AsciiReaderOf R)
-    → stream_source sequence ≡ source → sequence.place ≡ 0 → held sequence ≡ []
+    → stream_source sequence ≡ source → sequence.place ≡ 0 → buffered_bytes sequence ≡ []
     → IfSome (known source) (λ bytes. format.Ascii ≡ format_of bytes)
     → ascii.untaken_bytes (stream_bytes_left known) reader
     ≡ option_map input_front (stream_bytes_left known sequence)
@@ -252,7 +252,7 @@ fresh-text known dialect source sequence reader from at none is bytes place chos
     (ascii.untaken_bytes (stream_bytes_left known) reader)) chosen
     ∙ (λ i. option_map (λ b. items_of_ascii (ends_bare dialect) b (place i)) (bytes i))
     ∙ ap (λ p. option_map (λ b. items_of_ascii (ends_bare dialect) b 0)
-    (option_map input_front (option_map (λ bytes. held sequence ++ from_place p bytes)
+    (option_map input_front (option_map (λ bytes. buffered_bytes sequence ++ from_place p bytes)
     (known (stream_source sequence))))) at
     ∙ ap (λ w. option_map (λ b. items_of_ascii (ends_bare dialect) b 0)
     (option_map input_front (option_map (λ bytes. w ++ from_place 0 bytes)
@@ -337,7 +337,7 @@ module _ {R : Type 0} {g : Ghosts R} (known : R → Option (List ℕ)) (failed :
 
   pub begun-ascii : (source : R) (dialect : Dialect) (sequence : BufferedSource R) (old new : AsciiReaderOf R) (item : Given)
       → stream_source sequence ≡ source → ascii.device_of old ≡ sequence → sequence.place ≡ 0
-      → held sequence ≡ [] → IfSome (known source) (λ bytes. format.Ascii ≡ format_of bytes)
+      → buffered_bytes sequence ≡ [] → IfSome (known source) (λ bytes. format.Ascii ≡ format_of bytes)
       → ascii.untaken_bytes (stream_bytes_left known) old ≡ option_map input_front
       (stream_bytes_left known sequence)
       → ascii.place_of old ≡ 0 → ascii.dialect_of old ≡ dialect
@@ -355,7 +355,7 @@ module _ {R : Type 0} {g : Ghosts R} (known : R → Option (List ℕ)) (failed :
   pub begun-limited : (source : R) (limits : Limits) (dialect : Dialect) (sequence : BufferedSource R) (fresh : AsciiReaderOf R)
       (old new : LimitedItems (AsciiReaderOf R) LimitCounter) (item : Given) → items_admitted old ≡ limited_items limits
       → iterator_of old ≡ fresh → stream_source sequence ≡ source → ascii.device_of fresh ≡ sequence
-      → sequence.place ≡ 0 → held sequence ≡ []
+      → sequence.place ≡ 0 → buffered_bytes sequence ≡ []
       → IfSome (known source) (λ bytes. format.Ascii ≡ format_of bytes)
       → ascii.untaken_bytes (stream_bytes_left known) fresh
       ≡ option_map input_front (stream_bytes_left known sequence)

@@ -128,12 +128,12 @@ module _ {R : Type 0} {g : Ghosts R} (known : R → Option (List ℕ)) (failed :
       → StateGives known failed (state.Unread source limits dialect) item new
   other-source source other limits dialect new item e f h =
       chosen-gives source limits dialect (state.Unread other limits dialect) new item
-      (ap (option_map (input_within dialect limits)) e) refl (held (source_in new) h.failures) h.inside h
+      (ap (option_map (input_within dialect limits)) e) refl (is-kept (source_in new) h.failures) h.inside h
     where
-      held : (kept : Option R) → HoldsSource failed (Some other) item kept
+      is-kept : (kept : Option R) → HoldsSource failed (Some other) item kept
           → HoldsSource failed (Some source) item kept
-      held None h = h
-      held (Some kept) h = subst (λ n. ItemCountsIo item n (failed kept)) f h
+      is-kept None h = h
+      is-kept (Some kept) h = subst (λ n. ItemCountsIo item n (failed kept)) f h
 
   -- if the choice fails, its error is yielded
   pub refused-gives : (source other : R) (limits : Option Limits) (dialect : Dialect) (error : Error)

@@ -9,11 +9,11 @@ abbrev pub stream_source : {R : Type 0} → BufferedSource R → R
 stream_source reader = reader.source
 
 -- the bytes that are buffered, which were read but not consumed yet
-abbrev pub held : {R : Type 0} → BufferedSource R → List ℕ
-held reader = drop reader.from (take reader.end reader.window)
+abbrev pub buffered_bytes : {R : Type 0} → BufferedSource R → List ℕ
+buffered_bytes reader = drop reader.from (take reader.end reader.window)
 
 -- all bytes that haven't been consumed yet, if the source's bytes are known
 abbrev pub stream_bytes_left : {R : Type 0} → (R → Option (List ℕ)) → BufferedSource R
     → Option (List ℕ)
 stream_bytes_left known reader =
-    option_map (λ bytes. held reader ++ from_place reader.place bytes) (known reader.source)
+    option_map (λ bytes. buffered_bytes reader ++ from_place reader.place bytes) (known reader.source)

@@ -42,20 +42,20 @@ HasFailed other input = ⊤
 
 -- the byte that was looked at, or else the buffered bytes, up to a total of 2^64 - 1 bytes taken;
 -- no bytes after the input has ended
-unfoldable pub hand_of : (held : List ℕ) → (ended : Bool) → (peeked : Option ℕ) → (taken : ℕ)
+unfoldable pub hand_of : (window : List ℕ) → (ended : Bool) → (peeked : Option ℕ) → (taken : ℕ)
     → List ℕ
-hand_of held true peeked taken = []
-hand_of held false None taken = take (2 ^ 64 - 1 - taken) held
-hand_of held false (Some byte) taken = take (2 ^ 64 - 1 - taken) (byte ∷ [])
+hand_of window true peeked taken = []
+hand_of window false None taken = take (2 ^ 64 - 1 - taken) window
+hand_of window false (Some byte) taken = take (2 ^ 64 - 1 - taken) (byte ∷ [])
 
 -- the bytes that an input can take without a read
 abbrev pub hand : {R : Type 0} → (R → List ℕ) → Input R → List ℕ
-hand held input = hand_of (held input.inner) input.ended input.peeked input.taken
+hand window input = hand_of (window input.inner) input.ended input.peeked input.taken
 
 -- all bytes at hand were taken
 abbrev pub TakesHand : {R : Type 0} → (R → List ℕ) → Input R → Input R → Type 0
-TakesHand held old new =
-    (new.taken ≡ old.taken + length (hand held old)) × (new.taken < 2 ^ 64)
+TakesHand window old new =
+    (new.taken ≡ old.taken + length (hand window old)) × (new.taken < 2 ^ 64)
 
 -- ---- the number of bytes taken
 

@@ -8,14 +8,14 @@ use Rattle.plist.proofs.stream.builder.Builder.take.Goals as goal
 
 pub returns-in-Ok-clause-step : goal.returns-in-Ok-clause-step
 returns-in-Ok-clause-step c =
-    let held = c.args.self.now in
+    let before = c.args.self.now in
     let taken = sym c.in-None.ensures in
-    by_laws _ _ _ _ held.nested (
+    by_laws _ _ _ _ before.nested (
       c.if-self.false,
       taken,
       c.if-self.false,
-      carry held.unfinished.root
-          held.unfinished.collections (event_of c.args.event) _ held.nested taken
+      carry before.unfinished.root
+          before.unfinished.collections (event_of c.args.event) _ before.nested taken
           c.in-Ok.ensures,
     )
 
