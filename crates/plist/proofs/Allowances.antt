@@ -8,7 +8,7 @@ use Rattle.plist_base.specs.Allowances.{GivesAllowed, PassesNext, items_allowed,
 use Rattle.plist_base.specs.Events.{Item, PlainEvent, event_of}
 use Rattle.plist_base.specs.Faults.{Fault, kind_of, error_kind_of}
 use Rattle.plist.specs.Collecting.{item_by}
-use Rattle.plist.specs.ValueOfItems.{BeginsWith, BeginsWithIfKnown, ForeseesItems}
+use Rattle.plist.specs.ValueOfItems.{BeginsWith, BeginsWithIfKnown, PredictsItems}
 use Rattle.plist_base.proofs.Refusals.{MatchFault-all, MatchFault-weaker}
 
 abbrev pub Given : Type 0
@@ -26,7 +26,7 @@ module _ {A : Type 0} (lets : A → List Item → List Item) (may_reach : Fault 
   abbrev come : Bool → A → List Item → List Item
   come ended allowance items = cond ended [] (lets allowance items)
 
-  -- ---- the items that are foreseen
+  -- ---- the items that are predicted
 
   begins : (was : Bool) (old new : A) (now : Bool) (asked item : Given) (all left : List Item)
       → was ≡ false → BeginsWith all (option_map (item_by event_of) asked) left
@@ -73,10 +73,10 @@ module _ {A : Type 0} (lets : A → List Item → List Item) (may_reach : Fault 
         stays None = tt
         stays (Some all) = (items_allowed lets old all, refl, rw e refl)
 
-    -- if the items of the inner iterator are foreseen, so are those that are allowed
+    -- if the items of the inner iterator are predicted, so are those that are allowed
     pub allowed-shows : (coming : I → Option (List Item))
-        → ForeseesItems event_of inner_gives coming
-        → ForeseesItems event_of (GivesAllowed lets may_reach inner_gives)
+        → PredictsItems event_of inner_gives coming
+        → PredictsItems event_of (GivesAllowed lets may_reach inner_gives)
         (λ l. option_map (items_allowed lets l) (coming (iterator_of l)))
     allowed-shows coming shows old item new h = by old.ended refl h
       where

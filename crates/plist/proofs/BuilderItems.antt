@@ -11,7 +11,7 @@ use Rattle.plist_base.proofs.Grammar.{alike_with}
 use Rattle.plist.specs.LastWins.{with_pair, last_wins}
 use Rattle.plist.specs.Building.{Unfinished, NotBegun, Within, Complete, Built, IsNested, nothing_built, complete_tree, events_so_far, last_wins_so_far, refusal_at, IsUnfinishedFor, IsUnfinished}
 use Rattle.plist.specs.inner.BuilderSteps.{and_pair, and_event}
-use Rattle.plist.specs.inner.Following.{complete, refusal-last, extended}
+use Rattle.plist.proofs.Following.{complete, refusal-last, extended}
 use Rattle.std.proofs.lemmas.Option.{none-some, same_Some}
 use Rattle.plist_base.specs.Faults.{fault_of}
 use Rattle.plist.specs.declared.value.Value.{Value}
@@ -22,8 +22,8 @@ use Rattle.plist.proofs.BuilderLaws.{extended-last}
 -- these events were taken, with the last value of each key
 abbrev pub Holds : List PlainEvent → Built → Type 0
 Holds events built =
-    (held : Unfinished) × IsNested held × AreAlike (events_so_far held) events
-    × (built.unfinished ≡ last_wins_so_far held)
+    (unfinished : Unfinished) × IsNested unfinished × AreAlike (events_so_far unfinished) events
+    × (built.unfinished ≡ last_wins_so_far unfinished)
 
 -- the events of the items were taken
 abbrev pub TookAll : List Item → Built → Type 0
@@ -47,11 +47,11 @@ from_last (Some v) w p = (v, refl, sym (same_Some _ w p))
 -- one more event is taken
 pub holds-more : (events : List PlainEvent) (e : PlainEvent) (before after : Built)
     → Holds events before → TakesOne before (Ok e) after → Holds (events ++ e ∷ []) after
-holds-more events e before after (held, ok, alike, last) k =
-    let w = from_last (and_event and_pair held e) after.unfinished
-    (extended-last held e ∙ sym (ap (λ u. and_event with_pair u e) last) ∙ k.0) in
-    let c = extended held e w.0 ok w.1 in
-    (w.0, c.0, c.1 ∙ alike_with (events_so_far held) events (e ∷ []) alike, w.2)
+holds-more events e before after (unfinished, ok, alike, last) k =
+    let w = from_last (and_event and_pair unfinished e) after.unfinished
+    (extended-last unfinished e ∙ sym (ap (λ u. and_event with_pair u e) last) ∙ k.0) in
+    let c = extended unfinished e w.0 ok w.1 in
+    (w.0, c.0, c.1 ∙ alike_with (events_so_far unfinished) events (e ∷ []) alike, w.2)
 
 pub took-more : (items : List Item) (item : Item) (before after : Built) → TookAll items before
     → TakesOne before item after → TookAll (items ++ item ∷ []) after
@@ -70,10 +70,10 @@ refused-last stops ends items (Err error) built fault stop (
   events,
   is,
   fine,
-  (held, ok, alike, last),
+  (unfinished, ok, alike, last),
 ) r = (
   events,
-  held,
+  unfinished,
   ok,
   alike,
   inl (cc, stop),
@@ -82,10 +82,10 @@ refused-last stops ends items (Ok e) built fault stop (
   events,
   is,
   fine,
-  (held, ok, alike, last),
+  (unfinished, ok, alike, last),
 ) r = (
   events,
-  held,
+  unfinished,
   ok,
   alike,
   inr (inl (
@@ -106,9 +106,9 @@ ended : (stops ends : Type 0) (items : List Item) (built : Built) (fault : Fault
     → fault.kind ≡ kind → ends → TookAll items built → fault.offset ≡ None
     → IsUnfinishedFor kind built → IsBuiltFrom stops ends items (Err fault)
 ended stops ends items built fault UnexpectedEndOfEventStream q end
-    (events, is, fine, (held, ok, alike, last)) o k = (
+    (events, is, fine, (unfinished, ok, alike, last)) o k = (
       events,
-      held,
+      unfinished,
       ok,
       alike,
       inr (inr (
@@ -119,7 +119,7 @@ ended stops ends items built fault UnexpectedEndOfEventStream q end
             (last ∙ ap last_wins_so_far (complete _ t ok (alike ∙ a)))),
       )),
     )
-ended stops ends items built fault faults.WriterFailed q end (events, is, fine, (held, ok, alike, last)) o
+ended stops ends items built fault faults.WriterFailed q end (events, is, fine, (unfinished, ok, alike, last)) o
     k = absurd (true≢false (cc))
 ended stops ends items built fault kind q end t o k = absurd k
 
@@ -129,8 +129,8 @@ pub finished : (stops ends : Type 0) (items : List Item) (built : Built)
     (λ value. complete_tree built.unfinished ≡ Some (tree_of value))
     → IfErr result (λ error. IsUnfinished built (fault_of error))
     → IsBuiltFrom stops ends items (built_tree result)
-finished stops ends items built (Ok value) end (events, is, fine, (held, nested, alike, last)) ok err =
-    let w = complete_last held _ (sym (ap complete_tree last) ∙ ok) in
+finished stops ends items built (Ok value) end (events, is, fine, (unfinished, nested, alike, last)) ok err =
+    let w = complete_last unfinished _ (sym (ap complete_tree last) ∙ ok) in
     (events, w.0, is, end, sym alike ∙ ap (λ u. map without_length (events_so_far u)) w.1, w.2)
 finished stops ends items built (Err error) end t ok err =
     ended stops ends items built (fault_of error) (fault_of error).kind refl end t err.0 err.1

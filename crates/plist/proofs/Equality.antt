@@ -18,7 +18,7 @@ use Rattle.plist.specs.declared.equal.Pair.{Pair}
 use Rattle.plist.specs.declared.value.Value.{Value, Value-F, fold_out-Value}
 use Rattle.plist_pairs.specs.inner.PairsSame.{as_map}
 use Rattle.plist.specs.inner.DeferredPairs.{Compares, ComparesItems, ComparesPairs, ComparesValues, ItemsLeft, PairsLeft, are_covered, are_same, same_values, to_compare, waiting}
-use Rattle.plist.specs.Equal.{same, same_items}
+use Rattle.plist_pairs.specs.TreeEquality.{same, same_items}
 use Rattle.plist_pairs.specs.Equal.{same_pairs}
 use Rattle.plist.specs.ValueTrees.{item_trees, pair_trees}
 use Rattle.plist.specs.inner.Weights.{pairs_step, weight, weight_step, weights}
@@ -67,12 +67,12 @@ module _ (all here left was : Bool) (bound one rest : ℕ) (before : DeferredPai
 
 -- ---- deferred pairs
 
-pub same-behind : (ps : List Pair) (p : Pair)
+pub same-after : (ps : List Pair) (p : Pair)
     → are_same (ps ++ p ∷ []) ≡ same_values p.value.now p.other.now && are_same ps
-same-behind [] p = refl
-same-behind (q ∷ ps) p =
+same-after [] p = refl
+same-after (q ∷ ps) p =
     cc (
-      same-behind ps p,
+      same-after ps p,
       swapped (same_values q.value.now q.other.now)
           (same_values p.value.now p.other.now) (are_same ps),
     )
@@ -82,10 +82,10 @@ same-behind (q ∷ ps) p =
     swapped false true c = refl
     swapped false false c = refl
 
-pub left-behind : (ps : List Pair) (p : Pair)
+pub left-after : (ps : List Pair) (p : Pair)
     → to_compare (ps ++ p ∷ []) ≡ weight p.value.now + to_compare ps
-left-behind [] p = refl
-left-behind (q ∷ ps) p = let e = left-behind ps p in omega arith
+left-after [] p = refl
+left-after (q ∷ ps) p = let e = left-after ps p in omega arith
 
 -- the pair that was deferred last is taken, or no pair is deferred
 pub taken : (was l m : List Pair) (o : Option Pair) (n : ℕ) → was ≡ l → n ≡ length l
@@ -228,4 +228,4 @@ module _ (ps qs : Rows) (d : IsDistinct bytes_eq (keys_of ps))
         ∙ weights-more v (values_of (drop (i + 1) ps))) so compared in
         (λ e. answers false after (n.0 e), n.1)
 
-pub ruleset defer = (same-behind, left-behind, weight-some)
+pub ruleset defer = (same-after, left-after, weight-some)

@@ -15,27 +15,27 @@ use Rattle.plist.specs.Events.{GivesEvent, remaining_events}
 use Rattle.plist.specs.SendingValues.{StopsSending, SendsTree}
 
 -- the events that were collected and those that remain, all without lengths
-abbrev pub GatheredSoFar : List PlainEvent → (held : List PlainEvent) → (left : Events) → Type 0
-GatheredSoFar all held left = held ++ map without_length (remaining_events left)
+abbrev pub GatheredSoFar : List PlainEvent → (stored : List PlainEvent) → (left : Events) → Type 0
+GatheredSoFar all stored left = stored ++ map without_length (remaining_events left)
     ≡ map without_length all
 
 -- one more event was collected
-pub gathered_more : (all held new : List PlainEvent) (before after : Events)
-    (item : Result Event Error) (event : Event) → GatheredSoFar all held before
+pub gathered_more : (all stored new : List PlainEvent) (before after : Events)
+    (item : Result Event Error) (event : Event) → GatheredSoFar all stored before
     → GivesEvent before (Some item) after → item ≡ Ok event
-    → new ≡ held ++ without_length (event_of event) ∷ [] → GatheredSoFar all new after
-gathered_more all held new before after item event so gives is grown =
+    → new ≡ stored ++ without_length (event_of event) ∷ [] → GatheredSoFar all new after
+gathered_more all stored new before after item event so gives is grown =
     let given = (subst (λ i. GivesEvent before (Some i) after) is gives).0 in
     ap (λ l. l ++ map without_length (remaining_events after)) grown
-    ∙ append_assoc held (without_length (event_of event) ∷ []) (map without_length
+    ∙ append_assoc stored (without_length (event_of event) ∷ []) (map without_length
     (remaining_events after))
-    ∙ ap (λ l. held ++ map without_length l) (sym given) ∙ so
+    ∙ ap (λ l. stored ++ map without_length l) (sym given) ∙ so
 
 -- if no events remain, all of them were collected
-pub gathered_all : (tree : Tree) (held left : List PlainEvent)
-    → held ++ map without_length left ≡ map without_length (bracketing tree) → left ≡ []
-    → held ≡ lengthless tree
-gathered_all tree held left so none =
+pub gathered_all : (tree : Tree) (stored left : List PlainEvent)
+    → stored ++ map without_length left ≡ map without_length (bracketing tree) → left ≡ []
+    → stored ≡ lengthless tree
+gathered_all tree stored left so none =
     cc (append-nil _, lengthless-is _)
 
 pub gathered_alike : (tree : Tree) (es : List PlainEvent) → es ≡ lengthless tree
@@ -68,10 +68,10 @@ wants_memory contents tree fault w is =
     rw is (refl, (tt, refl))
 
 -- an I/O error is possible after the whole file was written
-stops_behind : {W : Type 0} (contents : W → Option (List ℕ)) (tree : Tree) (fault : Fault)
+stops_after : {W : Type 0} (contents : W → Option (List ℕ)) (tree : Tree) (fault : Fault)
     (old new : W) → SendsTree contents tree (Ok tt) old new → fault ≡ fault_without_offset Io
     → (fault.offset ≡ None) × StopsSending contents fault.kind tree old new
-stops_behind contents tree fault old new sent is =
+stops_after contents tree fault old new sent is =
     rw is (refl, (sent.0, sent.1, (sent.0, [], sent.2, sym (append-nil _))))
 
 pub stored : {W : Type 0} (contents : W → Option (List ℕ)) (tree : Tree)
@@ -80,4 +80,4 @@ pub stored : {W : Type 0} (contents : W → Option (List ℕ)) (tree : Tree)
     → SendsTree contents tree (answer_of answer) old new
 stored contents tree (Ok done) old new sent is = sent
 stored contents tree (Err error) old new sent is =
-    stops_behind contents _ (fault_of error) old new sent is
+    stops_after contents _ (fault_of error) old new sent is

@@ -1,10 +1,12 @@
 pub mod LastValues
 pub mod BuilderLaws
+pub mod Following
+pub mod StepLaws
 pub mod Tops
 pub mod ValueLastWins
 pub mod Starts
 pub mod BuilderItems
-pub mod ForeseenItems
+pub mod PredictedItems
 pub mod ReadFaults
 pub mod LastWinsSizes
 pub mod Allowances

@@ -17,24 +17,24 @@ use Rattle.plist_base.specs.Limits.{GivesLimited, IsLimitReached, items_admitted
 use Rattle.plist_base.specs.Trees.{Tree, Leaf, Array, Dictionary, Trees, NoTrees, TreeAnd, Members, NoMembers, MemberAnd}
 use Rattle.plist_base.specs.Bracketing.{AreAlike, bracketing, bracketing_of_items, bracketing_of_pairs, without_length}
 use Rattle.plist.specs.Collecting.{Collects}
-use Rattle.plist.specs.ValueOfItems.{ForeseesItems}
+use Rattle.plist.specs.ValueOfItems.{PredictsItems}
 use Rattle.plist.specs.LastWins.{last_wins}
 use Rattle.plist.specs.LimitedValues.{AreWithin, IsWithinBudget, IsWithinLimits, NestsWithin, ItemsNestWithin, PairsNestWithin}
 use Rattle.plist.proofs.Allowances.{Given, allowed-shows, run-inside, run-passes}
 use Rattle.plist.proofs.KeysOnce.{last-nests}
 use Rattle.plist.proofs.LastWinsSizes.{fewer-bytes, fewer-events}
 
--- if the items of the inner iterator are foreseen, so are those that the limits or the budget allow
+-- if the items of the inner iterator are predicted, so are those that the limits or the budget allow
 pub limited-shows : {I : Type 0} (inner_gives : I → Given → I → Type 0)
-    (coming : I → Option (List Item)) → ForeseesItems event_of inner_gives coming
-    → ForeseesItems event_of (GivesLimited inner_gives)
+    (coming : I → Option (List Item)) → PredictsItems event_of inner_gives coming
+    → PredictsItems event_of (GivesLimited inner_gives)
     (λ l. option_map (items_admitted l) (coming (iterator_of l)))
 limited-shows inner_gives =
     allowed-shows limited_by IsLimitReached (λ _. refl) (λ _ _ _. refl) inner_gives
 
 pub budget-shows : {I : Type 0} (inner_gives : I → Given → I → Type 0)
-    (coming : I → Option (List Item)) → ForeseesItems event_of inner_gives coming
-    → ForeseesItems event_of (GivesWithinBudget inner_gives)
+    (coming : I → Option (List Item)) → PredictsItems event_of inner_gives coming
+    → PredictsItems event_of (GivesWithinBudget inner_gives)
     (λ l. option_map (items_within_budget l) (coming (iterator_of l)))
 budget-shows inner_gives =
     allowed-shows within_budget IsBudgetUsedUp (λ _. refl) (λ _ _ _. refl) inner_gives
@@ -48,10 +48,10 @@ module _ (limits : Limits) where
   Pass came level (e ∷ es) = (limit_at limits came level e ≡ None)
       × Pass (came + 1) (level_after (shape_of e) level) es
 
-  pass-choice : (o : Option Limit) (e : PlainEvent) (behind es : List Item)
-      → event_or_limit o e behind ≡ Ok e ∷ es → (o ≡ None) × (behind ≡ es)
-  pass-choice None e behind es h = (refl, cc h)
-  pass-choice (Some limit) e behind es h = absurd (cc h)
+  pass-choice : (o : Option Limit) (e : PlainEvent) (following es : List Item)
+      → event_or_limit o e following ≡ Ok e ∷ es → (o ≡ None) × (following ≡ es)
+  pass-choice None e following es h = (refl, cc h)
+  pass-choice (Some limit) e following es h = absurd (cc h)
 
   passes : (came level : ℕ) (es : List PlainEvent)
       → limited_from limits came level (map Ok es) ≡ map Ok es → Pass came level es
@@ -166,11 +166,11 @@ module _ (limits : Limits) where
 
 -- ---- the bytes of events within a budget
 
-light-choice : (longer : Bool) (e : PlainEvent) (behind es : List Item)
-    → cond longer (Err (fault_without_offset OutOfMemory) ∷ []) (Ok e ∷ behind) ≡ Ok e ∷ es
-    → (longer ≡ false) × (behind ≡ es)
-light-choice true e behind es h = absurd (cc h)
-light-choice false e behind es h = (refl, cc h)
+light-choice : (longer : Bool) (e : PlainEvent) (following es : List Item)
+    → cond longer (Err (fault_without_offset OutOfMemory) ∷ []) (Ok e ∷ following) ≡ Ok e ∷ es
+    → (longer ≡ false) × (following ≡ es)
+light-choice true e following es h = absurd (cc h)
+light-choice false e following es h = (refl, cc h)
 
 light : (left : ℕ) (es : List PlainEvent) → within_bytes left (map Ok es) ≡ map Ok es
     → total_bytes es ≤ left

@@ -32,8 +32,8 @@ if-refused : (change : Change) (kind : FaultKind) → IsFaultOfEvents kind
 if-refused Refused kind h = h
 if-refused change kind h = tt
 
-refused-events : (held : Unfinished) (event : PlainEvent)
-    → IfSome (refusal_at held event) IsFaultOfEvents
+refused-events : (unfinished : Unfinished) (event : PlainEvent)
+    → IfSome (refusal_at unfinished event) IsFaultOfEvents
 refused-events NotBegun event = if-refused (change_of OneValue event) _ tt
 refused-events (Within collection outer) event =
     if-refused (change_of (expected_within collection) event) _ tt
@@ -71,13 +71,13 @@ module _ {E I : Type 0} (plain : E → PlainEvent)
       → Collects plain gives iter answer → IfErr answer (IsReadingFault limited)
   fault-tells iter (Ok tree) holds collects = tt
   fault-tells iter (Err fault) holds
-      (after, (taken, left, yields, (events, held, nested, alike, inl (is, stops)))) =
+      (after, (taken, left, yields, (events, unfinished, nested, alike, inl (is, stops)))) =
       last-error taken events fault iter left holds yields is
   fault-tells iter (Err fault) holds
-      (after, (taken, left, yields, (events, held, nested, alike, inr (inl (event, is, stops, why))))) =
-      of-refusal limited (refusal_at held event) fault (refused-events held event) why
+      (after, (taken, left, yields, (events, unfinished, nested, alike, inr (inl (event, is, stops, why))))) =
+      of-refusal limited (refusal_at unfinished event) fault (refused-events unfinished event) why
   fault-tells iter (Err fault) holds
-      (after, (taken, left, yields, (events, held, nested, alike, inr (inr (is, ends, why, none))))) =
+      (after, (taken, left, yields, (events, unfinished, nested, alike, inr (inr (is, ends, why, none))))) =
       subst (IsReadingFault limited) (sym why) (inr (tt, refl))
 
   pub error-tells : (iter : I) (answer : Result Value Error) → Holds iter
@@ -107,12 +107,12 @@ module _ {I A : Type 0} (lets : A → List Item → List Item) (may_reach : Faul
       → IsReadingFault limited (fault_of error)
   passed old error new gives = by old.ended gives
     where
-      behind : (asked : Option (Result Event Error)) → inner_gives old.inner asked new.inner
+      following : (asked : Option (Result Event Error)) → inner_gives old.inner asked new.inner
           → PassesNext lets may_reach old.limiter asked (Some (Err error)) (new.limiter, new.ended)
           → IsReadingFault limited (fault_of error)
-      behind None gave is = absurd (cc is.0)
-      behind (Some (Ok event)) gave is = reaches (fault_of error) is.0.0
-      behind (Some (Err other)) gave is =
+      following None gave is = absurd (cc is.0)
+      following (Some (Ok event)) gave is = reaches (fault_of error) is.0.0
+      following (Some (Err other)) gave is =
           let same : other ≡ error = cc is.0 in
           inner old.inner error new.inner
           (subst (λ e. inner_gives old.inner (Some (Err e)) new.inner) same gave)
@@ -122,7 +122,7 @@ module _ {I A : Type 0} (lets : A → List Item → List Item) (may_reach : Faul
           × PassesNext lets may_reach old.limiter asked (refused error) (new.limiter, new.ended))
           → IsReadingFault limited (fault_of error)
       by true is = absurd (cc is.0)
-      by false (asked, gave, is) = behind asked gave is
+      by false (asked, gave, is) = following asked gave is
 
 module _ {R : Type 0} {g : Ghosts R} (known : R → Option (List ℕ)) (failed : R → ℕ) where
   -- a reader without limits fails only with a fault that `IsReadingFault` allows

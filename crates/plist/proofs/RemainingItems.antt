@@ -1,4 +1,4 @@
--- How the readers, and the events of a value, foresee the items that remain.
+-- How the readers, and the events of a value, predict the items that remain.
 use Rattle.std.proofs.Common.{◌≡◌, ℕ, Bool, List, [], ◌∷◌, Option, Some, None, Result, Ok, Err, IfSome, map, refl, ap, ◌∙◌, subst, option_map, ◌++◌}
 use Rattle.plist_base.specs.declared.error.Error.{Error}
 use Rattle.plist_base.specs.declared.event.Event.{Event}
@@ -27,7 +27,7 @@ use Rattle.plist_format.specs.Container.{magic}
 use Rattle.plist_binwrite.specs.Written.{IsWrittenAs}
 use Rattle.plist.specs.ReadingBack.{ReadsBack}
 use Rattle.plist.specs.ValueTrees.{tree_of}
-use Rattle.plist.proofs.ForeseenItems.{back}
+use Rattle.plist.proofs.PredictedItems.{back}
 use Rattle.plist.proofs.ValueLastWins.{itself}
 use Rattle.plist_ascii.specs.AsciiReader as ascii
 use Rattle.plist_binread.specs.BinaryReader as binary

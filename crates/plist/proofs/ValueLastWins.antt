@@ -13,11 +13,11 @@ use Rattle.plist.specs.LastWins.{TreePairs, with_pair, last_values, last_wins}
 use Rattle.plist.specs.Building.{Unfinished, IsNested, IsExtendedBy, refusal_at, last_wins_in_rows, last_wins_within, last_wins_so_far, InArray, InDictionary, AfterKey, Within, Complete}
 use Rattle.plist.specs.declared.open_collections.OpenDictionary.TheVariants as run
 use Rattle.plist.specs.OpenCollections.{Contents, Items, Pairs, open_of}
-use Rattle.plist.specs.UnfinishedValues.{held_in}
+use Rattle.plist.specs.UnfinishedValues.{unfinished_in}
 use Rattle.plist.specs.ValueTrees.{members_step, tree_of, tree_step, tree_pairs}
 use Rattle.plist_pairs.proofs.DistinctKeys.{last-values-once, once-last, values-inserts}
 use Rattle.plist.specs.inner.BuilderSteps.{and_event}
-use Rattle.plist.specs.inner.Following.{taken_before}
+use Rattle.plist.proofs.Following.{taken_before}
 use Rattle.plist.proofs.BuilderLaws.{items-last, pairs-last, extended-last}
 
 abbrev IsItself : Value → Type 0
@@ -111,20 +111,20 @@ open-itself (Pairs (run.AfterKey pairs key)) =
     ap (λ d. AfterKey d (string_bytes key)) (pairs-itself (pairs_of pairs))
 
 -- an unfinished tree is its own last-value form
-pub held-itself : (root : Option Value) (cs : List Contents)
-    → last_wins_so_far (held_in root cs) ≡ held_in root cs
-held-itself (Some v) cs = ap Complete (itself v)
-held-itself None [] = refl
-held-itself None (c ∷ cs) =
+pub unfinished-itself : (root : Option Value) (cs : List Contents)
+    → last_wins_so_far (unfinished_in root cs) ≡ unfinished_in root cs
+unfinished-itself (Some v) cs = ap Complete (itself v)
+unfinished-itself None [] = refl
+unfinished-itself None (c ∷ cs) =
     λ i. Within (open-itself c i) (fixed last_wins_within open_of open-itself cs i)
 
 -- an event that isn't rejected extends a builder's unfinished tree as `IsExtendedBy` says
 pub carry : (root : Option Value) (cs : List Contents) (e : PlainEvent) (a : Unfinished)
-    → IsNested (held_in root cs) → refusal_at (held_in root cs) e ≡ None
-    → and_event with_pair (held_in root cs) e ≡ Some a → IsExtendedBy (held_in root cs) e a
+    → IsNested (unfinished_in root cs) → refusal_at (unfinished_in root cs) e ≡ None
+    → and_event with_pair (unfinished_in root cs) e ≡ Some a → IsExtendedBy (unfinished_in root cs) e a
 carry root cs e a ok p q =
-    let b = held_in root cs in
+    let b = unfinished_in root cs in
     let g = taken_before b e ok p in
     let last : Some (last_wins_so_far g.0) ≡ Some a = sym (ap (option_map last_wins_so_far) g.1)
-    ∙ extended-last b e ∙ ap (λ u. and_event with_pair u e) (held-itself root cs) ∙ q in
+    ∙ extended-last b e ∙ ap (λ u. and_event with_pair u e) (unfinished-itself root cs) ∙ q in
     (g.0, g.2, g.3, sym (same_Some _ a last))

@@ -57,20 +57,20 @@ module _ {W S : Type 0} {g : Ghosts W} {h : SharingGhosts S} (tree : Tree) where
             (subst (λ w. Appends (g.contents (sink_of before)) (g.contents (sink_of w)) went.0) ends
             went.2),
       )
-      last (inr (unwhole, held, same)) = absurd (unwhole (tree, all))
+      last (inr (unwhole, order, same)) = absurd (unwhole (tree, all))
   sent start done e (d ∷ events) before after is (alike, fine, inner) (between, step, more) =
       let t = took before between e fine step in
-      next t.2 (λ held same. sent start (done ++ e ∷ []) d events between after
+      next t.2 (λ order same. sent start (done ++ e ∷ []) d events between after
       (is ∙ sym (append_assoc done (e ∷ []) (d ∷ events))) (
-        ap (map without_length) held ∙ alike_last (open_events before) e
+        ap (map without_length) order ∙ alike_last (open_events before) e
             ∙ alike_with (open_events before) done (e ∷ []) alike,
         t.1,
         same ∙ inner,
       )
       more)
     where
-      behind : CanContinue (open_events before ++ e ∷ []) d
-      behind = (
+      following : CanContinue (open_events before ++ e ∷ []) d
+      following = (
         events,
         tree,
         ap (map without_length) (append_assoc (open_events before) (e ∷ []) (d ∷ events))
@@ -82,8 +82,8 @@ module _ {W S : Type 0} {g : Ghosts W} {h : SharingGhosts S} (tree : Tree) where
           ⊎ Holds before e between
           → (open_events between ≡ open_events before ++ without_length e ∷ []
           → sink_of between ≡ sink_of before → SendsFrom start after) → SendsFrom start after
-      next (inl (went, none)) go = absurd (went.1.0.1 d behind)
-      next (inr (unwhole, held, same)) go = go held same
+      next (inl (went, none)) go = absurd (went.1.0.1 d following)
+      next (inr (unwhole, order, same)) go = go order same
 
   -- a new writer that took all events of a tree wrote a file of it
   pub all-sent : (start : W) (before after : FileWriter W S g h) → open_events before ≡ []

@@ -1,12 +1,12 @@
 -- What contracts see of a builder.
-use Rattle.std.specs.Prelude.{◌≡◌, Some, Result, IfErr}
+use Rattle.std.specs.Prelude.{◌≡◌, true, false, Some, Result, Err, IfErr}
 use Rattle.plist_base.specs.declared.error.Error.{Error}
 use Rattle.plist_base.specs.Bracketing.{AreAlike, bracketing}
 use Rattle.plist_base.specs.Events.{PlainEvent, Item}
-use Rattle.plist_base.specs.Faults.{fault_of}
-use Rattle.plist_base.specs.Writing.{Answer}
+use Rattle.plist_base.specs.Faults.{fault_of, fault_without_offset, WriterFailed}
+use Rattle.plist_base.specs.Writing.{Answer, AnswersByOrder}
 use Rattle.plist.specs.declared.stream.builder.Builder.{Builder}
-use Rattle.plist.specs.Building.{Built, IsNested, IsAnswered, complete_tree, events_so_far}
+use Rattle.plist.specs.Building.{Built, IsAnswered, complete_tree, events_so_far}
 use Rattle.plist.specs.Collecting.{RefusesOne}
 use Rattle.plist.specs.UnfinishedValues.{unfinished_of}
 use Rattle.plist.specs.ValueTrees.{tree_of}
@@ -16,11 +16,15 @@ use Rattle.plist.specs.declared.value.Value.{Value}
 abbrev pub built_of : Builder → Built
 built_of builder = record { unfinished = unfinished_of builder.unfinished; failed = builder.failed }
 
--- what a builder returns for an event, and what it contains afterwards
-abbrev pub IsBuildingStep : (before : Builder) → PlainEvent → Answer → (after : Builder) → Type 0
-IsBuildingStep before event answer after =
-    IsNested (unfinished_of before.unfinished)
-    × IsAnswered (built_of before) event answer (built_of after) (after ≡ before)
+-- what a builder returns for an event, and what it contains afterwards; `order` and `failure` are
+-- the laws of a `Writer`, which follow from `answered`
+pub record IsBuildingStep (before : Builder) (event : PlainEvent) (answer : Answer)
+    (after : Builder) : Type 0 where
+  pub answered : IsAnswered (built_of before) event answer (built_of after) (after ≡ before)
+  pub order : before.failed ≡ false → AnswersByOrder (events_so_far (built_of before).unfinished)
+      event answer (events_so_far (built_of after).unfinished) after.failed (after ≡ before)
+  pub failure : before.failed ≡ true
+      → (answer ≡ Err (fault_without_offset WriterFailed)) × (after ≡ before)
 
 -- if the call failed, the builder rejected the item's event, ran out of memory for it, or returned
 -- the item's fault

@@ -34,9 +34,9 @@ EndsInError stops events items fault = (items ≡ map Ok events ++ Err fault ∷
 -- the items are these events and then one that can't follow them, or for which memory runs out
 abbrev pub EndsInRefusal : (stops : Type 0) → Unfinished → (events : List PlainEvent) → List Item
     → Fault → Type 0
-EndsInRefusal stops held events items fault =
+EndsInRefusal stops unfinished events items fault =
     (event : PlainEvent) × (items ≡ map Ok events ++ Ok event ∷ []) × stops
-    × IsRefusal (refusal_at held event) fault
+    × IsRefusal (refusal_at unfinished event) fault
 
 -- the items are these events, no item follows them, and they aren't those of a tree
 abbrev pub EndsUnfinished : (ends : Type 0) → (events : List PlainEvent) → List Item → Fault
@@ -54,10 +54,10 @@ IsBuiltFrom stops ends items (Ok tree) =
     (events : List PlainEvent) × (whole : Tree) × (items ≡ map Ok events) × ends
     × AreAlike events (bracketing whole) × (tree ≡ last_wins whole)
 IsBuiltFrom stops ends items (Err fault) =
-    (events : List PlainEvent) × (held : Unfinished) × IsNested held
-    × AreAlike (events_so_far held) events
+    (events : List PlainEvent) × (unfinished : Unfinished) × IsNested unfinished
+    × AreAlike (events_so_far unfinished) events
     × (EndsInError stops events items fault
-    ⊎ (EndsInRefusal stops held events items fault ⊎ EndsUnfinished ends events items fault))
+    ⊎ (EndsInRefusal stops unfinished events items fault ⊎ EndsUnfinished ends events items fault))
 
 module _ {E I : Type 0} (plain : E → PlainEvent)
     (next_gives : I → Option (Result E Error) → I → Type 0) (iter : I) where
@@ -80,5 +80,5 @@ TakesOne before (Err fault) after = ⊥
 
 -- an item is an error, or its event is rejected, or memory runs out for the event
 abbrev pub RefusesOne : Unfinished → Item → Fault → Type 0
-RefusesOne held (Ok event) fault = IsRefusal (refusal_at held event) fault
-RefusesOne held (Err error) fault = fault ≡ error
+RefusesOne unfinished (Ok event) fault = IsRefusal (refusal_at unfinished event) fault
+RefusesOne unfinished (Err error) fault = fault ≡ error

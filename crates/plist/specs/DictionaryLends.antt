@@ -17,16 +17,16 @@ with_value_at dictionary key value =
 -- when the borrow ends, the key has the value that the reference had last; without a reference the
 -- dictionary is unchanged
 abbrev pub DictionaryLendsAtKey : MutBor Dictionary → List ℕ → Option (MutBor Value) → Fml
-DictionaryLendsAtKey dictionary key lent =
-    LendsIf the_row value.the_row dictionary lent (with_value_at dictionary.now key) dictionary.now
+DictionaryLendsAtKey dictionary key borrowed =
+    LendsIf the_row value.the_row dictionary borrowed (with_value_at dictionary.now key) dictionary.now
 
 -- when the borrow ends, the key, which is there, has the value that the reference had last
 abbrev pub DictionaryLendsValue : MutBor Dictionary → List ℕ → MutBor Value → Fml
-DictionaryLendsValue dictionary key lent =
-    Lends the_row value.the_row dictionary lent (with_value_at dictionary.now key)
+DictionaryLendsValue dictionary key borrowed =
+    Lends the_row value.the_row dictionary borrowed (with_value_at dictionary.now key)
 
 -- when the borrow ends, the pair at the index has the value that the reference had last
 abbrev pub DictionaryLendsIndex : MutBor Dictionary → ℕ → MutBor Value → Fml
-DictionaryLendsIndex dictionary index lent =
-    Lends the_row value.the_row dictionary lent
+DictionaryLendsIndex dictionary index borrowed =
+    Lends the_row value.the_row dictionary borrowed
     (λ set. dictionary_of (set_value_at (pairs_of dictionary.now) index set))

@@ -17,7 +17,6 @@ pub mod SendingValues
 pub mod Outputs
 pub mod Stored
 pub mod FromReader
-pub mod Equal
 pub mod Accessors
 pub mod MutAccessors
 pub mod LimitedValues

@@ -18,19 +18,19 @@ use Rattle.plist.specs.declared.value.Value.TheVariants as made
 -- when the borrow ends, the value is the array that the reference had last; without a reference it
 -- is unchanged
 abbrev pub LendsArray : MutBor Value → Option (MutBor (Vec Value Global)) → Value → Fml
-LendsArray value lent old =
-    LendsIf the_row (vec.the_row the_row global.the_row ghosts) value lent made.Array old
+LendsArray value borrowed old =
+    LendsIf the_row (vec.the_row the_row global.the_row ghosts) value borrowed made.Array old
 
 -- when the borrow ends, the value is the dictionary that the reference had last; without a
 -- reference it is unchanged
 abbrev pub LendsDictionary : MutBor Value → Option (MutBor Dictionary) → Value → Fml
-LendsDictionary value lent old =
-    LendsIf the_row dictionary.the_row value lent made.Dictionary old
+LendsDictionary value borrowed old =
+    LendsIf the_row dictionary.the_row value borrowed made.Dictionary old
 
 -- the items of the array to which the reference points
-abbrev pub items_lent : Option (MutBor (Vec Value Global)) → Option Trees
-items_lent lent = option_map (λ array. item_trees array.now.items) lent
+abbrev pub borrowed_items : Option (MutBor (Vec Value Global)) → Option Trees
+borrowed_items borrowed = option_map (λ array. item_trees array.now.items) borrowed
 
 -- the pairs of the dictionary to which the reference points
-abbrev pub pairs_lent : Option (MutBor Dictionary) → Option Members
-pairs_lent lent = option_map (λ pairs. pair_trees (pairs_of pairs.now)) lent
+abbrev pub borrowed_pairs : Option (MutBor Dictionary) → Option Members
+borrowed_pairs borrowed = option_map (λ pairs. pair_trees (pairs_of pairs.now)) borrowed

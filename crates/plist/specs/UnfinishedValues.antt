@@ -11,9 +11,9 @@ use Rattle.plist.specs.ValueTrees.{tree_of}
 
 -- the complete tree if there is a root, and otherwise the unfinished one that consists of the open
 -- collections, innermost first
-abbrev pub held_in : Option Value → List Contents → Unfinished
-held_in (Some root) collections = Complete (tree_of root)
-held_in None collections = within collections
+abbrev pub unfinished_in : Option Value → List Contents → Unfinished
+unfinished_in (Some root) collections = Complete (tree_of root)
+unfinished_in None collections = within collections
 
 -- the open collections, innermost first
 abbrev pub collections_of : UnfinishedValue → List OpenCollection
@@ -21,7 +21,7 @@ collections_of unfinished = map open_of unfinished.collections
 
 -- the unfinished tree
 abbrev pub unfinished_of : UnfinishedValue → Unfinished
-unfinished_of unfinished = held_in unfinished.root unfinished.collections
+unfinished_of unfinished = unfinished_in unfinished.root unfinished.collections
 
 -- the event is added to the unfinished tree
 abbrev pub AddsEvent : (before : UnfinishedValue) → PlainEvent → (after : UnfinishedValue) → Type 0

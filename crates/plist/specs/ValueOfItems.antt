@@ -12,13 +12,13 @@ use Rattle.plist.specs.LastWins.{last_wins}
 
 -- Why events that can follow one another have no value: the next item is this fault, or an event
 -- that is rejected with it, or there is no next item, and the events aren't those of a tree.
-abbrev pub IsFaultOfNext : (held : Unfinished) (events : List PlainEvent) → (next : List Item) → Fault
+abbrev pub IsFaultOfNext : (unfinished : Unfinished) (events : List PlainEvent) → (next : List Item) → Fault
     → Type 0
-IsFaultOfNext held events [] fault =
+IsFaultOfNext unfinished events [] fault =
     (fault ≡ fault_without_offset UnexpectedEndOfEventStream)
     × ((tree : Tree) → AreAlike events (bracketing tree) → ⊥)
-IsFaultOfNext held events (Ok event ∷ more) fault = IsRefusal (refusal_at held event) fault
-IsFaultOfNext held events (Err error ∷ more) fault = fault ≡ error
+IsFaultOfNext unfinished events (Ok event ∷ more) fault = IsRefusal (refusal_at unfinished event) fault
+IsFaultOfNext unfinished events (Err error ∷ more) fault = fault ≡ error
 
 -- the items are a tree's events, apart from lengths
 abbrev pub AreItemsOfTree : List Item → Tree → Type 0
@@ -29,9 +29,9 @@ AreItemsOfTree items tree =
 -- tree
 abbrev pub IsFirstFault : List Item → Fault → Type 0
 IsFirstFault items fault =
-    ((events : List PlainEvent) × (next : List Item) × (held : Unfinished)
-    × (items ≡ map Ok events ++ next) × IsNested held × AreAlike (events_so_far held) events
-    × IsFaultOfNext held events next fault)
+    ((events : List PlainEvent) × (next : List Item) × (unfinished : Unfinished)
+    × (items ≡ map Ok events ++ next) × IsNested unfinished × AreAlike (events_so_far unfinished) events
+    × IsFaultOfNext unfinished events next fault)
     × ((tree : Tree) → AreItemsOfTree items tree → ⊥)
 
 -- The result is the tree whose events the items are, with the last value of each key; or the first
@@ -66,17 +66,17 @@ BeginsWithIfKnown before item after =
     IfSome before (λ all. (left : List Item) × (after ≡ Some left) × BeginsWith all item left)
 
 -- `coming` predicts the items of an iterator: each call returns the first item of its list
-abbrev pub ForeseesItems : {E I : Type 0} → (plain : E → PlainEvent)
+abbrev pub PredictsItems : {E I : Type 0} → (plain : E → PlainEvent)
     → (I → Option (Result E Error) → I → Type 0) → (coming : I → Option (List Item)) → Type 0
-ForeseesItems {E} {I} plain next_gives coming =
+PredictsItems {E} {I} plain next_gives coming =
     (old : I) (item : Option (Result E Error)) (new : I) → next_gives old item new
     → BeginsWithIfKnown (coming old) (option_map (item_by plain) item) (coming new)
 
 -- if any function predicts the iterator's items, the result is their value
-abbrev pub AnswersAsForeseen : {E I : Type 0} → (plain : E → PlainEvent)
+abbrev pub AnswersAsPredicted : {E I : Type 0} → (plain : E → PlainEvent)
     → (I → Option (Result E Error) → I → Type 0) → I → Result Tree Fault → Type 0
-AnswersAsForeseen {E} {I} plain next_gives iter answer =
-    (coming : I → Option (List Item)) → ForeseesItems plain next_gives coming → IsReadIfKnown
+AnswersAsPredicted {E} {I} plain next_gives iter answer =
+    (coming : I → Option (List Item)) → PredictsItems plain next_gives coming → IsReadIfKnown
     (coming iter) answer
 
 -- the result is built from the items of an iterator that `into_iter` of the value returns
@@ -90,7 +90,7 @@ CollectsIterable {E} {I} {J} becomes plain next_gives made answer =
 abbrev pub AnswersIterable : {E I J : Type 0} → (becomes : J → I → Type 0) → (plain : E → PlainEvent)
     → (I → Option (Result E Error) → I → Type 0) → J → Result Value Error → Type 0
 AnswersIterable {E} {I} {J} becomes plain next_gives made answer =
-    (iter : I) × becomes made iter × AnswersAsForeseen plain next_gives iter (built_tree answer)
+    (iter : I) × becomes made iter × AnswersAsPredicted plain next_gives iter (built_tree answer)
 
 -- the result is this tree, unless it is `Io` or `OutOfMemory`
 abbrev pub IsReadBack : Tree → Result Tree Fault → Type 0

@@ -1,10 +1,6 @@
 -- Definitions that are used by bodies and proofs. Of these, public clauses rely only on
 -- `BuilderSteps` and `DeferredPairs`.
 pub mod BuilderSteps
-pub mod Following
-pub mod Laws
-pub mod Sameness
 pub mod Weights
 pub mod DeferredPairs
-pub mod SameDictionaries
 pub mod CollectionSteps

@@ -10,7 +10,7 @@ ghost use Rattle.plist_base.specs.Trees.{Tree};
 ghost use Rattle.plist_format.specs.Unfolding.{items_of_file};
 ghost use Rattle.plist.specs.Collecting.{built_tree};
 ghost use Rattle.plist.specs.ValueOfItems.{IsReadBack, ReadsItems};
-ghost use Rattle.plist.specs.Equal.{same, IsTransitive, DecidesScalars, DecidesDictionaries, same_members};
+ghost use Rattle.plist_pairs.specs.TreeEquality.{same, IsTransitive, DecidesScalars, DecidesDictionaries, same_members};
 ghost use Rattle.plist.specs.Dictionaries.{pairs_of};
 ghost use Rattle.plist.specs.ValueTrees.{pair_trees, tree_of};
 ghost use Rattle.plist.specs.inner.DeferredPairs.{same_values_at};

@@ -2,7 +2,7 @@
 
 ghost use Rattle.std.specs.Iterator.{IsFinite};
 ghost use Rattle.plist.specs.Collecting.{Collects, CollectsTo, built_tree};
-ghost use Rattle.plist.specs.ValueOfItems.{AnswersAsForeseen};
+ghost use Rattle.plist.specs.ValueOfItems.{AnswersAsPredicted};
 
 use crate::Value;
 use crate::stream::builder::{AnyEvent, Builder};
@@ -35,7 +35,7 @@ pub(crate) fn collect<E: AnyEvent, I: Iterator<Item = Result<E, Error>> + Drop>(
     requires can { I.can_next items }
     requires ends { IsFinite (I.remaining items) }
     ensures value { Collects E.plain I.next_gives items (built_tree result) }
-    ensures shown { AnswersAsForeseen E.plain I.next_gives items (built_tree result) }
+    ensures shown { AnswersAsPredicted E.plain I.next_gives items (built_tree result) }
 {
     let mut rest = items;
     collect_from(alloc, &mut rest)

@@ -93,7 +93,7 @@ impl Dictionary {
     /// Returns a mutable reference to the key's value, or `None` if the key isn't there.
     pub fn get_mut(&mut self, key: &str) -> Option<&mut Value>
         ensures value { option_copied_mut result ≡ lookup (bytes_eq key.now) (pairs_of self.old) }
-        ensures member { IfSome result (λ lent. IsAmong (values_of (pairs_of self.old)) lent.now) }
+        ensures member { IfSome result (λ borrowed. IsAmong (values_of (pairs_of self.old)) borrowed.now) }
         ensures* writes_back { sem 𝓛 (DictionaryLendsAtKey self.entry key.now result) }
     {
         self.pairs.get_mut(key)
@@ -294,12 +294,16 @@ impl fmt::Debug for Dictionary {
 /// doesn't matter.
 impl PartialEq for Dictionary {
     ghost use Rattle.std.specs.Cmp.{partial_equiv_from_equiv};
+    ghost use Rattle.std.proofs.lemmas.Cmp.{on_equiv};
+    ghost use Rattle.plist_pairs.specs.inner.PairsSame.{same_pairs_equiv};
+    ghost use Rattle.plist_pairs.proofs.TreeEquality.{same_by_equiv};
     ghost use Rattle.plist.specs.inner.DeferredPairs.{same_values_at};
-    ghost use Rattle.plist.specs.inner.SameDictionaries.{same_dictionaries_equiv};
+    ghost use Rattle.plist.specs.ValueTrees.{tree_of};
 
     ghost eq = { λ a b. same_values_at (pairs_of a) (pairs_of b) };
 
-    ghost laws = { partial_equiv_from_equiv same_dictionaries_equiv };
+    ghost laws = { partial_equiv_from_equiv
+        (on_equiv pairs_of (same_pairs_equiv (same_by_equiv tree_of))) };
 
     fn eq(&self, other: &Dictionary) -> bool {
         self.pairs == other.pairs
@@ -307,7 +311,10 @@ impl PartialEq for Dictionary {
 }
 
 impl Eq for Dictionary {
-    ghost use Rattle.plist.specs.inner.SameDictionaries.{same_dictionaries_equiv};
+    ghost use Rattle.std.proofs.lemmas.Cmp.{on_equiv};
+    ghost use Rattle.plist_pairs.specs.inner.PairsSame.{same_pairs_equiv};
+    ghost use Rattle.plist_pairs.proofs.TreeEquality.{same_by_equiv};
+    ghost use Rattle.plist.specs.ValueTrees.{tree_of};
 
-    ghost laws = { same_dictionaries_equiv };
+    ghost laws = { on_equiv pairs_of (same_pairs_equiv (same_by_equiv tree_of)) };
 }

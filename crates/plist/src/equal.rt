@@ -9,7 +9,7 @@ ghost use Rattle.std.specs.Prelude.{◌≡◌, ◌-◌};
 ghost use Rattle.plist_base.specs.Trees.{Dictionary};
 ghost use Rattle.plist.specs.inner.DeferredPairs.{Compares, ComparesItems, ComparesPairs, ComparesValues, PutsOff, TakesLast, same_values, waiting};
 ghost use Rattle.plist.specs.Dictionaries.{pairs_of};
-ghost use Rattle.plist.specs.Equal.{same};
+ghost use Rattle.plist_pairs.specs.TreeEquality.{same};
 ghost use Rattle.plist.specs.ValueTrees.{tree_of};
 ghost use Rattle.plist.specs.inner.Weights.{weight};
 
@@ -26,7 +26,7 @@ const LEVELS: u32 = 128;
 /// values fails, it recurses instead.
 impl PartialEq for Value {
     ghost use Rattle.std.specs.Cmp.{partial_equiv_from_equiv};
-    ghost use Rattle.plist.specs.inner.Sameness.{same_by_equiv};
+    ghost use Rattle.plist_pairs.proofs.TreeEquality.{same_by_equiv};
 
     ghost eq = { λ a b. same (tree_of a) (tree_of b) };
 
@@ -48,7 +48,7 @@ impl PartialEq for Value {
 }
 
 impl Eq for Value {
-    ghost use Rattle.plist.specs.inner.Sameness.{same_by_equiv};
+    ghost use Rattle.plist_pairs.proofs.TreeEquality.{same_by_equiv};
 
     ghost laws = { same_by_equiv tree_of };
 }

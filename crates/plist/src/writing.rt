@@ -45,13 +45,13 @@ pub fn write_value<W: Writer>(alloc: Global, value: &Value, writer: &mut W) -> R
 ///
 /// `OutOfMemory`, without an offset, if an allocation fails.
 pub fn collect_events<'a>(alloc: Global, value: &'a Value) -> Result<EventTable<'a>, Error>
-    ensures events { IfOk result (λ held. plain_events held ≡ lengthless (tree_of value.now)) }
+    ensures events { IfOk result (λ table. plain_events table ≡ lengthless (tree_of value.now)) }
     ensures memory { OnlyMemory result }
 {
-    let mut held = EventTable::new(alloc);
+    let mut table = EventTable::new(alloc);
     let mut left = value.events(alloc);
     while let Some(item) = left.next() {
-        held.push(item?)?;
+        table.push(item?)?;
     }
-    Ok(held)
+    Ok(table)
 }

@@ -15,9 +15,9 @@ Alike l c rest =
     ⊎ ((stops : ℕ → Bool) → past_one (token_by stops l c rest) ≡ past_one (bare stops c rest))
 
 -- a slash begins a comment, which doesn't depend on the stops, or a bare string
-behind_slash : (rest : List ℕ) → Alike lead.Slash 47 rest
-behind_slash [] = inl (λ stops. refl)
-behind_slash (c ∷ rest) = by_test _ _ refl refl
+after_slash : (rest : List ℕ) → Alike lead.Slash 47 rest
+after_slash [] = inl (λ stops. refl)
+after_slash (c ∷ rest) = by_test _ _ refl refl
   where
     by_test : (a b : Bool) → (c == 47) ≡ a → (c == 42) ≡ b → Alike lead.Slash 47 (c ∷ rest)
     by_test true b e f = inl (λ stops. rw e refl)
@@ -25,7 +25,7 @@ behind_slash (c ∷ rest) = by_test _ _ refl refl
     by_test false false e f = inr (λ stops. rw (e, f) refl)
 
 by_lead : (l : Lead) (c : ℕ) (rest : List ℕ) → (l ≡ lead.Slash → c ≡ 47) → Alike l c rest
-by_lead lead.Slash c rest h = rw (h refl) (behind_slash _)
+by_lead lead.Slash c rest h = rw (h refl) (after_slash _)
 by_lead lead.Bare c rest h = inr (λ stops. refl)
 by_lead l c rest h = inl (λ stops. refl)
 

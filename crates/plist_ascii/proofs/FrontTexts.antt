@@ -17,9 +17,9 @@ use Rattle.plist_ascii.specs.Kinds.{IfBracket, IsAsciiEvent}
 use Rattle.plist_ascii.specs.TokenPrefixes.{Taken, past_one, run, taken}
 use Rattle.plist_ascii.specs.Quoted.{ends_run, quoted, quoted_outcome, run_end}
 use Rattle.plist_ascii.specs.Texts.{bare_event, number_or_text, quoted_event}
-use Rattle.plist_ascii.specs.Unread.{stops}
-use Rattle.plist_ascii.specs.inner.Inputs.{DropsFirst, hand_of}
-use Rattle.plist_ascii.specs.inner.FrontTexts.{BeginWithText, IsAhead, IsBareFront, IsQuotedFront, LeadsToText}
+use Rattle.plist_ascii.specs.Unread.{IfKnown, stops, unread}
+use Rattle.plist_ascii.specs.inner.Inputs.{hand_of}
+use Rattle.plist_ascii.specs.inner.FrontTexts.{BeginWithText, IsBareFront, IsQuotedFront, LeadsToText}
 use Rattle.plist_ascii.proofs.Items.{going_start, going_blanks, going_event}
 use Rattle.plist_ascii.proofs.UnreadBytes.{ended_hand}
 use Rattle.std.proofs.lemmas.Bool.{eq-eqb}
@@ -152,10 +152,10 @@ front_leads ends bytes hand rest xs (c ∷ cs) blanks n count text same all blan
     }
 
 -- the string is the first item, and the others remain after it
-pub lent_item : (stops : ℕ → Bool) (xs : List ℕ) (p q count : ℕ) (text : List ℕ)
+pub borrowed_item : (stops : ℕ → Bool) (xs : List ℕ) (p q count : ℕ) (text : List ℕ)
     → LeadsToText stops xs count text → q ≡ p + count
     → BeginsWithItem stops xs p (Ok (ScalarEvent (String text))) (drop count xs) q
-lent_item stops xs p q count text ahead place =
+borrowed_item stops xs p q count text ahead place =
     let ends = ahead.ends in
     let end : q ≡ p + run (λ c. not (is_blank c)) xs + 1
     + (token_by stops (lead_of ahead.byte) ahead.byte ahead.rest).bytes = omega arith in
@@ -164,24 +164,25 @@ lent_item stops xs p q count text ahead place =
     subst (λ left. BeginsWithItem stops xs p (Ok (ScalarEvent (String text))) left q)
     (first.rest ∙ ap (λ n. drop n xs) many) first
 
--- a string that was lent is what `next` would have yielded
-pub lent_gives : {R : Type 0} (known : R → Option (List ℕ)) (failed : R → Option ℕ)
+-- a string that was borrowed is what `next` would have yielded
+pub borrowed_gives : {R : Type 0} (known : R → Option (List ℕ)) (failed : R → Option ℕ)
     (old : AsciiReader R) (new : Input R) (count : ℕ) (text : List ℕ) (event : Event)
     → event_of event ≡ ScalarEvent (String text)
-    → IsAhead known (stop.Bare old.dialect) old.input count text
-    → (old.input.ended ≡ true → ⊥) → DropsFirst known count old.input new
+    → IfKnown (unread known old.input) (λ bytes. LeadsToText (stops (stop.Bare old.dialect)) bytes count text)
+    → (old.input.ended ≡ true → ⊥)
+    → IfKnown (unread known old.input) (λ bytes. unread known new ≡ Some (drop count bytes))
     → new.taken ≡ old.input.taken + count → 0 < count
     → new.peeked ≡ None → failed new.inner ≡ failed old.input.inner
     → GivesAscii known failed old (Some (Ok event))
     (record { input = new; alloc = old.alloc; dialect = old.dialect })
-lent_gives known failed old new count text event is ahead going bytes place some peeked failures =
+borrowed_gives known failed old new count text event is ahead going bytes place some peeked failures =
     record {
       items = λ xs e. (
         drop count xs,
         bytes xs e,
         subst (λ (x : Item). BeginsWithItem (stops (stop.Bare old.dialect)) xs old.input.taken x
             (drop count xs) new.taken) (ap Ok (sym is))
-            (lent_item _ xs _ _ count text (ahead xs e) place),
+            (borrowed_item _ xs _ _ count text (ahead xs e) place),
       );
       dialect = refl;
       rises = omega arith;
@@ -196,14 +197,14 @@ lent_gives known failed old new count text event is ahead going bytes place some
     }
 
 -- fewer items remain after bytes are taken
-pub lent_falls : (ended later : Bool) (p q : ℕ) → (ended ≡ true → ⊥) → p < q → q < 2 ^ 64
+pub borrowed_falls : (ended later : Bool) (p q : ℕ) → (ended ≡ true → ⊥) → p < q → q < 2 ^ 64
     → bytes_to_come later q < bytes_to_come ended p
-lent_falls true later p q going rises fits = absurd (going refl)
-lent_falls false true p q going rises fits = omega arith
-lent_falls false false p q going rises fits = omega arith
+borrowed_falls true later p q going rises fits = absurd (going refl)
+borrowed_falls false true p q going rises fits = omega arith
+borrowed_falls false false p q going rises fits = omega arith
 
 -- an input with bytes at hand hasn't ended
-pub some_going : (held : List ℕ) (ended : Bool) (peeked : Option ℕ) (p n : ℕ)
-    → n ≤ length (hand_of held ended peeked p) → 0 < n → ended ≡ true → ⊥
-some_going held ended peeked p n within some e =
-    let none = ap length (ended_hand held ended peeked p e) in omega arith
+pub some_going : (window : List ℕ) (ended : Bool) (peeked : Option ℕ) (p n : ℕ)
+    → n ≤ length (hand_of window ended peeked p) → 0 < n → ended ≡ true → ⊥
+some_going window ended peeked p n within some e =
+    let none = ap length (ended_hand window ended peeked p e) in omega arith

@@ -10,7 +10,7 @@ use Rattle.plist_ascii.specs.inner.TokenFaults.{kind_in_bytes, fault_after}
 use Rattle.plist_base.specs.Events.{PlainEvent, Item}
 use Rattle.plist_ascii.specs.TokenPrefixes.{taken, run}
 use Rattle.plist_ascii.specs.Texts.{Token}
-use Rattle.plist_ascii.specs.Unread.{TakesFront}
+use Rattle.plist_ascii.proofs.TokenOutcomes.{TakesFront}
 use Rattle.plist_ascii.specs.declared.token.Lead.{Lead}
 use Rattle.plist_ascii.specs.declared.token.Lead.TheVariants as lead
 use Rattle.plist_ascii.specs.Ascii.{PlacedItem, placed, begins_nothing, is_blank, item_then, items_in, items_of_ascii, placed_items, token, token_by, lead_of, IsTextToken, BeginsWithText, FirstIsQuoted}
@@ -88,11 +88,11 @@ module _ {stops : ℕ → Bool} {xs : List ℕ} {p : ℕ} {ys : List ℕ} {m c :
   abbrev token_here : Token
   token_here = token_by stops (lead_of c) c cs
 
-  abbrev behind : ℕ → List PlacedItem
-  behind q = placed_items stops (drop token_here.bytes cs) q
+  abbrev following : ℕ → List PlacedItem
+  following q = placed_items stops (drop token_here.bytes cs) q
 
   going_all : (q : ℕ) → q ≡ m + suc token_here.bytes
-      → placed_items stops xs p ≡ item_then (lead_of c) q token_here.gives (behind q)
+      → placed_items stops xs p ≡ item_then (lead_of c) q token_here.gives (following q)
   going_all q s = cc (items_cons _ c cs m q s)
 
   -- if the token is a string, the first item is a string
@@ -104,7 +104,7 @@ module _ {stops : ℕ → Bool} {xs : List ℕ} {p : ℕ} {ys : List ℕ} {m c :
   -- the first byte of the token ends at offset `n`, and the token at offset `q`
   module _ {n q : ℕ} (t : n ≡ m + 1) (s : q ≡ n + token_here.bytes) where
     going_by : (g : Result (Option PlainEvent) FaultKind) → token_here.gives ≡ g
-        → placed_items stops xs p ≡ item_then (lead_of c) q g (behind q)
+        → placed_items stops xs p ≡ item_then (lead_of c) q g (following q)
     going_by g is = cc (going_all q (omega arith))
 
     going_rest : drop token_here.bytes cs ≡ drop (q - p) xs
@@ -129,7 +129,7 @@ module _ {stops : ℕ → Bool} {xs : List ℕ} {p : ℕ} {ys : List ℕ} {m c :
     pub going_fault : {k : FaultKind} {f : Fault} → f ≡ fault_at k q
         → token_here.gives ≡ Err k → BeginsWithItem stops xs p (Err f) (drop token_here.bytes cs) q
     going_fault i g = begins stops xs p _ _ _ q
-        (going_by _ g ∙ ap (λ f. placed (lead_of c) q (Err f) ∷ behind q) (sym i)) going_rest
+        (going_by _ g ∙ ap (λ f. placed (lead_of c) q (Err f) ∷ following q) (sym i)) going_rest
 
     -- if the first item is a quoted string, the token begins with a quote
     pub going_quoted : {x : PlainEvent} → token_here.gives ≡ Ok (Some x)

@@ -7,3 +7,4 @@ pub mod Texts
 pub mod Numbers
 pub mod Dialects
 pub mod FrontTexts
+mod ItemsOfTexts

@@ -5,7 +5,8 @@ use Rattle.plist_base.specs.Faults.{FaultKind, IncompleteComment}
 use Rattle.plist_base.specs.Events.{PlainEvent}
 use Rattle.plist_ascii.specs.declared.input.Input.{Input}
 use Rattle.plist_ascii.specs.TokenPrefixes.{Taken, taken, run, past, past_one}
-use Rattle.plist_ascii.specs.Unread.{unread, IfKnown, TakesFront}
+use Rattle.plist_ascii.specs.Unread.{unread, IfKnown}
+use Rattle.plist_ascii.proofs.TokenOutcomes.{TakesFront}
 use Rattle.std.proofs.lemmas.Bool.{eq-eqb}
 use Rattle.std.proofs.lemmas.List.Folds.{prefix_len-append}
 use Rattle.std.proofs.Math.Seq.{take-append-add, drop-append-add}
@@ -38,7 +39,7 @@ module _ {R : Type 0} {known : R → Option (List ℕ)} {failures : R → Option
   }
 
 -- `k` bytes were taken, and the outcome of the whole is determined by the bytes after them
-pub record Behind {A : Type 0} (whole : List ℕ → Taken A) (follows : ℕ → List ℕ → Taken A)
+pub record Continues {A : Type 0} (whole : List ℕ → Taken A) (follows : ℕ → List ℕ → Taken A)
     (xs : List ℕ) (p : ℕ) (ys : List ℕ) (q : ℕ) : Type 0 where
   pub k : ℕ
   pub place : q ≡ p + k
@@ -46,22 +47,22 @@ pub record Behind {A : Type 0} (whole : List ℕ → Taken A) (follows : ℕ →
   pub rest : ys ≡ drop k xs
 
 module _ {A : Type 0} {whole : List ℕ → Taken A} {follows : ℕ → List ℕ → Taken A} {xs : List ℕ}
-    {p : ℕ} {ys : List ℕ} {q : ℕ} (h : Behind whole follows xs p ys q) (n r : ℕ) (s : r ≡ q + n)
+    {p : ℕ} {ys : List ℕ} {q : ℕ} (h : Continues whole follows xs p ys q) (n r : ℕ) (s : r ≡ q + n)
   where
     -- `n` more bytes are taken
-    pub behind_more : {next : ℕ → List ℕ → Taken A} → follows h.k ys ≡ next (h.k + n) (drop n ys)
-        → Behind whole next xs p (drop n ys) r
-    behind_more e = record {
+    pub continues_more : {next : ℕ → List ℕ → Taken A} → follows h.k ys ≡ next (h.k + n) (drop n ys)
+        → Continues whole next xs p (drop n ys) r
+    continues_more e = record {
       k = h.k + n;
       place = omega (arith, h.place);
       all = h.all ∙ e;
       rest = ap (drop n) h.rest ∙ drop-drop n h.k xs;
     }
 
-    pub behind_ends : {g : Result A FaultKind} {new : Option (List ℕ)}
+    pub continues_ends : {g : Result A FaultKind} {new : Option (List ℕ)}
         → follows h.k ys ≡ taken (h.k + n) g → new ≡ Some (drop n ys)
         → TakesFront (whole xs) g new p r xs
-    behind_ends e u = rw (h.all, e)
+    continues_ends e u = rw (h.all, e)
         (refl, u ∙ ap Some (cc (drop-drop n h.k xs)), omega arith)
 
 -- the run from `xs` and offset `p` on, with the text `old`, continues from `ys` and offset `q` on,
@@ -73,9 +74,9 @@ pub record RunsOn (stop : ℕ → Bool) (old more xs : List ℕ) (p : ℕ) (ys :
     pub place : q + run stop ys ≡ p + run stop xs
 
 -- a run continues after bytes that contain no stop
-run_behind : (stop : ℕ → Bool) (part zs : List ℕ) → run stop part ≡ length part
+run_continues : (stop : ℕ → Bool) (part zs : List ℕ) → run stop part ≡ length part
     → run stop (part ++ zs) ≡ length part + run stop zs
-run_behind stop part zs h =
+run_continues stop part zs h =
     cc (prefix_len-append _ part zs, eq-eqb _ _ h)
 
 module _ {stop : ℕ → Bool} {old more xs : List ℕ} {p : ℕ} {ys : List ℕ} {q : ℕ}
@@ -85,7 +86,7 @@ module _ {stop : ℕ → Bool} {old more xs : List ℕ} {p : ℕ} {ys : List ℕ
       → run stop part ≡ length part → all ≡ more ++ part → r ≡ q + length part
       → RunsOn stop old all xs p zs r
   runs_part part zs same plain is s =
-      let n : run stop ys ≡ length part + run stop zs = rw same (run_behind _ part zs plain) in
+      let n : run stop ys ≡ length part + run stop zs = rw same (run_continues _ part zs plain) in
       let front : take (run stop ys) ys ≡ part ++ take (run stop zs) zs =
       rw n (rw same (take-append-add part zs _)) in
       let back : drop (run stop ys) ys ≡ drop (run stop zs) zs =
@@ -221,7 +222,7 @@ star_misses xs e =
 
 -- `k` bytes of a comment were taken, and the others follow
 abbrev pub Commenting : List ℕ → ℕ → List ℕ → ℕ → Type 0
-Commenting = Behind block_comment (λ k ys. past k (block_comment ys))
+Commenting = Continues block_comment (λ k ys. past k (block_comment ys))
 
 module _ {xs : List ℕ} {p : ℕ} {ys : List ℕ} {q : ℕ} (h : Commenting xs p ys q) (n : ℕ) {r : ℕ}
     (s : r ≡ q + n) where
@@ -229,9 +230,9 @@ module _ {xs : List ℕ} {p : ℕ} {ys : List ℕ} {q : ℕ} (h : Commenting xs 
   commenting_more e =
       let t = block_comment (drop n ys) in
       let sum : h.k + (n + t.bytes) ≡ h.k + n + t.bytes = omega arith in
-      behind_more h n r s (ap (past h.k) e ∙ ap (λ n. taken n t.gives) sum)
+      continues_more h n r s (ap (past h.k) e ∙ ap (λ n. taken n t.gives) sum)
 
   pub commenting_ends : {g : Result (Option PlainEvent) FaultKind} {new : Option (List ℕ)}
       → block_comment ys ≡ taken n g → new ≡ Some (drop n ys)
       → TakesFront (block_comment xs) g new p r xs
-  commenting_ends e u = behind_ends h n r s (ap (past h.k) e) u
+  commenting_ends e u = continues_ends h n r s (ap (past h.k) e) u

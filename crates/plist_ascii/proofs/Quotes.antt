@@ -6,8 +6,8 @@ use Rattle.plist_base.specs.Faults.{FaultKind, UnclosedString}
 use Rattle.plist_ascii.specs.TokenPrefixes.{Taken, taken, past_one, run}
 use Rattle.plist_ascii.specs.Escapes.{escape}
 use Rattle.plist_ascii.specs.Quoted.{piece_then, with_front, ends_run, run_end, quoted_by, quoted_in, quoted, escape_then}
-use Rattle.plist_ascii.specs.Unread.{TakesFront}
-use Rattle.plist_ascii.proofs.Loops.{Behind, behind_more, behind_ends}
+use Rattle.plist_ascii.proofs.TokenOutcomes.{TakesFront}
+use Rattle.plist_ascii.proofs.Loops.{Continues, continues_more, continues_ends}
 
 -- ---- what follows a run
 
@@ -42,9 +42,9 @@ with_with : (a b : List ℕ) (r : Result (List ℕ) FaultKind)
     → with_front a (with_front b r) ≡ with_front (a ++ b) r
 with_with a b r = search (rules, append_assoc)
 
-pub behind_behind : (m n : ℕ) (a b : List ℕ) (t : Taken (List ℕ))
+pub continues_twice : (m n : ℕ) (a b : List ℕ) (t : Taken (List ℕ))
     → piece_then m a (piece_then n b t) ≡ piece_then (m + n) (a ++ b) t
-behind_behind m n a b t =
+continues_twice m n a b t =
     let place : m + (n + t.bytes) ≡ m + n + t.bytes = omega arith in
     rw (place, with_with a b _) refl
 
@@ -56,7 +56,7 @@ pub part_goes_on : (quote n : ℕ) (xs part : List ℕ) → let m = run (ends_ru
 part_goes_on quote n xs part h more =
     let m = run _ xs in
     ap (piece_then m (take m xs)) (h more)
-    ∙ behind_behind m n (take m xs) part (more _)
+    ∙ continues_twice m n (take m xs) part (more _)
     ∙ ap (λ zs. piece_then (m + n) (take m xs ++ part) (more zs)) (drop-drop n m xs)
 
 -- the meaning doesn't depend on the fuel, if that is at least the number of bytes
@@ -105,22 +105,22 @@ quoted_opens quote (c ∷ xs) =
 
 -- `k` bytes of a quoted string were taken, which stand for `text`, and the others follow
 abbrev pub Quoting : (quote : ℕ) (text xs : List ℕ) → ℕ → List ℕ → ℕ → Type 0
-Quoting quote text = Behind (quoted quote) (λ k ys. piece_then k text (quoted quote ys))
+Quoting quote text = Continues (quoted quote) (λ k ys. piece_then k text (quoted quote ys))
 
 module _ (quote : ℕ) (text : List ℕ) {xs : List ℕ} {p : ℕ} {ys : List ℕ} {q : ℕ}
     (h : Quoting quote text xs p ys q) (n : ℕ) {r : ℕ} (s : r ≡ q + n) where
   pub quoting_more : (part : List ℕ) {longer : List ℕ} → ((more : List ℕ → Taken (List ℕ))
       → quoted_by quote more ys ≡ piece_then n part (more (drop n ys))) → longer ≡ text ++ part
       → Quoting quote longer xs p (drop n ys) r
-  quoting_more part w e = behind_more h n r s
+  quoting_more part w e = continues_more h n r s
       (ap (piece_then h.k text) (quoted_opens quote ys ∙ w (quoted quote))
-      ∙ behind_behind h.k n text part (quoted quote (drop n ys)) ∙ rw e refl)
+      ∙ continues_twice h.k n text part (quoted quote (drop n ys)) ∙ rw e refl)
 
   pub quoting_ends : {g all : Result (List ℕ) FaultKind} {new : Option (List ℕ)}
       → ((more : List ℕ → Taken (List ℕ)) → quoted_by quote more ys ≡ taken n g)
       → with_front text g ≡ all → new ≡ Some (drop n ys)
       → TakesFront (quoted quote xs) all new p r xs
-  quoting_ends w e = behind_ends h n r s
+  quoting_ends w e = continues_ends h n r s
       (ap (piece_then h.k text) (quoted_opens _ ys ∙ w (quoted _)) ∙ ap (taken (h.k + n)) e)
 
 pub text_closes : (text old more : List ℕ) → text ≡ old ++ more → text ≡ old ++ (more ++ [])

@@ -5,9 +5,15 @@ use Rattle.std.specs.Option.{option_map}
 use Rattle.std.specs.Result.{IsErrAnd, IfErr, OnOk}
 use Rattle.plist_base.specs.Faults.{FaultKind, UnclosedString}
 use Rattle.plist_ascii.specs.declared.fault.TokenFault.{TokenFault}
-use Rattle.plist_ascii.specs.Unread.{IfKnown, FirstIsTaken, TakesFront, GivesFront}
+use Rattle.plist_ascii.specs.Unread.{IfKnown, FirstIsTaken, GivesFront}
 use Rattle.plist_ascii.specs.TokenPrefixes.{Taken, taken, past_one, front}
 use Rattle.plist_ascii.specs.inner.TokenFaults.{kind_in_bytes, said}
+
+-- from offset p to offset q these bytes were taken, with this meaning or fault
+abbrev pub TakesFront : {A : Type 0} → Taken A → Result A FaultKind → (new : Option (List ℕ))
+    → (p q : ℕ) → List ℕ → Type 0
+TakesFront t outcome new p q bytes =
+    (t.gives ≡ outcome) × (new ≡ Some (drop t.bytes bytes)) × (q ≡ p + t.bytes)
 
 -- a fact for `Ok` implies what follows from it
 pub ok_by : {X E : Type 0} (r : Result X E) (P Q : Type 0) → OnOk r P → (P → Q) → OnOk r Q

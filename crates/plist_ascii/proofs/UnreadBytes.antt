@@ -6,7 +6,7 @@ use Rattle.std.specs.Io.KnownBytes.{Consumes}
 use Rattle.std.proofs.lemmas.List.{length-take, length-take-le, take-append-le, take-append-drop, take_all, drop_at}
 use Rattle.std.proofs.Math.Seq.{take-append-add, take-nil}
 use Rattle.std.proofs.lemmas.Bool.{ne_eqb, eqb-true, eqb-false}
-use Rattle.plist_ascii.specs.Incoming.{GivesByte, StartsWithHeld}
+use Rattle.plist_ascii.specs.Incoming.{GivesByte, StartsWithWindow}
 use Rattle.plist_ascii.specs.TokenPrefixes.{run}
 use Rattle.plist_ascii.specs.Comments.{begins_with}
 use Rattle.plist_ascii.specs.inner.Inputs.{hand_of}
@@ -24,12 +24,12 @@ full_unread k true p t xs e h = cc
 full_unread None false p t xs e h = cc
 full_unread (Some a) false p t xs e h = let r : readable_with p t a ≡ [] = rw e refl in cc
 
-pub held_unread : (k : Option (List ℕ)) (c t : ℕ) (xs : List ℕ) → t < 2 ^ 64 - 1
+pub window_unread : (k : Option (List ℕ)) (c t : ℕ) (xs : List ℕ) → t < 2 ^ 64 - 1
     → unread_of k false (Some c) t ≡ Some xs
     → (ys : List ℕ) × (xs ≡ c ∷ ys) × (unread_of k false None (t + 1) ≡ Some ys)
 unfolding unread_of
-held_unread None c t xs l h = cc
-held_unread (Some a) c t xs l h =
+window_unread None c t xs l h = cc
+window_unread (Some a) c t xs l h =
     let left : 2 ^ 64 - 1 - t ≡ suc (2 ^ 64 - 1 - (t + 1)) = omega arith in
     let e : readable_with (Some c) t a ≡ c ∷ readable_with None (t + 1) a = rw left refl in
     let same : readable_with (Some c) t a ≡ xs = cc in
@@ -64,91 +64,91 @@ cut_front zero xs ys = ([], refl)
 cut_front (suc m) [] ys = (take (suc m) ys, refl)
 cut_front (suc m) (c ∷ xs) ys = let h = cut_front m xs ys in (h.0, ap (λ z. c ∷ z) h.1)
 
-pub ended_hand : (held : List ℕ) (e : Bool) (p : Option ℕ) (t : ℕ) → e ≡ true
-    → [] ≡ hand_of held e p t
+pub ended_hand : (window : List ℕ) (e : Bool) (p : Option ℕ) (t : ℕ) → e ≡ true
+    → [] ≡ hand_of window e p t
 unfolding hand_of
-ended_hand held e p t h = rw h refl
+ended_hand window e p t h = rw h refl
 
-pub full_hand : (held : List ℕ) (e : Bool) (p : Option ℕ) (t : ℕ) → 2 ^ 64 - 1 - t ≡ 0
-    → [] ≡ hand_of held e p t
+pub full_hand : (window : List ℕ) (e : Bool) (p : Option ℕ) (t : ℕ) → 2 ^ 64 - 1 - t ≡ 0
+    → [] ≡ hand_of window e p t
 unfolding hand_of
-full_hand held true p t h = refl
-full_hand held false None t h = rw h refl
-full_hand held false (Some b) t h = rw h refl
+full_hand window true p t h = refl
+full_hand window false None t h = rw h refl
+full_hand window false (Some b) t h = rw h refl
 
 -- the byte that was looked at is at hand
-pub looked_hand : (held : List ℕ) (e : Bool) (p : Option ℕ) (t b : ℕ) (bytes : List ℕ) → e ≡ false
+pub looked_hand : (window : List ℕ) (e : Bool) (p : Option ℕ) (t b : ℕ) (bytes : List ℕ) → e ≡ false
     → p ≡ Some b → (2 ^ 64 - 1 - t ≡ 0 → ⊥) → MatchOption p (bytes ≡ []) (λ x. bytes ≡ x ∷ [])
-    → bytes ≡ hand_of held e p t
+    → bytes ≡ hand_of window e p t
 unfolding hand_of
-looked_hand held true p t b bytes h q some is = cc
-looked_hand held false None t b bytes h q some is = cc
-looked_hand held false (Some d) t b bytes h q some is =
+looked_hand window true p t b bytes h q some is = cc
+looked_hand window false None t b bytes h q some is = cc
+looked_hand window false (Some d) t b bytes h q some is =
     let left : 2 ^ 64 - 1 - t ≡ suc (2 ^ 64 - 1 - (t + 1)) = omega (arith, some) in
     rw left (is ∙ ap (λ z. d ∷ z) (sym (take-nil _)))
 
 -- the bytes at hand are the buffered ones, but no more than may be taken
-pub cut_hand : (held : List ℕ) (e : Bool) (p : Option ℕ) (t : ℕ) (bytes : List ℕ) → e ≡ false
-    → p ≡ None → bytes ≡ held → take (2 ^ 64 - 1 - t) bytes ≡ hand_of held e p t
+pub cut_hand : (window : List ℕ) (e : Bool) (p : Option ℕ) (t : ℕ) (bytes : List ℕ) → e ≡ false
+    → p ≡ None → bytes ≡ window → take (2 ^ 64 - 1 - t) bytes ≡ hand_of window e p t
 unfolding hand_of
-cut_hand held e p t bytes h q is = rw (h, q, is) refl
+cut_hand window e p t bytes h q is = rw (h, q, is) refl
 
-pub whole_hand : (held : List ℕ) (e : Bool) (p : Option ℕ) (t : ℕ) (bytes : List ℕ) → e ≡ false
-    → p ≡ None → bytes ≡ held → length bytes ≤ 2 ^ 64 - 1 - t → bytes ≡ hand_of held e p t
-whole_hand held e p t bytes h q is le =
-    sym (take_all _ bytes le) ∙ cut_hand held e p t bytes h q is
+pub whole_hand : (window : List ℕ) (e : Bool) (p : Option ℕ) (t : ℕ) (bytes : List ℕ) → e ≡ false
+    → p ≡ None → bytes ≡ window → length bytes ≤ 2 ^ 64 - 1 - t → bytes ≡ hand_of window e p t
+whole_hand window e p t bytes h q is le =
+    sym (take_all _ bytes le) ∙ cut_hand window e p t bytes h q is
 
 -- the bytes that remain begin with those at hand, if none was looked at
-pub hand_first : (k : Option (List ℕ)) (held : List ℕ) (e : Bool) (p : Option ℕ) (t : ℕ)
+pub hand_first : (k : Option (List ℕ)) (window : List ℕ) (e : Bool) (p : Option ℕ) (t : ℕ)
     (xs : List ℕ)
-    → is_some p ≡ false → StartsWithHeld held k → unread_of k e p t ≡ Some xs
-    → (rest : List ℕ) × (xs ≡ hand_of held e p t ++ rest)
+    → is_some p ≡ false → StartsWithWindow window k → unread_of k e p t ≡ Some xs
+    → (rest : List ℕ) × (xs ≡ hand_of window e p t ++ rest)
 unfolding unread_of hand_of
-hand_first k held e (Some b) t xs q h g = cc
-hand_first k held true None t xs q h g = (xs, refl)
-hand_first None held false None t xs q h g = cc
-hand_first (Some a) held false None t xs q h g =
-    let c = cut_front (2 ^ 64 - 1 - t) held h.0 in
-    let all : take (2 ^ 64 - 1 - t) a ≡ take (2 ^ 64 - 1 - t) held ++ c.0 = rw h.1 c.1 in
+hand_first k window e (Some b) t xs q h g = cc
+hand_first k window true None t xs q h g = (xs, refl)
+hand_first None window false None t xs q h g = cc
+hand_first (Some a) window false None t xs q h g =
+    let c = cut_front (2 ^ 64 - 1 - t) window h.0 in
+    let all : take (2 ^ 64 - 1 - t) a ≡ take (2 ^ 64 - 1 - t) window ++ c.0 = rw h.1 c.1 in
     (c.0, cc)
 
 pub hand_first_none : (hand xs : List ℕ) → [] ≡ hand → (rest : List ℕ) × (xs ≡ hand ++ rest)
 hand_first_none hand xs h = (xs, ap (λ z. z ++ xs) h)
 
 -- the bytes that remain begin with those at hand, if one was looked at
-pub hand_first_looked : (k : Option (List ℕ)) (held : List ℕ) (e : Bool) (p : Option ℕ) (t : ℕ)
+pub hand_first_looked : (k : Option (List ℕ)) (window : List ℕ) (e : Bool) (p : Option ℕ) (t : ℕ)
     (xs : List ℕ) → is_some p ≡ true → unread_of k e p t ≡ Some xs
-    → (rest : List ℕ) × (xs ≡ hand_of held e p t ++ rest)
+    → (rest : List ℕ) × (xs ≡ hand_of window e p t ++ rest)
 unfolding unread_of hand_of
-hand_first_looked k held e None t xs q g = cc
-hand_first_looked k held true (Some b) t xs q g = (xs, refl)
-hand_first_looked None held false (Some b) t xs q g = cc
-hand_first_looked (Some a) held false (Some b) t xs q g =
+hand_first_looked k window e None t xs q g = cc
+hand_first_looked k window true (Some b) t xs q g = (xs, refl)
+hand_first_looked None window false (Some b) t xs q g = cc
+hand_first_looked (Some a) window false (Some b) t xs q g =
     let c = cut_front (2 ^ 64 - 1 - t) (b ∷ []) a in (c.0, cc)
 
 -- no more than 2^64 - 1 bytes are taken in total
-pub hand_fits : (held : List ℕ) (e : Bool) (p : Option ℕ) (t n : ℕ) → t < 2 ^ 64
-    → n ≤ length (hand_of held e p t) → t + n < 2 ^ 64
+pub hand_fits : (window : List ℕ) (e : Bool) (p : Option ℕ) (t n : ℕ) → t < 2 ^ 64
+    → n ≤ length (hand_of window e p t) → t + n < 2 ^ 64
 unfolding hand_of
-hand_fits held true p t n l h = omega arith
-hand_fits held false None t n l h = omega (arith, length-take (2 ^ 64 - 1 - t) held)
-hand_fits held false (Some b) t n l h = omega (arith, length-take (2 ^ 64 - 1 - t) (b ∷ []))
+hand_fits window true p t n l h = omega arith
+hand_fits window false None t n l h = omega (arith, length-take (2 ^ 64 - 1 - t) window)
+hand_fits window false (Some b) t n l h = omega (arith, length-take (2 ^ 64 - 1 - t) (b ∷ []))
 
 -- if no byte was looked at, the bytes at hand are buffered
-pub hand_held : (held : List ℕ) (e : Bool) (p : Option ℕ) (t n : ℕ) → is_some p ≡ false
-    → n ≤ length (hand_of held e p t) → n ≤ length held
+pub hand_window : (window : List ℕ) (e : Bool) (p : Option ℕ) (t n : ℕ) → is_some p ≡ false
+    → n ≤ length (hand_of window e p t) → n ≤ length window
 unfolding hand_of
-hand_held held e (Some b) t n q h = cc
-hand_held held true None t n q h = omega arith
-hand_held held false None t n q h = omega (arith, length-take (2 ^ 64 - 1 - t) held)
+hand_window window e (Some b) t n q h = cc
+hand_window window true None t n q h = omega arith
+hand_window window false None t n q h = omega (arith, length-take (2 ^ 64 - 1 - t) window)
 
-known_behind : (k now : Option (List ℕ)) (t n : ℕ) (part xs : List ℕ) → length part ≡ n
+known_after : (k now : Option (List ℕ)) (t n : ℕ) (part xs : List ℕ) → length part ≡ n
     → t + n ≤ 2 ^ 64 - 1 → Consumes k now part → unread_of k false None t ≡ Some xs
     → (ys : List ℕ) × (xs ≡ part ++ ys) × (unread_of now false None (t + n) ≡ Some ys)
 unfolding unread_of
-known_behind None now t n part xs l room c g = cc
-known_behind (Some a) None t n part xs l room c g = absurd c
-known_behind (Some a) (Some b) t n part xs l room c g =
+known_after None now t n part xs l room c g = cc
+known_after (Some a) None t n part xs l room c g = absurd c
+known_after (Some a) (Some b) t n part xs l room c g =
     let left : 2 ^ 64 - 1 - t ≡ length part + (2 ^ 64 - 1 - (t + n)) = omega (arith, room) in
     let e : readable_with None t a ≡ part
     ++ readable_with None (t + n) b = rw c (rw left (take-append-add _ b _)) in
@@ -156,55 +156,55 @@ known_behind (Some a) (Some b) t n part xs l room c g =
     (readable_with None _ b, sym same ∙ e, refl)
 
 -- the first `n` bytes at hand are taken from the buffered ones
-pub held_taken : (k now : Option (List ℕ)) (held : List ℕ) (e : Bool) (p : Option ℕ) (t n : ℕ)
-    (xs : List ℕ) → is_some p ≡ false → t < 2 ^ 64 → n ≤ length (hand_of held e p t)
-    → Consumes k now (take n held) → unread_of k e p t ≡ Some xs
+pub window_taken : (k now : Option (List ℕ)) (window : List ℕ) (e : Bool) (p : Option ℕ) (t n : ℕ)
+    (xs : List ℕ) → is_some p ≡ false → t < 2 ^ 64 → n ≤ length (hand_of window e p t)
+    → Consumes k now (take n window) → unread_of k e p t ≡ Some xs
     → unread_of now e p (t + n) ≡ Some (drop n xs)
 unfolding hand_of
-held_taken k now held e (Some b) t n xs q l h c g = cc
-held_taken k now held true None t n xs q l h c g =
+window_taken k now window e (Some b) t n xs q l h c g = cc
+window_taken k now window true None t n xs q l h c g =
     let none : n ≡ 0 = omega arith in
     let nothing = nothing_unread k None t in
     rw none (nothing_unread now None (t + 0) ∙ sym nothing ∙ g)
-held_taken k now held false None t n xs q l h c g =
-    let le = hand_held held false None t n q h in
-    let len = length-take-le n held le in
-    let fits = hand_fits held false None t n l h in
-    let b = known_behind k now t n (take n held) xs len (omega arith) c g in
-    let left : drop n xs ≡ b.0 = ap (drop n) b.1 ∙ drop_at (take n held) b.0 n len in
+window_taken k now window false None t n xs q l h c g =
+    let le = hand_window window false None t n q h in
+    let len = length-take-le n window le in
+    let fits = hand_fits window false None t n l h in
+    let b = known_after k now t n (take n window) xs len (omega arith) c g in
+    let left : drop n xs ≡ b.0 = ap (drop n) b.1 ∙ drop_at (take n window) b.0 n len in
     b.2 ∙ ap Some (sym left)
 
 -- the byte that was looked at is taken
-pub peeked_taken : (k : Option (List ℕ)) (held : List ℕ) (e : Bool) (p : Option ℕ) (t n : ℕ)
-    (xs : List ℕ) → is_some p ≡ true → 0 < n → n ≤ length (hand_of held e p t)
+pub peeked_taken : (k : Option (List ℕ)) (window : List ℕ) (e : Bool) (p : Option ℕ) (t n : ℕ)
+    (xs : List ℕ) → is_some p ≡ true → 0 < n → n ≤ length (hand_of window e p t)
     → unread_of k e p t ≡ Some xs → unread_of k e None (t + n) ≡ Some (drop n xs)
 unfolding hand_of
-peeked_taken k held e None t n xs q l h g = cc
-peeked_taken k held true (Some b) t n xs q l h g = absurd (let none : ⊥ = omega arith in none)
-peeked_taken k held false (Some b) t n xs q l h g =
+peeked_taken k window e None t n xs q l h g = cc
+peeked_taken k window true (Some b) t n xs q l h g = absurd (let none : ⊥ = omega arith in none)
+peeked_taken k window false (Some b) t n xs q l h g =
     let most = length-take (2 ^ 64 - 1 - t) (b ∷ []) in
     let one : n ≡ 1 = omega (arith, most) in
-    let split = held_unread k b t xs (omega (arith, most)) g in
+    let split = window_unread k b t xs (omega (arith, most)) g in
     rw (one, split.1) split.2
 
 -- if no byte is at hand and one more may be taken, none was looked at
-pub none_peeked : (held : List ℕ) (e : Bool) (p : Option ℕ) (t : ℕ) → e ≡ false → t < 2 ^ 64 - 1
-    → hand_of held e p t ≡ [] → p ≡ None
+pub none_peeked : (window : List ℕ) (e : Bool) (p : Option ℕ) (t : ℕ) → e ≡ false → t < 2 ^ 64 - 1
+    → hand_of window e p t ≡ [] → p ≡ None
 unfolding hand_of
-none_peeked held true p t e l h = cc
-none_peeked held false None t e l h = refl
-none_peeked held false (Some b) t e l h =
+none_peeked window true p t e l h = cc
+none_peeked window false None t e l h = refl
+none_peeked window false (Some b) t e l h =
     let left : 2 ^ 64 - 1 - t ≡ suc (2 ^ 64 - 1 - (t + 1)) = omega arith in
     let one : length (take (2 ^ 64 - 1 - t) (b ∷ [])) ≡ 0 = ap length h in
     let wrong : suc (length (take (2 ^ 64 - 1 - (t + 1)) [])) ≡ 0 = rw left at one in
     absurd (let none : ⊥ = omega arith in none)
 
 -- a byte that was looked at is at hand
-pub peeked_hand : (held : List ℕ) (e : Bool) (b t : ℕ) → e ≡ false → t < 2 ^ 64 - 1
-    → 0 < length (hand_of held e (Some b) t)
+pub peeked_hand : (window : List ℕ) (e : Bool) (b t : ℕ) → e ≡ false → t < 2 ^ 64 - 1
+    → 0 < length (hand_of window e (Some b) t)
 unfolding hand_of
-peeked_hand held true b t e l = cc
-peeked_hand held false b t e l =
+peeked_hand window true b t e l = cc
+peeked_hand window false b t e l =
     omega (arith, length-take (2 ^ 64 - 1 - t) (b ∷ []))
 
 -- ---- looking at a byte
@@ -229,7 +229,7 @@ module _ (k now : Option (List ℕ)) (e : Bool) (p : Option ℕ) (t : ℕ) (xs :
   one_looks c room r =
       let known : unread_of k false None t ≡ Some xs = rw (← h, ← q) g in
       let read : unread_of now false (Some c) t ≡ Some xs = one_unread k _ c t xs r known in
-      (rw h read, sym (ap first (held_unread now c t xs room read).1))
+      (rw h read, sym (ap first (window_unread now c t xs room read).1))
 
 -- if all bytes at hand were taken, the offset rose by their number
 pub all_taken : (hand bytes : List ℕ) (n p q : ℕ) → bytes ≡ hand → q ≡ p + n

@@ -6,7 +6,7 @@
 --     U unit \ U unit               the character of a surrogate pair; the second `U` may be small
 --
 -- A unit is four hexadecimal digits. The digits are taken before they are checked.
-use Rattle.std.specs.Prelude.{ℕ, ◌-◌, Bool, if◌then◌else◌, ◌&&◌, ◌||◌, ◌==◌, codes, nat_lt, nat_le, List, [], ◌∷◌, slice_index, Option, None, Some, Result, Ok, Err, encode_utf8}
+use Rattle.std.specs.Prelude.{ℕ, ◌-◌, Bool, if◌then◌else◌, ◌&&◌, ◌||◌, ◌==◌, codes, nat_lt, nat_le, List, [], ◌∷◌, ◌++◌, slice_index, Option, None, Some, Result, Ok, Err, encode_utf8}
 use Rattle.std.specs.List.{list_all, zip}
 use Rattle.std.specs.Map.{lookup}
 use Rattle.std.specs.Char.{is_digit}
@@ -14,8 +14,6 @@ use Rattle.std.specs.Char.Utf16.{is_high_surrogate, is_low_surrogate, surrogate_
 use Rattle.std.specs.Str.Parse.{digits_value}
 use Rattle.plist_base.specs.Faults.{FaultKind, InvalidUtf16String, InvalidUtf8AsciiStream, InvalidOctalString}
 use Rattle.plist_ascii.specs.TokenPrefixes.{Taken, taken, past_one, after_byte, followed, is_one_of, needs}
-
--- ---- one letter
 
 -- each letter, and the byte that it stands for
 abbrev pub letters : List (ℕ × ℕ)
@@ -30,27 +28,13 @@ abbrev pub simple : Option ℕ → Taken (List ℕ)
 simple (Some byte) = taken 0 (Ok (byte ∷ []))
 simple None = taken 0 (Err InvalidUtf8AsciiStream)
 
--- ---- three octal digits
-
 -- NeXTSTEP's characters 128 to 255 in Unicode
 abbrev pub nextstep : List ℕ
 nextstep =
-    0xA0 ∷ 0xC0 ∷ 0xC1 ∷ 0xC2 ∷ 0xC3 ∷ 0xC4 ∷ 0xC5 ∷ 0xC7 ∷ 0xC8 ∷ 0xC9 ∷ 0xCA ∷ 0xCB ∷ 0xCC ∷ 0xCD
-    ∷ 0xCE ∷ 0xCF ∷
-    0xD0 ∷ 0xD1 ∷ 0xD2 ∷ 0xD3 ∷ 0xD4 ∷ 0xD5 ∷ 0xD6 ∷ 0xD9 ∷ 0xDA ∷ 0xDB ∷ 0xDC ∷ 0xDD ∷ 0xDE ∷ 0xB5
-    ∷ 0xD7 ∷ 0xF7 ∷
-    0xA9 ∷ 0xA1 ∷ 0xA2 ∷ 0xA3 ∷ 0x2044 ∷ 0xA5 ∷ 0x192 ∷ 0xA7 ∷ 0xA4 ∷ 0x2019 ∷ 0x201C ∷ 0xAB
-    ∷ 0x2039 ∷ 0x203A ∷ 0xFB01 ∷ 0xFB02 ∷
-    0xAE ∷ 0x2013 ∷ 0x2020 ∷ 0x2021 ∷ 0xB7 ∷ 0xA6 ∷ 0xB6 ∷ 0x2022 ∷ 0x201A ∷ 0x201E ∷ 0x201D ∷ 0xBB
-    ∷ 0x2026 ∷ 0x2030 ∷ 0xAC ∷ 0xBF ∷
-    0xB9 ∷ 0x2CB ∷ 0xB4 ∷ 0x2C6 ∷ 0x2DC ∷ 0xAF ∷ 0x2D8 ∷ 0x2D9 ∷ 0xA8 ∷ 0xB2 ∷ 0x2DA ∷ 0xB8 ∷ 0xB3
-    ∷ 0x2DD ∷ 0x2DB ∷ 0x2C7 ∷
-    0x2014 ∷ 0xB1 ∷ 0xBC ∷ 0xBD ∷ 0xBE ∷ 0xE0 ∷ 0xE1 ∷ 0xE2 ∷ 0xE3 ∷ 0xE4 ∷ 0xE5 ∷ 0xE7 ∷ 0xE8
-    ∷ 0xE9 ∷ 0xEA ∷ 0xEB ∷
-    0xEC ∷ 0xC6 ∷ 0xED ∷ 0xAA ∷ 0xEE ∷ 0xEF ∷ 0xF0 ∷ 0xF1 ∷ 0x141 ∷ 0xD8 ∷ 0x152 ∷ 0xBA ∷ 0xF2
-    ∷ 0xF3 ∷ 0xF4 ∷ 0xF5 ∷
-    0xF6 ∷ 0xE6 ∷ 0xF9 ∷ 0xFA ∷ 0xFB ∷ 0x131 ∷ 0xFC ∷ 0xFD ∷ 0x142 ∷ 0xF8 ∷ 0x153 ∷ 0xDF ∷ 0xFE
-    ∷ 0xFF ∷ 0xFFFD ∷ 0xFFFD ∷ []
+    codes "\u{a0}ÀÁÂÃÄÅÇÈÉÊËÌÍÎÏÐÑÒÓÔÕÖÙÚÛÜÝÞµ×÷"
+    ++ codes "©¡¢£⁄¥ƒ§¤’“«‹›ﬁﬂ®–†‡·¦¶•‚„”»…‰¬¿"
+    ++ codes "¹ˋ´ˆ˜¯˘˙¨²˚¸³˝˛ˇ—±¼½¾àáâãäåçèéêë"
+    ++ codes "ìÆíªîïðñŁØŒºòóôõöæùúûıüýłøœßþÿ��"
 
 -- the character of an octal number: NeXTSTEP's from 128 to 255, and otherwise Unicode's
 unfoldable pub octal_char : ℕ → ℕ
@@ -65,8 +49,6 @@ octal_text digits =
 -- an octal escape: the digit c, and the two bytes after it
 abbrev pub octal : ℕ → List ℕ → Taken (List ℕ)
 octal c rest = needs 2 rest (λ digits. octal_text (c ∷ digits))
-
--- ---- units of UTF-16
 
 -- the number that hexadecimal digits spell, or `None` if one of the bytes isn't a digit
 abbrev pub unit_of : List ℕ → Option ℕ
@@ -116,8 +98,6 @@ first_unit None rest = bad_unit 0
 -- what follows `\U`
 abbrev pub unicode : List ℕ → Taken (List ℕ)
 unicode rest = followed rest (unit rest) first_unit
-
--- ---- all escapes
 
 -- what an escape with the first byte c stands for
 abbrev pub escape_by : ℕ → List ℕ → Taken (List ℕ)

@@ -11,8 +11,8 @@ GivesByte old None new = Consumes old new [] × IsAtEnd new
 GivesByte old (Some byte) new = Consumes old new (byte ∷ [])
 
 -- the known bytes begin with the buffered ones
-abbrev pub StartsWithHeld : (held : List ℕ) → Option (List ℕ) → Type 0
-StartsWithHeld held known = IfSome known (λ bytes. (rest : List ℕ) × (bytes ≡ held ++ rest))
+abbrev pub StartsWithWindow : (window : List ℕ) → Option (List ℕ) → Type 0
+StartsWithWindow window known = IfSome known (λ bytes. (rest : List ℕ) × (bytes ≡ window ++ rest))
 
 -- if failures are counted, their count rose or is at its maximum
 abbrev pub RisesIfCounted : Option ℕ → Option ℕ → Type 0

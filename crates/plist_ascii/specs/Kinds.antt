@@ -26,10 +26,6 @@ abbrev pub IsFaultOfBytes : FaultKind → Type 0
 IsFaultOfBytes IncompleteComment = ⊤
 IsFaultOfBytes kind = IsTextFault kind
 
--- the fault is `Io`, `OutOfMemory`, or one that bytes can have
-abbrev pub IsAsciiFault : FaultKind → Type 0
-IsAsciiFault kind = MatchFault kind ⊤ ⊤ (IsFaultOfBytes kind)
-
 -- the event is a string or an integer
 abbrev pub IsTextEvent : PlainEvent → Type 0
 IsTextEvent (ScalarEvent (String text)) = ⊤

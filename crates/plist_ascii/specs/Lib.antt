@@ -8,5 +8,4 @@ pub mod Kinds
 pub mod Incoming
 pub mod Unread
 pub mod AsciiReader
-pub mod Examples
 pub mod inner

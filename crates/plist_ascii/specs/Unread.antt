@@ -54,16 +54,10 @@ TakesPart stops p new q part bytes =
     (rest : List ℕ) × (bytes ≡ part ++ rest) × (run stops part ≡ length part) × (new ≡ Some rest)
     × (q ≡ p + length part)
 
--- from offset p to offset q these bytes were taken, with this meaning or fault
-abbrev pub TakesFront : {A : Type 0} → Taken A → Result A FaultKind → (new : Option (List ℕ))
-    → (p q : ℕ) → List ℕ → Type 0
-TakesFront t outcome new p q bytes =
-    (t.gives ≡ outcome) × (new ≡ Some (drop t.bytes bytes)) × (q ≡ p + t.bytes)
-
 -- from offset p to offset q, what is at the front of the old bytes was taken, with this meaning or
 -- fault; without an outcome, nothing is said about the bytes
 abbrev pub GivesFront : {A : Type 0} → (front : List ℕ → Taken A) → (old : Option (List ℕ))
     → (p : ℕ) → (new : Option (List ℕ)) → (q : ℕ) → Option (Result A FaultKind) → Type 0
 GivesFront front old p new q said =
-    (p ≤ q) × IfSome said (λ outcome. IfKnown old (λ bytes.
-    TakesFront (front bytes) outcome new p q bytes))
+    (p ≤ q) × IfSome said (λ outcome. IfKnown old (λ bytes. ((front bytes).gives ≡ outcome)
+    × (new ≡ Some (drop (front bytes).bytes bytes)) × (q ≡ p + (front bytes).bytes)))

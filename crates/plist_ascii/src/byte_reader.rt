@@ -2,7 +2,7 @@
 
 ghost use Rattle.std.specs.Prelude.{◌≡◌, ◌≤◌, ℕ, List, [], length, take, Option, None, IfOk};
 ghost use Rattle.std.specs.Io.KnownBytes.{Consumes};
-ghost use Rattle.plist_ascii.specs.Incoming.{GivesByte, CountsFailureIfCounted, StartsWithHeld};
+ghost use Rattle.plist_ascii.specs.Incoming.{GivesByte, CountsFailureIfCounted, StartsWithWindow};
 
 use std::io;
 use std::io::Read;
@@ -17,7 +17,7 @@ pub trait ByteReader {
     /// The number of reads that failed, if they are counted.
     ghost failures: { Self → Option ℕ };
     /// The buffered bytes.
-    ghost held: { Self → List ℕ };
+    ghost window: { Self → List ℕ };
 
     /// Returns the next byte, or `None` at the end. A failed read isn't tried again, not even after
     /// `Interrupted`.
@@ -31,14 +31,14 @@ pub trait ByteReader {
 
     /// Returns the buffered bytes. They are the next ones, and taking them needs no read.
     fn buffered(&self) -> &[u8]
-        ensures held { result.now ≡ held self.now }
-        ensures next { StartsWithHeld (held self.now) (remaining self.now) };
+        ensures window { result.now ≡ window self.now }
+        ensures next { StartsWithWindow (window self.now) (remaining self.now) };
 
     /// Takes the first `count` of the buffered bytes.
     fn consume(&mut self, count: usize)
-        requires within { count ≤ length (held self.old) }
+        requires within { count ≤ length (window self.old) }
         ensures bytes { Consumes (remaining self.old) (remaining self.new)
-            (take count (held self.old)) }
+            (take count (window self.old)) }
         ensures failures { failures self.new ≡ failures self.old };
 }
 
@@ -48,7 +48,7 @@ impl<R: Read> ByteReader for R {
 
     ghost failures = { λ _. None };
 
-    ghost held = { λ _. [] };
+    ghost window = { λ _. [] };
 
     fn next_byte(&mut self) -> Result<Option<u8>, io::Error> {
         let mut buffer = [0u8; 1];

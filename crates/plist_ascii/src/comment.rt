@@ -1,8 +1,10 @@
 //! Takes comments.
 
-ghost use Rattle.std.specs.Prelude.{◌≡◌, ◌^◌, ◌<◌, ◌≤◌, None, IfOk, OnOk};
+ghost use Rattle.std.specs.Prelude.{◌≡◌, ◌+◌, ◌^◌, ◌<◌, ◌≤◌, drop, None, Some, IfErr, IfOk, OnOk};
+ghost use Rattle.plist_ascii.specs.TokenPrefixes.{run};
+ghost use Rattle.plist_ascii.specs.Unread.{IfKnown, stops, unread};
 ghost use Rattle.plist_ascii.specs.Comments.{line_comment, block_comment};
-ghost use Rattle.plist_ascii.specs.inner.Inputs.{AsksNoMemory, CountsFailed, CountsRead, GivesBy, IfCame, SkipsRun, TakesPast};
+ghost use Rattle.plist_ascii.specs.inner.Inputs.{CountsFailed, CountsRead, GivesBy, IfCame, TakesPast};
 
 use crate::byte_reader::ByteReader;
 use crate::fault::TokenFault;
@@ -14,7 +16,9 @@ impl<R: ByteReader> Input<R> {
     #[inline(always)]
     pub fn skip_run(&mut self, stop: Stop) -> Result<(), TokenFault>
         // Result.
-        ensures value { OnOk result (SkipsRun R.remaining stop self.old self.new) }
+        ensures value { OnOk result (IfKnown (unread R.remaining self.old) (λ xs.
+            (unread R.remaining self.new ≡ Some (drop (run (stops stop) xs) xs))
+            × (self.new.taken ≡ self.old.taken + run (stops stop) xs))) }
         // State afterwards.
         ensures place { self.old.taken ≤ self.new.taken }
         ensures failures { CountsRead R.failures self.old result self.new }
@@ -52,7 +56,7 @@ impl<R: ByteReader> Input<R> {
     /// isn't taken.
     pub fn line_comment(&mut self) -> Result<(), TokenFault>
         ensures answers { GivesBy R.remaining (λ _. None) line_comment self.old result self.new }
-        ensures memory { AsksNoMemory result }
+        ensures memory { IfErr result (λ f. f ≡ TokenFault.OutOfMemory → ⊥) }
         ensures failures { CountsFailed R.failures self.old result self.new }
     {
         self.skip_run(Stop::LineEnd)
@@ -62,7 +66,7 @@ impl<R: ByteReader> Input<R> {
     /// byte after the comment is looked at. If there is no `*/`, the error is `IncompleteComment`.
     pub fn block_comment(&mut self) -> Result<(), TokenFault>
         ensures answers { GivesBy R.remaining (λ _. None) block_comment self.old result self.new }
-        ensures memory { AsksNoMemory result }
+        ensures memory { IfErr result (λ f. f ≡ TokenFault.OutOfMemory → ⊥) }
         ensures failures { CountsFailed R.failures self.old result self.new }
     {
         'stars: loop {

@@ -1,10 +1,10 @@
 //! Takes the bytes of a reader one after another.
 
-ghost use Rattle.std.specs.Prelude.{◌≡◌, ◌+◌, ◌++◌, ◌^◌, ◌<◌, ◌≤◌, [], length, None, Some, true, false, IfOk, IfErr, OnOk};
-ghost use Rattle.plist_ascii.specs.Unread.{unread};
-ghost use Rattle.plist_base.specs.Faults.{fault_of};
-ghost use Rattle.plist_ascii.specs.inner.TokenFaults.{fault_after};
-ghost use Rattle.plist_ascii.specs.inner.Inputs.{AddsPart, CountsByte, CountsFailed, CountsRead, DropsFirst, EndsInput, HasFailed, IfCame, IsAtStop, IsUnclosedText, Looks, SkipsPart, StartsWithHand, TakesHand, TakesIf, TakesNext, TakesOneMore, hand};
+ghost use Rattle.std.specs.Prelude.{◌≡◌, ◌+◌, ◌++◌, ◌^◌, ◌<◌, ◌≤◌, ℕ, List, [], drop, length, None, Some, true, false, IfOk, IfErr, IfSome, OnOk};
+ghost use Rattle.plist_ascii.specs.Unread.{IfKnown, unread};
+ghost use Rattle.plist_base.specs.Faults.{UnclosedString, fault_of};
+ghost use Rattle.plist_ascii.specs.inner.TokenFaults.{fault_after, kind_in_bytes};
+ghost use Rattle.plist_ascii.specs.inner.Inputs.{AddsPart, CountsByte, CountsFailed, CountsRead, EndsInput, HasFailed, HasNothingLeft, IfCame, IsAtStop, Looks, SkipsPart, TakesHand, TakesIf, TakesNext, TakesOneMore, hand};
 
 use crate::byte_reader::ByteReader;
 use crate::fault::TokenFault;
@@ -61,8 +61,9 @@ impl<R: ByteReader> Input<R> {
     /// Returns the bytes that can be taken without a read.
     #[inline(always)]
     pub fn at_hand(&self) -> &[u8]
-        ensures hand { result.now ≡ hand R.held self.now }
-        ensures next { StartsWithHand R.remaining R.held self.now }
+        ensures hand { result.now ≡ hand R.window self.now }
+        ensures next { IfKnown (unread R.remaining self.now) (λ xs. (rest : List ℕ)
+            × (xs ≡ hand R.window self.now ++ rest)) }
     {
         if self.ended {
             return &[];
@@ -86,9 +87,10 @@ impl<R: ByteReader> Input<R> {
     /// Takes the first `count` of the bytes that `at_hand` returns.
     #[inline(always)]
     pub fn take_first(&mut self, count: usize)
-        requires within { count ≤ length (hand R.held self.old) }
+        requires within { count ≤ length (hand R.window self.old) }
         // Result.
-        ensures bytes { DropsFirst R.remaining count self.old self.new }
+        ensures bytes { IfKnown (unread R.remaining self.old) (λ xs.
+            unread R.remaining self.new ≡ Some (drop count xs)) }
         // State afterwards.
         ensures place { self.new.taken ≡ self.old.taken + count }
         ensures fits { self.new.taken < 2 ^ 64 }
@@ -109,11 +111,11 @@ impl<R: ByteReader> Input<R> {
     // without a read. It returns `None` if the input has ended, or if 2^64 - 1 bytes were taken.
     #[inline(never)]
     fn read_ahead(&mut self) -> Result<Option<u8>, TokenFault>
-        requires { hand R.held self.old ≡ [] }
+        requires { hand R.window self.old ≡ [] }
         // Result.
         ensures next { IfOk result (λ byte. Looks R.remaining self.old byte self.new) }
         // State afterwards.
-        ensures hand { IfCame result (λ _. 0 < length (hand R.held self.new)) }
+        ensures hand { IfCame result (λ _. 0 < length (hand R.window self.new)) }
         ensures place { self.new.taken ≡ self.old.taken }
         ensures failures { CountsRead R.failures self.old result self.new }
     {
@@ -146,7 +148,7 @@ impl<R: ByteReader> Input<R> {
         // Result.
         ensures next { IfOk result (λ byte. Looks R.remaining self.old byte self.new) }
         // State afterwards.
-        ensures hand { IfCame result (λ _. 0 < length (hand R.held self.new)) }
+        ensures hand { IfCame result (λ _. 0 < length (hand R.window self.new)) }
         ensures place { self.new.taken ≡ self.old.taken }
         ensures failures { CountsRead R.failures self.old result self.new }
     {
@@ -176,11 +178,11 @@ impl<R: ByteReader> Input<R> {
         }
     }
 
-    /// Takes the next byte if it is `wanted`, and returns whether it is. The only error is `Io`.
+    /// Takes the next byte if it is `expected`, and returns whether it is. The only error is `Io`.
     #[inline(always)]
-    pub fn take_if(&mut self, wanted: u8) -> Result<bool, TokenFault>
+    pub fn take_if(&mut self, expected: u8) -> Result<bool, TokenFault>
         // Result.
-        ensures next { IfOk result (λ is. TakesIf R.remaining wanted self.old is self.new) }
+        ensures next { IfOk result (λ is. TakesIf R.remaining expected self.old is self.new) }
         // State afterwards.
         ensures peeked { IfOk result (λ is. is ≡ true → self.new.peeked ≡ None) }
         ensures rises { IfOk result (λ is. is ≡ true → TakesOneMore self.old self.new) }
@@ -190,7 +192,7 @@ impl<R: ByteReader> Input<R> {
     {
         match self.peek()? {
             Some(byte) => {
-                if byte == wanted {
+                if byte == expected {
                     self.take_first(1);
                     return Ok(true);
                 }
@@ -206,7 +208,8 @@ impl<R: ByteReader> Input<R> {
         // Result.
         ensures value { IfOk result (λ c. TakesNext R.remaining self.old (Some c) self.new) }
         // Errors.
-        ensures fault { IfErr result (IsUnclosedText R.remaining self.old self.new) }
+        ensures fault { IfErr result (λ f. IfSome (kind_in_bytes f) (λ kind. (kind ≡ UnclosedString)
+            × HasNothingLeft R.remaining self.old self.new)) }
         // State afterwards.
         ensures peeked { IfOk result (λ _. self.new.peeked ≡ None) }
         ensures place { OnOk result (TakesOneMore self.old self.new) }
@@ -227,7 +230,7 @@ impl<R: ByteReader> Input<R> {
         ensures bytes { SkipsPart R.remaining stop self.old self.new }
         ensures end { result ≡ false → IsAtStop R.remaining stop self.old self.new }
         // State afterwards.
-        ensures whole { result ≡ true → TakesHand R.held self.old self.new }
+        ensures whole { result ≡ true → TakesHand R.window self.old self.new }
         ensures place { self.old.taken ≤ self.new.taken }
         ensures failures { R.failures self.new.inner ≡ R.failures self.old.inner }
     {
@@ -255,7 +258,7 @@ impl<R: ByteReader> Input<R> {
             → IsAtStop R.remaining stop self.old self.new) }
         // State afterwards.
         ensures whole { IfOk result (λ more. more ≡ true
-            → TakesHand R.held self.old self.new) }
+            → TakesHand R.window self.old self.new) }
         ensures place { self.old.taken ≤ self.new.taken }
         ensures failures { R.failures self.new.inner ≡ R.failures self.old.inner }
     {

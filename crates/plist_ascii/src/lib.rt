@@ -5,12 +5,12 @@
 //! item.
 #![tactic(auto)]
 
+mod borrowed;
 mod byte_reader;
 mod comment;
 mod dialect;
 mod fault;
 mod input;
-mod lent;
 mod quoted;
 mod reader;
 mod stop;

@@ -1,11 +1,11 @@
 //! Takes quoted strings.
 
-ghost use Rattle.std.specs.Prelude.{◌≡◌, ◌+◌, ◌<◌, ◌++◌, None, Some, Ok, true, false, IfOk, IfErr, OnOk, vec_items};
+ghost use Rattle.std.specs.Prelude.{◌≡◌, ◌+◌, ◌^◌, ◌<◌, ◌++◌, None, Some, Ok, true, false, IfOk, IfErr, OnOk, vec_items};
 ghost use Rattle.plist_base.specs.Events.{event_of};
 ghost use Rattle.plist_ascii.specs.Quoted.{quoted, quoted_by, quoted_token, run_end};
 ghost use Rattle.plist_ascii.specs.inner.Parts.{escaped_bytes, EndsRun, Quotes};
 ghost use Rattle.plist_ascii.specs.Kinds.{IsTextEvent};
-ghost use Rattle.plist_ascii.specs.inner.Inputs.{CountsFailed, TakesSomeMore, TakesFirst, FailsAfter, GivesBy, some_event};
+ghost use Rattle.plist_ascii.specs.inner.Inputs.{CountsFailed, TakesFirst, FailsAfter, GivesBy};
 
 use crate::byte_reader::ByteReader;
 use crate::fault::TokenFault;
@@ -41,7 +41,8 @@ impl<R: ByteReader> Input<R> {
         // Errors.
         ensures fault { IfErr result (FailsAfter R.remaining (run_end quote) self.old self.new) }
         // State afterwards.
-        ensures rises { OnOk result (TakesSomeMore self.old self.new) }
+        ensures rises { OnOk result ((self.old.taken < self.new.taken)
+            × (self.old.taken < 2 ^ 64)) }
         ensures peeked { IfOk result (λ piece. piece ≡ None → self.new.peeked ≡ None) }
         ensures failures { CountsFailed R.failures self.old result self.new }
     {
@@ -60,7 +61,8 @@ impl<R: ByteReader> Input<R> {
         // Errors.
         ensures fault { IfErr result (FailsAfter R.remaining (quoted_by quote) self.old self.new) }
         // State afterwards.
-        ensures rises { OnOk result (TakesSomeMore self.old self.new) }
+        ensures rises { OnOk result ((self.old.taken < self.new.taken)
+            × (self.old.taken < 2 ^ 64)) }
         ensures peeked { IfOk result (λ closed. closed ≡ true → self.new.peeked ≡ None) }
         ensures failures { CountsFailed R.failures self.old result self.new }
     {
@@ -92,8 +94,8 @@ impl<R: ByteReader> Input<R> {
     /// Takes the rest of a quoted string, whose opening quote has been taken, and returns its
     /// event. No byte after the closing quote is looked at.
     pub fn quoted_text(&mut self, alloc: Global, quote: u8) -> Result<OwnedEvent, TokenFault>
-        ensures answers { GivesBy R.remaining some_event (quoted_token quote) self.old result
-            self.new }
+        ensures answers { GivesBy R.remaining (λ event. Some (event_of event)) (quoted_token quote)
+            self.old result self.new }
         ensures kinds { IfOk result (λ event. IsTextEvent (event_of event)) }
         ensures peeked { IfOk result (λ _. self.new.peeked ≡ None) }
         ensures failures { CountsFailed R.failures self.old result self.new }

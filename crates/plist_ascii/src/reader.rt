@@ -193,11 +193,11 @@ impl<R: ByteReader + Drop> AsciiReader<R> {
             (self.old, visitor.old) result (self.new, visitor.new) }
         ensures falls { IfSome result (λ _. ascii_steps self.new < ascii_steps self.old) }
     {
-        let Some(lent) = self.input.lent_text(Stop::Bare(self.dialect)) else {
+        let Some(borrowed) = self.input.borrowed_text(Stop::Bare(self.dialect)) else {
             return self.hand_over_read(visitor);
         };
-        let flow = visitor.string(CowStr::Borrowed(lent.text));
-        let count = lent.count;
+        let flow = visitor.string(CowStr::Borrowed(borrowed.text));
+        let count = borrowed.count;
         self.input.take_first(count);
         Some(Ok(flow))
     }

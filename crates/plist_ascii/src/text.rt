@@ -7,7 +7,7 @@ ghost use Rattle.plist_ascii.specs.Texts.{bare, bare_event, quoted_event, number
 ghost use Rattle.plist_ascii.specs.Kinds.{IsTextEvent};
 ghost use Rattle.plist_ascii.specs.Unread.{stops};
 ghost use Rattle.plist_ascii.specs.inner.TokenFaults.{Means, kind_in_bytes};
-ghost use Rattle.plist_ascii.specs.inner.Inputs.{AddsRun, CountsFailed, GivesBy, some_event};
+ghost use Rattle.plist_ascii.specs.inner.Inputs.{AddsRun, CountsFailed, GivesBy};
 ghost use Rattle.plist_ascii.specs.inner.Parts.{begins_number};
 ghost use Rattle.std.specs.Char.{is_digit};
 ghost use Rattle.std.specs.Str.{is_utf8};
@@ -156,8 +156,8 @@ impl<R: ByteReader> Input<R> {
 
     /// Takes the rest of a bare string, whose first byte has been taken, and returns its event.
     pub fn bare(&mut self, alloc: Global, stop: Stop, first: u8) -> Result<OwnedEvent, TokenFault>
-        ensures answers { GivesBy R.remaining some_event (bare (stops stop) first) self.old result
-            self.new }
+        ensures answers { GivesBy R.remaining (λ event. Some (event_of event))
+            (bare (stops stop) first) self.old result self.new }
         ensures kinds { IfOk result (λ event. IsTextEvent (event_of event)) }
         ensures failures { CountsFailed R.failures self.old result self.new }
     {

@@ -4,10 +4,10 @@ ghost use Rattle.std.specs.Prelude.{◌≡◌, None, Some, IfErr, IfOk};
 ghost use Rattle.plist_base.specs.Events.{event_of};
 ghost use Rattle.std.specs.Option.{option_map};
 ghost use Rattle.plist_ascii.specs.Comments.{slash};
-ghost use Rattle.plist_ascii.specs.Ascii.{lead_of, is_blank};
+ghost use Rattle.plist_ascii.specs.Ascii.{lead_of, is_blank, token_by};
 ghost use Rattle.plist_ascii.specs.Kinds.{IsTextEvent, IsAsciiEvent, IfBracket};
 ghost use Rattle.plist_ascii.specs.Unread.{stops};
-ghost use Rattle.plist_ascii.specs.inner.Inputs.{CountsFailed, IfCame, GivesBy, AllocatesForText, token_until};
+ghost use Rattle.plist_ascii.specs.inner.Inputs.{CountsFailed, IfCame, GivesBy, AllocatesForText};
 
 use crate::byte_reader::ByteReader;
 use crate::fault::TokenFault;
@@ -100,12 +100,12 @@ impl<R: ByteReader> Input<R> {
         byte: u8,
     ) -> Result<Option<OwnedEvent>, TokenFault>
         // Result.
-        ensures answers { GivesBy R.remaining (option_map event_of) (token_until stop byte) self.old
-            result self.new }
+        ensures answers { GivesBy R.remaining (option_map event_of)
+            (token_by (stops stop) (lead_of byte) byte) self.old result self.new }
         ensures kinds { IfCame result (λ event. IsAsciiEvent (event_of event)) }
         // Errors.
-        ensures memory { IfErr result (AllocatesForText R.remaining (token_until stop byte)
-            self.old) }
+        ensures memory { IfErr result (AllocatesForText R.remaining
+            (token_by (stops stop) (lead_of byte) byte) self.old) }
         // State afterwards.
         ensures brackets { self.old.peeked ≡ None → IfCame result (λ event.
             IfBracket (event_of event) (self.new.peeked ≡ None)) }

@@ -12,7 +12,7 @@ use Rattle.plist_base.specs.Faults.{InvalidTrailerObjectOffsetSize, ObjectRefere
 use Rattle.plist_base.specs.Events.{StartArray}
 use Rattle.plist_base.specs.IntegerText.{integer_of_text}
 use Rattle.plist_base.specs.Trees.{Boolean, Integer}
-use Rattle.plist_format.specs.Examples.Files.{array, close, dictionary, refused, scalar, worked_files}
+use Rattle.plist_format.proofs.WorkedFiles.Files.{array, close, dictionary, refused, scalar, worked_files}
 use Rattle.plist_format.specs.Unfolding.{items_of_file}
 use Rattle.plist_ascii.specs.AsciiReader.{GivesAsciiItem}
 use Rattle.plist_ascii.specs.Ascii.{items_in, items_of_ascii, token}

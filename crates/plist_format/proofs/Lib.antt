@@ -1,2 +1,3 @@
 pub mod Layouts
 pub mod Tables
+pub mod WorkedFiles

@@ -3,4 +3,3 @@ pub mod Object
 pub mod Marker
 pub mod Unfolding
 pub mod Visits
-pub mod Examples

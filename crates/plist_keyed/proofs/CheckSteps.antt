@@ -25,7 +25,7 @@ use Rattle.plist.specs.ValueTrees.{tree_of}
 use Rattle.plist_keyed.specs.declared.check.Check.{Check}
 use Rattle.plist_keyed.specs.declared.error.WalkError.{WalkError}
 use Rattle.plist_keyed.specs.declared.error.WalkError.TheVariants as walk
-use Rattle.plist_keyed.specs.inner.Checking.{Covers, IsCheck, IsCheckAt, IsCheckOf, IsOpened, IsReached, Leaves, objects_checked, objects_seen, open_uids, settled_uids, unchecked_from, unchecked_steps, unchecked_steps_in, unchecked_with}
+use Rattle.plist_keyed.specs.inner.Checking.{Covers, IsCheck, IsCheckAt, IsCheckOf, IsOpened, IsReached, Leaves, objects_seen, open_uids, unchecked_from, unchecked_steps, unchecked_steps_in, unchecked_with}
 use Rattle.plist_keyed.specs.inner.Settled.{AreSettled, IsEndOf, IsIn, IsNoUid, LeadsOnlyTo, NameOnly, settled_in}
 use Rattle.plist_keyed.specs.inner.Walks.{Given, Step, IsFirstFaultOf, PassesEvents, follow_in, given_by, steps_from, steps_of_event, steps_of_events, uid_of_event}
 use Rattle.plist_keyed.proofs.TreeItems.{given_by-append}
@@ -324,9 +324,9 @@ settles ends new uid end out is =
 
 module _ (old new : Check) (uid : ℕ) (object : Value)
     (o : IsCheckAt old (ScalarEvent (Uid uid) ∷ []))
-    (at : slice_get (objects_checked old) uid ≡ Some (bracketing (tree_of object)))
+    (at : slice_get (objects_seen old.objects.now) uid ≡ Some (bracketing (tree_of object)))
     (closed : list_any (nat_eq uid) old.path.keys ≡ false)
-    (out : IsIn uid (settled_uids old) → ⊥) where
+    (out : IsIn uid (settled_in old.ends) → ⊥) where
   off_path : list_any (nat_eq uid) (open_uids old) ≡ false
   off_path = any_reversed (nat_eq uid) old.path.keys ∙ closed
 
@@ -334,7 +334,7 @@ module _ (old new : Check) (uid : ℕ) (object : Value)
       → OnOk r (PassesEvents (unchecked_from old uid) (unchecked_steps new))
   opened-passes (Ok a) (same, keys, (level, items, is), ends) =
       rw (same, keys, reverse-snoc old.path.keys uid, items, reverse-snoc old.levels.items level)
-      (passes-opened (objects_checked old) _ (open_uids old) uid level _ o.is_path at off_path is)
+      (passes-opened (objects_seen old.objects.now) _ (open_uids old) uid level _ o.is_path at off_path is)
   opened-passes (Err e) h = tt
 
   pub opened-checks : {A : Type 0} (r : Result A WalkError) → OnOk r (IsOpened old uid object new)
@@ -348,7 +348,7 @@ module _ (old new : Check) (uid : ℕ) (object : Value)
         reverse-snoc old.levels.items level,
         ends,
       )
-      (opened-check (objects_checked old) (open_uids old) (settled_uids old) _ _ uid level _ o at
+      (opened-check (objects_seen old.objects.now) (open_uids old) (settled_in old.ends) _ _ uid level _ o at
       off_path out is)
   opened-checks (Err e) h = tt
 
@@ -358,11 +358,11 @@ module _ (start : Check) (uid : ℕ) (keys : start.path.keys ≡ []) (levels : s
   where
     pub begins-checked : start.ends.entries ≡ [] → IsCheckAt start (ScalarEvent (Uid uid) ∷ [])
     begins-checked entries =
-        rw (keys, levels, entries) (first-check (objects_checked start) uid (λ u. None))
+        rw (keys, levels, entries) (first-check (objects_seen start.objects.now) uid (λ u. None))
 
     pub begins-with : given_by (unchecked_from start uid)
-        ≡ given_by (steps_from (objects_checked start) uid)
-    begins-with = rw (keys, levels) (ap given_by (append-nil (steps_from (objects_checked start) uid)))
+        ≡ given_by (steps_from (objects_seen start.objects.now) uid)
+    begins-with = rw (keys, levels) (ap given_by (append-nil (steps_from (objects_seen start.objects.now) uid)))
 
 not-in-empty : (uids : List ℕ) (uid : ℕ) → length uids ≡ 0 → IsIn uid uids → ⊥
 not-in-empty [] uid h p = cc
@@ -370,7 +370,7 @@ not-in-empty (x ∷ uids) uid h p = omega (arith, h)
 
 -- if no object is open, each Uid that was reached is settled
 pub nothing-open : (check : Check) → IsCheck check → length check.levels.items ≡ 0 → (uid : ℕ)
-    → IsReached check uid → IsIn uid (settled_uids check)
+    → IsReached check uid → IsIn uid (settled_in check.ends)
 nothing-open check o none uid reached =
     let closed : length (open_uids check) ≡ 0 =
     sym o.each_left ∙ length-reverse check.levels.items ∙ none in
@@ -382,16 +382,16 @@ nothing-open check o none uid reached =
 -- the innermost level is removed
 pub with-left : (check : Check) (below : List Events) (left : Events)
     → check.levels.items ≡ below ++ left ∷ [] → IsCheck check
-    → IsCheckOf (objects_checked check) (open_uids check) (settled_uids check)
+    → IsCheckOf (objects_seen check.objects.now) (open_uids check) (settled_in check.ends)
     (left ∷ reverse below) (get nat_eq check.ends) []
 with-left check below left had o = rw (ap reverse had ∙ reverse-snoc below left) at o
 
 pub steps-with : (check : Check) (below : List Events) (left : Events)
     → check.levels.items ≡ below ++ left ∷ []
-    → unchecked_steps check ≡ unchecked_steps_in (objects_checked check) (left ∷ reverse below)
+    → unchecked_steps check ≡ unchecked_steps_in (objects_seen check.objects.now) (left ∷ reverse below)
     (open_uids check)
 steps-with check below left had =
-    ap (λ l. unchecked_steps_in (objects_checked check) l (open_uids check))
+    ap (λ l. unchecked_steps_in (objects_seen check.objects.now) l (open_uids check))
     (ap reverse had ∙ reverse-snoc below left)
 
 -- ---- leaving an object

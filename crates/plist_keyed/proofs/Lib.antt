@@ -4,3 +4,4 @@ pub mod SettledUids
 pub mod CheckSteps
 pub mod WalkValues
 pub mod WalkSteps
+mod TreesOfArchives

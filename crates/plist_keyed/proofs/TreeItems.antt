@@ -43,11 +43,11 @@ Gives answer items = AreItemsOf bracketing answer items
 
 module _ {V : Type 0} (inner : V → List PlainEvent) where
   -- an event precedes the items
-  behind-one : (e : PlainEvent) (a : Result V ArchiveFault) (xs : List Given) → AreItemsOf inner a xs
+  following-one : (e : PlainEvent) (a : Result V ArchiveFault) (xs : List Given) → AreItemsOf inner a xs
       → AreItemsOf (λ v. e ∷ inner v) a (Ok e ∷ xs)
-  behind-one e (Ok v) xs (es, is, alike) =
+  following-one e (Ok v) xs (es, is, alike) =
       (e ∷ es, ap (λ l. Ok e ∷ l) is, ap (λ l. without_length e ∷ l) alike)
-  behind-one e (Err f) xs (es, more, is, (rest, v, alike)) =
+  following-one e (Err f) xs (es, more, is, (rest, v, alike)) =
       (e ∷ es, more, ap (λ l. Ok e ∷ l) is, (rest, v, ap (λ l. without_length e ∷ l) alike))
 
   -- an event follows the items
@@ -83,14 +83,14 @@ bracketed : {V : Type 0} (inner : V → List PlainEvent) (start : PlainEvent) (m
     → Gives (and_then a (λ v. Ok (make v))) (Ok start ∷ (xs ++ Ok EndCollection ∷ []))
 bracketed inner start make alike a xs h =
     made (λ v. start ∷ (inner v ++ EndCollection ∷ [])) bracketing make alike a _
-    (behind-one (λ v. inner v ++ EndCollection ∷ []) start a _
+    (following-one (λ v. inner v ++ EndCollection ∷ []) start a _
     (before-one inner EndCollection a xs h))
 
-behind : {V : Type 0} (inner : V → List PlainEvent) (es : List PlainEvent)
+following : {V : Type 0} (inner : V → List PlainEvent) (es : List PlainEvent)
     (a : Result V ArchiveFault) (xs : List Given) → AreItemsOf inner a xs
     → AreItemsOf (λ v. es ++ inner v) a (map Ok es ++ xs)
-behind inner [] a xs h = h
-behind inner (e ∷ es) a xs h = behind-one (λ v. es ++ inner v) e a _ (behind inner es a xs h)
+following inner [] a xs h = h
+following inner (e ∷ es) a xs h = following-one (λ v. es ++ inner v) e a _ (following inner es a xs h)
 
 -- if a whole has the events of two parts, it has the items of the first part and then those of the
 -- second
@@ -102,7 +102,7 @@ both : {V W : Type 0} (first : V → List PlainEvent) (events outer : W → List
     → AreItemsOf outer (and_then a (λ v. and_then b (λ w. Ok (make v w)))) (xs ++ ys)
 both first events outer make none nothing is (Ok v) b xs ys (es, p, alike) q =
     rw p (made (λ w. es ++ events w) outer (make v)
-    (λ w. rw (is v w) (alike_with es (first v) (events w) alike)) b _ (behind events es b ys q))
+    (λ w. rw (is v w) (alike_with es (first v) (events w) alike)) b _ (following events es b ys q))
 both first events outer make none nothing is (Err f) b xs ys (es, more, p, (rest, v, alike)) q = (
   es,
   more ++ ys,
@@ -149,7 +149,7 @@ module _ (answer : ℕ → Result Tree ArchiveFault) (follow : ℕ → List Step
         let key = ScalarEvent (trees.String k) in
         rw (run-append (bracketing t) (bracketing_of_pairs ms))
         (both (λ u. key ∷ bracketing u) bracketing_of_pairs bracketing_of_pairs (MemberAnd k)
-        NoMembers refl (λ u us. refl) _ _ _ _ (behind-one bracketing key _ _ (tree-gives t))
+        NoMembers refl (λ u us. refl) _ _ _ _ (following-one bracketing key _ _ (tree-gives t))
         (pairs-give ms))
 
 -- if the first item is a fault, no event precedes it, so any tree will do

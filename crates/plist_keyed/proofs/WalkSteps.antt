@@ -14,7 +14,7 @@ use Rattle.plist.specs.ValueTrees.{tree_of}
 use Rattle.plist_base.specs.Bracketing.{bracketing}
 use Rattle.plist_keyed.specs.declared.walk.Walk.{Walk}
 use Rattle.plist_keyed.specs.inner.Checking.{objects_seen}
-use Rattle.plist_keyed.specs.inner.RemainingSteps.{Skips, IsWalk, coming_items, items_at, remaining_from, remaining_steps, steps_in_levels}
+use Rattle.plist_keyed.specs.inner.RemainingSteps.{Skips, IsWalk, remaining_from, remaining_steps, steps_in_levels, items_of_steps}
 use Rattle.plist_keyed.specs.inner.Settled.{AreEnds, AreSettled, IsEndOf, IsIn, IsSettledIn, NameOnly}
 use Rattle.plist_keyed.specs.inner.Walks.{Step, events_given, given_by, steps_from, steps_of_event, steps_of_events, uid_of_event}
 use Rattle.plist_keyed.proofs.TreeItems.{given_by-append}
@@ -83,7 +83,7 @@ module _ (objects : List (List PlainEvent)) where
 -- the items that remain of a walk that began with a Uid are those of the Uid
 pub begun : (start walk : Walk) (objects : List Value) (uid : ℕ) → start.objects.now ≡ objects
     → start.levels.items ≡ [] → Skips (remaining_from start uid) (remaining_steps walk)
-    → coming_items walk ≡ items_at objects uid
+    → items_of_steps (remaining_steps walk) ≡ items_of_steps (steps_from (objects_seen objects) uid)
 begun start walk objects uid seen none (given, fewer) =
     let from_start : given_by (remaining_from start uid)
     ≡ given_by (steps_from (objects_seen objects) uid) =

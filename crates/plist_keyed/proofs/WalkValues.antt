@@ -12,7 +12,7 @@ use Rattle.plist.specs.declared.value.Value.{Value}
 use Rattle.plist.specs.ValueOfItems.{AreItemsOfTree, IsValueOf}
 use Rattle.plist.specs.LastWins.{last_wins}
 use Rattle.plist.specs.ValueTrees.{tree_of}
-use Rattle.plist.proofs.ForeseenItems.{all-events, no-events}
+use Rattle.plist.proofs.PredictedItems.{all-events, no-events}
 use Rattle.plist.proofs.KeysOnce.{keys-once}
 use Rattle.plist_keyed.specs.declared.error.KeyedError.{KeyedError}
 use Rattle.plist_keyed.specs.declared.error.WalkError.{WalkError}
@@ -20,7 +20,7 @@ use Rattle.plist_keyed.specs.declared.error.WalkError.TheVariants as walk
 use Rattle.plist_keyed.specs.Archives.{ArchiveFault, UidOutOfRange, RecursiveUid, resolved_tree}
 use Rattle.plist_keyed.specs.Errors.{IsFaultOf, error_of_walk}
 use Rattle.plist_keyed.specs.inner.Checking.{objects_seen}
-use Rattle.plist_keyed.specs.inner.RemainingSteps.{items_at}
+use Rattle.plist_keyed.specs.inner.RemainingSteps.{items_of_steps}
 use Rattle.plist_keyed.specs.inner.Walks.{Given, Step, IsFaultless, IsFirstFaultOf, events_given, given_by, steps_at, steps_from}
 use Rattle.plist_keyed.proofs.TreeItems.{Gives, uid-gives, resolved-once}
 
@@ -100,7 +100,7 @@ of_value (Some v) t itself p =
 -- the walk yields a tree
 pub tree-read : (objects slice : List Value) (uid : ℕ) (tree : Tree) → slice ≡ objects
     → ((v : Value) → last_wins (tree_of v) ≡ tree_of v)
-    → IsFaultless (steps_from (objects_seen slice) uid) → IsValueOf (items_at slice uid) (Ok tree)
+    → IsFaultless (steps_from (objects_seen slice) uid) → IsValueOf (items_of_steps (steps_from (objects_seen slice) uid)) (Ok tree)
     → resolved_tree (map tree_of objects) uid ≡ Ok tree
 tree-read objects slice uid tree e itself faultless h =
     let trees = map tree_of objects in

@@ -3,17 +3,20 @@
 //! It follows each Uid once. A Uid that it reaches again is either open, which is a fault, or
 //! settled, and then there is no fault below it.
 
-ghost use Rattle.std.specs.Prelude.{◌≡◌, [], ◌∷◌, false, IfErr, IfOk, IfSome, IsNone, None, OnOk, Some, nat_eq, slice_get, ℕ};
+ghost use Rattle.std.specs.Prelude.{◌≡◌, [], ◌∷◌, ◌++◌, false, IfErr, IfOk, IfSome, IsNone, None, OnOk, Some, nat_eq, slice_get, ℕ};
 ghost use Rattle.std.specs.Option.{option_copied};
 ghost use Rattle.indexmap.specs.IndexMap.{get};
 ghost use Rattle.indexmap.specs.IndexSet.{contains};
+ghost use Rattle.plist_base.specs.Bracketing.{bracketing};
 ghost use Rattle.plist_base.specs.Events.{ScalarEvent, event_of};
 ghost use Rattle.plist_base.specs.Trees.{Uid as PlainUid};
+ghost use Rattle.plist.specs.declared.stream.events.Events.{Events as PlainEvents};
+ghost use Rattle.plist.specs.Events.{remaining_events};
 ghost use Rattle.plist.specs.ValueTrees.{tree_of};
 ghost use Rattle.plist_keyed.specs.declared.error.WalkError.TheVariants.{OutOfMemory as NoMemory};
 ghost use Rattle.plist_keyed.specs.inner.Checking.{objects_seen};
-ghost use Rattle.plist_keyed.specs.inner.Settled.{IsSettledBelow, IsUidTree, LeadsOnlyTo};
-ghost use Rattle.plist_keyed.specs.inner.Walks.{IsFirstFaultOf, steps_from, uid_of_event};
+ghost use Rattle.plist_keyed.specs.inner.Settled.{IsSettledBelow, LeadsOnlyTo, settled_in};
+ghost use Rattle.plist_keyed.specs.inner.Walks.{IsFirstFaultOf, follow_in, steps_from, steps_of_event, uid_of_event};
 
 use crate::error::WalkError;
 use indexmap::{IndexMap, IndexSet};
@@ -33,8 +36,10 @@ pub(crate) fn uid_of(event: &Event<'_>) -> Option<u64>
 
 // Returns the number of the Uid that an object is, or `None` for any other object.
 fn uid_in(object: &Value) -> Option<u64>
-    ensures found { IfSome result (λ uid. IsUidTree (tree_of object.now) uid) }
-    ensures missing { IsNone result → (uid : ℕ) → ¬ (IsUidTree (tree_of object.now) uid) }
+    ensures found { IfSome result (λ uid. bracketing (tree_of object.now)
+        ≡ ScalarEvent (PlainUid uid) ∷ []) }
+    ensures missing { IsNone result → (uid : ℕ) → ¬ (bracketing (tree_of object.now)
+        ≡ ScalarEvent (PlainUid uid) ∷ []) }
 {
     let Value::Uid(uid) = object else {
         return None;
@@ -58,7 +63,7 @@ struct Check<'a> {
 }
 
 impl<'a> Check<'a> {
-    ghost use Rattle.plist_keyed.specs.inner.Checking.{HasEnd, IsCheck, IsCheckAt, IsLeaving, IsOpened, IsReached, KeepsReached, IsCheckWith, Leaves, unchecked_steps, objects_checked, settled_uids, unchecked_from, unchecked_from_event, unchecked_with};
+    ghost use Rattle.plist_keyed.specs.inner.Checking.{HasEnd, IsCheck, IsCheckAt, IsOpened, IsReached, KeepsReached, IsCheckWith, Leaves, open_uids, unchecked_steps, unchecked_from, unchecked_with};
     ghost use Rattle.plist_keyed.specs.inner.Walks.{PassesEvents};
 
     fn new(alloc: Global, objects: &'a [Value]) -> Check<'a>
@@ -123,11 +128,12 @@ impl<'a> Check<'a> {
     // Takes an event of the innermost object, and follows it if it is a Uid.
     fn pass(&mut self, event: &Event<'a>) -> Result<(), WalkError>
         requires { IsCheckAt self.old (event_of event.now ∷ []) }
-        ensures passed { OnOk result (PassesEvents (unchecked_from_event self.old
-            (event_of event.now))
-            (unchecked_steps self.new)) }
+        ensures passed { OnOk result (PassesEvents
+            (steps_of_event (follow_in (objects_seen self.old.objects.now) (open_uids self.old))
+            (event_of event.now) ++ unchecked_steps self.old) (unchecked_steps self.new)) }
         ensures refused { IfErr result (IsFirstFaultOf
-            (unchecked_from_event self.old (event_of event.now))) }
+            (steps_of_event (follow_in (objects_seen self.old.objects.now) (open_uids self.old))
+            (event_of event.now) ++ unchecked_steps self.old)) }
         ensures check { OnOk result (IsCheck self.new) }
         ensures objects { OnOk result (self.new.objects ≡ self.old.objects) }
         ensures kept { OnOk result (KeepsReached self.old self.new) }
@@ -141,7 +147,7 @@ impl<'a> Check<'a> {
     // Returns the end of the chain that begins with this Uid. All other Uids of the chain are
     // settled.
     fn end_of(&self, uid: u64) -> u64
-        requires { LeadsOnlyTo (objects_checked self.now) uid (settled_uids self.now) }
+        requires { LeadsOnlyTo (objects_seen self.now.objects.now) uid (settled_in self.now.ends) }
         ensures { HasEnd self.now uid result }
     {
         let Some(object) = self.look_up(uid) else {
@@ -159,7 +165,7 @@ impl<'a> Check<'a> {
 
     // Settles the innermost Uid, whose object has no items left.
     fn leave(&mut self) -> Result<(), WalkError>
-        requires { IsLeaving self.old }
+        requires { (left : PlainEvents) × (remaining_events left ≡ []) × IsCheckWith self.old left }
         ensures left { OnOk result (Leaves self.old self.new) }
         ensures memory { IfErr result (λ e. e ≡ NoMemory) }
         ensures check { OnOk result (IsCheck self.new) }
@@ -201,9 +207,9 @@ impl<'a> Check<'a> {
         requires levels { self.old.levels.items ≡ [] }
         requires ends { self.old.ends.entries ≡ [] }
         ensures settled { OnOk result (IsSettledBelow
-            (objects_checked self.old) uid self.new.ends) }
+            (objects_seen self.old.objects.now) uid self.new.ends) }
         ensures refused { IfErr result (IsFirstFaultOf (steps_from
-            (objects_checked self.old) uid)) }
+            (objects_seen self.old.objects.now) uid)) }
     {
         self.follow(uid)?;
         while let Some(left) = self.levels.pop() {

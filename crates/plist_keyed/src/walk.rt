@@ -1,16 +1,16 @@
 //! The walk over an archive that yields the events of a Uid's tree.
 
-ghost use Rattle.std.specs.Prelude.{◌≡◌, ◌<◌, [], ◌∷◌, IfErr, IfOk, length, None, Ok, OnErr, OnOk, OnSome, Some, nat_eq, slice_get};
+ghost use Rattle.std.specs.Prelude.{◌≡◌, ◌<◌, [], ◌∷◌, ◌++◌, IfErr, IfOk, length, None, Ok, OnErr, OnOk, OnSome, Some, nat_eq, slice_get};
 ghost use Rattle.indexmap.specs.IndexMap.{get};
 ghost use Rattle.plist_base.specs.Events.{event_of};
 ghost use Rattle.plist_base.specs.Outcomes.{OnlyMemory};
-ghost use Rattle.plist_keyed.specs.inner.Walks.{IsFaultless, IsFirstFaultOf, steps_from};
+ghost use Rattle.plist_keyed.specs.inner.Walks.{IsFaultless, IsFirstFaultOf, steps_from, steps_of_event};
 ghost use Rattle.plist.specs.Collecting.{built_tree};
 ghost use Rattle.plist.specs.ValueOfItems.{IsValueOf};
 ghost use Rattle.plist.specs.LastWins.{last_wins};
 ghost use Rattle.plist.specs.ValueTrees.{tree_of};
 ghost use Rattle.plist_keyed.specs.inner.Checking.{objects_seen};
-ghost use Rattle.plist_keyed.specs.inner.RemainingSteps.{items_at};
+ghost use Rattle.plist_keyed.specs.inner.RemainingSteps.{items_of_steps};
 ghost use Rattle.plist_keyed.specs.inner.Settled.{IsSettledBelow};
 
 use crate::check::{settled_below, uid_of};
@@ -44,7 +44,7 @@ struct Walk<'a> {
 }
 
 impl<'a> Walk<'a> {
-    ghost use Rattle.plist_keyed.specs.inner.RemainingSteps.{GivesItemOfUid, IsWalk, KeepsArchive, Skips, Yields, remaining_steps, remaining_from_event, remaining_from};
+    ghost use Rattle.plist_keyed.specs.inner.RemainingSteps.{GivesItemOfUid, IsWalk, KeepsArchive, Skips, Yields, remaining_steps, remaining_from};
     ghost use Rattle.plist_keyed.specs.inner.Settled.{IsIn, NameOnly, settled_in};
     ghost use Rattle.std.specs.Option.{unwrap_or};
 
@@ -106,8 +106,8 @@ impl<'a> Walk<'a> {
         requires settled { NameOnly (event_of event ∷ []) (settled_in self.old.ends) }
         ensures path { IsWalk self.new }
         ensures archive { KeepsArchive self.old self.new }
-        ensures yields { Yields (remaining_from_event self.old (event_of event.entry)) result
-            (remaining_steps self.new) }
+        ensures yields { Yields (steps_of_event (steps_from (objects_seen self.old.objects.now))
+            (event_of event.entry) ++ remaining_steps self.old) result (remaining_steps self.new) }
     {
         match uid_of(&event) {
             None => Ok(WalkStep::Event(event)),
@@ -183,7 +183,8 @@ fn value_below(
     ends: IndexMap<u64, u64>,
 ) -> Result<Value, Error>
     requires { IsSettledBelow (objects_seen objects.now) uid ends }
-    ensures read { IsValueOf (items_at objects.now uid) (built_tree result) }
+    ensures read { IsValueOf (items_of_steps (steps_from (objects_seen objects.now) uid))
+        (built_tree result) }
     ensures itself { OnOk result ((value : Value) → last_wins (tree_of value) ≡ tree_of value) }
 {
     let mut walk = Walk::new(alloc, objects, ends);
@@ -200,7 +201,7 @@ fn value_below(
 /// allocation fails.
 pub(crate) fn value_at(alloc: Global, objects: &[Value], uid: Uid) -> Result<Value, WalkError>
     ensures read { IfOk result (λ value. IsFaultless (steps_from (objects_seen objects.now) uid)
-        × IsValueOf (items_at objects.now uid) (Ok (tree_of value))) }
+        × IsValueOf (items_of_steps (steps_from (objects_seen objects.now) uid)) (Ok (tree_of value))) }
     ensures itself { OnOk result ((value : Value) → last_wins (tree_of value) ≡ tree_of value) }
     ensures refused { IfErr result (IsFirstFaultOf (steps_from (objects_seen objects.now) uid)) }
 {

@@ -5,3 +5,4 @@ pub mod RetainLoop
 pub mod Inserts
 pub mod ColumnAppends
 pub mod PairValues
+pub mod TreeEquality

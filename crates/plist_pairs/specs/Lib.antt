@@ -5,5 +5,6 @@ pub mod Shown
 pub mod EntryLends
 pub mod Bulk
 pub mod Equal
+pub mod TreeEquality
 pub mod Copies
 pub mod inner

@@ -14,20 +14,20 @@ use Rattle.plist_base.specs.Allowances.{PassesNext as PassesAllowed, iterator_of
 use Rattle.plist_base.specs.Limits.{GivesLimited, IsLimitReached, items_admitted, event_or_limit, limited_items, limited_by}
 use Rattle.plist_base.specs.Faults.{FaultKind, Fault, Io, OutOfMemory, InvalidUtf16String, UnclosedString, IncompleteComment, InvalidUtf8AsciiStream, InvalidOctalString, LimitReached, MatchFault, fault_without_offset, kind_of, error_kind_of, fault_of}
 use Rattle.plist_base.specs.Sequential.{from_place}
-use Rattle.plist_reader.specs.Streams.{stream_bytes_left, stream_source, stream_place, held}
+use Rattle.plist_reader.specs.Streams.{stream_bytes_left, stream_source, buffered_bytes}
 use Rattle.plist_base.specs.Sources.{ItemCountsIo}
 use Rattle.plist_base.proofs.Refusals.{MatchFault-weaker}
 use Rattle.plist_binread.specs.FaultOffsets.{HasOffset}
 use Rattle.plist_binread.specs.Remaining.{SomeRemain}
 use Rattle.plist_ascii.specs.Ascii.{items_of_ascii, items_in, BeginsWithText}
 use Rattle.plist_ascii.specs.AsciiReader as ascii
-use Rattle.plist_ascii.specs.Kinds.{IsAsciiFault, IsAsciiItem, IsFaultOfBytes}
+use Rattle.plist_ascii.specs.Kinds.{IsAsciiItem, IsFaultOfBytes}
 use Rattle.plist_ascii.specs.Incoming as incoming
 use Rattle.plist_ascii.specs.declared.dialect.Dialect.{Dialect}
 use Rattle.plist_ascii.specs.Texts.{ends_bare}
 use Rattle.plist_reader.specs.declared.reader.State.{State}
 use Rattle.plist_reader.specs.declared.reader.State.TheVariants as state
-use Rattle.plist_reader.specs.Reader.{MatchText, AsciiReaderOf, AsciiGives, state_items, input_within, items_in_format, items_of_dialect, ascii_items_to_come, GivesItem, GivesIfKnown, EndsAfter, IsReaderFault, IsReaderItem, StateGives, ItemHasOffset, FaultHasOffset, MatchOffset}
+use Rattle.plist_reader.specs.Reader.{MatchText, AsciiReaderOf, AsciiGives, state_items, input_within, items_in_format, items_of_dialect, ascii_items_to_come, GivesItem, GivesIfKnown, EndsAfter, IsReaderFault, IfItemFault, StateGives, FaultHasOffset, MatchOffset}
 use Rattle.plist_reader.specs.declared.format.Format.TheVariants as format
 use Rattle.plist_reader.specs.Formats.{format_of, input_front}
 use Rattle.plist_reader.proofs.ReaderItems.{Given, chosen-gives, one-remain, text-or-all}
@@ -75,7 +75,7 @@ ascii-ends E None h k = h
 ascii-ends E (Some (Ok event)) h k = tt
 ascii-ends E (Some (Err error)) h k = by (kind_of (error_kind_of error)) h k
   where
-    by : (kind : FaultKind) → MatchFault kind E E ⊤ → IsAsciiFault kind → MatchText kind ⊤ E
+    by : (kind : FaultKind) → MatchFault kind E E ⊤ → MatchFault kind ⊤ ⊤ (IsFaultOfBytes kind) → MatchText kind ⊤ E
     by Io h k = h
     by OutOfMemory h k = h
     by UnclosedString h k = tt
@@ -87,12 +87,12 @@ ascii-ends E (Some (Err error)) h k = by (kind_of (error_kind_of error)) h k
 
 -- ---- which faults there are, and their offsets
 
-ascii-kinds : (limited : Bool) (item : Given) → IsAsciiItem item → IsReaderItem limited item
+ascii-kinds : (limited : Bool) (item : Given) → IsAsciiItem item → IfItemFault item (λ fault. IsReaderFault limited fault.kind)
 ascii-kinds limited None h = tt
 ascii-kinds limited (Some (Ok event)) h = tt
 ascii-kinds limited (Some (Err error)) h = by (kind_of (error_kind_of error)) h
   where
-    by : (kind : FaultKind) → IsAsciiFault kind → IsReaderFault limited kind
+    by : (kind : FaultKind) → MatchFault kind ⊤ ⊤ (IsFaultOfBytes kind) → IsReaderFault limited kind
     by Io h = tt
     by OutOfMemory h = tt
     by UnclosedString h = tt
@@ -108,7 +108,7 @@ same-count a b e = cc
 some-place : (offset : Option ℕ) (place : ℕ) → offset ≡ Some place → HasOffset offset
 some-place offset place is = rw is tt
 
-ascii-placed : (place : ℕ) (item : Given) → ascii.FaultIsAt item place → ItemHasOffset item
+ascii-placed : (place : ℕ) (item : Given) → ascii.FaultIsAt item place → IfItemFault item FaultHasOffset
 ascii-placed place None h = tt
 ascii-placed place (Some (Ok event)) h = tt
 ascii-placed place (Some (Err error)) h = placed _ _ h
@@ -161,10 +161,10 @@ limit-other : (kind : FaultKind) (limit : Limit) (X Y Z : Type 0) → kind ≡ L
     → MatchFault kind X Y Z
 limit-other kind limit X Y Z is z = rw is z
 
-reached-remain : (reached : Option Limit) (event : PlainEvent) (behind : List Item)
-    → SomeRemain (event_or_limit reached event behind)
-reached-remain None event behind = one-remain {A = Item} (Ok event) behind
-reached-remain (Some limit) event behind =
+reached-remain : (reached : Option Limit) (event : PlainEvent) (following : List Item)
+    → SomeRemain (event_or_limit reached event following)
+reached-remain None event following = one-remain {A = Item} (Ok event) following
+reached-remain (Some limit) event following =
     one-remain {A = Item} (Err (fault_without_offset (LimitReached limit))) []
 
 limits-remain : (limiter : LimitCounter) (items : List Item) → SomeRemain items
@@ -211,8 +211,8 @@ module _ (now : Bool) (old new : LimitCounter) where
   passes-count (Some (Err fault)) None a b h p = absurd p
   passes-count (Some (Err fault)) (Some given) a b h p = rw p.0 h
 
-  passes-placed : (asked item : Given) → ItemHasOffset asked → PassesNext old asked item new now
-      → ItemHasOffset item
+  passes-placed : (asked item : Given) → IfItemFault asked FaultHasOffset → PassesNext old asked item new now
+      → IfItemFault item FaultHasOffset
   passes-placed None item h p = rw p.0 tt
   passes-placed (Some (Ok asked)) None h p = absurd p
   passes-placed (Some (Ok asked)) (Some (Ok passed)) h p = tt
@@ -220,8 +220,8 @@ module _ (now : Bool) (old new : LimitCounter) where
   passes-placed (Some (Err fault)) None h p = absurd p
   passes-placed (Some (Err fault)) (Some given) h p = rw p.0 h
 
-  passes-kinds : (asked item : Given) → IsReaderItem true asked
-      → PassesNext old asked item new now → IsReaderItem true item
+  passes-kinds : (asked item : Given) → IfItemFault asked (λ fault. IsReaderFault true fault.kind)
+      → PassesNext old asked item new now → IfItemFault item (λ fault. IsReaderFault true fault.kind)
   passes-kinds None item h p = rw p.0 tt
   passes-kinds (Some (Ok asked)) None h p = absurd p
   passes-kinds (Some (Ok asked)) (Some (Ok passed)) h p = tt
@@ -241,7 +241,7 @@ module _ (now : Bool) (old new : LimitCounter) where
 
 -- a reader of ASCII that has yielded nothing has all items of its source left
 fresh-text : {R : Type 0} (known : R → Option (List ℕ)) (dialect : Dialect) (source : R) (sequence : BufferedSource R) (reader : AsciiReaderOf R)
-    → stream_source sequence ≡ source → stream_place sequence ≡ 0 → held sequence ≡ []
+    → stream_source sequence ≡ source → sequence.place ≡ 0 → buffered_bytes sequence ≡ []
     → IfSome (known source) (λ bytes. format.Ascii ≡ format_of bytes)
     → ascii.untaken_bytes (stream_bytes_left known) reader
     ≡ option_map input_front (stream_bytes_left known sequence)
@@ -252,7 +252,7 @@ fresh-text known dialect source sequence reader from at none is bytes place chos
     (ascii.untaken_bytes (stream_bytes_left known) reader)) chosen
     ∙ (λ i. option_map (λ b. items_of_ascii (ends_bare dialect) b (place i)) (bytes i))
     ∙ ap (λ p. option_map (λ b. items_of_ascii (ends_bare dialect) b 0)
-    (option_map input_front (option_map (λ bytes. held sequence ++ from_place p bytes)
+    (option_map input_front (option_map (λ bytes. buffered_bytes sequence ++ from_place p bytes)
     (known (stream_source sequence))))) at
     ∙ ap (λ w. option_map (λ b. items_of_ascii (ends_bare dialect) b 0)
     (option_map input_front (option_map (λ bytes. w ++ from_place 0 bytes)
@@ -336,8 +336,8 @@ module _ {R : Type 0} {g : Ghosts R} (known : R → Option (List ℕ)) (failed :
           }
 
   pub begun-ascii : (source : R) (dialect : Dialect) (sequence : BufferedSource R) (old new : AsciiReaderOf R) (item : Given)
-      → stream_source sequence ≡ source → ascii.device_of old ≡ sequence → stream_place sequence ≡ 0
-      → held sequence ≡ [] → IfSome (known source) (λ bytes. format.Ascii ≡ format_of bytes)
+      → stream_source sequence ≡ source → ascii.device_of old ≡ sequence → sequence.place ≡ 0
+      → buffered_bytes sequence ≡ [] → IfSome (known source) (λ bytes. format.Ascii ≡ format_of bytes)
       → ascii.untaken_bytes (stream_bytes_left known) old ≡ option_map input_front
       (stream_bytes_left known sequence)
       → ascii.place_of old ≡ 0 → ascii.dialect_of old ≡ dialect
@@ -355,7 +355,7 @@ module _ {R : Type 0} {g : Ghosts R} (known : R → Option (List ℕ)) (failed :
   pub begun-limited : (source : R) (limits : Limits) (dialect : Dialect) (sequence : BufferedSource R) (fresh : AsciiReaderOf R)
       (old new : LimitedItems (AsciiReaderOf R) LimitCounter) (item : Given) → items_admitted old ≡ limited_items limits
       → iterator_of old ≡ fresh → stream_source sequence ≡ source → ascii.device_of fresh ≡ sequence
-      → stream_place sequence ≡ 0 → held sequence ≡ []
+      → sequence.place ≡ 0 → buffered_bytes sequence ≡ []
       → IfSome (known source) (λ bytes. format.Ascii ≡ format_of bytes)
       → ascii.untaken_bytes (stream_bytes_left known) fresh
       ≡ option_map input_front (stream_bytes_left known sequence)

@@ -13,7 +13,7 @@ use Rattle.plist_binread.specs.FaultOffsets.{HasOffset, MatchGiven, ItemGivenWit
 use Rattle.plist_binread.specs.Remaining.{SomeRemain, AllocatesFirst}
 use Rattle.plist_ascii.specs.declared.dialect.Dialect.{Dialect}
 use Rattle.plist_reader.specs.declared.reader.State.TheVariants as state
-use Rattle.plist_reader.specs.Reader.{BinaryGives, BinaryReaderOf, file_within, input_within, items_in_format, GivesItem, GivesIfKnown, EndsAfter, IsReaderFault, IsReaderItem, StateGives, ItemHasOffset, MatchOffset}
+use Rattle.plist_reader.specs.Reader.{BinaryReaderOf, file_within, input_within, items_in_format, GivesItem, GivesIfKnown, EndsAfter, IsReaderFault, IfItemFault, StateGives, MatchOffset, FaultHasOffset}
 use Rattle.plist_reader.specs.declared.format.Format.TheVariants as format
 use Rattle.plist_reader.specs.Formats.{format_of}
 use Rattle.plist_reader.proofs.Fronts.{within-placed}
@@ -59,7 +59,7 @@ over-ends E (Some (Err error)) h = text-or-all _ E h
 -- ---- which faults there are, and their offsets
 
 binary-kinds : (limited : Bool) (item : Given) → ItemGivenWithin 0 (2 ^ 64) limited item
-    → IsReaderItem limited item
+    → IfItemFault item (λ fault. IsReaderFault limited fault.kind)
 binary-kinds limited None h = tt
 binary-kinds limited (Some (Ok event)) h = tt
 binary-kinds limited (Some (Err error)) h =
@@ -88,7 +88,7 @@ binary-kinds limited (Some (Err error)) h =
     by kind offset h = absurd h
 
 binary-placed : (limited : Bool) (item : Given) → ItemGivenWithin 0 (2 ^ 64) limited item
-    → ItemHasOffset item
+    → IfItemFault item FaultHasOffset
 binary-placed limited None h = tt
 binary-placed limited (Some (Ok event)) h = tt
 binary-placed limited (Some (Err error)) h = placed _ _ h.placed
@@ -124,7 +124,7 @@ file-input (Some limits) dialect bytes is =
     ap (λ f. limited_items limits (items_in_format dialect f bytes)) is
 
 module _ {R : Type 0} {g : Ghosts R} where
-  pub binary-gives : (old new : BinaryReaderOf R g) (item : Given) → BinaryGives {g = g} old item new
+  pub binary-gives : (old new : BinaryReaderOf R g) (item : Given) → binary.GivesBinary old item new
       → StateGives g.known g.failures (state.Binary old) item (state.Binary new)
   binary-gives old new item h = record {
     items = binary-goes (g.known (binary.binary_source old)) (g.known (binary.binary_source new))
@@ -152,7 +152,7 @@ module _ {R : Type 0} {g : Ghosts R} where
       → binary.has_limits old ≡ is_some limits
       → IfSome (g.known source) (λ bytes. format.Binary ≡ format_of bytes)
       → IfSome (g.known source) (λ bytes. binary.items_to_come bytes old ≡ file_within limits bytes)
-      → BinaryGives {g = g} old item new
+      → binary.GivesBinary old item new
       → StateGives g.known g.failures (state.Unread source limits dialect) item (state.Binary new)
   begun-binary source limits dialect old new item at fresh limited is begins h =
       chosen-gives {g = g} g.known g.failures source limits dialect (state.Binary old) (state.Binary new) item

@@ -15,7 +15,7 @@ use Rattle.plist_binread.specs.FaultOffsets.{HasOffset}
 use Rattle.plist_ascii.specs.declared.dialect.Dialect.{Dialect}
 use Rattle.plist_reader.specs.declared.reader.State.{State}
 use Rattle.plist_reader.specs.declared.reader.State.TheVariants as state
-use Rattle.plist_reader.specs.Reader.{BeginsInside, MatchText, state_items, input_within, is_limited_in, items_in_format, GivesItem, GivesIfKnown, IsReaderFault, IsReaderItem, IsRefusedKind, StateGives, HoldsSource, ItemHasOffset, FaultHasOffset, MatchOffset, source_in}
+use Rattle.plist_reader.specs.Reader.{BeginsInside, MatchText, state_items, input_within, is_limited_in, items_in_format, GivesItem, GivesIfKnown, IsReaderFault, IfItemFault, IsRefusedKind, StateGives, HoldsSource, FaultHasOffset, MatchOffset, source_in}
 use Rattle.plist_reader.specs.declared.format.Format.TheVariants as format
 use Rattle.plist_reader.specs.Formats.{format_of}
 
@@ -73,7 +73,7 @@ xml-counts place a b error is same =
     let kind = ap (λ (f : Fault). f.kind) is in rw kind same
 
 pub xml-place : (place : ℕ) (error : Error) → fault_of error ≡ fault_at XmlUnsupported place
-    → ItemHasOffset (Some (Err error))
+    → IfItemFault (Some (Err error)) FaultHasOffset
 xml-place place error is = subst FaultHasOffset (sym is) tt
 
 -- a read failed
@@ -94,7 +94,7 @@ io-kind error io = by (kind_of (error_kind_of error)) io
     by kind io = absurd io
 
 pub io-place : (error : Error) → IsIo (kind_of (error_kind_of error))
-    → HasOffset (fault_of error).offset → ItemHasOffset (Some (Err error))
+    → HasOffset (fault_of error).offset → IfItemFault (Some (Err error)) FaultHasOffset
 io-place error io place = placed _ _ io place
   where
     placed : (kind : FaultKind) (offset : Option ℕ) → IsIo kind → HasOffset offset
@@ -116,7 +116,7 @@ module _ {R : Type 0} {g : Ghosts R} (known : R → Option (List ℕ)) (failed :
     offset = h.offset;
     ended = λ e. absurd e;
     ends = h.ends;
-    kinds = subst (λ b. IsReaderItem b item) limited h.kinds;
+    kinds = subst (λ b. IfItemFault item (λ fault. IsReaderFault b fault.kind)) limited h.kinds;
     limits = λ none. h.limits (limited ∙ none);
     inside = inside;
   }
@@ -128,19 +128,19 @@ module _ {R : Type 0} {g : Ghosts R} (known : R → Option (List ℕ)) (failed :
       → StateGives known failed (state.Unread source limits dialect) item new
   other-source source other limits dialect new item e f h =
       chosen-gives source limits dialect (state.Unread other limits dialect) new item
-      (ap (option_map (input_within dialect limits)) e) refl (held (source_in new) h.failures) h.inside h
+      (ap (option_map (input_within dialect limits)) e) refl (is-kept (source_in new) h.failures) h.inside h
     where
-      held : (kept : Option R) → HoldsSource failed (Some other) item kept
+      is-kept : (kept : Option R) → HoldsSource failed (Some other) item kept
           → HoldsSource failed (Some source) item kept
-      held None h = h
-      held (Some kept) h = subst (λ n. ItemCountsIo item n (failed kept)) f h
+      is-kept None h = h
+      is-kept (Some kept) h = subst (λ n. ItemCountsIo item n (failed kept)) f h
 
   -- if the choice fails, its error is yielded
   pub refused-gives : (source other : R) (limits : Option Limits) (dialect : Dialect) (error : Error)
       → IfSome (known source) (λ bytes. GivesItem (input_within dialect limits bytes) (Some (Err error)) [])
       → IsRefusedKind (kind_of (error_kind_of error))
       → ItemCountsIo {A = Event} (Some (Err error)) (failed source) (failed other)
-      → ItemHasOffset (Some (Err error))
+      → IfItemFault (Some (Err error)) FaultHasOffset
       → StateGives {R = R} {g = g} known failed (state.Unread source limits dialect) (Some (Err error))
       (state.Refused other)
   refused-gives source other limits dialect error items kind count place = record {

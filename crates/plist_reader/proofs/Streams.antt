@@ -31,8 +31,8 @@ read_front p n count xs part l room e =
     ∙ ap (λ z. take n (from_place p xs) ++ z) (sym (drop-drop n p _))
     ∙ take-append-drop n _
 
-pub nothing_held : (from end : ℕ) (window : List ℕ) → end ≤ from → drop from (take end window) ≡ []
-nothing_held from end window h = drop_all from (take _ _) (rw length-take (omega arith))
+pub nothing_buffered : (from end : ℕ) (window : List ℕ) → end ≤ from → drop from (take end window) ≡ []
+nothing_buffered from end window h = drop_all from (take _ _) (rw length-take (omega arith))
 
 -- a read doesn't change which bytes remain
 pub read_on : (k now : Option (List ℕ)) (p n count from end : ℕ) (window part : List ℕ) → now ≡ k
@@ -43,7 +43,7 @@ read_on None now p n count from end window part e none l room g =
     ap (option_map (λ bytes. take n _ ++ from_place (p + n) bytes)) e
 read_on (Some xs) now p n count from end window part e none l room g =
     rw e (ap Some (read_front p n _ xs _ l room g.0
-    ∙ ap (λ z. z ++ from_place p xs) (sym (nothing_held from end window none))))
+    ∙ ap (λ z. z ++ from_place p xs) (sym (nothing_buffered from end window none))))
 
 -- if a read returns nothing, nothing remains
 pub read_none : (k now : Option (List ℕ)) (p n count : ℕ) (part : List ℕ) → now ≡ k
@@ -68,17 +68,17 @@ full_none (Some xs) p hand h e = ap (λ z. z ++ from_place p xs) e ∙ nothing_p
 -- ---- what is buffered
 
 -- the buffered bytes are the one at `from` and those after it
-pub first_held : (from end : ℕ) (window : List ℕ) → from < end → end ≤ length window
+pub first_buffered : (from end : ℕ) (window : List ℕ) → from < end → end ≤ length window
     → drop from (take end window) ≡ get_or window from 0 ∷ drop (from + 1) (take end window)
-first_held from end window l within =
+first_buffered from end window l within =
     let len : length (take end window) ≡ end = length-take-le _ _ within in
     let next : from + 1 ≡ suc from = omega arith in
     rw next (drop-cons (take _ _) from 0 (omega (arith, len))
     ∙ ap (λ b. b ∷ drop (suc from) (take end window)) (get_or-take _ _ _ 0 l))
 
-pub some_held : (from end : ℕ) (window : List ℕ) → from < end → end ≤ length window
+pub some_buffered : (from end : ℕ) (window : List ℕ) → from < end → end ≤ length window
     → drop from (take end window) ≡ [] → ⊥
-some_held from end window l within e = let first = first_held from end window l within in cc
+some_buffered from end window l within e = let first = first_buffered from end window l within in cc
 
 -- the first buffered byte is taken
 pub one_there : (k old : Option (List ℕ)) (p byte : ℕ) (hand rest : List ℕ)

@@ -1,5 +1,5 @@
 -- The format that the first bytes of an input indicate.
-use Rattle.std.specs.Prelude.{◌≡◌, ℕ, ◌+◌, ◌-◌, ◌^◌, Bool, if◌then◌else◌, ◌==◌, nat_eq, List, [], ◌∷◌, take, drop, get_or, Option, None, Some, codes, refl}
+use Rattle.std.specs.Prelude.{ℕ, ◌+◌, ◌-◌, ◌^◌, Bool, if◌then◌else◌, ◌==◌, nat_eq, List, [], ◌∷◌, take, drop, get_or, Option, None, Some}
 use Rattle.std.specs.List.{list_any, prefix_len, starts_with}
 use Rattle.plist_format.specs.Container.{magic}
 use Rattle.plist_reader.specs.declared.format.Format.{Format}
@@ -13,13 +13,10 @@ input_front bytes = take (2 ^ 64 - 1) bytes
 abbrev pub is_white : ℕ → Bool
 is_white c = list_any (λ d. c == d) (9 ∷ 10 ∷ 12 ∷ 13 ∷ 32 ∷ [])
 
--- the byte order mark of UTF-8
-abbrev pub byte_order_mark : List ℕ
-byte_order_mark = 0xEF ∷ 0xBB ∷ 0xBF ∷ []
-
--- the length of the byte order mark with which the bytes begin, or 0
+-- the length of the byte order mark of UTF-8 with which the bytes begin, or 0
 abbrev pub byte_order_mark_length : List ℕ → ℕ
-byte_order_mark_length bytes = if starts_with nat_eq bytes byte_order_mark then 3 else 0
+byte_order_mark_length bytes =
+    if starts_with nat_eq bytes (0xEF ∷ 0xBB ∷ 0xBF ∷ []) then 3 else 0
 
 -- the offset of the first byte after white space, from an offset on
 abbrev pub past_white : (place : ℕ) → List ℕ → ℕ
@@ -41,29 +38,3 @@ unfoldable pub format_of : List ℕ → Format
 format_of bytes =
     if starts_with nat_eq bytes magic then Binary
     else text_format (xml_place (byte_order_mark_length bytes) (input_front bytes))
-
--- ---- worked examples
-
-example_binary : format_of (codes "bplist00") ≡ Binary
-unfolding format_of
-example_binary = refl
-
-example_short : format_of (codes "bplist0") ≡ Ascii
-unfolding format_of
-example_short = refl
-
-example_empty : format_of [] ≡ Ascii
-unfolding format_of
-example_empty = refl
-
-example_xml : format_of (codes " <plist/>") ≡ Xml 1
-unfolding format_of
-example_xml = refl
-
-example_mark : format_of (0xEF ∷ 0xBB ∷ 0xBF ∷ 60 ∷ []) ≡ Xml 3
-unfolding format_of
-example_mark = refl
-
-example_marked_text : format_of (0xEF ∷ 0xBB ∷ 0xBF ∷ 123 ∷ 125 ∷ []) ≡ Ascii
-unfolding format_of
-example_marked_text = refl

@@ -1,5 +1,5 @@
 -- What contracts see of a reader of either format: the items that it hasn't yielded yet.
-use Rattle.std.specs.Prelude.{◌≡◌, ℕ, ◌+◌, ◌^◌, ◌<◌, Bool, true, false, List, [], ◌∷◌, Option, None, Some, Result, Ok, Err, MatchOption, MatchResult, IfErr, IfSome, ⊤}
+use Rattle.std.specs.Prelude.{◌≡◌, ℕ, ◌+◌, ◌^◌, Bool, true, false, List, [], ◌∷◌, Option, None, Some, Result, Ok, Err, MatchOption, MatchResult, IfErr, IfSome, ⊤}
 use Rattle.std.specs.Option.{is_some, option_map}
 use Rattle.plist_base.specs.declared.error.Error.{Error}
 use Rattle.plist_base.specs.declared.event.Event.{Event}
@@ -47,13 +47,9 @@ items_in_format dialect format.Ascii bytes =
 abbrev pub items_of_dialect : Dialect → List ℕ → List Item
 items_of_dialect dialect bytes = items_in_format dialect (format_of bytes) bytes
 
--- the items of some bytes in this format, and in the lax dialect if it is ASCII
-abbrev pub items_by : Format → List ℕ → List Item
-items_by shown bytes = items_in_format Lax shown bytes
-
 -- the items of some bytes in the indicated format, and in the lax dialect if it is ASCII
 abbrev pub items_of_input : List ℕ → List Item
-items_of_input bytes = items_by (format_of bytes) bytes
+items_of_input bytes = items_of_dialect Lax bytes
 
 -- the items of an input under these limits
 abbrev pub limited_input : Limits → List ℕ → List Item
@@ -94,8 +90,7 @@ module _ {R : Type 0} {g : Ghosts R} (known : R → Option (List ℕ)) where
   state_items (state.Ascii reader) = ascii_items_to_come known reader
   state_items (state.Limited reader) = option_map (items_admitted reader) (ascii_items_to_come known
       (iterator_of reader))
-  state_items (state.Refused source) = Some []
-  state_items state.Moved = Some []
+  state_items other = Some []
 
   -- the items that a reader hasn't yielded yet, if the source's bytes are known
   abbrev pub reader_items : Reader R g → Option (List Item)
@@ -130,17 +125,14 @@ HasEndedState (state.Unread source limits dialect) = ⊥
 HasEndedState (state.Binary reader) = binary.HasEndedBinary reader
 HasEndedState (state.Ascii reader) = ascii.HasEndedAscii reader
 HasEndedState (state.Limited reader) = HasEndedLimited reader
-HasEndedState (state.Refused source) = ⊤
-HasEndedState state.Moved = ⊤
+HasEndedState other = ⊤
 
 -- does a reader in this state have limits?
 abbrev pub is_limited_in : {R : Type 0} {g : Ghosts R} → State R g → Bool
 is_limited_in (state.Unread source limits dialect) = is_some limits
 is_limited_in (state.Binary reader) = binary.has_limits reader
-is_limited_in (state.Ascii reader) = false
 is_limited_in (state.Limited reader) = true
-is_limited_in (state.Refused source) = false
-is_limited_in state.Moved = false
+is_limited_in other = false
 
 -- does the reader have limits?
 abbrev pub reader_is_limited : {R : Type 0} {g : Ghosts R} → Reader R g → Bool
@@ -180,10 +172,9 @@ abbrev pub IsReaderFault : (limited : Bool) → FaultKind → Type 0
 IsReaderFault limited XmlUnsupported = ⊤
 IsReaderFault limited kind = MatchText kind ⊤ (MatchGiven kind ⊤ ⊤ ⊤ (limited ≡ true))
 
--- the fault of the item, if it has one, is one that a reader can yield
-abbrev pub IsReaderItem : (limited : Bool) → Option (Result Event Error) → Type 0
-IsReaderItem limited item = IfSome item (λ answer.
-    IfErr answer (λ error. IsReaderFault limited (kind_of (error_kind_of error))))
+-- `P` is true of the item's fault, if it has one
+abbrev pub IfItemFault : Option (Result Event Error) → (P : Fault → Type 0) → Type 0
+IfItemFault item P = IfSome item (λ answer. IfErr answer (λ error. P (fault_of error)))
 
 -- the source is kept, and its count of failures rises if the item is `Io`, and else is unchanged
 abbrev pub HoldsSource : {R : Type 0} (failed : R → ℕ) (old : Option R)
@@ -198,11 +189,6 @@ IsRefusedKind XmlUnsupported = ⊤
 IsRefusedKind Io = ⊤
 IsRefusedKind kind = ⊥
 
--- the item is such a fault
-abbrev pub IsSourceRefusal : Option (Result Event Error) → Type 0
-IsSourceRefusal item = MatchOption item ⊥ (λ answer. MatchResult answer (λ _. ⊥)
-    (λ error. IsRefusedKind (kind_of (error_kind_of error))))
-
 -- a fact for `OutOfMemory` and `LimitReached`, and one for every other fault of a reader
 abbrev pub MatchOffset : FaultKind → (without placed : Type 0) → Type 0
 MatchOffset OutOfMemory without placed = without
@@ -212,16 +198,6 @@ MatchOffset kind without placed = placed
 -- the fault has an offset, unless it is `OutOfMemory` or `LimitReached`, which have none
 abbrev pub FaultHasOffset : Fault → Type 0
 FaultHasOffset fault = MatchOffset fault.kind (fault.offset ≡ None) (HasOffset fault.offset)
-
--- `FaultHasOffset` is true of the item's fault, if it has one
-abbrev pub ItemHasOffset : Option (Result Event Error) → Type 0
-ItemHasOffset item =
-    IfSome item (λ answer. IfErr answer (λ error. FaultHasOffset (fault_of error)))
-
--- one call of the binary reader's `next`
-abbrev pub BinaryGives : {R : Type 0} {g : Ghosts R} → BinaryReaderOf R g
-    → Option (Result Event Error) → BinaryReaderOf R g → Type 0
-BinaryGives = binary.GivesBinary
 
 -- one call of the ASCII reader's `next`
 abbrev pub AsciiGives : {R : Type 0} (known : R → Option (List ℕ)) (failed : R → ℕ)
@@ -234,7 +210,7 @@ module _ {R : Type 0} {g : Ghosts R} (known : R → Option (List ℕ)) (failed :
   abbrev pub BeginsInside : Option Limits → Dialect → Option (Result Event Error) → State R g → Type 0
   BeginsInside limits dialect item (state.Binary new) = (fresh : BinaryReaderOf R g)
       × (binary.is_new fresh ≡ true) × (binary.has_limits fresh ≡ is_some limits)
-      × BinaryGives fresh item new
+      × binary.GivesBinary fresh item new
   BeginsInside limits dialect item (state.Ascii new) = (fresh : AsciiReaderOf R)
       × (ascii.place_of fresh ≡ 0) × (ascii.dialect_of fresh ≡ dialect) × (limits ≡ None)
       × AsciiGives known failed fresh item new
@@ -242,7 +218,8 @@ module _ {R : Type 0} {g : Ghosts R} (known : R → Option (List ℕ)) (failed :
       × (ascii.place_of (iterator_of fresh) ≡ 0)
       × (ascii.dialect_of (iterator_of fresh) ≡ dialect) × (is_some limits ≡ true)
       × GivesLimited (AsciiGives known failed) fresh item new
-  BeginsInside limits dialect item (state.Refused source) = IsSourceRefusal item
+  BeginsInside limits dialect item (state.Refused source) = MatchOption item ⊥ (λ answer.
+      MatchResult answer (λ _. ⊥) (λ error. IsRefusedKind (kind_of (error_kind_of error))))
   BeginsInside limits dialect item new = ⊥
 
   -- the chosen reader yields the item, and stays chosen
@@ -251,7 +228,7 @@ module _ {R : Type 0} {g : Ghosts R} (known : R → Option (List ℕ)) (failed :
   GivesInside (state.Unread source limits dialect) item new =
       BeginsInside limits dialect item new
   GivesInside (state.Binary old) item new =
-      (reader : BinaryReaderOf R g) × (new ≡ state.Binary reader) × BinaryGives old item reader
+      (reader : BinaryReaderOf R g) × (new ≡ state.Binary reader) × binary.GivesBinary old item reader
   GivesInside (state.Ascii old) item new =
       (reader : AsciiReaderOf R) × (new ≡ state.Ascii reader) × AsciiGives known failed old item reader
   GivesInside (state.Limited old) item new = (reader : LimitedItems (AsciiReaderOf R) LimitCounter)
@@ -263,10 +240,10 @@ pub record StateGives {R : Type 0} {g : Ghosts R} (known : R → Option (List �
     (old : State R g) (item : Option (Result Event Error)) (new : State R g) : Type 0 where
   pub items : GivesIfKnown (state_items known old) item (state_items known new)
   pub failures : HoldsSource failed (source_in old) item (source_in new)
-  pub offset : ItemHasOffset item
+  pub offset : IfItemFault item FaultHasOffset
   pub ended : HasEndedState old → item ≡ None
   pub ends : EndsAfter item (HasEndedState new)
-  pub kinds : IsReaderItem (is_limited_in old) item
+  pub kinds : IfItemFault item (λ fault. IsReaderFault (is_limited_in old) fault.kind)
   pub limits : is_limited_in old ≡ false → is_limited_in new ≡ false
   pub inside : GivesInside known failed old item new
 
@@ -285,17 +262,9 @@ steps_in_state (state.Unread source limits dialect) = all_steps
 steps_in_state (state.Binary reader) = binary.binary_steps reader
 steps_in_state (state.Ascii reader) = ascii.ascii_steps reader
 steps_in_state (state.Limited reader) = ascii.ascii_steps (iterator_of reader)
-steps_in_state (state.Refused source) = 0
-steps_in_state state.Moved = 0
+steps_in_state other = 0
 
--- if `next` hasn't been called, this call yields the first item, and changes the state
-abbrev pub GivesFirst : {R : Type 0} {g : Ghosts R} (known : R → Option (List ℕ)) (failed : R → ℕ)
-    → State R g → Option (Result Event Error) → State R g → Type 0
-GivesFirst {R} known failed old item new = (source : R) (limits : Option Limits) (dialect : Dialect)
-    → old ≡ state.Unread source limits dialect
-    → StateGives known failed (state.Unread source limits dialect) item new
-
--- if `next` hasn't been called and there is an item, the bound is lower after it
-abbrev pub FirstAdvances : {R A : Type 0} {g : Ghosts R} → State R g → Option A → State R g → Type 0
-FirstAdvances {R} old item new = (source : R) (limits : Option Limits) (dialect : Dialect)
-    → old ≡ state.Unread source limits dialect → IfSome item (λ _. steps_in_state new < all_steps)
+-- the fact is true if `next` hasn't been called
+abbrev pub IfUnread : {R : Type 0} {g : Ghosts R} → State R g → (fact : Type 0) → Type 0
+IfUnread (state.Unread source limits dialect) fact = fact
+IfUnread other fact = ⊤

@@ -49,13 +49,13 @@ pub struct BufferedSource<R> {
 impl<R: Source> BufferedSource<R> {
     ghost use Rattle.std.specs.Prelude.{◌≡◌, [], OnOk};
     ghost use Rattle.std.specs.Io.KnownBytes.{IsAtEnd};
-    ghost use Rattle.plist_reader.specs.Streams.{stream_source, stream_place, held, stream_bytes_left, ReadCounts};
+    ghost use Rattle.plist_reader.specs.Streams.{stream_source, buffered_bytes, stream_bytes_left};
 
     /// Creates a `BufferedSource` from which no byte has been read.
     pub fn new(source: R) -> Self
         ensures source { stream_source result ≡ source }
-        ensures place { stream_place result ≡ 0 }
-        ensures held { held result ≡ [] }
+        ensures place { result.place ≡ 0 }
+        ensures buffered_bytes { buffered_bytes result ≡ [] }
     {
         BufferedSource {
             source,
@@ -71,9 +71,10 @@ impl<R: Source> BufferedSource<R> {
     fn fill(&mut self) -> Result<(), io::Error>
         ensures bytes { OnOk result (stream_bytes_left R.known self.new
             ≡ stream_bytes_left R.known self.old) }
-        ensures end { OnOk result (held self.new ≡ [] → IsAtEnd
+        ensures end { OnOk result (buffered_bytes self.new ≡ [] → IsAtEnd
             (stream_bytes_left R.known self.new)) }
-        ensures failures { ReadCounts R.failures self.old result self.new }
+        ensures failures { CountsFailure result (R.failures self.old.source)
+            (R.failures self.new.source) }
     {
         if self.from < self.end {
             return Ok(());
@@ -93,13 +94,13 @@ impl<R: Source> BufferedSource<R> {
 
 impl<R: Source> ByteReader for BufferedSource<R> {
     ghost use Rattle.std.specs.Prelude.{Some};
-    ghost use Rattle.plist_reader.specs.Streams.{stream_bytes_left, held};
+    ghost use Rattle.plist_reader.specs.Streams.{stream_bytes_left, buffered_bytes};
 
     ghost remaining = { stream_bytes_left R.known };
 
     ghost failures = { λ s. Some (R.failures s.source) };
 
-    ghost held = { held };
+    ghost window = { buffered_bytes };
 
     fn next_byte(&mut self) -> Result<Option<u8>, io::Error> {
         self.fill()?;

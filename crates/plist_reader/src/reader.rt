@@ -134,7 +134,7 @@ pub struct Reader<R: Source> {
 impl<R: Source> Reader<R> {
     ghost use Rattle.std.specs.Prelude.{◌≡◌, true, false};
     ghost use Rattle.std.specs.Option.{option_map};
-    ghost use Rattle.plist_reader.specs.Reader.{FirstAdvances, GivesFirst, IsNewReader, IsUnread, reader_is_limited, items_of_dialect, items_of_input, limited_input, reader_items, reader_source};
+    ghost use Rattle.plist_reader.specs.Reader.{IfUnread, IsNewReader, IsUnread, reader_is_limited, items_of_dialect, items_of_input, limited_input, reader_items, reader_source};
 
     /// Creates a reader over a source. Nothing is read before the first item is requested. ASCII is
     /// read in the lax dialect, in which an LF doesn't end a bare string.
@@ -182,8 +182,10 @@ impl<R: Source> Reader<R> {
     // windows. The state that is replaced is dropped by a call, since the drop of an assignment is
     // more expensive to prove.
     fn first(&mut self) -> Option<Result<OwnedEvent, Error>>
-        ensures yields { GivesFirst R.known R.failures self.old.state result self.new.state }
-        ensures falls { FirstAdvances self.old.state result self.new.state }
+        ensures yields { IfUnread self.old.state
+            (StateGives R.known R.failures self.old.state result self.new.state) }
+        ensures falls { IfUnread self.old.state
+            (IfSome result (λ _. steps_in_state self.new.state < all_steps)) }
     {
         match mem::replace(&mut self.state, State::Moved) {
             State::Unread(source, limits, dialect) => {

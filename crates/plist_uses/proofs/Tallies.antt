@@ -6,7 +6,7 @@ use Rattle.std.proofs.lemmas.List.Elements.{filter-append}
 use Rattle.plist_base.specs.declared.error.Error.{Error}
 use Rattle.plist_base.specs.declared.event.Event.{Event}
 use Rattle.plist_base.specs.Events.{PlainEvent, Item, event_of, item_of}
-use Rattle.plist.proofs.ForeseenItems.{event-more}
+use Rattle.plist.proofs.PredictedItems.{event-more}
 use Rattle.plist_reader.specs.Reader.{GivesIfKnown, items_of_input}
 use Rattle.plist_uses.specs.declared.counting.Counts.{Counts}
 use Rattle.plist_base.specs.Faults.{MatchFault, error_kind_of, fault_of, kind_of}

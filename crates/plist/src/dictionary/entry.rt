@@ -139,7 +139,7 @@ impl<'a> VacantEntry<'a> {
     ///
     /// If memory runs out, the dictionary is unchanged, and the key and the value are returned.
     pub fn insert(self, value: Value) -> Result<&'a mut Value, (String, Value)>
-        ensures value { IfOk result (λ lent. lent.now ≡ value) }
+        ensures value { IfOk result (λ borrowed. borrowed.now ≡ value) }
         ensures handed_back { IfErr result (HandsBack (Vacant self.entry) (λ v. v ≡ value)) }
         ensures* writes_back { sem 𝓛 (entry_lends_ok (Vacant self.entry) result) }
     {
@@ -171,7 +171,7 @@ impl<'a> Entry<'a> {
     ///
     /// The errors are those of [`VacantEntry::insert`].
     pub fn or_insert(self, value: Value) -> Result<&'a mut Value, (String, Value)>
-        ensures value { IfOk result (λ lent. lent.now ≡ unwrap_or (entry_value self.entry) value) }
+        ensures value { IfOk result (λ borrowed. borrowed.now ≡ unwrap_or (entry_value self.entry) value) }
         ensures absent { OnErr result (entry_value self.entry ≡ None) }
         ensures handed_back { IfErr result (HandsBack self.entry (λ v. v ≡ value)) }
         ensures* writes_back { sem 𝓛 (entry_lends_ok self.entry result) }

@@ -144,7 +144,6 @@ impl Sealed for Builder {}
 impl Writer for Builder {
     ghost use Rattle.plist.specs.Builder.{IsBuildingStep, built_of};
     ghost use Rattle.plist.specs.Building.{events_so_far};
-    ghost use Rattle.plist.specs.inner.Laws.{building_law, failed_law};
 
     ghost held = { λ b. events_so_far (built_of b).unfinished };
 
@@ -156,7 +155,7 @@ impl Writer for Builder {
         self.take(event)
     }
 
-    ghost law = { building_law };
+    ghost law = { λ before event answer after step. step.order };
 
-    ghost law_of_failed = { failed_law };
+    ghost law_of_failed = { λ before event answer after step. step.failure };
 }

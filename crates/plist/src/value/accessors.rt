@@ -13,7 +13,7 @@ use std::alloc::Global;
 impl Value {
     ghost use Rattle.std.specs.Borrow.{sem};
     ghost use Rattle.plist.specs.declared.value.Value.TheVariants as made;
-    ghost use Rattle.plist.specs.MutAccessors.{LendsArray, LendsDictionary, items_lent, pairs_lent};
+    ghost use Rattle.plist.specs.MutAccessors.{LendsArray, LendsDictionary, borrowed_items, borrowed_pairs};
 
     /// Returns the array, or `None` if the value isn't one.
     pub fn as_array(&self) -> Option<&Vec<Value>>
@@ -29,14 +29,14 @@ impl Value {
 
     /// Returns a mutable reference to the array, or `None` if the value isn't one.
     pub fn as_array_mut(&mut self) -> Option<&mut Vec<Value>>
-        ensures value { items_lent result ≡ array_in (tree_of self.old) }
+        ensures value { borrowed_items result ≡ array_in (tree_of self.old) }
         ensures made { IfSome result (λ items. self.old ≡ made.Array items.now) }
         ensures* writes_back { sem 𝓛 (LendsArray self.entry result self.old) }
     {
-        let Value::Array(lent) = self else {
+        let Value::Array(borrowed) = self else {
             return None;
         };
-        Some(lent)
+        Some(borrowed)
     }
 
     /// Returns the dictionary, or `None` if the value isn't one.
@@ -53,14 +53,14 @@ impl Value {
 
     /// Returns a mutable reference to the dictionary, or `None` if the value isn't one.
     pub fn as_dictionary_mut(&mut self) -> Option<&mut Dictionary>
-        ensures value { pairs_lent result ≡ dictionary_in (tree_of self.old) }
+        ensures value { borrowed_pairs result ≡ dictionary_in (tree_of self.old) }
         ensures made { IfSome result (λ pairs. self.old ≡ made.Dictionary pairs.now) }
         ensures* writes_back { sem 𝓛 (LendsDictionary self.entry result self.old) }
     {
-        let Value::Dictionary(lent) = self else {
+        let Value::Dictionary(borrowed) = self else {
             return None;
         };
-        Some(lent)
+        Some(borrowed)
     }
 
     /// Returns the Boolean, or `None` if the value isn't one.
@@ -152,10 +152,10 @@ impl Value {
     pub fn as_uid(&self) -> Option<&Uid>
         ensures { option_copied result ≡ uid_in (tree_of self.now) }
     {
-        let Value::Uid(lent) = self else {
+        let Value::Uid(borrowed) = self else {
             return None;
         };
-        Some(lent)
+        Some(borrowed)
     }
 
     // Returns the allocator of a collection.

@@ -111,7 +111,7 @@ impl From<String> for Value {
 }
 
 impl<'a> From<&'a bool> for Value {
-    ghost from_gives = { λ lent value. value ≡ made.Boolean lent.now };
+    ghost from_gives = { λ borrowed value. value ≡ made.Boolean borrowed.now };
 
     fn from(value: &'a bool) -> Value {
         Value::from(*value)
@@ -119,7 +119,7 @@ impl<'a> From<&'a bool> for Value {
 }
 
 impl<'a> From<&'a Date> for Value {
-    ghost from_gives = { λ lent value. value ≡ made.Date lent.now };
+    ghost from_gives = { λ borrowed value. value ≡ made.Date borrowed.now };
 
     fn from(value: &'a Date) -> Value {
         Value::from(*value)
@@ -127,7 +127,7 @@ impl<'a> From<&'a Date> for Value {
 }
 
 impl<'a> From<&'a i64> for Value {
-    ghost from_gives = { λ lent value. value ≡ made.Integer lent.now };
+    ghost from_gives = { λ borrowed value. value ≡ made.Integer borrowed.now };
 
     fn from(value: &'a i64) -> Value {
         Value::from(*value)
@@ -135,7 +135,7 @@ impl<'a> From<&'a i64> for Value {
 }
 
 impl<'a> From<&'a i32> for Value {
-    ghost from_gives = { λ lent value. value ≡ made.Integer lent.now };
+    ghost from_gives = { λ borrowed value. value ≡ made.Integer borrowed.now };
 
     fn from(value: &'a i32) -> Value {
         Value::from(*value)
@@ -143,7 +143,7 @@ impl<'a> From<&'a i32> for Value {
 }
 
 impl<'a> From<&'a i16> for Value {
-    ghost from_gives = { λ lent value. value ≡ made.Integer lent.now };
+    ghost from_gives = { λ borrowed value. value ≡ made.Integer borrowed.now };
 
     fn from(value: &'a i16) -> Value {
         Value::from(*value)
@@ -151,7 +151,7 @@ impl<'a> From<&'a i16> for Value {
 }
 
 impl<'a> From<&'a i8> for Value {
-    ghost from_gives = { λ lent value. value ≡ made.Integer lent.now };
+    ghost from_gives = { λ borrowed value. value ≡ made.Integer borrowed.now };
 
     fn from(value: &'a i8) -> Value {
         Value::from(*value)
@@ -159,7 +159,7 @@ impl<'a> From<&'a i8> for Value {
 }
 
 impl<'a> From<&'a u64> for Value {
-    ghost from_gives = { λ lent value. value ≡ made.Integer (pos lent.now) };
+    ghost from_gives = { λ borrowed value. value ≡ made.Integer (pos borrowed.now) };
 
     fn from(value: &'a u64) -> Value {
         Value::from(*value)
@@ -167,7 +167,7 @@ impl<'a> From<&'a u64> for Value {
 }
 
 impl<'a> From<&'a u32> for Value {
-    ghost from_gives = { λ lent value. value ≡ made.Integer (pos lent.now) };
+    ghost from_gives = { λ borrowed value. value ≡ made.Integer (pos borrowed.now) };
 
     fn from(value: &'a u32) -> Value {
         Value::from(*value)
@@ -175,7 +175,7 @@ impl<'a> From<&'a u32> for Value {
 }
 
 impl<'a> From<&'a u16> for Value {
-    ghost from_gives = { λ lent value. value ≡ made.Integer (pos lent.now) };
+    ghost from_gives = { λ borrowed value. value ≡ made.Integer (pos borrowed.now) };
 
     fn from(value: &'a u16) -> Value {
         Value::from(*value)
@@ -183,7 +183,7 @@ impl<'a> From<&'a u16> for Value {
 }
 
 impl<'a> From<&'a u8> for Value {
-    ghost from_gives = { λ lent value. value ≡ made.Integer (pos lent.now) };
+    ghost from_gives = { λ borrowed value. value ≡ made.Integer (pos borrowed.now) };
 
     fn from(value: &'a u8) -> Value {
         Value::from(*value)

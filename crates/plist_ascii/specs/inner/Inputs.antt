@@ -1,11 +1,8 @@
 -- What calls of an input do to the bytes that remain, to the number of bytes taken, and to the
 -- count of failures.
-use Rattle.std.specs.Prelude.{◌≡◌, ℕ, ◌+◌, ◌-◌, ◌^◌, ◌<◌, ◌≤◌, Bool, true, false, List, [], ◌∷◌, ◌++◌, length, take, drop, Option, None, Some, Result, Ok, Err, IfErr, IfOk, IfSome, IsSome, MatchOption, MatchResult, ⊤}
+use Rattle.std.specs.Prelude.{◌≡◌, ℕ, ◌+◌, ◌-◌, ◌^◌, ◌<◌, ◌≤◌, Bool, true, false, List, [], ◌∷◌, ◌++◌, length, take, drop, Option, None, Some, Result, Ok, Err, IfOk, IfSome, IsSome, MatchOption, MatchResult, ⊤}
 use Rattle.std.specs.declared.alloc.Global.{Global}
 use Rattle.std.specs.declared.vec.Vec.{Vec}
-use Rattle.plist_base.specs.declared.event.Event.{Event}
-use Rattle.plist_base.specs.Events.{PlainEvent, event_of}
-use Rattle.plist_base.specs.Faults.{UnclosedString}
 use Rattle.plist_ascii.specs.declared.fault.TokenFault.{TokenFault}
 use Rattle.plist_ascii.specs.declared.fault.TokenFault.TheVariants as fault
 use Rattle.plist_ascii.specs.declared.input.Input.{Input}
@@ -13,7 +10,7 @@ use Rattle.plist_ascii.specs.declared.stop.Stop.{Stop}
 use Rattle.plist_ascii.specs.TokenPrefixes.{Taken, run}
 use Rattle.plist_ascii.specs.Texts.{Token}
 use Rattle.plist_ascii.specs.Comments.{begins_with}
-use Rattle.plist_ascii.specs.Ascii.{lead_of, token_by, IsTextToken}
+use Rattle.plist_ascii.specs.Ascii.{IsTextToken}
 use Rattle.plist_ascii.specs.Incoming.{RisesIfCounted}
 use Rattle.plist_ascii.specs.Unread.{unread, IfKnown, first, stops, FirstIsTaken, TakesPart, GivesFront}
 use Rattle.plist_ascii.specs.inner.TokenFaults.{kind_in_bytes, said}
@@ -41,28 +38,24 @@ abbrev pub HasFailed : {R : Type 0} → TokenFault → Input R → Type 0
 HasFailed fault.Io input = IsSome input.failure
 HasFailed other input = ⊤
 
--- the fault isn't `OutOfMemory`
-abbrev pub AsksNoMemory : {A : Type 0} → Result A TokenFault → Type 0
-AsksNoMemory answer = IfErr answer (λ f. f ≡ fault.OutOfMemory → ⊥)
-
 -- ---- the bytes at hand
 
 -- the byte that was looked at, or else the buffered bytes, up to a total of 2^64 - 1 bytes taken;
 -- no bytes after the input has ended
-unfoldable pub hand_of : (held : List ℕ) → (ended : Bool) → (peeked : Option ℕ) → (taken : ℕ)
+unfoldable pub hand_of : (window : List ℕ) → (ended : Bool) → (peeked : Option ℕ) → (taken : ℕ)
     → List ℕ
-hand_of held true peeked taken = []
-hand_of held false None taken = take (2 ^ 64 - 1 - taken) held
-hand_of held false (Some byte) taken = take (2 ^ 64 - 1 - taken) (byte ∷ [])
+hand_of window true peeked taken = []
+hand_of window false None taken = take (2 ^ 64 - 1 - taken) window
+hand_of window false (Some byte) taken = take (2 ^ 64 - 1 - taken) (byte ∷ [])
 
 -- the bytes that an input can take without a read
 abbrev pub hand : {R : Type 0} → (R → List ℕ) → Input R → List ℕ
-hand held input = hand_of (held input.inner) input.ended input.peeked input.taken
+hand window input = hand_of (window input.inner) input.ended input.peeked input.taken
 
 -- all bytes at hand were taken
 abbrev pub TakesHand : {R : Type 0} → (R → List ℕ) → Input R → Input R → Type 0
-TakesHand held old new =
-    (new.taken ≡ old.taken + length (hand held old)) × (new.taken < 2 ^ 64)
+TakesHand window old new =
+    (new.taken ≡ old.taken + length (hand window old)) × (new.taken < 2 ^ 64)
 
 -- ---- the number of bytes taken
 
@@ -79,19 +72,7 @@ abbrev pub CountsByte : {R : Type 0} → Input R → Result (Option ℕ) TokenFa
 CountsByte old (Ok (Some byte)) new = TakesOneMore old new
 CountsByte old other new = new.taken ≡ old.taken
 
--- one byte or more was taken
-abbrev pub TakesSomeMore : {R : Type 0} → Input R → Input R → Type 0
-TakesSomeMore old new = (old.taken < new.taken) × (old.taken < 2 ^ 64)
-
 -- ---- what is at the front
-
--- what contracts see of an event that is returned
-abbrev pub some_event : Event → Option PlainEvent
-some_event event = Some (event_of event)
-
--- the token that a byte begins, if `stop` says which bytes end a bare string
-abbrev pub token_until : Stop → ℕ → List ℕ → Token
-token_until stop byte = token_by (stops stop) (lead_of byte) byte
 
 module _ {R : Type 0} (known : R → Option (List ℕ)) where
   -- after a fault in the bytes the remaining bytes are unchanged, and after any other fault the
@@ -100,16 +81,6 @@ module _ {R : Type 0} (known : R → Option (List ℕ)) where
   EndsInput f old new = MatchOption (kind_in_bytes f)
       ((new.ended ≡ true) × (unread known new ≡ Some []))
       (λ _. unread known new ≡ unread known old)
-
-  -- the bytes that remain begin with those at hand
-  abbrev pub StartsWithHand : (R → List ℕ) → Input R → Type 0
-  StartsWithHand held input =
-      IfKnown (unread known input) (λ xs. (rest : List ℕ) × (xs ≡ hand held input ++ rest))
-
-  -- the first `count` bytes were taken
-  abbrev pub DropsFirst : (count : ℕ) → Input R → Input R → Type 0
-  DropsFirst count old new =
-      IfKnown (unread known old) (λ xs. unread known new ≡ Some (drop count xs))
 
   -- the byte is the first of those that remain, or `None` if no byte remains, and it wasn't taken
   abbrev pub Looks : Input R → Option ℕ → Input R → Type 0
@@ -149,12 +120,6 @@ module _ {R : Type 0} (known : R → Option (List ℕ)) where
   SkipsPart stop old new = IfKnown (unread known old) (λ xs. (part : List ℕ)
       × TakesPart (stops stop) old.taken (unread known new) new.taken part xs)
 
-  -- the whole run was taken
-  abbrev pub SkipsRun : Stop → Input R → Input R → Type 0
-  SkipsRun stop old new = IfKnown (unread known old) (λ xs.
-      (unread known new ≡ Some (drop (run (stops stop) xs) xs))
-      × (new.taken ≡ old.taken + run (stops stop) xs))
-
   -- the whole run was taken, and the byte after it, if there is one
   abbrev pub TakesPast : Stop → Input R → Option ℕ → Input R → Type 0
   TakesPast stop old (Some byte) new = IfKnown (unread known old) (λ xs.
@@ -176,11 +141,6 @@ module _ {R : Type 0} (known : R → Option (List ℕ)) where
   abbrev pub TakesFirst : (P : List ℕ → ℕ → Type 0) → Input R → Input R → Type 0
   TakesFirst P old new = IfKnown (unread known old) (λ xs. (n : ℕ) × P xs n
       × (unread known new ≡ Some (drop n xs)) × (new.taken ≡ old.taken + n))
-
-  -- the fault, if it is one in the bytes, is that the string isn't closed, and no bytes remain
-  abbrev pub IsUnclosedText : Input R → Input R → TokenFault → Type 0
-  IsUnclosedText old new f =
-      IfSome (kind_in_bytes f) (λ kind. (kind ≡ UnclosedString) × HasNothingLeft old new)
 
   -- the fault, if it is one in the bytes, is that of the first bytes, which were taken; `by` is how
   -- a part of a string is taken

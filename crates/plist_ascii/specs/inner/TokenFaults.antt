@@ -1,6 +1,6 @@
 -- The errors that the faults of tokens become.
 use Rattle.std.specs.Prelude.{◌≡◌, ℕ, Option, None, Some, Result, Ok, Err, MatchResult}
-use Rattle.std.specs.Option.{option_map}
+use Rattle.std.specs.Option.{option_map, option_map_or}
 use Rattle.plist_base.specs.declared.event.Event.{Event}
 use Rattle.plist_base.specs.Events.{PlainEvent, event_of}
 use Rattle.plist_base.specs.Faults.{Fault, FaultKind, Io, OutOfMemory, UnclosedString, IncompleteComment, InvalidUtf8AsciiStream, InvalidOctalString, InvalidUtf16String, fault_at, fault_without_offset}
@@ -21,12 +21,8 @@ kind_in_bytes fault.InvalidUtf16 = Some InvalidUtf16String
 -- the error that a fault becomes, if `place` bytes were taken
 abbrev pub fault_after : TokenFault → ℕ → Fault
 fault_after fault.Io place = fault_at Io place
-fault_after fault.OutOfMemory place = fault_without_offset OutOfMemory
-fault_after fault.UnclosedString place = fault_at UnclosedString place
-fault_after fault.IncompleteComment place = fault_at IncompleteComment place
-fault_after fault.InvalidUtf8 place = fault_at InvalidUtf8AsciiStream place
-fault_after fault.InvalidOctal place = fault_at InvalidOctalString place
-fault_after fault.InvalidUtf16 place = fault_at InvalidUtf16String place
+fault_after f place =
+    option_map_or (λ kind. fault_at kind place) (kind_in_bytes f) (fault_without_offset OutOfMemory)
 
 -- the meaning of the bytes, which is the value of the result mapped by `view`, or their fault;
 -- `None` if a read or an allocation failed

@@ -12,7 +12,7 @@ use Rattle.plist.specs.Events.{remaining_events}
 use Rattle.plist.specs.ValueTrees.{tree_of}
 use Rattle.plist_keyed.specs.declared.check.Check.{Check}
 use Rattle.plist_keyed.specs.inner.Settled.{AreApart, AreEnds, AreSettled, IsIn, IsNoUid, NameOnly, settled_in}
-use Rattle.plist_keyed.specs.inner.Walks.{Step, follow_in, steps_of_event, steps_of_events}
+use Rattle.plist_keyed.specs.inner.Walks.{Step, follow_in, steps_of_events}
 
 -- the events of each object
 abbrev pub objects_seen : List Value → List (List PlainEvent)
@@ -51,28 +51,16 @@ module _ (objects : List (List PlainEvent)) where
     pub is_covered : Covers uids levels path taken
     pub are_ends : AreEnds objects uids find
 
--- the events of the objects
-abbrev pub objects_checked : Check → List (List PlainEvent)
-objects_checked check = objects_seen check.objects.now
-
 -- the open Uids, innermost first
 abbrev pub open_uids : Check → List ℕ
 open_uids check = reverse check.path.keys
-
--- the remaining events of the open objects, innermost first
-abbrev pub check_levels : Check → List Events
-check_levels check = reverse check.levels.items
-
--- the settled Uids, the last one first
-abbrev pub settled_uids : Check → List ℕ
-settled_uids check = settled_in check.ends
 
 -- the state is consistent, while these events were taken from the innermost object and aren't
 -- processed yet
 abbrev pub IsCheckAt : Check → (taken : List PlainEvent) → Type 0
 IsCheckAt check taken =
-    IsCheckOf (objects_checked check) (open_uids check) (settled_uids check) (check_levels check)
-    (get nat_eq check.ends) taken
+    IsCheckOf (objects_seen check.objects.now) (open_uids check) (settled_in check.ends)
+    (reverse check.levels.items) (get nat_eq check.ends) taken
 
 -- the state is consistent, and all events that were taken are processed
 abbrev pub IsCheck : Check → Type 0
@@ -80,7 +68,7 @@ IsCheck check = IsCheckAt check []
 
 -- the Uid is open or settled
 abbrev pub IsReached : Check → ℕ → Type 0
-IsReached check uid = IsIn uid (open_uids check) ⊎ IsIn uid (settled_uids check)
+IsReached check uid = IsIn uid (open_uids check) ⊎ IsIn uid (settled_in check.ends)
 
 -- each Uid that was open or settled still is one of the two
 abbrev pub KeepsReached : (before after : Check) → Type 0
@@ -89,17 +77,13 @@ KeepsReached before after = (uid : ℕ) → IsReached before uid → IsReached a
 -- the remaining steps
 abbrev pub unchecked_steps : Check → List Step
 unchecked_steps check =
-    unchecked_steps_in (objects_checked check) (check_levels check) (open_uids check)
+    unchecked_steps_in (objects_seen check.objects.now) (reverse check.levels.items)
+    (open_uids check)
 
 -- the steps of a Uid, and then the remaining steps
 abbrev pub unchecked_from : Check → ℕ → List Step
 unchecked_from check uid =
-    follow_in (objects_checked check) (open_uids check) uid ++ unchecked_steps check
-
--- the steps of an event, and then the remaining steps
-abbrev pub unchecked_from_event : Check → PlainEvent → List Step
-unchecked_from_event check event =
-    steps_of_event (follow_in (objects_checked check) (open_uids check)) event ++ unchecked_steps check
+    follow_in (objects_seen check.objects.now) (open_uids check) uid ++ unchecked_steps check
 
 -- this object was opened, and is now the innermost one
 abbrev pub IsOpened : Check → ℕ → Value → Check → Type 0
@@ -113,29 +97,26 @@ IsOpened old uid object new =
 -- from the state
 abbrev pub IsCheckWith : Check → (left : Events) → Type 0
 IsCheckWith check left =
-    IsCheckOf (objects_checked check) (open_uids check) (settled_uids check)
-    (left ∷ check_levels check) (get nat_eq check.ends) []
+    IsCheckOf (objects_seen check.objects.now) (open_uids check) (settled_in check.ends)
+    (left ∷ reverse check.levels.items) (get nat_eq check.ends) []
 
 -- the remaining steps, given these remaining events of the innermost object, which were removed
 -- from the state
 abbrev pub unchecked_with : Check → (left : Events) → List Step
 unchecked_with check left =
-    unchecked_steps_in (objects_checked check) (left ∷ check_levels check) (open_uids check)
-
--- the innermost object has no remaining events
-abbrev pub IsLeaving : Check → Type 0
-IsLeaving check = (left : Events) × (remaining_events left ≡ []) × IsCheckWith check left
+    unchecked_steps_in (objects_seen check.objects.now) (left ∷ reverse check.levels.items)
+    (open_uids check)
 
 -- the innermost object is left, and its Uid is settled
 abbrev pub Leaves : (before after : Check) → Type 0
 Leaves before after =
     (uid : ℕ) × (open_uids before ≡ uid ∷ open_uids after)
-    × (settled_uids after ≡ uid ∷ settled_uids before) × (after.levels ≡ before.levels)
+    × (settled_in after.ends ≡ uid ∷ settled_in before.ends) × (after.levels ≡ before.levels)
 
 -- `end` is the end of a Uid's chain: if its object is a Uid, the end of that one, and otherwise the
 -- Uid itself
 abbrev pub HasEnd : Check → (uid end : ℕ) → Type 0
 HasEnd check uid end =
-    ((end ≡ uid) × IsNoUid (objects_checked check) uid) ⊎ ((next : ℕ)
-    × (slice_get (objects_checked check) uid ≡ Some (ScalarEvent (Uid next) ∷ []))
+    ((end ≡ uid) × IsNoUid (objects_seen check.objects.now) uid) ⊎ ((next : ℕ)
+    × (slice_get (objects_seen check.objects.now) uid ≡ Some (ScalarEvent (Uid next) ∷ []))
     × (get nat_eq check.ends next ≡ Some end))

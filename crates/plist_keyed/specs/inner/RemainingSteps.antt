@@ -6,7 +6,6 @@ use Rattle.plist_base.specs.declared.event.Event.{Event}
 use Rattle.plist_base.specs.Events.{PlainEvent, Item, event_of}
 use Rattle.plist_base.specs.Faults.{fault_of, fault_without_offset, OutOfMemory}
 use Rattle.plist.specs.declared.stream.events.Events.{Events}
-use Rattle.plist.specs.declared.value.Value.{Value}
 use Rattle.plist.specs.Collecting.{item_by}
 use Rattle.plist.specs.ValueOfItems.{BeginsWith}
 use Rattle.plist.specs.Events.{remaining_events}
@@ -15,7 +14,7 @@ use Rattle.plist_keyed.specs.declared.walk.WalkStep.TheVariants as walk_step
 use Rattle.plist_keyed.specs.declared.walk.Walk.{Walk}
 use Rattle.plist_keyed.specs.inner.Checking.{objects_seen}
 use Rattle.plist_keyed.specs.inner.Settled.{IsSettledIn, NameOnly, settled_in}
-use Rattle.plist_keyed.specs.inner.Walks.{Step, events_given, given_by, steps_from, steps_of_event, steps_of_events}
+use Rattle.plist_keyed.specs.inner.Walks.{Step, events_given, given_by, steps_from, steps_of_events}
 
 -- one or more steps are done, none of which yields an item
 abbrev pub Skips : (before after : List Step) → Type 0
@@ -34,18 +33,11 @@ abbrev pub AllNameOnly : List Events → (uids : List ℕ) → Type 0
 AllNameOnly [] uids = ⊤
 AllNameOnly (level ∷ levels) uids = NameOnly (remaining_events level) uids × AllNameOnly levels uids
 
--- the events of the objects
-abbrev pub objects_walked : Walk → List (List PlainEvent)
-objects_walked walk = objects_seen walk.objects.now
-
--- the remaining events of the open objects, innermost first
-abbrev pub walk_levels : Walk → List Events
-walk_levels walk = reverse walk.levels.items
-
 -- each Uid among the remaining events is settled
 abbrev pub IsWalk : Walk → Type 0
 IsWalk walk =
-    IsSettledIn (objects_walked walk) walk.ends × AllNameOnly (walk_levels walk) (settled_in walk.ends)
+    IsSettledIn (objects_seen walk.objects.now) walk.ends
+    × AllNameOnly (reverse walk.levels.items) (settled_in walk.ends)
 
 -- the archive and the ends of its Uids are unchanged
 abbrev pub KeepsArchive : (before after : Walk) → Type 0
@@ -53,16 +45,11 @@ KeepsArchive before after = (after.objects ≡ before.objects) × (after.ends �
 
 -- the remaining steps
 abbrev pub remaining_steps : Walk → List Step
-remaining_steps walk = steps_in_levels (objects_walked walk) (walk_levels walk)
+remaining_steps walk = steps_in_levels (objects_seen walk.objects.now) (reverse walk.levels.items)
 
 -- the steps of a Uid, and then the remaining steps
 abbrev pub remaining_from : Walk → ℕ → List Step
-remaining_from walk uid = steps_from (objects_walked walk) uid ++ remaining_steps walk
-
--- the steps of an event, and then the remaining steps
-abbrev pub remaining_from_event : Walk → PlainEvent → List Step
-remaining_from_event walk event =
-    steps_of_event (steps_from (objects_walked walk)) event ++ remaining_steps walk
+remaining_from walk uid = steps_from (objects_seen walk.objects.now) uid ++ remaining_steps walk
 
 -- a step is done, or memory ran out in it
 abbrev pub Yields : (before : List Step) → Result WalkStep Error → (after : List Step) → Type 0
@@ -73,15 +60,12 @@ Yields before (Ok walk_step.Skip) after = Skips before after
 Yields before (Err error) after =
     (length after < length before) × (fault_of error ≡ fault_without_offset OutOfMemory)
 
--- the remaining items
-abbrev pub coming_items : Walk → List Item
-coming_items walk = map Ok (events_given (given_by (remaining_steps walk)))
-
--- the items of the walk from a Uid
-abbrev pub items_at : List Value → (uid : ℕ) → List Item
-items_at objects uid = map Ok (events_given (given_by (steps_from (objects_seen objects) uid)))
+-- the items that these steps yield, without faults
+abbrev pub items_of_steps : List Step → List Item
+items_of_steps steps = map Ok (events_given (given_by steps))
 
 -- the remaining items begin with this one
 abbrev pub GivesItemOfUid : Walk → Option (Result Event Error) → Walk → Type 0
 GivesItemOfUid old item new =
-    BeginsWith (coming_items old) (option_map (item_by event_of) item) (coming_items new)
+    BeginsWith (items_of_steps (remaining_steps old)) (option_map (item_by event_of) item)
+    (items_of_steps (remaining_steps new))

@@ -4,17 +4,12 @@ use Rattle.std.specs.Prelude.{◌≡◌, ℕ, ◌≤◌, true, List, [], ◌∷�
 use Rattle.std.specs.List.{list_any}
 use Rattle.indexmap.specs.IndexMap.{IndexMap, get, keys}
 use Rattle.plist_base.specs.Events.{PlainEvent, ScalarEvent}
-use Rattle.plist_base.specs.Bracketing.{bracketing}
-use Rattle.plist_base.specs.Trees.{Tree, Uid}
+use Rattle.plist_base.specs.Trees.{Uid}
 use Rattle.plist_keyed.specs.inner.Walks.{given_by, steps_from, uid_of_event}
 
 -- the Uid is one of these
 abbrev pub IsIn : (uid : ℕ) → (uids : List ℕ) → Type 0
 IsIn uid uids = list_any (nat_eq uid) uids ≡ true
-
--- the tree is just this Uid
-abbrev pub IsUidTree : Tree → (uid : ℕ) → Type 0
-IsUidTree tree uid = bracketing tree ≡ ScalarEvent (Uid uid) ∷ []
 
 -- no Uid is in both
 abbrev pub AreApart : (left right : List ℕ) → Type 0

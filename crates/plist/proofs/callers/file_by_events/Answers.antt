@@ -1,4 +1,4 @@
-use Rattle.std.proofs.Common.{Global, List, ℕ, ◌++◌, Some, ap, subst, sym, ◌∙◌}
+use Rattle.std.proofs.Common.{Global, List, ℕ, ◌++◌, ap, subst, sym, ◌∙◌}
 use Rattle.std.specs.declared.vec.Vec.{Vec}
 use Rattle.plist.specs.ValueTrees.{tree_of}
 use Rattle.plist.proofs.WriterFiles.{all-sent}

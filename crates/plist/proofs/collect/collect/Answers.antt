@@ -1,4 +1,4 @@
-use Rattle.plist.proofs.ForeseenItems.{as-seen}
+use Rattle.plist.proofs.PredictedItems.{as-seen}
 use Rattle.plist.proofs.collect.collect.Goals as goal
 
 pub returns-clause-value : goal.returns-clause-value

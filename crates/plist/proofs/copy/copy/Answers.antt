@@ -3,7 +3,7 @@ use Rattle.plist.specs.Collecting.{built_tree}
 use Rattle.plist.specs.ValueOfItems.{IsReadBack}
 use Rattle.plist.specs.Events.{remaining_events}
 use Rattle.plist.specs.ValueTrees.{tree_of}
-use Rattle.plist.proofs.ForeseenItems.{back}
+use Rattle.plist.proofs.PredictedItems.{back}
 use Rattle.plist.proofs.ValueLastWins.{itself}
 use Rattle.plist.proofs.RemainingItems.{events_coming, events-show}
 use Rattle.plist.proofs.copy.copy.Goals as goal

@@ -2,7 +2,7 @@ use Rattle.std.proofs.Common.{Ok, subst}
 use Rattle.plist.specs.ValueOfItems.{IsValueOf}
 use Rattle.plist.specs.ValueTrees.{tree_of}
 use Rattle.plist_keyed.specs.inner.Checking.{objects_seen}
-use Rattle.plist_keyed.specs.inner.RemainingSteps.{items_at}
+use Rattle.plist_keyed.specs.inner.RemainingSteps.{items_of_steps}
 use Rattle.plist_keyed.specs.inner.Settled.{settled_in}
 use Rattle.plist_keyed.specs.inner.Walks.{IsFaultless, steps_from}
 use Rattle.plist_keyed.proofs.SettledUids.{settled-faultless}
@@ -15,6 +15,6 @@ returns-in-Ok-clause-read c =
       subst (λ uid. IsFaultless (steps_from (objects_seen objects) uid)) c.get.ensures
           (settled-faultless (objects_seen objects) (settled_in c.in_ok-ends.ends) settled.0.0
           c.get.result settled.1),
-      subst (λ uid. IsValueOf (items_at objects uid) (Ok (tree_of c.in-Ok.value))) c.get-2.ensures
+      subst (λ uid. IsValueOf (items_of_steps (steps_from (objects_seen objects) uid)) (Ok (tree_of c.in-Ok.value))) c.get-2.ensures
           c.in-Ok.ensures.read,
     )

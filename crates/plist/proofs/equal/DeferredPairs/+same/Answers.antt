@@ -8,7 +8,7 @@ use Rattle.plist.specs.declared.dictionary.Dictionary.{size_is-Dictionary}
 use Rattle.plist.specs.declared.value.Value.{size-Value}
 use Rattle.plist_pairs.specs.inner.PairsSame.{as_map}
 use Rattle.plist.specs.inner.DeferredPairs.{are_covered, are_same, same_values, waiting}
-use Rattle.plist.specs.Equal.{same, same_items}
+use Rattle.plist_pairs.specs.TreeEquality.{same, same_items}
 use Rattle.plist.specs.Dictionaries.{pairs_of}
 use Rattle.plist.specs.ValueTrees.{item_trees, pair_trees}
 use Rattle.plist.specs.inner.Weights.{weights}

@@ -25,7 +25,7 @@ returns-in-Some-clause-next g c = λ xs e.
 
 pub returns-then-most-bytes-clause-hand : goal.returns-then-most-bytes-clause-hand
 returns-then-most-bytes-clause-hand g c =
-    cut_hand _ _ _ _ _ c.if-self.false c.in-None.is c.buffered-bytes.ensures.held
+    cut_hand _ _ _ _ _ c.if-self.false c.in-None.is c.buffered-bytes.ensures.window
 
 pub returns-then-most-bytes-clause-next : goal.returns-then-most-bytes-clause-next
 returns-then-most-bytes-clause-next g c = λ xs e.
@@ -33,7 +33,7 @@ returns-then-most-bytes-clause-next g c = λ xs e.
 
 pub returns-else-most-bytes-clause-hand : goal.returns-else-most-bytes-clause-hand
 returns-else-most-bytes-clause-hand g c =
-    whole_hand _ _ _ _ _ c.if-self.false c.in-None.is c.buffered-bytes.ensures.held
+    whole_hand _ _ _ _ _ c.if-self.false c.in-None.is c.buffered-bytes.ensures.window
     c.if-most-bytes.false
 
 pub returns-else-most-bytes-clause-next : goal.returns-else-most-bytes-clause-next

@@ -1,5 +1,5 @@
 use Rattle.std.proofs.Common.{refl, arith}
-use Rattle.plist_ascii.proofs.UnreadBytes.{hand_fits, hand_held, held_taken, peeked_taken}
+use Rattle.plist_ascii.proofs.UnreadBytes.{hand_fits, hand_window, window_taken, peeked_taken}
 use Rattle.plist_ascii.proofs.input.Input.take_first.Goals as goal
 
 pub overflow_add-self : goal.overflow_add-self
@@ -7,11 +7,11 @@ overflow_add-self g c = record { fits = hand_fits _ _ _ _ _ (omega arith) c.requ
 
 pub consume-requires : goal.consume-requires
 consume-requires g c =
-    record { within = hand_held _ _ _ _ _ (rw c.if-is_none.ensures refl) c.requires.within }
+    record { within = hand_window _ _ _ _ _ (rw c.if-is_none.ensures refl) c.requires.within }
 
 pub returns-then-is_none-clause-bytes : goal.returns-then-is_none-clause-bytes
 returns-then-is_none-clause-bytes g c = λ xs e.
-    held_taken _ _ _ _ _ _ _ xs (rw c.if-is_none.ensures refl)
+    window_taken _ _ _ _ _ _ _ xs (rw c.if-is_none.ensures refl)
     (omega arith) c.requires.within c.consume.ensures.bytes e
 
 pub returns-then-is_none-clause-fits : goal.returns-then-is_none-clause-fits

@@ -1,7 +1,7 @@
 use Rattle.std.proofs.Common.{◌∙◌, ap, inl, inr, is_some, refl, sym, Some}
 use Rattle.std.specs.Option.{option_copied}
 use Rattle.std.proofs.lemmas.Option.{same_Some}
-use Rattle.plist_keyed.specs.inner.Checking.{objects_checked}
+use Rattle.plist_keyed.specs.inner.Checking.{objects_seen}
 use Rattle.plist_keyed.specs.inner.Settled.{settled_in}
 use Rattle.plist_keyed.proofs.CheckSteps.{no-member, seen_at}
 use Rattle.plist_keyed.proofs.SettledUids.{named-member}
@@ -24,7 +24,7 @@ returns-in-None c =
     (ap option_copied c.in-Some.is) in
     absurd (no-member ends c.in-Some-uid_in.next
     (ap is_some (sym c.get.ensures.value ∙ ap option_copied c.in-None.is))
-    (named-member (objects_checked c.args.self.now) c.args.uid (settled_in ends)
+    (named-member (objects_seen c.args.self.now.objects.now) c.args.uid (settled_in ends)
     c.in-Some-uid_in.next c.requires (seen ∙ ap Some c.in-Some-uid_in.ensures.found)))
 
 pub returns-in-Some-get : goal.returns-in-Some-get

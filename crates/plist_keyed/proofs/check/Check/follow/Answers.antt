@@ -1,17 +1,18 @@
-use Rattle.std.proofs.Common.{◌∙◌, ap, inr, nat_eq, sym, None, Some}
+use Rattle.std.proofs.Common.{reverse, ◌∙◌, ap, inr, nat_eq, sym, None, Some}
 use Rattle.std.specs.Option.{option_copied}
 use Rattle.indexmap.specs.IndexMap.{get}
 use Rattle.plist_base.specs.Bracketing.{bracketing}
 use Rattle.plist.specs.ValueTrees.{tree_of}
-use Rattle.plist_keyed.specs.inner.Checking.{check_levels, objects_checked, open_uids, settled_uids, unchecked_steps}
+use Rattle.plist_keyed.specs.inner.Settled.{settled_in}
+use Rattle.plist_keyed.specs.inner.Checking.{open_uids, unchecked_steps, objects_seen}
 use Rattle.plist_keyed.proofs.CheckSteps.{any_reversed, fault-missing, fault-open, member, no-member, opened-checks, opened-passes, passes-settled, seen_at, settled-check}
 use Rattle.plist_keyed.proofs.check.Check.follow.Goals as goal
 
 pub returns-then-contains_key-clause-passed : goal.returns-then-contains_key-clause-passed
 returns-then-contains_key-clause-passed c =
     let check = c.args.self.now in
-    passes-settled (objects_checked check) (open_uids check) (settled_uids check)
-    (check_levels check) (get nat_eq check.ends) _ c.args.uid (unchecked_steps check) c.requires
+    passes-settled (objects_seen check.objects.now) (open_uids check) (settled_in check.ends)
+    (reverse check.levels.items) (get nat_eq check.ends) _ c.args.uid (unchecked_steps check) c.requires
     (member check.ends c.args.uid (sym c.contains_key.ensures ∙ c.if-contains_key.true))
 
 pub returns-then-contains_key-clause-reached : goal.returns-then-contains_key-clause-reached
@@ -22,20 +23,20 @@ returns-then-contains_key-clause-reached c =
 pub returns-then-contains_key-clause-check : goal.returns-then-contains_key-clause-check
 returns-then-contains_key-clause-check c =
     let check = c.args.self.now in
-    settled-check (objects_checked check) (open_uids check) (settled_uids check)
-    (check_levels check) (get nat_eq check.ends) c.args.uid c.requires
+    settled-check (objects_seen check.objects.now) (open_uids check) (settled_in check.ends)
+    (reverse check.levels.items) (get nat_eq check.ends) c.args.uid c.requires
     (member check.ends c.args.uid (sym c.contains_key.ensures ∙ c.if-contains_key.true))
 
 pub returns-in_default-clause-refused : goal.returns-in_default-clause-refused
 returns-in_default-clause-refused c =
     let check = c.args.self.now in
-    fault-missing (objects_checked check) (open_uids check) c.args.uid (unchecked_steps check)
+    fault-missing (objects_seen check.objects.now) (open_uids check) c.args.uid (unchecked_steps check)
     (seen_at _ c.args.uid _ None c.look_up.ensures (ap option_copied c.in_default.is))
 
 pub returns-then-contains-clause-refused : goal.returns-then-contains-clause-refused
 returns-then-contains-clause-refused c =
     let check = c.args.self.now in
-    fault-open (objects_checked check) (open_uids check) c.args.uid (unchecked_steps check)
+    fault-open (objects_seen check.objects.now) (open_uids check) c.args.uid (unchecked_steps check)
     (bracketing (tree_of c.in-Some.object.now))
     (seen_at _ c.args.uid _ (Some c.in-Some.object.now) c.look_up.ensures
     (ap option_copied c.in-Some.is))

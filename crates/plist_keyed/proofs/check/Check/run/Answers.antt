@@ -1,6 +1,6 @@
 use Rattle.std.proofs.Common.{◌≡◌, ◌∙◌, ap, arith, length, refl, subst, sym}
 use Rattle.std.proofs.lemmas.Result.{err_from_is_err_and}
-use Rattle.plist_keyed.specs.inner.Checking.{objects_checked, objects_seen, unchecked_steps}
+use Rattle.plist_keyed.specs.inner.Checking.{objects_seen, unchecked_steps}
 use Rattle.plist_keyed.specs.inner.Settled.{IsSettledIn}
 use Rattle.plist_keyed.specs.inner.Walks.{IsFirstFaultOf, PassesEvents, given_by, steps_from}
 use Rattle.plist_keyed.proofs.CheckSteps.{begins-checked, begins-with, fault-on, nothing-open, passes-on, steps-with, with-left}
@@ -43,7 +43,7 @@ loop-left-preserved c =
       check = c.in_ok-step.ensures.check;
       objects = c.in_ok-step.ensures.objects ∙ c.loop-left.invariant.objects;
       reached = c.in_ok-step.ensures.kept c.args.uid c.loop-left.invariant.reached;
-      given = passes-on (steps_from (objects_checked c.follow.new.self) c.args.uid)
+      given = passes-on (steps_from (objects_seen c.follow.new.self.objects.now) c.args.uid)
           (unchecked_steps now) (unchecked_steps c.step.new.self) events is passed;
     }
 
@@ -57,7 +57,7 @@ returns-in_err-step-clause-refused c =
     subst (λ steps. IsFirstFaultOf steps c.in_err-step.field-0.0)
     (sym (steps-with now c.pop.new.self.items c.in-Some.left c.in-Some.ensures.items))
     c.in_err-step.ensures.refused in
-    rw (f.1, f.2) (fault-on (steps_from (objects_checked c.args.self.now) c.args.uid)
+    rw (f.1, f.2) (fault-on (steps_from (objects_seen c.args.self.now.objects.now) c.args.uid)
     (unchecked_steps now) events c.in_err-step.field-0.0
     (ap (λ o. given_by (steps_from (objects_seen o.now) c.args.uid))
     (sym c.in_ok-follow.ensures.objects) ∙ is) refused)

@@ -1,6 +1,6 @@
 use Rattle.std.proofs.Common.{◌≡◌, List, ◌++◌, length, map, Ok}
 use Rattle.plist_base.specs.Events.{PlainEvent}
-use Rattle.plist_keyed.specs.inner.Checking.{IsCheck, IsReached, objects_checked, unchecked_steps}
+use Rattle.plist_keyed.specs.inner.Checking.{IsCheck, IsReached, unchecked_steps, objects_seen}
 use Rattle.plist_keyed.specs.inner.Walks.{given_by, steps_from}
 use Rattle.plist_keyed.proofs.check.Check.run.Given as goal
 
@@ -10,7 +10,7 @@ invariant-loop-left l = record {
   objects : l.self.objects ≡ l.initial.self.objects;
   reached : IsReached l.self l.uid;
   given : (events : List PlainEvent)
-      × (given_by (steps_from (objects_checked l.initial.self) l.uid)
+      × (given_by (steps_from (objects_seen l.initial.self.objects.now) l.uid)
       ≡ map Ok events ++ given_by (unchecked_steps l.self));
 }
 

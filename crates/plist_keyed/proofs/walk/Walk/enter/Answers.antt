@@ -2,7 +2,8 @@ use Rattle.std.proofs.Common.{◌≡◌, ◌∙◌, ap, nat_eq, refl, reverse, s
 use Rattle.std.specs.Prelude.{slice_get}
 use Rattle.indexmap.specs.IndexMap.{get}
 use Rattle.plist.specs.Events.{remaining_events}
-use Rattle.plist_keyed.specs.inner.RemainingSteps.{AllNameOnly, Skips, objects_walked, remaining_from, steps_in_levels, walk_levels}
+use Rattle.plist_keyed.specs.inner.Checking.{objects_seen}
+use Rattle.plist_keyed.specs.inner.RemainingSteps.{AllNameOnly, Skips, remaining_from, steps_in_levels}
 use Rattle.plist_keyed.specs.inner.Settled.{IsEndOf, settled_in}
 use Rattle.plist_keyed.proofs.CheckSteps.{reverse-snoc, seen_at}
 use Rattle.plist_keyed.proofs.WalkSteps.{end-found, end-within, seen-length, skips-entered}
@@ -11,27 +12,27 @@ use Rattle.plist_keyed.proofs.walk.Walk.enter.Goals as goal
 pub object_at-object-requires : goal.object_at-object-requires
 object_at-object-requires c =
     let walk = c.args.self.now in
-    let ends = end-found (objects_walked walk) (settled_in walk.ends) (get nat_eq walk.ends)
+    let ends = end-found (objects_seen walk.objects.now) (settled_in walk.ends) (get nat_eq walk.ends)
     c.requires.walk.0.1 c.args.uid c.requires.settled in
-    rw (c.end_of-end.ensures) (seen-length walk.objects.now _ (end-within (objects_walked walk)
+    rw (c.end_of-end.ensures) (seen-length walk.objects.now _ (end-within (objects_seen walk.objects.now)
     (settled_in walk.ends) c.requires.walk.0.0 c.args.uid _ ends))
 
 entered : (c : goal.In_ok-push)
     → Skips (remaining_from c.args.self.now c.args.uid) (steps_in_levels
-    (objects_walked c.args.self.now) (reverse c.push.new.self.items))
+    (objects_seen c.args.self.now.objects.now) (reverse c.push.new.self.items))
     × AllNameOnly (reverse c.push.new.self.items) (settled_in c.args.self.now.ends)
 entered c =
     let walk = c.args.self.now in
     let uids = settled_in walk.ends in
-    let ends : IsEndOf (objects_walked walk) uids c.args.uid c.end_of-end.result =
-    rw (c.end_of-end.ensures) (end-found (objects_walked walk) uids (get nat_eq walk.ends)
+    let ends : IsEndOf (objects_seen walk.objects.now) uids c.args.uid c.end_of-end.result =
+    rw (c.end_of-end.ensures) (end-found (objects_seen walk.objects.now) uids (get nat_eq walk.ends)
     c.requires.walk.0.1 c.args.uid c.requires.settled) in
-    let at : slice_get (objects_walked walk) c.end_of-end.result ≡ Some
+    let at : slice_get (objects_seen walk.objects.now) c.end_of-end.result ≡ Some
     (remaining_events c.events.result) =
     seen_at walk.objects.now c.end_of-end.result _ (Some c.object_at-object.result.now)
     (sym c.object_at-object.ensures) refl ∙ ap Some (sym c.events.ensures.items) in
-    let (steps, names) = skips-entered (objects_walked walk) uids c.requires.walk.0.0 c.args.uid
-    c.end_of-end.result ends (walk_levels walk) c.events.result at in
+    let (steps, names) = skips-entered (objects_seen walk.objects.now) uids c.requires.walk.0.0 c.args.uid
+    c.end_of-end.result ends (reverse walk.levels.items) c.events.result at in
     rw (c.in_ok-push.ensures.items, reverse-snoc walk.levels.items c.events.result)
     (steps, (names, c.requires.walk.1))
 

@@ -1,10 +1,10 @@
 use Rattle.std.proofs.Common.{arith}
-use Rattle.plist_reader.proofs.Streams.{some_held, full_none, read_on, read_none}
+use Rattle.plist_reader.proofs.Streams.{some_buffered, full_none, read_on, read_none}
 use Rattle.plist_reader.proofs.bytes.BufferedSource.fill.Goals as goal
 
 pub returns-then-self-clause-end : goal.returns-then-self-clause-end
 returns-then-self-clause-end g c =
-    λ e. absurd (some_held c.args.self.now.from c.args.self.now.end c.args.self.now.window
+    λ e. absurd (some_buffered c.args.self.now.from c.args.self.now.end c.args.self.now.window
     c.if-self.true (omega arith) e)
 
 pub returns-then-limit-eq0-clause-end : goal.returns-then-limit-eq0-clause-end

@@ -25,9 +25,3 @@ returns-in-Limited-clause-steps g c =
     (Limited c.next-in-Limited.new.self)) (sym c.in-Limited.is)
     (limited-gives g.R.Source.known g.R.Source.failures c.in-Limited.reader
     c.next-in-Limited.new.self c.next-in-Limited.result c.next-in-Limited.ensures.steps)
-
-pub returns-in-Unread-clause-steps : goal.returns-in-Unread-clause-steps
-returns-in-Unread-clause-steps g c =
-    subst (λ s. StateGives g.R.Source.known g.R.Source.failures s c.first.result
-    c.first.new.self.state) (sym c.in-Unread.is)
-    (c.first.ensures.yields c.in-Unread.field-0 c.in-Unread.field-1 c.in-Unread.field-2 c.in-Unread.is)

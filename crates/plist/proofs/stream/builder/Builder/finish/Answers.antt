@@ -2,7 +2,7 @@ use Rattle.std.proofs.Common.{subst, sym}
 use Rattle.plist_base.specs.Faults.{kind_of}
 use Rattle.plist.specs.Building.{IsUnfinishedFor}
 use Rattle.plist.specs.Builder.{built_of}
-use Rattle.plist.specs.inner.Following.{without-tree}
+use Rattle.plist.proofs.Following.{without-tree}
 use Rattle.plist.proofs.stream.builder.Builder.finish.Goals as goal
 
 pub returns-in-None-clause-refused : goal.returns-in-None-clause-refused

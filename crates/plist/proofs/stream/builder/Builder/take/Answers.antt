@@ -1,19 +1,34 @@
-use Rattle.std.proofs.Common.{sym}
+use Rattle.std.proofs.Common.{◌≡◌, refl, sym}
 use Rattle.plist_base.specs.Events.{event_of}
+use Rattle.plist_base.specs.Faults.{kind_of}
+use Rattle.plist.specs.Builder.{built_of}
+use Rattle.plist.proofs.StepLaws.{by_laws, refused_step}
 use Rattle.plist.proofs.ValueLastWins.{carry}
 use Rattle.plist.proofs.stream.builder.Builder.take.Goals as goal
 
 pub returns-in-Ok-clause-step : goal.returns-in-Ok-clause-step
 returns-in-Ok-clause-step c =
-    let held = c.args.self.now in
-    let taken = sym c.in-None.ensures in (
-      held.nested,
-      (
-        c.if-self.false,
-        taken,
-        c.if-self.false,
-        carry held.unfinished.root
-            held.unfinished.collections (event_of c.args.event) _ held.nested taken
-            c.in-Ok.ensures,
-      ),
+    let before = c.args.self.now in
+    let taken = sym c.in-None.ensures in
+    by_laws _ _ _ _ before.nested (
+      c.if-self.false,
+      taken,
+      c.if-self.false,
+      carry before.unfinished.root
+          before.unfinished.collections (event_of c.args.event) _ before.nested taken
+          c.in-Ok.ensures,
     )
+
+pub returns-in-Some-clause-step : goal.returns-in-Some-clause-step
+returns-in-Some-clause-step c = by_laws _ _ _ _ c.args.self.now.nested (
+  c.without_position-in-Some.ensures.offset,
+  rw c.without_position-in-Some.ensures.kind (refused_step (built_of c.args.self.now)
+      (built_of c.args.self.now) (event_of c.args.event) (c.args.self.now ≡ c.args.self.now)
+      (kind_of c.in-Some.kind) (sym c.in-Some.ensures) c.if-self.false refl),
+)
+
+pub returns-in-Err-clause-step : goal.returns-in-Err-clause-step
+returns-in-Err-clause-step c = by_laws _ _ _ _ c.args.self.now.nested (
+  c.without_position-in-Err.ensures.offset,
+  rw c.without_position-in-Err.ensures.kind (c.if-self.false, sym c.in-None.ensures, refl),
+)

@@ -2,7 +2,7 @@ use Rattle.std.proofs.Common.{◌+◌, arith, refl}
 use Rattle.std.proofs.lemmas.List.{take_rest}
 use Rattle.plist_ascii.specs.Unread.{stops}
 use Rattle.plist_ascii.proofs.FrontTexts.{begins_some, front_leads}
-use Rattle.plist_ascii.proofs.input.Input.lent_text.Goals as goal
+use Rattle.plist_ascii.proofs.input.Input.borrowed_text.Goals as goal
 
 pub returns-clause-text : goal.returns-clause-text
 returns-clause-text g c = λ xs e.

@@ -7,7 +7,7 @@ use Rattle.std.proofs.lemmas.Bool.{and_parts, or_parts}
 use Rattle.std.specs.Cmp.Derive.{both_true}
 use Rattle.plist_base.specs.Scalars.{bytes_is, bytes_refl, scalar_is, scalar_refl}
 use Rattle.plist_base.specs.Trees.{Scalar, Tree, Leaf, Array, Dictionary, Trees, NoTrees, TreeAnd, Members, NoMembers, MemberAnd}
-use Rattle.plist.specs.Equal.{AreSameAt, first_value, is_among, if_found, has_keys, same, same_items, is_covered}
+use Rattle.plist_pairs.specs.TreeEquality.{AreSameAt, first_value, is_among, if_found, has_keys, same, same_items, is_covered}
 
 -- `if_found` tests whether the other value is the same
 found_at : (o : Option Tree) (t : Tree)

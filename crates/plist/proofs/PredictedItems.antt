@@ -1,4 +1,4 @@
--- The value to which foreseen items are collected.
+-- The value to which predicted items are collected.
 use Rattle.std.proofs.Common.{◌≡◌, List, [], ◌∷◌, ◌++◌, Option, Some, None, Result, Ok, Err, inl, inr, map, option_map, refl, sym, ap, ◌∙◌, subst, append_assoc, append-nil}
 use Rattle.std.specs.Prelude.{⊤}
 use Rattle.std.specs.Iterator.{Yields}
@@ -11,8 +11,8 @@ use Rattle.plist_base.specs.Trees.{Tree}
 use Rattle.plist_base.specs.Bracketing.{bracketing, without_length, AreAlike}
 use Rattle.plist.specs.Building.{Unfinished, events_so_far, refusal_at, IsNested}
 use Rattle.plist.specs.Collecting.{Collects, IsRefusal, RefusesOne, item_by}
-use Rattle.plist.specs.inner.Following.{refused-ends}
-use Rattle.plist.specs.ValueOfItems.{AreItemsOfTree, IsValueOf, IsReadIfKnown, BeginsWith, BeginsWithIfKnown, IsReadBack, ForeseesItems}
+use Rattle.plist.proofs.Following.{refused-ends}
+use Rattle.plist.specs.ValueOfItems.{AreItemsOfTree, IsValueOf, IsReadIfKnown, BeginsWith, BeginsWithIfKnown, IsReadBack, PredictsItems}
 use Rattle.plist.specs.LastWins.{last_wins}
 use Rattle.plist_base.proofs.OneTree.{one_tree}
 use Rattle.plist_base.proofs.Grammar.{alike_with}
@@ -48,17 +48,17 @@ no-tree-error all events error more is tree (others, same, alike) =
     never [] p = cc
     never (x ∷ es) p = cc
 
-no-tree-event : (all : List Item) (events : List PlainEvent) (held : Unfinished) (e : PlainEvent)
-    (kind : FaultKind) (more : List Item) → all ≡ map Ok events ++ Ok e ∷ more → IsNested held
-    → AreAlike (events_so_far held) events → refusal_at held e ≡ Some kind
+no-tree-event : (all : List Item) (events : List PlainEvent) (unfinished : Unfinished) (e : PlainEvent)
+    (kind : FaultKind) (more : List Item) → all ≡ map Ok events ++ Ok e ∷ more → IsNested unfinished
+    → AreAlike (events_so_far unfinished) events → refusal_at unfinished e ≡ Some kind
     → (tree : Tree) → AreItemsOfTree all tree → ⊥
-no-tree-event all events held e kind more is ok alike r tree (others, same, like) =
+no-tree-event all events unfinished e kind more is ok alike r tree (others, same, like) =
     let s = all-events events others (Ok e ∷ more) (sym is ∙ same) in
     let rest = first s.0 s.1 in
-    refused-ends held e ok (λ n. none-some kind (sym n ∙ r)) (
+    refused-ends unfinished e ok (λ n. none-some kind (sym n ∙ r)) (
       rest.0,
       tree,
-      alike_with (events_so_far held) events (e ∷ rest.0) alike
+      alike_with (events_so_far unfinished) events (e ∷ rest.0) alike
           ∙ ap (λ l. map without_length (events ++ l)) (sym rest.1)
           ∙ ap (map without_length) (sym s.2) ∙ like,
     )
@@ -78,29 +78,29 @@ no-tree-end all events is none tree (others, same, like) =
 -- ---- an event is rejected
 
 -- the item after these events isn't taken
-pub stops-there : (all left after : List Item) (events : List PlainEvent) (held : Unfinished)
-    (item : Item) (fault : Fault) → IsNested held → AreAlike (events_so_far held) events
-    → all ≡ map Ok events ++ left → BeginsWith left (Some item) after → RefusesOne held item fault
+pub stops-there : (all left after : List Item) (events : List PlainEvent) (unfinished : Unfinished)
+    (item : Item) (fault : Fault) → IsNested unfinished → AreAlike (events_so_far unfinished) events
+    → all ≡ map Ok events ++ left → BeginsWith left (Some item) after → RefusesOne unfinished item fault
     → IsValueOf all (Err fault)
-stops-there all left after events held (Ok e) fault ok alike is b r = by (refusal_at held e) refl r
+stops-there all left after events unfinished (Ok e) fault ok alike is b r = by (refusal_at unfinished e) refl r
   where
     here : all ≡ map Ok events ++ Ok e ∷ after
     here = cc
 
-    by : (o : Option FaultKind) → refusal_at held e ≡ o → IsRefusal o fault
+    by : (o : Option FaultKind) → refusal_at unfinished e ≡ o → IsRefusal o fault
         → IsValueOf all (Err fault)
     by None q h =
         MatchFault-at _ _ _ _ _ (ap (λ (f : Fault). f.kind) h) tt
     by (Some kind) q h =
         MatchFault-all fault.kind tt tt (
-          (events, Ok e ∷ after, held, here, ok, alike, r),
-          no-tree-event all events held e kind after here ok alike q,
+          (events, Ok e ∷ after, unfinished, here, ok, alike, r),
+          no-tree-event all events unfinished e kind after here ok alike q,
         )
-stops-there all left after events held (Err error) fault ok alike is b r =
+stops-there all left after events unfinished (Err error) fault ok alike is b r =
     MatchFault-weaker fault.kind (λ _. tt) (λ _. tt)
     (λ b. let here : all ≡ map Ok events ++ Err error ∷ after = is
     ∙ ap (λ l. map Ok events ++ l) b in (
-      (events, Err error ∷ after, held, here, ok, alike, r),
+      (events, Err error ∷ after, unfinished, here, ok, alike, r),
       no-tree-error all events error after here,
     ))
     (subst (λ k. MatchFault k ⊤ ⊤ (left ≡ Err error ∷ after)) (ap (λ (f : Fault). f.kind) (sym r))
@@ -110,7 +110,7 @@ stops-there all left after events held (Err error) fault ok alike is b r =
 
 module _ {E I : Type 0} (plain : E → PlainEvent)
     (gives : I → Option (Result E Error) → I → Type 0) (coming : I → Option (List Item))
-    (shows : ForeseesItems plain gives coming) where
+    (shows : PredictsItems plain gives coming) where
   asked : (old : I) (item : Option (Result E Error)) (new : I) (all : List Item)
       → coming old ≡ Some all → gives old item new → (left : List Item)
       × (coming new ≡ Some left) × BeginsWith all (option_map (item_by plain) item) left
@@ -137,19 +137,19 @@ module _ {E I : Type 0} (plain : E → PlainEvent)
       ∙ ap (λ l. Ok d ∷ l) (drained events taken mid t u g.0 g.1 y end (cc e))
 
   -- these events were yielded, and then an item
-  behind : (events : List PlainEvent) (taken : List (Result E Error)) (iter t : I) (item : Item)
+  following : (events : List PlainEvent) (taken : List (Result E Error)) (iter t : I) (item : Item)
       (all : List Item) → coming iter ≡ Some all → Yields gives iter taken t
       → map (item_by plain) taken ≡ map Ok events ++ item ∷ []
       → (left after : List Item) × (all ≡ map Ok events ++ left) × BeginsWith left (Some item) after
-  behind [] [] iter t item all c y e = absurd (cc e)
-  behind [] (x ∷ taken) iter t item all c (mid, s, y) e =
+  following [] [] iter t item all c y e = absurd (cc e)
+  following [] (x ∷ taken) iter t item all c (mid, s, y) e =
       let g = asked iter (Some x) mid all c s in
       let is : item_by plain x ≡ item = cc in
       (all, g.0, refl, subst (λ i. BeginsWith all (Some i) g.0) is g.2)
-  behind (d ∷ events) [] iter t item all c y e = absurd (cc e)
-  behind (d ∷ events) (x ∷ taken) iter t item all c (mid, s, y) e =
+  following (d ∷ events) [] iter t item all c y e = absurd (cc e)
+  following (d ∷ events) (x ∷ taken) iter t item all c (mid, s, y) e =
       let g = asked iter (Some x) mid all c s in
-      let r = behind events taken mid t item g.0 g.1 y (cc e) in (
+      let r = following events taken mid t item g.0 g.1 y (cc e) in (
         r.0,
         r.1,
         first x d taken (map Ok events ++ item ∷ []) all g.0 e g.2 ∙ ap (λ l. Ok d ∷ l) r.2,
@@ -160,18 +160,18 @@ module _ {E I : Type 0} (plain : E → PlainEvent)
       → Collects plain gives iter answer → IsValueOf all answer
   read iter all c (Ok tree) (u, (taken, t, y, (events, whole, is, end, alike, last))) =
       (whole, (events, drained events taken iter t u all c y end is, alike), last)
-  read iter all c (Err fault) (u, (taken, t, y, (events, held, ok, alike, inl (is, stop)))) =
-      let b = behind events taken iter t (Err fault) all c y is in
-      stops-there all b.0 b.1 events held (Err fault) fault ok alike b.2 b.3 refl
+  read iter all c (Err fault) (u, (taken, t, y, (events, unfinished, ok, alike, inl (is, stop)))) =
+      let b = following events taken iter t (Err fault) all c y is in
+      stops-there all b.0 b.1 events unfinished (Err fault) fault ok alike b.2 b.3 refl
   read iter all c (Err fault)
-      (u, (taken, t, y, (events, held, ok, alike, inr (inl (event, is, stop, r))))) =
-      let b = behind events taken iter t (Ok event) all c y is in
-      stops-there all b.0 b.1 events held (Ok event) fault ok alike b.2 b.3 r
+      (u, (taken, t, y, (events, unfinished, ok, alike, inr (inl (event, is, stop, r))))) =
+      let b = following events taken iter t (Ok event) all c y is in
+      stops-there all b.0 b.1 events unfinished (Ok event) fault ok alike b.2 b.3 r
   read iter all c (Err fault)
-      (u, (taken, t, y, (events, held, ok, alike, inr (inr (is, end, why, none))))) =
+      (u, (taken, t, y, (events, unfinished, ok, alike, inr (inr (is, end, why, none))))) =
       let e = drained events taken iter t u all c y end is in
       MatchFault-all fault.kind tt tt (
-        (events, [], held, e ∙ sym (append-nil _), ok, alike, (why, none)),
+        (events, [], unfinished, e ∙ sym (append-nil _), ok, alike, (why, none)),
         no-tree-end all events e none,
       )
 

@@ -2,7 +2,7 @@ use Rattle.std.proofs.Common.{◌≡◌, ◌+◌, ◌-◌, ◌∙◌, ap, arith,
 use Rattle.std.proofs.lemmas.Str.{is_utf8-from_IsUtf8}
 use Rattle.std.specs.Str.{IsUtf8}
 use Rattle.plist_ascii.proofs.FrontTexts.{quoted_begins}
-use Rattle.plist_ascii.proofs.lent.quoted_front.Goals as goal
+use Rattle.plist_ascii.proofs.borrowed.quoted_front.Goals as goal
 
 pub returns-in-Ok-clause-text : goal.returns-in-Ok-clause-text
 returns-in-Ok-clause-text c =

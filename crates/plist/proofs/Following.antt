@@ -62,7 +62,7 @@ tree-goes t (AfterKey ps k ∷ outer) ok =
 -- the event is rejected, or the unfinished tree after it has the events so far and this one, apart
 -- from lengths
 abbrev Follows : Option FaultKind → List PlainEvent → PlainEvent → Option Unfinished → Type 0
-Follows refusal before e held = MatchOption held (refusal ≡ None → ⊥)
+Follows refusal before e unfinished = MatchOption unfinished (refusal ≡ None → ⊥)
     (λ w. IsNested w × AreAlike (events_so_far w) (before ++ e ∷ []))
 
 -- where a value is expected, each event follows as `Follows` says
@@ -211,13 +211,13 @@ steps-round (c ∷ outer) es ok =
     ∙ steps-round outer (events_within c ++ es) ok.1 ∙ steps-within c outer es ok.1
 
 -- after the events so far, `stack_of` is expected
-wanted : (u : Unfinished) → IsNested u → expected_after (events_so_far u) ≡ Some (stack_of u)
-wanted NotBegun ok = refl
-wanted (Within c outer) ok =
+expected : (u : Unfinished) → IsNested u → expected_after (events_so_far u) ≡ Some (stack_of u)
+expected NotBegun ok = refl
+expected (Within c outer) ok =
     steps-round outer (events_within c) ok
     ∙ ap (steps (stack_around outer)) (sym (append-nil (events_within c)))
     ∙ steps-within c outer [] ok
-wanted (Complete t) ok = all_taken (bracketing t) t refl
+expected (Complete t) ok = all_taken (bracketing t) t refl
 
 -- ---- an event that is rejected can't come next
 
@@ -245,7 +245,7 @@ refused-ends u e ok no_ can =
     let g = continues (events_so_far u) e can in
     none_is (expected_after (events_so_far u ++ e ∷ [])) g.0
     (steps_snoc (events_so_far u) (OneValue ∷ []) e
-    ∙ ap (option_and_then (λ s. step s e)) (wanted u ok) ∙ stops u e no_) g.1
+    ∙ ap (option_and_then (λ s. step s e)) (expected u ok) ∙ stops u e no_) g.1
 
 -- ---- an event that is added
 
@@ -254,7 +254,7 @@ pub taken-continues : (u w : Unfinished) (e : PlainEvent) → IsNested w
     → AreAlike (events_so_far w) (events_so_far u ++ e ∷ []) → CanContinue (events_so_far u) e
 taken-continues u w e ok a =
     can_continue (events_so_far u) e (stack_of w)
-    (sym (wanted_alike (events_so_far w) (events_so_far u ++ e ∷ []) a) ∙ wanted w ok)
+    (sym (wanted_alike (events_so_far w) (events_so_far u ++ e ∷ []) a) ∙ expected w ok)
 
 -- an event that isn't rejected can come next
 pub accepted-continues : (u : Unfinished) (e : PlainEvent) → IsNested u → refusal_at u e ≡ None
@@ -316,7 +316,7 @@ last-continues u es ok a e = (
 -- if the events so far are a tree's, it is complete
 pub complete : (u : Unfinished) (t : Tree) → IsNested u → AreAlike (events_so_far u) (bracketing t)
     → u ≡ Complete t
-complete u t ok p = by u p (sym (wanted u ok) ∙ all_taken (events_so_far u) t p)
+complete u t ok p = by u p (sym (expected u ok) ∙ all_taken (events_so_far u) t p)
   where
     by : (u : Unfinished) → AreAlike (events_so_far u) (bracketing t) → Some (stack_of u) ≡ Some []
         → u ≡ Complete t

@@ -3,7 +3,7 @@ use Rattle.std.proofs.lemmas.Str.{is_utf8-from_IsUtf8}
 use Rattle.std.specs.Str.{IsUtf8}
 use Rattle.plist_ascii.specs.Unread.{stops}
 use Rattle.plist_ascii.proofs.FrontTexts.{bare_begins}
-use Rattle.plist_ascii.proofs.lent.bare_front.Goals as goal
+use Rattle.plist_ascii.proofs.borrowed.bare_front.Goals as goal
 
 pub returns-else-may_be_number-clause-text : goal.returns-else-may_be_number-clause-text
 returns-else-may_be_number-clause-text c =

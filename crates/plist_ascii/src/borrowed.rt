@@ -1,9 +1,9 @@
 //! Finds strings that can be borrowed from the bytes at hand.
 
 ghost use Rattle.std.specs.Prelude.{◌+◌, ◌<◌, ◌≤◌, ℕ, Bool, length, IfSome};
-ghost use Rattle.plist_ascii.specs.Unread.{stops};
+ghost use Rattle.plist_ascii.specs.Unread.{IfKnown, stops, unread};
 ghost use Rattle.plist_ascii.specs.inner.Inputs.{hand};
-ghost use Rattle.plist_ascii.specs.inner.FrontTexts.{BeginWithText, IsAhead, IsBareFront, IsQuotedFront};
+ghost use Rattle.plist_ascii.specs.inner.FrontTexts.{BeginWithText, IsBareFront, IsQuotedFront, LeadsToText};
 
 use crate::byte_reader::ByteReader;
 use crate::input::Input;
@@ -62,9 +62,9 @@ fn quoted_length(bytes: &[u8]) -> Option<usize>
 // after the last byte, or spells an integer.
 #[inline(always)]
 fn bare_front(stop: Stop, bytes: &[u8]) -> Option<BorrowedText<'_>>
-    ensures text { IfSome result (λ lent. BeginWithText (stops stop) bytes.now lent.count
-        lent.text.now) }
-    ensures within { IfSome result (λ lent. lent.count ≤ length bytes.now) }
+    ensures text { IfSome result (λ borrowed. BeginWithText (stops stop) bytes.now borrowed.count
+        borrowed.text.now) }
+    ensures within { IfSome result (λ borrowed. borrowed.count ≤ length bytes.now) }
 {
     let length = bare_length(stop, bytes)?;
     match str::from_utf8(&bytes[..length]) {
@@ -85,9 +85,9 @@ fn bare_front(stop: Stop, bytes: &[u8]) -> Option<BorrowedText<'_>>
 // among them.
 #[inline(always)]
 fn quoted_front(bytes: &[u8]) -> Option<BorrowedText<'_>>
-    ensures text { IfSome result (λ lent. (ends : ℕ → Bool)
-        → BeginWithText ends bytes.now lent.count lent.text.now) }
-    ensures within { IfSome result (λ lent. lent.count ≤ length bytes.now) }
+    ensures text { IfSome result (λ borrowed. (ends : ℕ → Bool)
+        → BeginWithText ends bytes.now borrowed.count borrowed.text.now) }
+    ensures within { IfSome result (λ borrowed. borrowed.count ≤ length bytes.now) }
 {
     let length = quoted_length(bytes)?;
     match str::from_utf8(&bytes[1..1 + length]) {
@@ -102,12 +102,12 @@ fn quoted_front(bytes: &[u8]) -> Option<BorrowedText<'_>>
 // Returns the string with which these bytes begin, if it can be borrowed from them.
 #[inline(always)]
 fn front_text(stop: Stop, bytes: &[u8]) -> Option<BorrowedText<'_>>
-    ensures text { IfSome result (λ lent. BeginWithText (stops stop) bytes.now lent.count
-        lent.text.now) }
-    ensures within { IfSome result (λ lent. lent.count ≤ length bytes.now) }
+    ensures text { IfSome result (λ borrowed. BeginWithText (stops stop) bytes.now borrowed.count
+        borrowed.text.now) }
+    ensures within { IfSome result (λ borrowed. borrowed.count ≤ length bytes.now) }
 {
     match bare_front(stop, bytes) {
-        Some(lent) => Some(lent),
+        Some(borrowed) => Some(borrowed),
         None => quoted_front(bytes),
     }
 }
@@ -117,11 +117,11 @@ impl<R: ByteReader> Input<R> {
     /// bare string that spells no integer and doesn't begin with a slash, and if all of it and the
     /// byte that ends it are at hand. Nothing is read or taken.
     #[inline(always)]
-    pub fn lent_text(&self, stop: Stop) -> Option<BorrowedText<'_>>
-        ensures text { IfSome result (λ lent. IsAhead R.remaining stop self.now lent.count
-            lent.text.now) }
-        ensures within { IfSome result (λ lent. lent.count ≤ length (hand R.held self.now)) }
-        ensures some { IfSome result (λ lent. 0 < lent.count) }
+    pub fn borrowed_text(&self, stop: Stop) -> Option<BorrowedText<'_>>
+        ensures text { IfSome result (λ borrowed. IfKnown (unread R.remaining self.now)
+            (λ bytes. LeadsToText (stops stop) bytes borrowed.count borrowed.text.now)) }
+        ensures within { IfSome result (λ borrowed. borrowed.count ≤ length (hand R.window self.now)) }
+        ensures some { IfSome result (λ borrowed. 0 < borrowed.count) }
     {
         let bytes = self.at_hand();
         let blanks = run_length(Stop::Lead, bytes);

@@ -1,4 +1,4 @@
--- The law of writers, for a builder.
+-- A builder follows the laws of writers.
 use Rattle.std.specs.Prelude.{◌≡◌, ◌++◌, ◌∷◌, [], true, false, Some, None, Ok, Err}
 use Rattle.std.proofs.Common.{inr}
 use Rattle.std.proofs.Common.{refl, sym, ◌∙◌, subst, true≢false}
@@ -13,9 +13,9 @@ use Rattle.plist_base.specs.Faults.{FaultKind, fault_without_offset, WriterFaile
 use Rattle.plist_base.specs.Bracketing.{CanContinue, ContinueAlike}
 use Rattle.plist_base.specs.Writing.{Answer, MatchKind, AnswersByOrder}
 use Rattle.plist.specs.declared.stream.builder.Builder.{Builder}
-use Rattle.plist.specs.Building.{Unfinished, NotBegun, Within, Complete, Built, IsNested, events_so_far, expected_within, if_refused, refusal_at, IsRefusedStep}
+use Rattle.plist.specs.Building.{Unfinished, NotBegun, Within, Complete, Built, IsAnswered, IsNested, events_so_far, expected_within, if_refused, refusal_at, IsRefusedStep}
 use Rattle.plist.specs.Builder.{built_of, IsBuildingStep}
-use Rattle.plist.specs.inner.Following.{refused-ends, taken-continues, accepted-continues, last-continues}
+use Rattle.plist.proofs.Following.{refused-ends, taken-continues, accepted-continues, last-continues}
 
 -- this kind of fault is that of an event that can't come next
 abbrev IsForOrder : FaultKind → Type 0
@@ -39,6 +39,16 @@ refusal-order NotBegun e kind p = change-order (change_of OneValue e) _ _ p tt
 refusal-order (Within c outer) e kind p = change-order (change_of (expected_within c) e) _ _ p tt
 refusal-order (Complete tree) e kind p =
     for_order _ _ p tt
+
+-- an event that can't come next is rejected with this kind, and the builder is unchanged
+pub refused_step : (before after : Built) (event : PlainEvent) (unchanged : Type 0)
+    (kind : FaultKind) → refusal_at before.unfinished event ≡ Some kind → before.failed ≡ false
+    → unchanged → IsRefusedStep before event kind after unchanged
+refused_step before after event unchanged faults.OutOfMemory r f same =
+    absurd (refusal-order before.unfinished event faults.OutOfMemory r)
+refused_step before after event unchanged faults.WriterFailed r f same =
+    absurd (refusal-order before.unfinished event faults.WriterFailed r)
+refused_step before after event unchanged kind r f same = (f, r, same)
 
 -- what a rejection says of the event, and of the builder after it
 module _ (before after : Built) (event : PlainEvent) (unchanged : Type 0)
@@ -76,22 +86,22 @@ module _ (before after : Built) (event : PlainEvent) (unchanged : Type 0)
   refusal_law kind r = absurd (never kind r.1)
 
 -- a builder that hasn't failed follows the law of writers
-pub building_law : (before : Builder) (event : PlainEvent) (answer : Answer) (after : Builder)
-    → IsBuildingStep before event answer after → before.failed ≡ false
-    → AnswersByOrder (events_so_far (built_of before).unfinished) event answer
+order_law : (before after : Builder) (event : PlainEvent) (answer : Answer)
+    → IsNested (built_of before).unfinished
+    → IsAnswered (built_of before) event answer (built_of after) (after ≡ before)
+    → before.failed ≡ false → AnswersByOrder (events_so_far (built_of before).unfinished) event answer
     (events_so_far (built_of after).unfinished) after.failed (after ≡ before)
-building_law before event (Ok done) after s f =
-    let (taken, nested, alike, last) = s.1.3 in
-    let held = events_so_far (built_of before).unfinished in (
+order_law before after event (Ok done) ok s f =
+    let (taken, nested, alike, last) = s.3 in
+    let events = events_so_far (built_of before).unfinished ++ event ∷ [] in (
       taken-continues (built_of before).unfinished taken event nested alike,
-      s.1.2,
-      inr (subst (λ u. ContinueAlike (events_so_far u) (held ++ event ∷ [])) (sym last)
-          (last-continues taken (held ++ event ∷ []) nested alike)),
+      s.2,
+      inr (subst (λ u. ContinueAlike (events_so_far u) events) (sym last)
+          (last-continues taken events nested alike)),
     )
-building_law before event (Err fault) after s f = (
-  s.1.0,
-  refusal_law (built_of before) (built_of after) event (after ≡ before) s.0 f fault.kind
-      s.1.1,
+order_law before after event (Err fault) ok s f = (
+  s.0,
+  refusal_law (built_of before) (built_of after) event (after ≡ before) ok f fault.kind s.1,
 )
 
 -- the fault of a builder that has failed
@@ -102,11 +112,21 @@ failed_kind before after event unchanged faults.WriterFailed r f = (refl, r.1)
 failed_kind before after event unchanged kind r f = absurd (true≢false (sym f ∙ r.0))
 
 -- a builder that has failed returns `WriterFailed`, and is unchanged
-pub failed_law : (before : Builder) (event : PlainEvent) (answer : Answer) (after : Builder)
-    → IsBuildingStep before event answer after → before.failed ≡ true
-    → (answer ≡ Err (fault_without_offset WriterFailed)) × (after ≡ before)
-failed_law before event (Ok done) after s f = absurd (true≢false (sym f ∙ s.1.0))
-failed_law before event (Err fault) after s f =
-    let k = failed_kind (built_of before) (built_of after) event (after ≡ before) fault.kind s.1.1
-    f in
-    ((λ i. Err (record { kind = k.0 i; offset = s.1.0 i })), k.1)
+failure_law : (before after : Builder) (event : PlainEvent) (answer : Answer)
+    → IsAnswered (built_of before) event answer (built_of after) (after ≡ before)
+    → before.failed ≡ true → (answer ≡ Err (fault_without_offset WriterFailed)) × (after ≡ before)
+failure_law before after event (Ok done) s f = absurd (true≢false (sym f ∙ s.0))
+failure_law before after event (Err fault) s f =
+    let k = failed_kind (built_of before) (built_of after) event (after ≡ before) fault.kind s.1 f in
+    ((λ i. Err (record { kind = k.0 i; offset = s.0 i })), k.1)
+
+-- a builder whose collections are nested follows the laws of writers
+pub by_laws : (before after : Builder) (event : PlainEvent) (answer : Answer)
+    → IsNested (built_of before).unfinished
+    → IsAnswered (built_of before) event answer (built_of after) (after ≡ before)
+    → IsBuildingStep before event answer after
+by_laws before after event answer ok s = record {
+  answered = s;
+  order = order_law before after event answer ok s;
+  failure = failure_law before after event answer s;
+}
