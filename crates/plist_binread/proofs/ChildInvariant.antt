@@ -7,7 +7,7 @@ use Rattle.plist_base.specs.Events.{PlainEvent}
 use Rattle.plist_base.specs.Faults.{IsIo, kind_of, error_kind_of}
 use Rattle.plist_base.proofs.Refusals.{MatchFault-weaker}
 use Rattle.plist_binread.specs.FirstStep.{IsKnownWalk}
-use Rattle.plist_binread.specs.DecodeOutcome.{YieldsResult}
+use Rattle.plist_binread.specs.Step.{YieldsResult, WalkTakesNextChild, stored_references}
 use Rattle.plist_binread.specs.declared.frames.NextChild.{NextChild}
 use Rattle.plist_binread.specs.declared.frames.NextChild.TheVariants.{Child}
 use Rattle.plist_binread.specs.declared.walk.Walk.{Walk}
@@ -17,7 +17,6 @@ use Rattle.plist_binread.proofs.Tags.{open_uncached}
 use Rattle.plist_format.specs.Unfolding.{until_fault}
 use Rattle.plist_binread.specs.Reading.{AreReferencesOf, ReadsChildAt, object_at}
 use Rattle.plist_binread.specs.Remaining.{place_at, children_at, entries_of, next_number, Explains}
-use Rattle.plist_binread.specs.Step.{WalkTakesNextChild, stored_references}
 use Rattle.plist_binread.specs.NextChild.{IsCurrentCached, ParentIsOpen, TakesNextChild}
 use Rattle.plist_binread.specs.Walking.{IsWalkOf, open_in, remaining_entering, remaining_in}
 use Rattle.plist_binread.proofs.WalkInvariant.{as_many, entry_there, held_place}

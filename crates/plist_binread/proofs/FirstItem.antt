@@ -17,10 +17,9 @@ use Rattle.plist_format.specs.Unfolding.{table_of, items_of, unfolding_of, until
 use Rattle.plist_binread.specs.declared.head.Bounds.{Bounds}
 use Rattle.plist_binread.specs.Remaining.{path_of, remaining_items, entries_of, places_with, places_of, CountsObjects, IsHeld, MatchesFile, SomeRemain, AllocatesFirst}
 use Rattle.plist_binread.specs.FirstStep.{CachesRoot, CountsRoot, RefusesFirst}
-use Rattle.plist_binread.specs.Step.{CachesEntered}
+use Rattle.plist_binread.specs.Step.{CachesEntered, YieldsResult}
 use Rattle.plist_binread.specs.declared.fault_slot.FaultSlot.{FaultSlot}
 use Rattle.plist_binread.specs.declared.fault_slot.StepError.{StepError}
-use Rattle.plist_binread.specs.DecodeOutcome.{YieldsResult}
 use Rattle.plist_binread.specs.Walking.{walk_objects}
 use Rattle.plist_binread.specs.declared.walk.Walk.{Walk}
 use Rattle.plist_binread.specs.Packed.{is_marked}

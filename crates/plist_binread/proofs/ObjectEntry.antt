@@ -17,8 +17,7 @@ use Rattle.plist_binread.specs.FirstStep.{IsKnownWalk}
 use Rattle.plist_binread.specs.Remaining.{Explains, entries_of}
 use Rattle.plist_binread.specs.Decoded.{DecodesAt, IsDecodedThere, RefusesObjectAt, SetsDecoded, SetsEvent, event_of_object, is_refused}
 use Rattle.plist_binread.specs.Decoding.{IsRefusedAs}
-use Rattle.plist_binread.specs.DecodeOutcome.{YieldsResult, YieldsCurrent}
-use Rattle.plist_binread.specs.Step.{OpensObject}
+use Rattle.plist_binread.specs.Step.{YieldsResult, YieldsCurrent, OpensObject}
 use Rattle.plist_binread.specs.Walking.{IsWalkOf, open_in, remaining_entering, remaining_in, walk_objects}
 use Rattle.plist_format.specs.Unfolding.{until_fault}
 use Rattle.plist_binread.specs.Packed.{is_marked, unmarked, cached, scalar_event}

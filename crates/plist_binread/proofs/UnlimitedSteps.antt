@@ -14,8 +14,7 @@ use Rattle.plist_binread.specs.FirstStep.{CountsRoot, GivesRoot, IsBounded, IsKn
 use Rattle.plist_binread.specs.BinaryReader.{objects_in_head}
 use Rattle.plist_binread.specs.Remaining.{CountsObjects, walk_steps}
 use Rattle.plist_binread.specs.FaultOffsets.{ErrWithin, ItemWithin}
-use Rattle.plist_binread.specs.DecodeOutcome.{YieldsNext}
-use Rattle.plist_binread.specs.Step.{CachesNext, LightensNext}
+use Rattle.plist_binread.specs.Step.{YieldsNext, CachesNext, LightensNext}
 use Rattle.plist_base.specs.Events.{PlainEvent}
 use Rattle.plist_base.specs.Visits.{Flow}
 use Rattle.plist_binread.specs.ReaderSteps.{Walks, item_with}

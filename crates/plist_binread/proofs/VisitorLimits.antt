@@ -9,8 +9,8 @@ use Rattle.plist_base.specs.Visits.{Flow}
 use Rattle.plist_binread.specs.ReaderSteps.{TakesWithin}
 use Rattle.plist_binread.specs.Handovers.{HandsItem, PassesOn, Takes}
 use Rattle.plist_binread.specs.declared.fault_slot.StepError.{StepError}
-use Rattle.plist_binread.specs.declared.relay.Relay.{Relay}
-use Rattle.plist_binread.specs.declared.within.Within.{Within}
+use Rattle.plist_binread.specs.declared.visitors.Relay.{Relay}
+use Rattle.plist_binread.specs.declared.visitors.Within.{Within}
 
 -- the walk yielded an event that exceeds a limit, with this error
 pub record Reached {V : Type 0} (old new : Within V)

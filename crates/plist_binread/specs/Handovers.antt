@@ -2,18 +2,27 @@
 use Rattle.std.specs.Prelude.{◌≡◌, Option, None, Some, Result, Ok, Err, MatchOption, MatchResult}
 use Rattle.plist_base.specs.declared.error.Error.{Error}
 use Rattle.plist_base.specs.declared.event.Event.{Event}
-use Rattle.plist_base.specs.Events.{PlainEvent, event_of}
-use Rattle.plist_base.specs.Trees as trees
+use Rattle.plist_base.specs.Events.{PlainEvent, event_of, IsTextOrDataEvent}
 use Rattle.plist_base.specs.Visits.{Flow}
 use Rattle.plist_binread.specs.Packed.{MayAllocate, scalar_event}
 use Rattle.plist_binread.specs.declared.fault_slot.StepError.{StepError}
-use Rattle.plist_binread.specs.declared.relay.Relay.{Relay}
+use Rattle.plist_binread.specs.declared.visitors.Relay.{Relay}
+use Rattle.std.specs.declared.ops.ControlFlow.TheVariants.{Break}
+use Rattle.plist_base.specs.Faults.{OutOfMemory, fault_without_offset, fault_of}
+use Rattle.plist_binread.specs.declared.visitors.FirstEvent.{FirstEvent}
+use Rattle.plist_base.specs.Trees as trees
 
 -- the event is the one that was read, or the result is the error of the read
 abbrev pub HandsRead : {A : Type 0} → Result Event Error → (answer : Result A Error) → PlainEvent
     → Type 0
 HandsRead (Ok read) answer event = MatchResult answer (λ _. event ≡ event_of read) (λ _. ⊥)
 HandsRead (Err error) answer event = answer ≡ Err error
+
+-- the visitor that keeps one event stores it, or an allocation for its string or data failed
+abbrev pub KeepsEvent : PlainEvent → Flow → FirstEvent → Type 0
+KeepsEvent event flow visitor = (flow ≡ Break tt) × MatchResult visitor.kept
+    (λ owned. event_of owned ≡ event)
+    (λ error. (fault_of error ≡ fault_without_offset OutOfMemory) × IsTextOrDataEvent event)
 
 -- a visitor passes an event on to the visitor in it
 pub record PassesOn {V : Type 0} (step : V → PlainEvent → Flow → V → Type 0) (old : Relay V)

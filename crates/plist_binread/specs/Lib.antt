@@ -7,13 +7,11 @@ pub mod Decoding
 pub mod FaultOffsets
 pub mod Frames
 pub mod Decoded
-pub mod DecodeOutcome
 pub mod CountedContent
 pub mod Front
 pub mod Packed
 pub mod Step
 pub mod ReaderSteps
-pub mod FirstEvents
 pub mod Slot
 pub mod Handovers
 pub mod NextChild

@@ -5,7 +5,7 @@ use Rattle.std.proofs.lemmas.Bool.{both_ways}
 use mathlib.Core.HLevel.{Stable, Stable-paths→set}
 use Rattle.plist_base.specs.Scalars.{bytes_is, bytes_refl}
 use Rattle.plist_base.specs.Sources.{LiesAt}
-use Rattle.plist_binread.specs.declared.run.Run.{Run}
+use Rattle.plist_binread.specs.declared.references.Run.{Run}
 use Rattle.plist_binread.specs.declared.references.ReferenceReader.{ReferenceReader}
 
 -- if the bytes of the source are known, these bytes lie at the offset

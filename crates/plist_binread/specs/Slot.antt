@@ -10,11 +10,6 @@ abbrev pub result_in : {A : Type 0} → Result A StepError → FaultSlot → Res
 result_in (Ok value) slot = Ok value
 result_in (Err refused) slot = Err slot.fault
 
--- the value, or the error that the slot stores if there is no value
-abbrev pub found_in : {A : Type 0} → Option A → FaultSlot → Result A Error
-found_in (Some value) slot = Ok value
-found_in None slot = Err slot.fault
-
 -- the item, with the error that the slot stores
 abbrev pub item_in : {A : Type 0} → Option (Result A StepError) → FaultSlot
     → Option (Result A Error)

@@ -1,10 +1,9 @@
 -- What a step does to the walk, to the current event and to the remaining items.
-use Rattle.std.specs.Prelude.{◌≡◌, ℕ, ◌<◌, List, false, get_or, Option, Some, Result, IfSome, OnOk, ⊤}
+use Rattle.std.specs.Prelude.{◌≡◌, ℕ, ◌<◌, List, false, get_or, Option, Some, Result, IfSome, OnOk, ⊤, [], ◌∷◌, Ok, MatchOption, MatchResult}
 use Rattle.std.specs.List.{slice_get}
-use Rattle.plist_base.specs.Events.{PlainEvent}
+use Rattle.plist_base.specs.Events.{PlainEvent, EndCollection, Item}
 use Rattle.plist_binread.specs.Remaining.{Explains, bytes_at, entries_of, next_number, walk_weight}
 use Rattle.plist_binread.specs.Decoded.{IsDecodedAs, event_of_object, is_refused, small_count}
-use Rattle.plist_binread.specs.DecodeOutcome.{YieldsNext, YieldsCurrent}
 use Rattle.plist_binread.specs.Packed.{open_kind, open_start, unmarked}
 use Rattle.plist_binread.specs.declared.references.References.{References}
 use Rattle.plist_binread.specs.declared.frames.Frame.{Frame}
@@ -16,11 +15,37 @@ use Rattle.plist_binread.specs.NextChild.{IsFound, IsCurrentCached, WeightFalls,
 use Rattle.plist_format.specs.Unfolding.{TableEntry, until_fault}
 use Rattle.plist_binread.specs.Walking.{IsWalkOf, walk_objects, open_in, remaining_entering, remaining_in, weight_entering, weight_in}
 use Rattle.plist_binread.specs.declared.decoded.Decoded.{Decoded}
-use Rattle.plist_binread.specs.declared.decoded.Decoded.TheVariants as decoded
 use Rattle.plist_binread.specs.declared.head.Bounds.{Bounds}
 use Rattle.plist_binread.specs.declared.fault_slot.FaultSlot.{FaultSlot}
 use Rattle.plist_binread.specs.declared.frames.NextChild.{NextChild}
 use Rattle.plist_binread.specs.declared.walk.Walk.{Walk}
+use Rattle.plist_binread.specs.declared.decoded.Decoded.TheVariants as decoded
+
+-- ---- the remaining items
+
+-- the current event is the first item that remained, and the others remain
+abbrev pub YieldsCurrent : List Item → (current : PlainEvent) → List Item → Type 0
+YieldsCurrent before current after = until_fault before ≡ Ok current ∷ until_fault after
+
+-- like `YieldsCurrent`, or the result is an error that may replace the first item
+abbrev pub YieldsResult : {A : Type 0} → List Item → Result A Error → (current : PlainEvent)
+    → List Item
+    → Type 0
+YieldsResult before answer current after = MatchResult answer
+    (λ _. YieldsCurrent before current after)
+    (λ error. Explains (until_fault before) error)
+
+-- like `YieldsResult`, or there is no item because none remained
+abbrev pub YieldsNext : {A : Type 0} → List Item → Option (Result A Error) → (current : PlainEvent)
+    → List Item → Type 0
+YieldsNext before item current after =
+    MatchOption item ((before ≡ []) × (after ≡ [])) (λ answer. YieldsResult before answer current
+    after)
+
+-- the item isn't an error, and the current event is the end of a collection
+abbrev pub IsCurrentEnd : {A E : Type 0} → Option (Result A E) → (current : PlainEvent) → Type 0
+IsCurrentEnd item current =
+    MatchOption item ⊥ (λ answer. MatchResult answer (λ _. current ≡ EndCollection) (λ error. ⊥))
 
 -- ---- the walk
 

@@ -7,8 +7,8 @@ use Rattle.plist_binread.proofs.UnknownBytes.{IfSome-all}
 use Rattle.plist_binread.specs.Walking.{weight_in}
 use Rattle.plist_binread.proofs.WalkSteps.{steps_positive}
 use Rattle.plist_binread.proofs.ChildInvariant.{ChildTaken, known_child_taken, child_failed, child_kept, child_references, child_yields}
-use Rattle.plist_binread.proofs.advance.advance.Goals as goal
-use Rattle.plist_binread.proofs.advance.advance.Goals.{In-Child}
+use Rattle.plist_binread.proofs.steps.advance.Goals as goal
+use Rattle.plist_binread.proofs.steps.advance.Goals.{In-Child}
 
 -- the next child was taken as `ChildTaken` says
 taken : (g : _) (c : In-Child g) → IfSome (g.S.Source.known c.args.source.now) (λ bytes.

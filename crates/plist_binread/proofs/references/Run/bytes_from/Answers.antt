@@ -1,6 +1,6 @@
 use Rattle.std.proofs.Common.{arith}
 use Rattle.plist_binread.proofs.ObjectFronts.{known_suffix}
-use Rattle.plist_binread.proofs.run.Run.bytes_from.Goals as goal
+use Rattle.plist_binread.proofs.references.Run.bytes_from.Goals as goal
 
 pub returns-in-Some : goal.returns-in-Some
 returns-in-Some c = λ known run.

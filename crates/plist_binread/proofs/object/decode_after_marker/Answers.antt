@@ -2,7 +2,7 @@ use Rattle.std.proofs.Common.{◌++◌, length, refl, arith}
 use Rattle.std.proofs.lemmas.Bool.{le-leb}
 use Rattle.plist_base.specs.Trees.{Boolean}
 use Rattle.plist_binread.proofs.Markers.{object_by_half}
-use Rattle.plist_binread.proofs.front.decode_after_marker.Goals as goal
+use Rattle.plist_binread.proofs.object.decode_after_marker.Goals as goal
 
 pub returns-in-Boolean : goal.returns-in-Boolean
 returns-in-Boolean c = rw (c.in-Boolean.ensures.layout _)

@@ -1,6 +1,6 @@
 use Rattle.std.proofs.Common.{◌-◌}
 use Rattle.plist_binread.proofs.Decoding.{seen_after}
-use Rattle.plist_binread.proofs.front.decode_front.Goals as goal
+use Rattle.plist_binread.proofs.object.decode_front.Goals as goal
 
 pub returns-in-Some-clause-decoded : goal.returns-in-Some-clause-decoded
 returns-in-Some-clause-decoded g c =

@@ -8,8 +8,8 @@ use Rattle.plist_binread.proofs.UnknownBytes.{IfSome-all}
 use Rattle.plist_binread.proofs.OpenObjects.{IsOpen-none, cached_count-none, cached_count-empty}
 use Rattle.plist_binread.proofs.FirstItem.{known_unread, known_wanted, known_opens, known_begun, known_cached, known_counted, known_hidden, known_uncounted}
 use Rattle.plist_binread.proofs.VisitorLimits.{passed_on}
-use Rattle.plist_binread.proofs.begin.begin.Goals as goal
-use Rattle.plist_binread.proofs.begin.begin.Goals.{In_ok-none}
+use Rattle.plist_binread.proofs.steps.begin.Goals as goal
+use Rattle.plist_binread.proofs.steps.begin.Goals.{In_ok-none}
 
 pub returns-in_err-head-clause-handed : goal.returns-in_err-head-clause-handed
 returns-in_err-head-clause-handed g c =

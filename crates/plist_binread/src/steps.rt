@@ -1,0 +1,138 @@
+//! Takes the steps of a walk: reads the head and enters the root, or advances by one event.
+
+ghost use Rattle.std.specs.Prelude.{◌≡◌, ◌^◌, ◌<◌, Ok, replicate, IfOk, IfSome, OnOk, true};
+ghost use Rattle.plist_base.specs.Outcomes.{OnlyMemory};
+ghost use Rattle.plist_binread.specs.Remaining.{walk_steps};
+ghost use Rattle.plist_binread.specs.FaultOffsets.{ErrWithin, ItemWithin};
+ghost use Rattle.plist_binread.specs.Handovers.{Hands, HandsItem};
+ghost use Rattle.plist_binread.specs.Slot.{SlotCountsIo, result_in, ItemSlotCountsIo, item_in};
+ghost use Rattle.plist_binread.specs.Walking.{IsEmptyWalk, cached_in, walk_objects, weight_in, IsWalkOf, open_in};
+ghost use Rattle.plist_binread.specs.FirstStep.{CountsRoot, GivesRoot, IsBounded, IsKnownWalk, CachesRoot};
+ghost use Rattle.plist_binread.specs.NextChild.{closes};
+ghost use Rattle.plist_binread.specs.Step.{IsCurrentEnd, CachesNext, LightensNext, YieldsItem};
+ghost use Rattle.plist_binread.specs.Runs.{AreRunsOf};
+
+use crate::counter::DecodeCounter;
+use crate::decoder::Decoder;
+use crate::enter::enter;
+use crate::fault_slot::StepError;
+use crate::frames::NextChild;
+use crate::head::{Bounds, Head};
+use crate::references::{Reference, ReferenceReader};
+use crate::visitors::Relay;
+use crate::walk::Walk;
+use plist_base::{Error, EventVisitor, Source};
+use std::alloc::Global;
+use std::ops::ControlFlow;
+
+// Allocates a tag of zero for each object, since no object is cached or open at first.
+fn no_tags(alloc: Global, count: usize) -> Result<Vec<u8>, Error>
+    ensures tags { IfOk result (λ tags. tags.items ≡ replicate count 0) }
+    ensures memory { OnlyMemory result }
+{
+    let tags = vec![in alloc; 0u8; count]?;
+    Ok(tags)
+}
+
+/// Reads the head of a file, and hands the file's first event to a visitor.
+#[cold]
+#[inline(never)]
+pub fn begin<S: Source, C: DecodeCounter, V: EventVisitor>(
+    source: &mut S,
+    decoder: &mut Decoder<C>,
+    walk: &mut Walk,
+    visitor: &mut V,
+) -> Result<ControlFlow<()>, StepError>
+    requires empty { IsEmptyWalk walk.old }
+    requires counted { C.counts → C.count decoder.old.counter ≡ cached_in walk.old }
+    // Result.
+    ensures handed { Hands V.step visitor.old visitor.new result (λ event.
+        IfSome (S.known source.old) (GivesRoot (result_in result decoder.new.slot) event
+        decoder.new.bounds walk.new)
+        × IfSome (S.known source.old) (CachesRoot (result_in result decoder.new.slot) event
+        walk.new)) }
+    // Errors.
+    ensures fault { ErrWithin 0 (2 ^ 64) (result_in result decoder.new.slot) }
+    // State afterwards.
+    ensures counted { C.counts → C.count decoder.new.counter ≡ cached_in walk.new }
+    ensures bounded { IfSome (S.known source.old) (IsBounded walk.new) }
+    ensures objects { IfSome (S.known source.old) (CountsRoot result decoder.new.slot walk.new) }
+    ensures known { OnOk result (IsKnownWalk (S.known source.old) decoder.new.bounds walk.new) }
+    ensures falls { OnOk result (weight_in walk.new < walk_steps (walk_objects walk.new)) }
+    ensures unchanged { S.known source.new ≡ S.known source.old }
+    ensures failures { SlotCountsIo S.failures result decoder.new.slot source.old source.new }
+{
+    let alloc = decoder.slot.alloc;
+    let head = decoder.slot.keep_error(Head::read(alloc, source))?;
+    let none = decoder.slot.keep_error(no_tags(alloc, head.places.len()))?;
+    let Head {
+        trailer,
+        reference_width,
+        root,
+        places,
+    } = head;
+    decoder.bounds = Bounds {
+        trailer,
+        reference_width,
+    };
+    walk.tags = none;
+    walk.contents = places;
+    let reference = Reference {
+        at: trailer,
+        number: root,
+    };
+    let mut relay = Relay::new(visitor);
+    enter(source, decoder, walk, reference, &mut relay)
+}
+
+/// Hands the next event of the walk to a visitor. Returns `None` if no collection is open.
+#[inline(always)]
+pub fn advance<S: Source, C: DecodeCounter, V: EventVisitor>(
+    source: &mut S,
+    decoder: &mut Decoder<C>,
+    walk: &mut Walk,
+    references: &mut ReferenceReader,
+    visitor: &mut V,
+) -> Option<Result<ControlFlow<()>, StepError>>
+    requires known { IfSome (S.known source.old) (λ bytes.
+        IsWalkOf bytes decoder.old.bounds walk.old) }
+    requires counted { C.counts → C.count decoder.old.counter ≡ cached_in walk.old }
+    requires references { AreRunsOf (S.known source.old) references.old }
+    // Result.
+    ensures handed { HandsItem V.step visitor.old visitor.new result (λ event.
+        YieldsItem (S.known source.old) decoder.old.bounds walk.old
+        (item_in result decoder.new.slot) event walk.new
+        × CachesNext (S.known source.old) decoder.old.bounds walk.old
+        (item_in result decoder.new.slot) event walk.new
+        × (closes (open_in walk.old) ≡ true → IsCurrentEnd result event)) }
+    // Errors.
+    ensures fault { ItemWithin 0 decoder.old.bounds.trailer (item_in result decoder.new.slot) }
+    // State afterwards.
+    ensures size { walk_objects walk.new ≡ walk_objects walk.old }
+    ensures known { IfSome (S.known source.old) (λ bytes.
+        IsWalkOf bytes decoder.old.bounds walk.new) }
+    ensures bounds { decoder.new.bounds ≡ decoder.old.bounds }
+    ensures counted { C.counts → C.count decoder.new.counter ≡ cached_in walk.new }
+    ensures references { AreRunsOf (S.known source.old) references.new }
+    ensures falls { LightensNext walk.old result walk.new }
+    ensures unchanged { S.known source.new ≡ S.known source.old }
+    ensures failures { ItemSlotCountsIo S.failures result decoder.new.slot source.old source.new }
+{
+    match walk.next_child() {
+        NextChild::Nothing => None,
+        NextChild::End(_) => Some(Ok(visitor.end_collection())),
+        NextChild::Child(frame) => {
+            let location = walk.references(frame);
+            match references.read_child(source, decoder, location, frame.next) {
+                Ok(number) => {
+                    let reference = Reference {
+                        at: location.place,
+                        number,
+                    };
+                    Some(enter(source, decoder, walk, reference, visitor))
+                }
+                Err(refused) => Some(Err(refused)),
+            }
+        }
+    }
+}

@@ -1,0 +1,153 @@
+//! Defines the visitors that a reader puts between itself and another visitor, or uses for one event.
+
+ghost use Rattle.std.specs.Prelude.{◌≡◌};
+
+use plist_base::{
+    Allowance, Error, ErrorKind, Event, EventVisitor, Integer, LimitCounter, OwnedEvent, RealBits,
+    Uid,
+};
+use std::alloc::Global;
+use std::borrow::{CowSlice, CowStr};
+use std::ops::ControlFlow;
+
+/// Passes all events on to another visitor.
+///
+/// The code that enters an object, and the code that hands over a small scalar, are compiled once
+/// for each type of visitor. The first event of a file and the scalars that are cached are passed
+/// on by this visitor, so that the code for all other events has only one caller and becomes part
+/// of the loop over the events. This saves a tenth of the instructions for each event.
+#[derive(Drop)]
+pub struct Relay<'v, V> {
+    visitor: &'v mut V,
+}
+
+impl<'v, V: EventVisitor> Relay<'v, V> {
+    /// Creates a visitor that passes events on to `visitor`.
+    pub fn new(visitor: &'v mut V) -> Relay<'v, V>
+        ensures visitor { result.visitor.ghost_name ≡ visitor.entry.ghost_name }
+        ensures unvisited { result.visitor.now ≡ visitor.old }
+    {
+        Relay { visitor }
+    }
+}
+
+impl<'v, V: EventVisitor> EventVisitor for Relay<'v, V> {
+    ghost use Rattle.plist_binread.specs.Handovers.{PassesOn};
+
+    ghost step = { PassesOn V.step };
+
+    fn event(&mut self, event: Event<'_>) -> ControlFlow<()> {
+        self.visitor.event(event)
+    }
+
+    #[inline(always)]
+    fn boolean(&mut self, value: bool) -> ControlFlow<()> {
+        self.visitor.boolean(value)
+    }
+
+    #[inline(always)]
+    fn data(&mut self, bytes: CowSlice<'_, u8>) -> ControlFlow<()> {
+        self.visitor.data(bytes)
+    }
+
+    #[inline(always)]
+    fn integer(&mut self, value: Integer) -> ControlFlow<()> {
+        self.visitor.integer(value)
+    }
+
+    #[inline(always)]
+    fn real(&mut self, bits: RealBits) -> ControlFlow<()> {
+        self.visitor.real(bits)
+    }
+
+    #[inline(always)]
+    fn string(&mut self, text: CowStr<'_>) -> ControlFlow<()> {
+        self.visitor.string(text)
+    }
+
+    #[inline(always)]
+    fn uid(&mut self, uid: Uid) -> ControlFlow<()> {
+        self.visitor.uid(uid)
+    }
+}
+
+/// Passes events on to another visitor as long as the limits admit them.
+///
+/// After the first event that isn't admitted, this visitor stops the walk.
+#[derive(Drop)]
+pub struct Within<'v, V> {
+    limiter: &'v mut LimitCounter,
+    // Receives the error of an event that isn't admitted.
+    reached: &'v mut Result<(), Error>,
+    visitor: &'v mut V,
+}
+
+impl<'v, V: EventVisitor> Within<'v, V> {
+    /// Creates a visitor that passes events on to `visitor`. If an event isn't admitted, its error
+    /// is stored in `reached`.
+    pub fn new(
+        limiter: &'v mut LimitCounter,
+        reached: &'v mut Result<(), Error>,
+        visitor: &'v mut V,
+    ) -> Within<'v, V>
+        ensures limiter { result.limiter.ghost_name ≡ limiter.entry.ghost_name }
+        ensures slot { result.reached.ghost_name ≡ reached.entry.ghost_name }
+        ensures visitor { result.visitor.ghost_name ≡ visitor.entry.ghost_name }
+        ensures limits { result.limiter.now ≡ limiter.old }
+        ensures unreached { result.reached.now ≡ reached.old }
+        ensures unvisited { result.visitor.now ≡ visitor.old }
+    {
+        Within {
+            limiter,
+            reached,
+            visitor,
+        }
+    }
+}
+
+impl<'v, V: EventVisitor> EventVisitor for Within<'v, V> {
+    ghost use Rattle.plist_binread.specs.ReaderSteps.{TakesWithin};
+
+    ghost step = { TakesWithin V.step };
+
+    fn event(&mut self, event: Event<'_>) -> ControlFlow<()> {
+        match self.limiter.admit(&event) {
+            Ok(()) => self.visitor.event(event),
+            Err(error) => {
+                *self.reached = Err(error);
+                ControlFlow::Break(())
+            }
+        }
+    }
+}
+
+/// Keeps the first event that it receives, and then stops the walk.
+#[derive(Drop)]
+pub struct FirstEvent {
+    alloc: Global,
+    /// The event, or `OutOfMemory` if no event was received yet, or if an allocation for the
+    /// event's string or data failed.
+    pub kept: Result<OwnedEvent, Error>,
+}
+
+impl FirstEvent {
+    /// Creates a visitor that hasn't received an event yet.
+    pub fn new(alloc: Global) -> FirstEvent {
+        FirstEvent {
+            alloc,
+            kept: Err(ErrorKind::OutOfMemory.without_position()),
+        }
+    }
+}
+
+impl EventVisitor for FirstEvent {
+    ghost use Rattle.plist_binread.specs.Handovers.{KeepsEvent};
+
+    ghost step = { λ _ event flow new. KeepsEvent event flow new };
+
+    #[inline(always)]
+    fn event(&mut self, event: Event<'_>) -> ControlFlow<()> {
+        self.kept = event.into_owned(self.alloc);
+        ControlFlow::Break(())
+    }
+}
