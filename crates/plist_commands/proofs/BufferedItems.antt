@@ -15,8 +15,8 @@ use Rattle.plist_binwrite.specs.EventBuffers.{TestsWhole}
 use Rattle.plist_binwrite.specs.Sending.{Sends}
 use Rattle.plist_reader.specs.declared.format.Format.TheVariants as format
 use Rattle.plist_reader.specs.Formats.{format_of}
-use Rattle.plist_reader.specs.Reader.{items_in_format, items_of_input}
-use Rattle.plist_ascii.specs.declared.dialect.Dialect.TheVariants.{Lax}
+use Rattle.plist_reader.proofs.BinaryItems.{binary-input}
+use Rattle.plist_reader.specs.Reader.{items_of_input}
 use Rattle.plist.specs.Building.{Unfinished, NotBegun, IsNested, events_so_far}
 use Rattle.plist.specs.ValueOfItems.{AreItemsOfTree, IsValueOf}
 use Rattle.plist.specs.LastWins.{last_wins}
@@ -161,7 +161,7 @@ pub binary_items : (known inner : Option (List ℕ)) (coming : List ℕ → List
     → option_map coming inner ≡ items_of_known known
 binary_items None inner coming e is h = ap (option_map coming) e
 binary_items (Some bytes) inner coming e is h =
-    ap (option_map coming) e ∙ ap Some (h ∙ ap (λ f. items_in_format Lax f bytes) is)
+    ap (option_map coming) e ∙ ap Some (h ∙ binary-input bytes is)
 
 -- ---- what is written
 

@@ -13,11 +13,13 @@ use Rattle.plist_binread.specs.FaultOffsets.{HasOffset, MatchGiven, ItemGivenWit
 use Rattle.plist_binread.specs.Remaining.{SomeRemain, AllocatesFirst}
 use Rattle.plist_ascii.specs.declared.dialect.Dialect.{Dialect}
 use Rattle.plist_reader.specs.declared.reader.State.TheVariants as state
-use Rattle.plist_reader.specs.Reader.{BinaryReaderOf, file_within, input_within, items_in_format, GivesItem, GivesIfKnown, EndsAfter, IsReaderFault, IfItemFault, StateGives, MatchOffset, FaultHasOffset}
+use Rattle.plist_reader.specs.Reader.{BinaryReaderOf, items_of_input, file_within, input_within, items_in_format, GivesItem, GivesIfKnown, EndsAfter, IsReaderFault, IfItemFault, StateGives, MatchOffset, FaultHasOffset}
 use Rattle.plist_reader.specs.declared.format.Format.TheVariants as format
 use Rattle.plist_reader.specs.Formats.{format_of}
 use Rattle.plist_reader.proofs.Fronts.{within-placed}
 use Rattle.plist_reader.proofs.ReaderItems.{Given, chosen-gives, one-remain, same-items, text-or-all}
+use Rattle.plist_format.specs.Unfolding.{items_of_file}
+use Rattle.plist_ascii.specs.declared.dialect.Dialect.TheVariants.{Lax}
 
 -- ---- `OutOfMemory` is yielded only if something remains
 
@@ -122,6 +124,11 @@ file-input : (limits : Option Limits) (dialect : Dialect) (bytes : List ℕ)
 file-input None dialect bytes is = ap (λ f. items_in_format dialect f bytes) is
 file-input (Some limits) dialect bytes is =
     ap (λ f. limited_items limits (items_in_format dialect f bytes)) is
+
+-- the items of an input that is binary are those of the file
+pub binary-input : (bytes : List ℕ) → format.Binary ≡ format_of bytes
+    → items_of_file bytes ≡ items_of_input bytes
+binary-input bytes is = ap (λ f. items_in_format Lax f bytes) is
 
 module _ {R : Type 0} {g : Ghosts R} where
   pub binary-gives : (old new : BinaryReaderOf R g) (item : Given) → binary.GivesBinary old item new
