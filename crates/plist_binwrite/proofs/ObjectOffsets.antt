@@ -12,7 +12,7 @@ use Rattle.plist_format.specs.Container.{magic}
 use Rattle.plist_format.specs.Object.{Object}
 use Rattle.plist_binwrite.specs.Forms.{form, IsWritable}
 use Rattle.plist_binwrite.specs.Written.{object_table, Laid}
-use Rattle.plist_binwrite.specs.inner.Laying.{IsOrder, KeepsMarks, laid_out, AllOnce}
+use Rattle.plist_binwrite.specs.inner.Laying.{IsOrder, laid_out, AllOnce}
 use Rattle.std.proofs.lemmas.List.Folds.{list_any_at}
 use Rattle.plist_base.specs.Events.{PlainEvent}
 use Rattle.plist_base.specs.Trees.{Tree, Leaf, Array, Dictionary}
@@ -150,7 +150,8 @@ module _ {count : ℕ} {order marks : List ℕ} (k v : ℕ) (o : IsOrder count o
     | inr s ↦ inr (eqb-true q k s)
   ]
 
-  pub keeps_more : KeepsMarks marks (set marks k v)
+  -- no mark is removed
+  pub keeps_more : (q : ℕ) → get_or marks q 0 ≢ 0 → get_or (set marks k v) q 0 ≢ 0
   keeps_more q n = elim (eqb_tells q k) [
     | inl s ↦ λ zero. absurd (omega (
       arith,

@@ -16,7 +16,7 @@ use crate::classes::Classed;
 use crate::event_table::EventTable;
 use crate::forms::{CountedKind, put_length, put_number, put_scalar, try_put_number};
 use crate::plan::FilePlan;
-use crate::scalar::push_scalar;
+use crate::push::push_scalar;
 use crate::size::count_children;
 use plist_base::{Error, EventShape, Sink};
 use std::io::Write;

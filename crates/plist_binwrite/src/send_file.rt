@@ -32,7 +32,7 @@ fn put_file<W: Write>(
 {
     sink.put(b"bplist00")?;
     put_objects(sink, given, plan)?;
-    put_table_and_trailer(sink, &plan.places, plan.table)
+    put_table_and_trailer(sink, &plan.places, plan.table())
 }
 
 // Puts a planned file into a sink without pending bytes, and then writes what is pending and

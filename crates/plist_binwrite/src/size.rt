@@ -1,7 +1,7 @@
 //! Computes the sizes of the objects and of the file in bytes, before any byte is written. A size
 //! of 2^64 or more is `None`.
 
-ghost use Rattle.std.specs.Prelude.{◌≡◌, ◌+◌, ◌<◌, ℕ, length, true, false, IfSome, None, Some};
+ghost use Rattle.std.specs.Prelude.{◌≡◌, ◌+◌, ◌<◌, ℕ, length, true, false, IfSome, Some};
 ghost use Rattle.plist_binwrite.specs.Children.{half_of};
 ghost use Rattle.plist_binwrite.specs.EventTable.{plain_events};
 ghost use Rattle.plist_binwrite.specs.Sizes.{IsSizeOrNone, size_with};
@@ -52,24 +52,14 @@ fn size_of_file(table: u64, count: u64) -> Option<u64>
     add(add(Some(table), offsets), Some(32))
 }
 
-// Returns whether a file with this many objects and its offset table at this offset has less than
-// 2^64 bytes.
-fn has_size(table: u64, count: u64) -> bool
-    ensures yes { result ≡ true → FitsWith table count }
-    ensures no { result ≡ false → ExceedsWith table count }
-{
-    size_of_file(table, count).is_some()
-}
-
-/// Returns `table`, which is the offset of the offset table, if a file with `count` objects has
-/// less than 2^64 bytes, and otherwise `None`. The call allocates no memory.
-pub fn check_size(table: Option<u64>, count: u64) -> Option<u64>
-    ensures table { IfSome result (λ place. table ≡ Some place) }
-    ensures fits { IfSome result (λ place. FitsWith place count) }
-    ensures oversized { result ≡ None → IfSome table (λ place. ExceedsWith place count) }
+/// Returns whether a file with `count` objects, whose offset table lies at `table`, has less than
+/// 2^64 bytes. The call allocates no memory.
+pub fn has_size(table: Option<u64>, count: u64) -> bool
+    ensures fits { result ≡ true → (place : ℕ) × (table ≡ Some place) × FitsWith place count }
+    ensures oversized { result ≡ false → IfSome table (λ place. ExceedsWith place count) }
 {
     match table {
-        Some(place) if has_size(place, count) => Some(place),
-        _ => None,
+        Some(place) => size_of_file(place, count).is_some(),
+        None => false,
     }
 }

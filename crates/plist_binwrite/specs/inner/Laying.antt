@@ -18,10 +18,6 @@ pub record IsOrder (count : ℕ) (order marks : List ℕ) : Type 0 where
 abbrev pub HasAll : (count : ℕ) → (order : List ℕ) → Type 0
 HasAll count order = (k : ℕ) → k < count → list_any (eqb k) order ≡ true
 
--- no mark is removed
-abbrev pub KeepsMarks : (old new : List ℕ) → Type 0
-KeepsMarks old new = (k : ℕ) → get_or old k 0 ≢ 0 → get_or new k 0 ≢ 0
-
 -- the magic and the objects in this order
 abbrev pub laid_out : (width : ℕ) (objects : ℕ → Object) (order : List ℕ) → List ℕ
 laid_out width objects order = magic ++ object_table width objects order

@@ -1,5 +1,5 @@
 -- A planned file, and what writing it does.
-use Rattle.std.specs.Prelude.{◌≡◌, ◌⊎◌, ◌≤◌, ℕ, List, length, Option, Ok, Err}
+use Rattle.std.specs.Prelude.{◌≡◌, ◌⊎◌, ℕ, List, length, Option, Some, Ok, Err}
 use Rattle.std.specs.Io.KnownBytes.{Appends}
 use Rattle.plist_base.specs.Bracketing.{lengthless}
 use Rattle.plist_base.specs.Faults.{Fault, Io, OutOfMemory, PlistTooLarge, fault_without_offset}
@@ -9,17 +9,10 @@ use Rattle.plist_base.specs.Writing.{Answer}
 use Rattle.plist_format.specs.Object.{Object}
 use Rattle.plist_binwrite.specs.Classes.{IsFileBy, IsOversized}
 use Rattle.plist_binwrite.specs.EventClasses.{class_in, events_in}
-use Rattle.plist_binwrite.specs.EventTable.{AllBelow, Describes}
-use Rattle.plist_binwrite.specs.Widths.{reference_width}
 use Rattle.plist_binwrite.specs.declared.classes.Classed.{Classed}
 use Rattle.plist_binwrite.specs.declared.plan.FilePlan.{FilePlan}
 use Rattle.plist_binwrite.specs.inner.Laying.{laid_out, with_table_and_trailer}
-use Rattle.plist_binwrite.specs.inner.Planning.{IsNumberingOfEvents, count_of, object_number}
-
--- these are the objects of a planned file
-abbrev pub AreObjectsOf : Classed → FilePlan → (ℕ → Object) → Type 0
-AreObjectsOf given plan objects =
-    Describes (events_in given) (object_number given plan.numbering) objects
+use Rattle.plist_binwrite.specs.inner.Sizing.{AreObjectsOf, IsLayout}
 
 -- the planned file, if its objects are these
 abbrev pub file_of : FilePlan → (ℕ → Object) → List ℕ
@@ -28,12 +21,10 @@ file_of plan objects =
 
 -- the file of the tree with these events is planned, and has less than 2^64 bytes
 pub record IsFilePlan (given : Classed) (plan : FilePlan) : Type 0 where
-  pub numbered : IsNumberingOfEvents given plan.numbering
-  pub order : AllBelow (count_of plan.numbering) plan.order
-  pub width : plan.width ≡ reference_width (length plan.places)
-  pub narrow : plan.width ≤ 8
+  pub layout : IsLayout given plan
+  pub open layout use *
   pub table : (objects : ℕ → Object) → AreObjectsOf given plan objects
-      → plan.table ≡ length (laid_out plan.width objects plan.order)
+      → plan.end ≡ Some (length (laid_out plan.width objects plan.order))
   pub file : (objects : ℕ → Object) → AreObjectsOf given plan objects → (t : Tree)
       → events_in given ≡ lengthless t → IsFileBy (class_in given) t (file_of plan objects)
 
