@@ -13,7 +13,7 @@ use Rattle.plist_base.specs.Visits.{HandsOverAll, PlainItem, Visits}
 use Rattle.plist_base.proofs.WriterBytes.{Appends-at}
 use Rattle.plist_base.proofs.SinkSteps.{same_itself, same_then}
 use Rattle.plist_base.proofs.Visits.{kept_all}
-use Rattle.plist_commands.specs.declared.print.Printer.{Printer}
+use Rattle.plist_commands.specs.declared.printer.Printer.{Printer}
 use Rattle.plist_commands.specs.Printers.{IsSamePrinter, PrintsLine, pending_lines, printed}
 use Rattle.plist_commands.specs.ReaderRuns.{PrintsRun}
 use Rattle.plist_commands.proofs.Runs.{HasRun, run_more, run_none, run_stopped}

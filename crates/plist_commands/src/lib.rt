@@ -17,6 +17,7 @@ mod messages;
 mod open;
 mod plain_bytes;
 mod print;
+mod printer;
 
 pub use arguments::program_arguments;
 pub use commands::{Command, Commands, command_of, run_words};

@@ -1,7 +1,7 @@
 use Rattle.std.proofs.Common.{Err, refl}
 use Rattle.plist_base.proofs.SinkSteps.{puts_refused}
 use Rattle.plist_commands.specs.EscapedLines.{event_of_short, line_of}
-use Rattle.plist_commands.proofs.print.Printer.print_short.Goals as goal
+use Rattle.plist_commands.proofs.printer.Printer.print_short.Goals as goal
 
 pub returns-in-Break : goal.returns-in-Break
 returns-in-Break g c =

@@ -3,7 +3,7 @@ use Rattle.plist_base.proofs.SinkSteps.{puts_refused}
 use Rattle.plist_base.specs.Events.{ScalarEvent}
 use Rattle.plist_base.specs.Trees.{String}
 use Rattle.plist_commands.specs.EscapedLines.{line_of}
-use Rattle.plist_commands.proofs.print.Printer.print_text.Goals as goal
+use Rattle.plist_commands.proofs.printer.Printer.print_text.Goals as goal
 
 pub returns-in-Break : goal.returns-in-Break
 returns-in-Break g c =

@@ -1,6 +1,6 @@
 use Rattle.plist_base.proofs.SinkSteps.{puts_refused}
 use Rattle.plist_commands.specs.EscapedLines.{in_notation}
-use Rattle.plist_commands.proofs.print.put_block.Goals as goal
+use Rattle.plist_commands.proofs.printer.put_block.Goals as goal
 
 pub returns-in_err-make_room : goal.returns-in_err-make_room
 returns-in_err-make_room g c =

@@ -1,7 +1,7 @@
 use Rattle.std.proofs.Common.{Err, refl}
 use Rattle.plist_base.proofs.SinkSteps.{puts_refused, puts_then}
 use Rattle.plist_commands.specs.EscapedLines.{in_notation}
-use Rattle.plist_commands.proofs.print.put_parts.Goals as goal
+use Rattle.plist_commands.proofs.printer.put_parts.Goals as goal
 
 pub returns-in_err-put : goal.returns-in_err-put
 returns-in_err-put g c =

@@ -1,7 +1,7 @@
 use Rattle.std.proofs.Common.{◌*◌, take, Ok}
 use Rattle.plist_base.specs.Sinks.{PutsBytes}
 use Rattle.plist_commands.specs.EscapedLines.{in_notation}
-use Rattle.plist_commands.proofs.print.put_blocks.Given as goal
+use Rattle.plist_commands.proofs.printer.put_blocks.Given as goal
 
 abbrev pub invariant-loop-block : goal.invariant-loop-block
 invariant-loop-block g l =

@@ -1,0 +1,331 @@
+//! The visitor that prints events.
+
+ghost use Rattle.std.specs.Prelude.{◌≡◌, ◌++◌, ◌+◌, ◌*◌, ◌≤◌, [], Ok, OnOk, length};
+ghost use Rattle.plist_base.specs.Events.{ScalarEvent};
+ghost use Rattle.plist_base.specs.Sinks.{Puts, room, sink_capacity};
+ghost use Rattle.plist_base.specs.Trees.{Data, String};
+ghost use Rattle.plist_commands.specs.EscapedLines.{event_of_short, in_notation};
+ghost use Rattle.plist_commands.specs.ReaderRuns.{PrintsRun};
+
+use crate::lines::{
+    MAX_FIXED_LINE, Notation, ShortLine, push_bytes, push_data, push_short, push_string,
+};
+use plist_base::{
+    Date, Error, ErrorKind, Event, EventSource, EventVisitor, Integer, RealBits, Sink, Uid, Visited,
+};
+use std::borrow::{CowSlice, CowStr};
+use std::io::Write;
+use std::mem;
+use std::ops::ControlFlow;
+
+// The line of a string or data of at most this many bytes fits into an empty buffer, even if each
+// byte is escaped.
+const MOST_AT_ONCE: usize = 16_368;
+
+// A longer string or data is printed in blocks of this many bytes.
+const BLOCK: usize = 4096;
+
+// The line of a long string or data, in parts.
+#[derive(Clone, Copy)]
+struct Parts<'b> {
+    word: &'b [u8],
+    bytes: &'b [u8],
+    notation: Notation,
+    end: &'b [u8],
+}
+
+// Makes room for `size` more bytes, by writing the pending bytes if there isn't enough.
+fn make_room<W: Write>(sink: &mut Sink<'_, W>, size: usize) -> Result<(), Error>
+    requires { size ≤ sink_capacity }
+    ensures put { Puts W.contents sink.old [] result sink.new }
+    ensures room { OnOk result (size ≤ room sink.new.buffer.now) }
+{
+    if size <= sink.room() {
+        return Ok(());
+    }
+    sink.write_pending()
+}
+
+// Puts the printed form of a block of a string or data into the sink.
+fn put_block<W: Write>(
+    sink: &mut Sink<'_, W>,
+    block: &[u8],
+    notation: Notation,
+) -> Result<(), Error>
+    requires { length block.now ≤ 4096 }
+    ensures { Puts W.contents sink.old (in_notation notation block.now) result sink.new }
+{
+    make_room(sink, 4 * BLOCK)?;
+    push_bytes(sink.buffer, block, notation);
+    Ok(())
+}
+
+// Puts the printed form of a string or data into the sink, block by block.
+fn put_blocks<W: Write>(
+    sink: &mut Sink<'_, W>,
+    bytes: &[u8],
+    notation: Notation,
+) -> Result<(), Error>
+    ensures { Puts W.contents sink.old (in_notation notation bytes.now) result sink.new }
+{
+    let (blocks, rest) = bytes.as_chunks::<BLOCK>();
+    for block in blocks {
+        put_block(sink, block, notation)?;
+    }
+    put_block(sink, rest, notation)
+}
+
+// Puts a line into the sink: its word, its bytes in blocks, and its end.
+fn put_parts<W: Write>(sink: &mut Sink<'_, W>, line: &Parts<'_>) -> Result<(), Error>
+    ensures { Puts W.contents sink.old (line.now.word.now
+        ++ in_notation line.now.notation line.now.bytes.now ++ line.now.end.now) result sink.new }
+{
+    sink.put(line.word)?;
+    put_blocks(sink, line.bytes, line.notation)?;
+    sink.put(line.end)
+}
+
+/// A visitor that prints each event on a line of its own.
+///
+/// Lines are pending in the buffer until the next one might not fit. They are written before that
+/// one is pushed, so the buffer never grows.
+#[derive(Drop)]
+pub(crate) struct Printer<'p, W> {
+    sink: Sink<'p, W>,
+    // The error of the failed write that stopped the printer; unspecified until a write fails.
+    failure: Error,
+}
+
+impl<'p, W: Write> Printer<'p, W> {
+    ghost use Rattle.std.specs.declared.ops.ControlFlow.TheVariants.{Continue};
+    ghost use Rattle.plist_commands.specs.Printers.{FailsAfterLines, IsSamePrinter, PrintsBytes, PrintsLine, pending_lines, printed, printer_sink};
+
+    /// Creates a printer. The lines that are pending in the sink stay pending.
+    pub(crate) fn new(sink: Sink<'p, W>) -> Printer<'p, W>
+        ensures { result.sink ≡ sink.entry }
+    {
+        Printer {
+            sink,
+            failure: ErrorKind::OutOfMemory.without_position(),
+        }
+    }
+
+    // Writes the lines that are pending.
+    #[cold]
+    #[inline(never)]
+    fn write_pending(&mut self) -> ControlFlow<()>
+        ensures put { PrintsBytes W.contents self.old [] result self.new }
+        ensures empty { result ≡ Continue tt → pending_lines self.new ≡ [] }
+        ensures room { result ≡ Continue tt → room self.new.sink.buffer.now ≡ sink_capacity }
+    {
+        match self.sink.write_pending() {
+            Ok(()) => ControlFlow::Continue(()),
+            Err(error) => {
+                self.failure = error;
+                ControlFlow::Break(())
+            }
+        }
+    }
+
+    // Makes room for `size` more bytes, by writing the pending lines if there isn't enough.
+    #[inline(always)]
+    fn make_room(&mut self, size: usize) -> ControlFlow<()>
+        requires { size ≤ sink_capacity }
+        ensures put { PrintsBytes W.contents self.old [] result self.new }
+        ensures room { result ≡ Continue tt → size ≤ room self.new.sink.buffer.now }
+    {
+        if size <= self.sink.room() {
+            return ControlFlow::Continue(());
+        }
+        self.write_pending()
+    }
+
+    // Prints an event whose line is short.
+    #[inline(always)]
+    fn print_short(&mut self, line: ShortLine) -> ControlFlow<()>
+        ensures { PrintsLine W.contents self.old (event_of_short line) result self.new }
+    {
+        match self.make_room(MAX_FIXED_LINE) {
+            ControlFlow::Continue(()) => {
+                push_short(self.sink.buffer, line);
+                ControlFlow::Continue(())
+            }
+            ControlFlow::Break(()) => ControlFlow::Break(()),
+        }
+    }
+
+    // Prints a line in parts.
+    #[cold]
+    #[inline(never)]
+    fn print_parts(&mut self, line: &Parts<'_>) -> ControlFlow<()>
+        ensures { PrintsBytes W.contents self.old (line.now.word.now
+            ++ in_notation line.now.notation line.now.bytes.now ++ line.now.end.now)
+            result self.new }
+    {
+        match put_parts(&mut self.sink, line) {
+            Ok(()) => ControlFlow::Continue(()),
+            Err(error) => {
+                self.failure = error;
+                ControlFlow::Break(())
+            }
+        }
+    }
+
+    // Prints a string.
+    #[inline(always)]
+    fn print_text(&mut self, text: &str) -> ControlFlow<()>
+        ensures { PrintsLine W.contents self.old (ScalarEvent (String text.now)) result self.new }
+    {
+        if text.len() > MOST_AT_ONCE {
+            return self.print_parts(&Parts {
+                word: b"String \"",
+                bytes: text.as_bytes(),
+                notation: Notation::Text,
+                end: b"\"\n",
+            });
+        }
+        match self.make_room(4 * text.len() + MAX_FIXED_LINE) {
+            ControlFlow::Continue(()) => {
+                push_string(self.sink.buffer, text);
+                ControlFlow::Continue(())
+            }
+            ControlFlow::Break(()) => ControlFlow::Break(()),
+        }
+    }
+
+    // Prints data.
+    fn print_data(&mut self, bytes: &[u8]) -> ControlFlow<()>
+        ensures { PrintsLine W.contents self.old (ScalarEvent (Data bytes.now)) result self.new }
+    {
+        if bytes.len() > MOST_AT_ONCE {
+            return self.print_parts(&Parts {
+                word: b"Data ",
+                bytes,
+                notation: Notation::Hexadecimal,
+                end: b"\n",
+            });
+        }
+        match self.make_room(2 * bytes.len() + MAX_FIXED_LINE) {
+            ControlFlow::Continue(()) => {
+                push_data(self.sink.buffer, bytes);
+                ControlFlow::Continue(())
+            }
+            ControlFlow::Break(()) => ControlFlow::Break(()),
+        }
+    }
+
+    // Takes the error that stopped the printer.
+    fn take_failure(&mut self) -> Error
+        ensures failure { result ≡ self.old.failure }
+        ensures sink { self.new.sink ≡ self.old.sink }
+    {
+        mem::replace(&mut self.failure, ErrorKind::OutOfMemory.without_position())
+    }
+
+    // Writes the pending lines after the last event.
+    fn finish(&mut self) -> Result<(), Error>
+        ensures put { Puts W.contents (printer_sink self.old) [] result (printer_sink self.new) }
+        ensures empty { OnOk result (pending_lines self.new ≡ []) }
+    {
+        match self.write_pending() {
+            ControlFlow::Continue(()) => Ok(()),
+            ControlFlow::Break(()) => Err(self.take_failure()),
+        }
+    }
+
+    // Writes the lines that are pending when an error occurs. Returns this error, or the error of
+    // the write if it fails.
+    fn finish_before(&mut self, error: Error) -> Error
+        ensures { FailsAfterLines W.contents (printer_sink self.old) error result
+            (printer_sink self.new) }
+    {
+        match self.finish() {
+            Ok(()) => error,
+            Err(failure) => failure,
+        }
+    }
+
+    /// Prints the remaining events of a source, and writes all lines.
+    pub(crate) fn print_all<I: EventSource>(&mut self, source: &mut I) -> Result<(), Error>
+        requires empty { pending_lines self.old ≡ [] }
+        ensures ran { PrintsRun I.yields source.old result source.new
+            (printed W.contents self.old) (printed W.contents self.new) }
+        ensures same { IsSamePrinter self.old self.new }
+    {
+        match source.visit(self) {
+            Ok(Visited::Ended) => self.finish(),
+            Ok(Visited::Stopped) => Err(self.take_failure()),
+            Err(error) => Err(self.finish_before(error)),
+        }
+    }
+}
+
+impl<'p, W: Write> EventVisitor for Printer<'p, W> {
+    ghost use Rattle.plist_commands.specs.Printers.{PrintsLine};
+
+    ghost step = { PrintsLine W.contents };
+
+    fn event(&mut self, event: Event<'_>) -> ControlFlow<()> {
+        match event {
+            Event::StartArray(length) => self.print_short(ShortLine::Array(length)),
+            Event::StartDictionary(length) => self.print_short(ShortLine::Dictionary(length)),
+            Event::EndCollection => self.print_short(ShortLine::End),
+            Event::Boolean(value) => self.print_short(ShortLine::Boolean(value)),
+            Event::Data(bytes) => self.print_data(bytes.as_slice()),
+            Event::Date(date) => self.print_short(ShortLine::Date(date)),
+            Event::Integer(value) => self.print_short(ShortLine::Integer(value)),
+            Event::Real(bits) => self.print_short(ShortLine::Real(bits)),
+            Event::String(text) => self.print_text(text.as_str()),
+            Event::Uid(uid) => self.print_short(ShortLine::Uid(uid)),
+        }
+    }
+
+    #[inline(always)]
+    fn start_array(&mut self, length: Option<u64>) -> ControlFlow<()> {
+        self.print_short(ShortLine::Array(length))
+    }
+
+    #[inline(always)]
+    fn start_dictionary(&mut self, length: Option<u64>) -> ControlFlow<()> {
+        self.print_short(ShortLine::Dictionary(length))
+    }
+
+    #[inline(always)]
+    fn end_collection(&mut self) -> ControlFlow<()> {
+        self.print_short(ShortLine::End)
+    }
+
+    #[inline(always)]
+    fn boolean(&mut self, value: bool) -> ControlFlow<()> {
+        self.print_short(ShortLine::Boolean(value))
+    }
+
+    fn data(&mut self, bytes: CowSlice<'_, u8>) -> ControlFlow<()> {
+        self.print_data(bytes.as_slice())
+    }
+
+    #[inline(always)]
+    fn date(&mut self, date: Date) -> ControlFlow<()> {
+        self.print_short(ShortLine::Date(date))
+    }
+
+    #[inline(always)]
+    fn integer(&mut self, value: Integer) -> ControlFlow<()> {
+        self.print_short(ShortLine::Integer(value))
+    }
+
+    #[inline(always)]
+    fn real(&mut self, bits: RealBits) -> ControlFlow<()> {
+        self.print_short(ShortLine::Real(bits))
+    }
+
+    #[inline(always)]
+    fn uid(&mut self, uid: Uid) -> ControlFlow<()> {
+        self.print_short(ShortLine::Uid(uid))
+    }
+
+    #[inline(always)]
+    fn string(&mut self, text: CowStr<'_>) -> ControlFlow<()> {
+        self.print_text(text.as_str())
+    }
+}
