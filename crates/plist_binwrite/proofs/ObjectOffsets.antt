@@ -12,14 +12,12 @@ use Rattle.plist_format.specs.Container.{magic}
 use Rattle.plist_format.specs.Object.{Object}
 use Rattle.plist_binwrite.specs.Forms.{form, IsWritable}
 use Rattle.plist_binwrite.specs.Written.{object_table, Laid}
-use Rattle.plist_binwrite.specs.inner.Laying.{IsOrder, laid_out, AllOnce}
+use Rattle.plist_binwrite.specs.inner.Layout.{IsOrder, laid_out, AllOnce, AreLaidOut}
 use Rattle.std.proofs.lemmas.List.Folds.{list_any_at}
 use Rattle.plist_base.specs.Events.{PlainEvent}
 use Rattle.plist_base.specs.Trees.{Tree, Leaf, Array, Dictionary}
 use Rattle.plist_binwrite.specs.EventTable.{Describes, HasItem, IsBracketed}
-use Rattle.plist_binwrite.specs.inner.Planning.{IsPlanned}
-use Rattle.plist_binwrite.specs.inner.PlansBy.{number_by}
-use Rattle.plist_binwrite.specs.inner.Sizing.{AreLaidOut}
+use Rattle.plist_binwrite.specs.inner.Numbering.{IsPlanned, number_by}
 use Rattle.plist_binwrite.specs.Occurrences.{OccursAt}
 use Rattle.plist_binwrite.specs.Numberings.{object_of}
 use Rattle.plist_binwrite.specs.Sizes.{total, IsSizeOrNone, object_size}

@@ -12,9 +12,8 @@ use Rattle.plist_format.specs.Object.{Object}
 use Rattle.plist_binwrite.specs.Classes.{same_class, representatives, count_by, objects_by}
 use Rattle.plist_binwrite.specs.Forms.{form}
 use Rattle.plist_binwrite.specs.EventTable.{Describes}
-use Rattle.plist_binwrite.specs.inner.Laying.{AllOnce}
-use Rattle.plist_binwrite.specs.inner.Planning.{IsPlanned}
-use Rattle.plist_binwrite.specs.inner.PlansBy.{number_by}
+use Rattle.plist_binwrite.specs.inner.Layout.{AllOnce}
+use Rattle.plist_binwrite.specs.inner.Numbering.{IsPlanned, number_by}
 use Rattle.plist_binwrite.specs.Sizes.{total, object_size}
 use Rattle.plist_binwrite.specs.Occurrences.{positions}
 use Rattle.plist_binwrite.specs.Written.{object_table}

@@ -18,9 +18,8 @@ use Rattle.plist_binwrite.specs.ObjectCounts.{collections_in}
 use Rattle.plist_binwrite.specs.Forms.{form, table_form, AllFit}
 use Rattle.plist_binwrite.specs.EventTable.{Describes}
 use Rattle.plist_binwrite.specs.EventClasses.{class_in, events_in}
-use Rattle.plist_binwrite.specs.inner.Laying.{AllOnce, laid_out, with_table_and_trailer, HasAll}
-use Rattle.plist_binwrite.specs.inner.Planning.{IsPlanned, count_of, object_number}
-use Rattle.plist_binwrite.specs.inner.PlansBy.{number_by}
+use Rattle.plist_binwrite.specs.inner.Layout.{AllOnce, laid_out, with_table_and_trailer, HasAll, file_of, IsFilePlan, SendsPlan, AreObjectsOf, ExceedsWith, FitsWith, IsLayout}
+use Rattle.plist_binwrite.specs.inner.Numbering.{IsPlanned, count_of, object_number, number_by}
 use Rattle.plist_binwrite.specs.Occurrences.{positions}
 use Rattle.plist_binwrite.specs.Widths.{reference_width, offset_width}
 use Rattle.plist_binwrite.specs.Written.{Laid, object_table, table_and_trailer}
@@ -38,13 +37,11 @@ use Rattle.plist_base.specs.Outcomes.{OnlyDevice}
 use Rattle.plist_base.specs.declared.error.Error.{Error}
 use Rattle.plist_base.specs.Writing.{Answer, answer_of}
 use Rattle.plist_base.proofs.Grammar.{complete_of_whole}
-use Rattle.plist_binwrite.specs.inner.PlannedFiles.{file_of, IsFilePlan, SendsPlan}
 use Rattle.std.specs.Io.KnownBytes.{Appends}
 use Rattle.plist_base.specs.declared.sink.Sink.{Sink}
 use Rattle.plist_base.specs.Prefixes.{AppendsPrefix}
 use Rattle.plist_base.specs.Sinks.{PutsBytes, pending, written}
 use Rattle.plist_base.proofs.SinkSteps.{sent_part, sent_whole}
-use Rattle.plist_binwrite.specs.inner.Sizing.{AreObjectsOf, ExceedsWith, FitsWith, IsLayout}
 use Rattle.plist_binwrite.specs.Sizes.{IsSizeOrNone, size_with}
 use Rattle.plist_binwrite.specs.SendingAs.{IsFileAs, SendsAs}
 use Rattle.plist_binwrite.proofs.Lengthless.{plain_lengthless}

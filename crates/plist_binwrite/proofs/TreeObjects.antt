@@ -17,7 +17,7 @@ use Rattle.plist_format.specs.declared.marker.CountedKind.TheVariants as counted
 use Rattle.plist_binwrite.specs.EventClasses.{events_in}
 use Rattle.plist_binwrite.specs.declared.classes.Classed.{Classed}
 use Rattle.plist_binwrite.specs.declared.plan.FilePlan.{FilePlan}
-use Rattle.plist_binwrite.specs.inner.Planning.{object_number}
+use Rattle.plist_binwrite.specs.inner.Numbering.{object_number}
 use Rattle.plist_binwrite.specs.inner.Putting.{collection_form, tree_form}
 use Rattle.plist_binwrite.specs.inner.Entries.{is_leaf}
 use Rattle.plist_binwrite.proofs.TreeOccurrences.{occurs_whole, occurs_items, occurs_pairs, occurs_item, occurs_next, occurs_key, occurs_value, occurs_next_pair}

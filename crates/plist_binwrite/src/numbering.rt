@@ -2,7 +2,7 @@
 
 ghost use Rattle.plist_binwrite.specs.EventClasses.{IsClassed, events_in};
 ghost use Rattle.plist_binwrite.specs.EventTable.{IsBracketed};
-ghost use Rattle.plist_binwrite.specs.inner.Planning.{IsNumberingOfEvents};
+ghost use Rattle.plist_binwrite.specs.inner.Numbering.{IsNumberingOfEvents};
 ghost use Rattle.std.specs.Prelude.{IfOk};
 
 use crate::children::{Children, Half, begins_collection};
@@ -24,8 +24,7 @@ impl Numbering {
     ghost use Rattle.std.specs.Prelude.{◌≡◌, ◌<◌, [], length, replicate, IfOk, OnOk};
     ghost use Rattle.plist_binwrite.specs.EventClasses.{IsListed, class_in, events_in};
     ghost use Rattle.plist_binwrite.specs.EventTable.{nth_number, HasItem, IsBracketed};
-    ghost use Rattle.plist_binwrite.specs.inner.Numbering.{BeginsAt, IsNumberedSoFar, KeepsNumbers, NumbersAll, NumbersChildren, NumbersHalf, NumbersItem, RootIsFirst};
-    ghost use Rattle.plist_binwrite.specs.inner.Planning.{object_number};
+    ghost use Rattle.plist_binwrite.specs.inner.Numbering.{BeginsAt, IsNumberedSoFar, KeepsNumbers, NumbersAll, NumbersChildren, NumbersHalf, NumbersItem, RootIsFirst, object_number};
 
     // Creates a numbering in which no object has a number. The memory of `firsts` is reserved at
     // once: if this list grew, it would leave gaps in the heap between the lists that don't grow.

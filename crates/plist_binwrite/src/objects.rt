@@ -8,7 +8,7 @@ ghost use Rattle.plist_binwrite.specs.EventClasses.{events_in};
 ghost use Rattle.plist_binwrite.specs.EventTable.{plain_events, table_event};
 ghost use Rattle.plist_binwrite.specs.Forms.{scalar_form};
 ghost use Rattle.plist_binwrite.specs.Occurrences.{OccursAt};
-ghost use Rattle.plist_binwrite.specs.inner.PlannedFiles.{IsFilePlan};
+ghost use Rattle.plist_binwrite.specs.inner.Layout.{IsFilePlan};
 ghost use Rattle.plist_binwrite.specs.inner.Putting.{PutsObjects, collection_form, references_of, tree_form};
 
 use crate::children::{Children, Half};

@@ -5,7 +5,7 @@ ghost use Rattle.std.specs.Prelude.{◌≡◌, ◌<◌, IfOk, IfSome};
 ghost use Rattle.plist_base.specs.Outcomes.{IfFault};
 ghost use Rattle.plist_binwrite.specs.EventClasses.{IsClassed, events_in};
 ghost use Rattle.plist_binwrite.specs.EventTable.{IsBracketed};
-ghost use Rattle.plist_binwrite.specs.inner.PlannedFiles.{IsFilePlan, IsPlanFault};
+ghost use Rattle.plist_binwrite.specs.inner.Layout.{IsFilePlan, IsPlanFault};
 
 use crate::children::{Children, Half};
 use crate::classes::Classed;
@@ -46,9 +46,8 @@ impl FilePlan {
     ghost use Rattle.std.specs.Prelude.{◌<◌, length, IfOk, IfSome, OnOk};
     ghost use Rattle.plist_binwrite.specs.EventClasses.{IsClassed, events_in};
     ghost use Rattle.plist_binwrite.specs.EventTable.{HasItem, IsBracketed};
-    ghost use Rattle.plist_binwrite.specs.inner.Laying.{HasAll};
-    ghost use Rattle.plist_binwrite.specs.inner.Planning.{count_of};
-    ghost use Rattle.plist_binwrite.specs.inner.Sizing.{IsLayout, Places};
+    ghost use Rattle.plist_binwrite.specs.inner.Layout.{HasAll, IsLayout, Places};
+    ghost use Rattle.plist_binwrite.specs.inner.Numbering.{count_of};
 
     // Numbers the objects, of which none has an offset yet. The first one will follow the magic,
     // which has 8 bytes.

@@ -9,7 +9,7 @@ ghost use Rattle.plist_binwrite.specs.EventClasses.{IsClassed, class_in, events_
 ghost use Rattle.plist_binwrite.specs.EventTable.{plain_events};
 ghost use Rattle.plist_binwrite.specs.Sending.{Sends};
 ghost use Rattle.plist_binwrite.specs.SendingAs.{SendsAs};
-ghost use Rattle.plist_binwrite.specs.inner.PlannedFiles.{IsFilePlan, SendsPlan};
+ghost use Rattle.plist_binwrite.specs.inner.Layout.{IsFilePlan, SendsPlan};
 ghost use Rattle.plist_binwrite.specs.inner.Putting.{PutsFile};
 
 use crate::classes::{Classed, Classes};

@@ -5,7 +5,7 @@ ghost use Rattle.std.specs.Prelude.{◌≡◌, ◌+◌, ◌<◌, ℕ, length, tr
 ghost use Rattle.plist_binwrite.specs.Children.{half_of};
 ghost use Rattle.plist_binwrite.specs.EventTable.{plain_events};
 ghost use Rattle.plist_binwrite.specs.Sizes.{IsSizeOrNone, size_with};
-ghost use Rattle.plist_binwrite.specs.inner.Sizing.{ExceedsWith, FitsWith, IsWritableAt, IsSizeOrNoneAt};
+ghost use Rattle.plist_binwrite.specs.inner.Layout.{ExceedsWith, FitsWith, IsWritableAt, IsSizeOrNoneAt};
 
 use crate::children::{Children, Half};
 use crate::event_table::EventTable;

@@ -1,7 +1,7 @@
 use Rattle.std.proofs.Common.{ℕ, ◌<◌}
 use Rattle.plist_binwrite.specs.EventClasses.{events_in}
 use Rattle.plist_binwrite.specs.EventTable.{HasItem}
-use Rattle.plist_binwrite.specs.inner.Sizing.{HasPlace, IsLayout}
+use Rattle.plist_binwrite.specs.inner.Layout.{HasPlace, IsLayout}
 use Rattle.plist_binwrite.proofs.plan.FilePlan.place_all.Given as goal
 
 abbrev pub invariant-loop-index : goal.invariant-loop-index
