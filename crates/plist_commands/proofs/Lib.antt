@@ -10,3 +10,4 @@ pub mod Printers
 pub mod BufferedItems
 pub mod Trees
 pub mod ErrorMessages
+pub mod LinesOfStarts

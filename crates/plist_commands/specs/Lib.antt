@@ -1,5 +1,4 @@
 pub mod EscapedLines
-pub mod Examples
 pub mod Printing
 pub mod Printers
 pub mod ReaderRuns

@@ -5,7 +5,6 @@
 #![tactic(auto)]
 
 mod arguments;
-pub mod callers;
 mod collector;
 mod commands;
 mod convert;
