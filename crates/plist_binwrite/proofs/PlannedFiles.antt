@@ -13,12 +13,12 @@ use Rattle.plist_format.specs.Object.{Object, object_in}
 use Rattle.plist_format.specs.Unfolding.{TableEntry, table_of, unfolding_of, until_fault, items_with, items_of_file}
 use Rattle.plist_format.specs.Visits.{visits_of, visits_with, visits}
 use Rattle.plist_format.proofs.Tables.{length-table_of}
-use Rattle.plist_binwrite.specs.Classes.{IsFileBy, count_by, objects_by, size_by, IsOversized, Fits, files_by}
+use Rattle.plist_binwrite.specs.Classes.{IsFileBy, count_by, objects_by, size_by, IsOversized, files_by}
 use Rattle.plist_binwrite.specs.ObjectCounts.{collections_in}
 use Rattle.plist_binwrite.specs.Forms.{form, table_form, AllFit}
 use Rattle.plist_binwrite.specs.EventTable.{Describes}
 use Rattle.plist_binwrite.specs.EventClasses.{class_in, events_in}
-use Rattle.plist_binwrite.specs.inner.Layout.{AllOnce, laid_out, with_table_and_trailer, HasAll, file_of, IsFilePlan, SendsPlan, AreObjectsOf, ExceedsWith, FitsWith, IsLayout}
+use Rattle.plist_binwrite.specs.inner.Layout.{laid_out, with_table_and_trailer, HasAll, file_of, IsFilePlan, SendsPlan, AreObjectsOf, ExceedsWith, FitsWith, IsLayout}
 use Rattle.plist_binwrite.specs.inner.Numbering.{IsPlanned, count_of, object_number, number_by}
 use Rattle.plist_binwrite.specs.Occurrences.{positions}
 use Rattle.plist_binwrite.specs.Widths.{reference_width, offset_width}
@@ -27,7 +27,7 @@ use Rattle.plist_binwrite.specs.declared.classes.Classed.{Classed}
 use Rattle.plist_binwrite.specs.declared.plan.FilePlan.{FilePlan}
 use Rattle.plist_binwrite.proofs.ClassObjects.{Numbered, numbered, number_apart, number_below}
 use Rattle.plist_binwrite.proofs.PlanClasses.{planned_count, planned_size}
-use Rattle.plist_binwrite.proofs.ObjectOffsets.{length-magic, found_place, object_there, any_at}
+use Rattle.plist_binwrite.proofs.ObjectOffsets.{AllOnce, length-magic, found_place, object_there, any_at}
 use Rattle.plist_binwrite.proofs.Reading.{form_read}
 use Rattle.plist_binwrite.proofs.ReadingNumbers.{drop_front, width_positive, last, length_closed, front_is, head_is}
 use Rattle.plist_binwrite.proofs.TreeOccurrences.{occurs_whole}
@@ -219,7 +219,7 @@ module _ {given : Classed} {plan : FilePlan} (l : IsLayout given plan)
     widths : plan.width ≡ reference_width (length plan.places)
     widths = l.width ∙ ap reference_width (sym l.order.long)
 
-    all_fit : Fits (class_in given) (events_in given)
+    all_fit : (t : Tree) → events_in given ≡ lengthless t → size_by (class_in given) t < 2 ^ 64
     all_fit t e =
         let objects = objects_by (class_in given) (reference_width (count_by (class_in given) t)) t
         in

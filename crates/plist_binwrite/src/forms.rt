@@ -57,6 +57,7 @@ pub fn try_put_number<W: Write>(sink: &mut Sink<'_, W>, width: usize, number: u6
 
 /// Puts a marker of this kind with a length. A length below 15 is in the low half of the marker,
 /// and any other length follows the marker as an unsigned integer.
+#[inline(always)]
 pub fn put_length<W: Write>(
     sink: &mut Sink<'_, W>,
     kind: CountedKind,
@@ -67,13 +68,6 @@ pub fn put_length<W: Write>(
     make_room(sink)?;
     push_length(sink.buffer, kind, count);
     Ok(())
-}
-
-/// Puts a Boolean.
-pub fn put_boolean<W: Write>(sink: &mut Sink<'_, W>, value: bool) -> Result<(), Error>
-    ensures { Puts W.contents sink.old (boolean_form value) result sink.new }
-{
-    put_scalar(sink, ScalarRef::Boolean(value))
 }
 
 /// Puts the object of a scalar. An error is that of [`Sink::put`].
@@ -91,6 +85,13 @@ pub fn put_scalar<W: Write>(sink: &mut Sink<'_, W>, scalar: ScalarRef<'_>) -> Re
         ScalarRef::Uid(uid) => push_uid(sink.buffer, uid),
     }
     Ok(())
+}
+
+/// Puts a Boolean.
+pub fn put_boolean<W: Write>(sink: &mut Sink<'_, W>, value: bool) -> Result<(), Error>
+    ensures { Puts W.contents sink.old (boolean_form value) result sink.new }
+{
+    put_scalar(sink, ScalarRef::Boolean(value))
 }
 
 /// Puts data.

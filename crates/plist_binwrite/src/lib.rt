@@ -12,7 +12,6 @@ mod entries;
 pub mod event_buffer;
 pub mod event_table;
 pub mod forms;
-mod lengths;
 mod numbering;
 mod objects;
 mod plan;

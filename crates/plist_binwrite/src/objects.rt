@@ -22,6 +22,7 @@ use plist_base::{Error, EventShape, Sink};
 use std::io::Write;
 
 // Puts the references to one half of the children of the collection that begins at an index.
+#[inline(always)]
 fn put_half<W: Write>(
     sink: &mut Sink<'_, W>,
     given: &Classed<'_, '_>,

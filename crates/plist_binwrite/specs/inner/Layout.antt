@@ -1,5 +1,5 @@
 -- The order of a file's objects, their offsets, the size of the file, and a planned file.
-use Rattle.std.specs.Prelude.{◌≡◌, ◌≢◌, ◌↔◌, ℕ, ◌<◌, true, false, eqb, List, ◌++◌, length, get_or, ◌+◌, ◌^◌, ◌≤◌, Option, IfSome, ◌⊎◌, Some, Ok, Err}
+use Rattle.std.specs.Prelude.{◌≡◌, ◌≢◌, ℕ, ◌<◌, true, false, eqb, List, ◌++◌, length, get_or, ◌+◌, ◌^◌, ◌≤◌, Option, IfSome, ◌⊎◌, Some, Ok, Err}
 use Rattle.std.specs.List.{list_any, IsDistinct}
 use Rattle.plist_format.specs.Container.{magic}
 use Rattle.plist_format.specs.Object.{Object}
@@ -40,11 +40,6 @@ HasAll count order = (k : ℕ) → k < count → list_any (eqb k) order ≡ true
 abbrev pub laid_out : (width : ℕ) (objects : ℕ → Object) (order : List ℕ) → List ℕ
 laid_out width objects order = magic ++ object_table width objects order
 
--- each number below a count is in the order, once
-pub record AllOnce (count : ℕ) (order : List ℕ) : Type 0 where
-  pub distinct : IsDistinct eqb order
-  pub numbered : (k : ℕ) → (list_any (eqb k) order ≡ true) ↔ (k < count)
-
 -- the file with its offset table and trailer
 abbrev pub with_table_and_trailer : (file places : List ℕ) → List ℕ
 with_table_and_trailer file places = file ++ table_and_trailer places (length file)
@@ -58,17 +53,6 @@ FitsWith table count =
 abbrev pub ExceedsWith : (table count : ℕ) → Type 0
 ExceedsWith table count =
     (objects : ℕ) → table ≡ 8 + objects → 2 ^ 64 ≤ size_with count objects
-
--- `found` is the size of the object of the tree that begins at this index, or `None` only if the
--- size is 2^64 or more
-abbrev pub IsSizeOrNoneAt : EventTable → (width index : ℕ) → Option ℕ → Type 0
-IsSizeOrNoneAt held width index found =
-    (t : Tree) → OccursAt (plain_events held) t index → IsSizeOrNone found (object_size width t)
-
--- a scalar at this index can be written
-abbrev pub IsWritableAt : EventTable → (index : ℕ) → Type 0
-IsWritableAt held index =
-    (x : Scalar) → table_event held index ≡ ScalarEvent x → IsWritableScalar x
 
 -- the objects in this order have these offsets, and `found` is the offset after them, or `None` only
 -- if that is 2^64 or more

@@ -77,10 +77,6 @@ pub record IsNumberedSoFar (given : Classed) (found : Numbering) : Type 0 where
   pub plan : IsPlan (events_in given) (class_in given) found.by_class found.firsts
 
 module _ (given : Classed) where
-  -- if no object had a number, the object of the event at this index now has the first one
-  abbrev pub BeginsAt : (index : ℕ) → (old new : Numbering) → Type 0
-  BeginsAt index old new = length old.firsts ≡ 0 → stored_number given new index ≡ 1
-
   -- each object that has a number keeps it
   abbrev pub KeepsNumbers : (old new : Numbering) → Type 0
   KeepsNumbers old new = KeepsNumbering (stored_number given old) (stored_number given new)
@@ -98,11 +94,3 @@ module _ (given : Classed) where
   -- all children of the collection that begins at this index have numbers
   abbrev pub NumbersChildren : (index : ℕ) → Numbering → Type 0
   NumbersChildren index found = NumbersHalf Keys index found × NumbersHalf Values index found
-
-  -- each event other than an end has a number
-  abbrev pub NumbersAll : Numbering → Type 0
-  NumbersAll found = AllHaveNumbers (events_in given) (stored_number given found)
-
-  -- the root has the first number
-  abbrev pub RootIsFirst : Numbering → Type 0
-  RootIsFirst found = stored_number given found 0 ≡ 1

@@ -1,5 +1,4 @@
 use Rattle.std.proofs.Common.{arith}
-use Rattle.std.proofs.lemmas.List.{take_all}
 use Rattle.plist_binwrite.specs.Forms.{big_endian}
 use Rattle.plist_base.proofs.SinkSteps.{puts_after, puts_then, puts_refused, puts_as}
 use Rattle.plist_binwrite.proofs.NumberLists.{one_part, all_parts}
@@ -26,8 +25,3 @@ returns-in_err-put_number g c =
     (puts_then c.loop-index.invariant
     (puts_after (c.try_put_number.ensures.unchanged c.if-not-try_put_number.true)
     (rw c.get-number.ensures at c.in_err-put_number.ensures))))
-
-pub returns : goal.returns
-returns g c =
-    rw (take_all c.loop-index.index c.args.list.now
-    (omega (arith, c.loop-index-test.false, c.len-index-end.ensures))) at c.loop-index.invariant
