@@ -1,5 +1,5 @@
 -- Objects that lie back to back: their order, their offsets and their sizes.
-use Rattle.std.proofs.Common.{◌≡◌, ◌≢◌, ◌⊎◌, inl, inr, ℕ, ◌+◌, ◌<◌, ◌≤◌, true, false, ◌||◌, eqb, List, [], ◌∷◌, ◌++◌, length, get_or, set, refl, ap, sym, ◌∙◌, arith, append_assoc, length-append, Option, Some, None, IfSome, subst}
+use Rattle.std.proofs.Common.{◌≡◌, ◌≢◌, ◌↔◌, ◌⊎◌, inl, inr, ℕ, ◌+◌, ◌<◌, ◌≤◌, true, false, ◌||◌, eqb, List, [], ◌∷◌, ◌++◌, length, get_or, set, refl, ap, sym, ◌∙◌, arith, append_assoc, length-append, Option, Some, None, IfSome, subst}
 use Rattle.std.specs.List.{list_any, IsDistinct}
 use Rattle.std.proofs.lemmas.Bool.{eqb-true, eqb-false, or_cases, or_parts, false_from_ne_true, true_from_ne_false, eq-eqb}
 use Rattle.std.proofs.lemmas.Cmp.{nat_eq_equiv}
@@ -12,14 +12,12 @@ use Rattle.plist_format.specs.Container.{magic}
 use Rattle.plist_format.specs.Object.{Object}
 use Rattle.plist_binwrite.specs.Forms.{form, IsWritable}
 use Rattle.plist_binwrite.specs.Written.{object_table, Laid}
-use Rattle.plist_binwrite.specs.inner.Laying.{IsOrder, KeepsMarks, laid_out, AllOnce}
+use Rattle.plist_binwrite.specs.inner.Layout.{IsOrder, laid_out, AreLaidOut}
 use Rattle.std.proofs.lemmas.List.Folds.{list_any_at}
 use Rattle.plist_base.specs.Events.{PlainEvent}
 use Rattle.plist_base.specs.Trees.{Tree, Leaf, Array, Dictionary}
 use Rattle.plist_binwrite.specs.EventTable.{Describes, HasItem, IsBracketed}
-use Rattle.plist_binwrite.specs.inner.Planning.{IsPlanned}
-use Rattle.plist_binwrite.specs.inner.PlansBy.{number_by}
-use Rattle.plist_binwrite.specs.inner.Sizing.{AreLaidOut}
+use Rattle.plist_binwrite.specs.inner.Numbering.{IsPlanned, number_by}
 use Rattle.plist_binwrite.specs.Occurrences.{OccursAt}
 use Rattle.plist_binwrite.specs.Numberings.{object_of}
 use Rattle.plist_binwrite.specs.Sizes.{total, IsSizeOrNone, object_size}
@@ -29,6 +27,11 @@ use Rattle.plist_binwrite.proofs.ReadingNumbers.{length-table}
 use Rattle.plist_binwrite.proofs.NumberingSteps.{known_number}
 use Rattle.plist_binwrite.proofs.Totals.{total_below, total_all}
 use Rattle.plist_binwrite.proofs.Unfold.{length-references, length-pairs}
+
+-- each number below a count is in the order, once
+pub record AllOnce (count : ℕ) (order : List ℕ) : Type 0 where
+  pub distinct : IsDistinct eqb order
+  pub numbered : (k : ℕ) → (list_any (eqb k) order ≡ true) ↔ (k < count)
 
 pub length-magic : (xs : List ℕ) → length (magic ++ xs) ≡ 8 + length xs
 length-magic xs = length-append magic xs
@@ -150,7 +153,8 @@ module _ {count : ℕ} {order marks : List ℕ} (k v : ℕ) (o : IsOrder count o
     | inr s ↦ inr (eqb-true q k s)
   ]
 
-  pub keeps_more : KeepsMarks marks (set marks k v)
+  -- no mark is removed
+  pub keeps_more : (q : ℕ) → get_or marks q 0 ≢ 0 → get_or (set marks k v) q 0 ≢ 0
   keeps_more q n = elim (eqb_tells q k) [
     | inl s ↦ λ zero. absurd (omega (
       arith,

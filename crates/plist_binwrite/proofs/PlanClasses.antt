@@ -12,9 +12,7 @@ use Rattle.plist_format.specs.Object.{Object}
 use Rattle.plist_binwrite.specs.Classes.{same_class, representatives, count_by, objects_by}
 use Rattle.plist_binwrite.specs.Forms.{form}
 use Rattle.plist_binwrite.specs.EventTable.{Describes}
-use Rattle.plist_binwrite.specs.inner.Laying.{AllOnce}
-use Rattle.plist_binwrite.specs.inner.Planning.{IsPlanned}
-use Rattle.plist_binwrite.specs.inner.PlansBy.{number_by}
+use Rattle.plist_binwrite.specs.inner.Numbering.{IsPlanned, number_by}
 use Rattle.plist_binwrite.specs.Sizes.{total, object_size}
 use Rattle.plist_binwrite.specs.Occurrences.{positions}
 use Rattle.plist_binwrite.specs.Written.{object_table}
@@ -22,7 +20,7 @@ use Rattle.plist_binwrite.proofs.ClassObjects.{number_below, number_apart, numbe
 use Rattle.plist_binwrite.proofs.TreePositions.{Stands, positions_stand, positions_all}
 use Rattle.plist_binwrite.proofs.SameScalars.{tells_both}
 use Rattle.plist_binwrite.proofs.TreeOccurrences.{occurs_whole}
-use Rattle.plist_binwrite.proofs.ObjectOffsets.{form_size, total_bodies}
+use Rattle.plist_binwrite.proofs.ObjectOffsets.{AllOnce, form_size, total_bodies}
 use Rattle.plist_binwrite.proofs.NumberingSteps.{known_number}
 use Rattle.plist_binwrite.proofs.Totals.{total_below, count_below, total_all, unique_member, unique_distinct, total-map, total_equal, total_one}
 use Rattle.plist_binwrite.proofs.Uniques.{all_from, all_unique, members_self, member_has, unique_seen}

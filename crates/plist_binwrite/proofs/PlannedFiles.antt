@@ -13,24 +13,21 @@ use Rattle.plist_format.specs.Object.{Object, object_in}
 use Rattle.plist_format.specs.Unfolding.{TableEntry, table_of, unfolding_of, until_fault, items_with, items_of_file}
 use Rattle.plist_format.specs.Visits.{visits_of, visits_with, visits}
 use Rattle.plist_format.proofs.Tables.{length-table_of}
-use Rattle.plist_binwrite.specs.Classes.{IsFileBy, count_by, objects_by, size_by, IsOversized, Fits, files_by}
+use Rattle.plist_binwrite.specs.Classes.{IsFileBy, count_by, objects_by, size_by, IsOversized, files_by}
 use Rattle.plist_binwrite.specs.ObjectCounts.{collections_in}
 use Rattle.plist_binwrite.specs.Forms.{form, table_form, AllFit}
 use Rattle.plist_binwrite.specs.EventTable.{Describes}
 use Rattle.plist_binwrite.specs.EventClasses.{class_in, events_in}
-use Rattle.plist_binwrite.specs.inner.Laying.{AllOnce, laid_out, with_table_and_trailer, HasAll}
-use Rattle.plist_binwrite.specs.inner.Planning.{IsNumberingOfEvents, IsPlanned, count_of, object_number}
-use Rattle.plist_binwrite.specs.inner.PlansBy.{number_by}
+use Rattle.plist_binwrite.specs.inner.Layout.{laid_out, with_table_and_trailer, HasAll, file_of, IsFilePlan, SendsPlan, AreObjectsOf, ExceedsWith, FitsWith, IsLayout}
+use Rattle.plist_binwrite.specs.inner.Numbering.{IsPlanned, count_of, object_number, number_by}
 use Rattle.plist_binwrite.specs.Occurrences.{positions}
 use Rattle.plist_binwrite.specs.Widths.{reference_width, offset_width}
 use Rattle.plist_binwrite.specs.Written.{Laid, object_table, table_and_trailer}
 use Rattle.plist_binwrite.specs.declared.classes.Classed.{Classed}
-use Rattle.plist_binwrite.specs.declared.layout.FileLayout.{FileLayout}
-use Rattle.plist_binwrite.specs.declared.numbering.Numbering.{Numbering}
 use Rattle.plist_binwrite.specs.declared.plan.FilePlan.{FilePlan}
 use Rattle.plist_binwrite.proofs.ClassObjects.{Numbered, numbered, number_apart, number_below}
 use Rattle.plist_binwrite.proofs.PlanClasses.{planned_count, planned_size}
-use Rattle.plist_binwrite.proofs.ObjectOffsets.{length-magic, found_place, object_there, any_at}
+use Rattle.plist_binwrite.proofs.ObjectOffsets.{AllOnce, length-magic, found_place, object_there, any_at}
 use Rattle.plist_binwrite.proofs.Reading.{form_read}
 use Rattle.plist_binwrite.proofs.ReadingNumbers.{drop_front, width_positive, last, length_closed, front_is, head_is}
 use Rattle.plist_binwrite.proofs.TreeOccurrences.{occurs_whole}
@@ -40,13 +37,11 @@ use Rattle.plist_base.specs.Outcomes.{OnlyDevice}
 use Rattle.plist_base.specs.declared.error.Error.{Error}
 use Rattle.plist_base.specs.Writing.{Answer, answer_of}
 use Rattle.plist_base.proofs.Grammar.{complete_of_whole}
-use Rattle.plist_binwrite.specs.inner.PlannedFiles.{AreObjectsOf, file_of, IsFilePlan, SendsPlan}
 use Rattle.std.specs.Io.KnownBytes.{Appends}
 use Rattle.plist_base.specs.declared.sink.Sink.{Sink}
 use Rattle.plist_base.specs.Prefixes.{AppendsPrefix}
 use Rattle.plist_base.specs.Sinks.{PutsBytes, pending, written}
 use Rattle.plist_base.proofs.SinkSteps.{sent_part, sent_whole}
-use Rattle.plist_binwrite.specs.inner.Sizing.{ExceedsWith, FitsWith, IsLayout}
 use Rattle.plist_binwrite.specs.Sizes.{IsSizeOrNone, size_with}
 use Rattle.plist_binwrite.specs.SendingAs.{IsFileAs, SendsAs}
 use Rattle.plist_binwrite.proofs.Lengthless.{plain_lengthless}
@@ -185,10 +180,9 @@ module _ {es : List PlainEvent} {class : ℕ → ℕ} {by_class firsts : List �
       fits = fits;
     }
 
-module _ {given : Classed} {numbering : Numbering} {layout : FileLayout}
-    (p : IsNumberingOfEvents given numbering) (l : IsLayout given numbering layout)
-    (all : HasAll (count_of numbering) layout.order) where
-  once : AllOnce (count_of numbering) layout.order
+module _ {given : Classed} {plan : FilePlan} (l : IsLayout given plan)
+    (all : HasAll (count_of plan.numbering) plan.order) where
+  once : AllOnce (count_of plan.numbering) plan.order
   once = record { distinct = l.order.distinct; numbered = λ k. (l.order.below k, all k) }
 
   module _ (t : Tree) (e : events_in given ≡ lengthless t) where
@@ -196,36 +190,36 @@ module _ {given : Classed} {numbering : Numbering} {layout : FileLayout}
     size_of_all = objects_by (class_in given) (reference_width (count_by (class_in given) t)) t
 
     -- the offset of the offset table is the length of the magic and the objects
-    table_told : IsSizeOrNone layout.end (8 + size_of_all)
+    table_told : IsSizeOrNone plan.end (8 + size_of_all)
     table_told =
-        let of = numbered p.planned in
-        subst (IsSizeOrNone layout.end)
-        (ap (λ v. length (laid_out v of.objects layout.order)) l.width
-        ∙ laid_length p.planned t e of.objects of.describes layout.order once)
+        let of = numbered l.numbered.planned in
+        subst (IsSizeOrNone plan.end)
+        (ap (λ v. length (laid_out v of.objects plan.order)) l.width
+        ∙ laid_length l.numbered.planned t e of.objects of.describes plan.order once)
         (l.laid of.objects of.describes).end
 
     -- the number of objects is that of the classes
-    count_told : length layout.places ≡ count_by (class_in given) t
-    count_told = l.order.long ∙ planned_count p.planned t e
+    count_told : length plan.places ≡ count_by (class_in given) t
+    count_told = l.order.long ∙ planned_count l.numbered.planned t e
 
     too_large : (end : Option ℕ)
-        → IfSome end (λ table. ExceedsWith table (length layout.places))
+        → IfSome end (λ table. ExceedsWith table (length plan.places))
         → IsSizeOrNone end (8 + size_of_all) → 2 ^ 64 ≤ size_by (class_in given) t
     too_large None exceeds large = omega (arith, large)
     too_large (Some table) exceeds is =
         subst (λ k. 2 ^ 64 ≤ size_with k size_of_all) count_told (exceeds size_of_all is)
 
   -- the file has 2^64 bytes or more
-  pub oversized : IfSome layout.end (λ table. ExceedsWith table (length layout.places))
+  pub oversized : IfSome plan.end (λ table. ExceedsWith table (length plan.places))
       → IsOversized (class_in given) (events_in given)
-  oversized exceeds t e = too_large t e layout.end exceeds (table_told t e)
+  oversized exceeds t e = too_large t e plan.end exceeds (table_told t e)
 
-  module _ {table : ℕ} (known : layout.end ≡ Some table)
-      (fits : FitsWith table (length layout.places)) where
-    widths : layout.width ≡ reference_width (length layout.places)
+  module _ {table : ℕ} (known : plan.end ≡ Some table)
+      (fits : FitsWith table (length plan.places)) where
+    widths : plan.width ≡ reference_width (length plan.places)
     widths = l.width ∙ ap reference_width (sym l.order.long)
 
-    all_fit : Fits (class_in given) (events_in given)
+    all_fit : (t : Tree) → events_in given ≡ lengthless t → size_by (class_in given) t < 2 ^ 64
     all_fit t e =
         let objects = objects_by (class_in given) (reference_width (count_by (class_in given) t)) t
         in
@@ -233,26 +227,17 @@ module _ {given : Classed} {numbering : Numbering} {layout : FileLayout}
         (fits objects (rw known at (table_told t e)))
 
     -- what is laid out is the plan of the file
-    pub plan_made : IsFilePlan given (record {
-      numbering = numbering;
-      order = layout.order;
-      places = layout.places;
-      width = layout.width;
-      table = table;
-    })
+    pub plan_made : IsFilePlan given plan
     plan_made = record {
-      numbered = p;
-      order = λ i h. l.order.below (get_or layout.order i 0) (any_at layout.order i h);
-      width = widths;
-      narrow = l.narrow;
-      table = λ objects d. rw known at (l.laid objects d).end;
+      layout = l;
+      table = λ objects d. known ∙ ap Some (rw known at (l.laid objects d).end);
       file = λ objects d t e.
           subst
           (λ w. IsFileBy (class_in given) t
-          (with_table_and_trailer (laid_out w objects layout.order) layout.places))
+          (with_table_and_trailer (laid_out w objects plan.order) plan.places))
           (sym widths)
-          (finished p.planned t e objects d layout.order once layout.places
-          (subst (λ w. Laid w objects layout.places layout.order 8) widths
+          (finished l.numbered.planned t e objects d plan.order once plan.places
+          (subst (λ w. Laid w objects plan.places plan.order 8) widths
           (rw known at (l.laid objects d).laid)) l.order.long (all_fit t e));
     }
 

@@ -14,7 +14,7 @@ use Rattle.plist_binwrite.specs.Forms.{big_endian, doublings, unsigned_form, int
 use Rattle.plist_binwrite.proofs.NumberForms.{length_short, length_long}
 use Rattle.plist_binwrite.proofs.LeastWidths.{at_width, length-big_endian, number_back}
 use Rattle.plist_binwrite.specs.Widths.{reference_width, offset_width}
-use Rattle.plist_binwrite.specs.inner.Laying.{with_table_and_trailer}
+use Rattle.plist_binwrite.specs.inner.Layout.{with_table_and_trailer}
 
 -- ---- the front of some bytes
 

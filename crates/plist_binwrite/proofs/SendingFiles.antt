@@ -10,7 +10,7 @@ use Rattle.plist_base.proofs.Grammar.{complete_of_whole, whole_alike}
 use Rattle.plist_binwrite.specs.Classes.{IsFileBy, files_by}
 use Rattle.plist_binwrite.specs.EventClasses.{class_in, events_in}
 use Rattle.plist_binwrite.specs.declared.classes.Classed.{Classed}
-use Rattle.plist_binwrite.specs.inner.PlannedFiles.{IsPlanFault}
+use Rattle.plist_binwrite.specs.inner.Layout.{IsPlanFault}
 use Rattle.plist_binwrite.specs.Files.{IsFileOf}
 use Rattle.plist_binwrite.specs.EventTable.{plain_events}
 use Rattle.plist_binwrite.specs.Sending.{Sends, least_files}

@@ -41,10 +41,6 @@ children_after event half es from = []
 abbrev pub half_of : List PlainEvent → Half → (index : ℕ) → List ℕ
 half_of es half index = children_after (event_at es index) half es (index + 1)
 
--- the event at an index has no children
-abbrev pub HasNoHalf : List PlainEvent → (index : ℕ) → Type 0
-HasNoHalf es index = (half : Half) → half_of es half index ≡ []
-
 -- the indices that an iterator still has to yield
 abbrev pub indices_left : Children → List ℕ
 indices_left children =

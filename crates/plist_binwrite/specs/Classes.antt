@@ -61,10 +61,6 @@ module _ (class : ℕ → ℕ) where
   abbrev pub files_by : FileKind
   files_by = record { IsFile = IsFileBy; size = size_by }
 
-  -- a file of the tree with these events has less than 2^64 bytes
-  abbrev pub Fits : List PlainEvent → Type 0
-  Fits es = (tree : Tree) → es ≡ lengthless tree → size_by tree < 2 ^ 64
-
   -- a file of the tree with these events would have 2^64 bytes or more
   abbrev pub IsOversized : List PlainEvent → Type 0
   IsOversized es = (tree : Tree) → es ≡ lengthless tree → 2 ^ 64 ≤ size_by tree

@@ -96,11 +96,6 @@ AllBelow n ps = (i : ℕ) → i < length ps → get_or ps i 0 < n
 abbrev pub nth_number : List ℕ → ℕ → ℕ
 nth_number numbers p = get_or numbers p 0
 
--- each event other than an end has a number below the count
-abbrev pub AllNumbered : List PlainEvent → (number : ℕ → ℕ) → (count : ℕ) → Type 0
-AllNumbered es number count = (p : ℕ) → p < length es → is_end (event_at es p) ≡ false
-    → number p < count
-
 -- these are the objects of the trees among the events, by their numbers
 abbrev pub Describes : List PlainEvent → (number : ℕ → ℕ) → (ℕ → Object) → Type 0
 Describes es number objects = (t : Tree) (p : ℕ) → OccursAt es t p

@@ -109,10 +109,8 @@ impl Entries {
         ensures { result ≡ index_after_at self.now index }
     {
         match self.kind_at(index) {
-            EventShape::StartArray => self.number_at(index),
-            EventShape::StartDictionary => self.number_at(index),
-            EventShape::Scalar => index + 1,
-            EventShape::EndCollection => index + 1,
+            EventShape::StartArray | EventShape::StartDictionary => self.number_at(index),
+            EventShape::Scalar | EventShape::EndCollection => index + 1,
         }
     }
 
@@ -123,10 +121,9 @@ impl Entries {
         ensures { result ≡ scalar_named (entry_at self.now index) }
     {
         match self.kind_at(index) {
-            EventShape::StartArray => None,
-            EventShape::StartDictionary => None,
             EventShape::Scalar => Some(self.number_at(index)),
-            EventShape::EndCollection => None,
+            EventShape::StartArray | EventShape::StartDictionary | EventShape::EndCollection =>
+                None,
         }
     }
 

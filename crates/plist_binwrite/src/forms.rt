@@ -4,29 +4,21 @@
 //! [`Sink::put`]: `Io`, without an offset. The writer has then received a prefix of all the bytes
 //! that were put.
 
-ghost use Rattle.std.specs.Prelude.{◌≡◌, ◌∷◌, [], ◌≤◌, Ok, OnOk, true, false};
-ghost use Rattle.plist_binwrite.specs.Forms.{big_endian, unsigned_form, integer_form, uid_form, length_form, boolean_form, data_form, date_form, real_form, table_form};
+ghost use Rattle.std.specs.Prelude.{◌≡◌, [], ◌≤◌, Ok, OnOk, true, false};
+ghost use Rattle.plist_binwrite.specs.Forms.{big_endian, integer_form, uid_form, length_form, boolean_form, data_form, date_form, real_form, scalar_form, table_form};
+ghost use Rattle.plist_binwrite.specs.StoredScalars.{scalar_of_ref};
 ghost use Rattle.plist_format.specs.Marker.{high_half};
 ghost use Rattle.plist_base.specs.Sinks.{Puts, PutsBytes, PutsNothing, room};
 ghost use Rattle.plist_binwrite.specs.Written.{table_and_trailer, trailer_of};
 
 use crate::compact_numbers::Numbers;
-use crate::push::{
-    push_boolean, push_date, push_integer, push_length, push_real, push_uid, push_unsigned,
-};
-pub use crate::scalar::put_scalar;
+use crate::push::{push_boolean, push_date, push_integer, push_length, push_real, push_uid};
+use crate::stored_scalar::ScalarRef;
 pub use crate::text::put_text;
 use crate::widths::{offset_width, reference_width};
 use plist_base::{Date, Error, Integer, RealBits, Sink, Uid};
 pub use plist_format::CountedKind;
 use std::io::Write;
-
-/// Puts a byte.
-pub fn put_byte<W: Write>(sink: &mut Sink<'_, W>, byte: u8) -> Result<(), Error>
-    ensures { Puts W.contents sink.old (byte ∷ []) result sink.new }
-{
-    sink.put(&[byte])
-}
 
 // Makes room for an object of at most 17 bytes, by writing the pending bytes if there isn't enough.
 #[inline(always)]
@@ -63,35 +55,9 @@ pub fn try_put_number<W: Write>(sink: &mut Sink<'_, W>, width: usize, number: u6
     sink.try_put(&digits[8 - width..])
 }
 
-/// Puts the lowest `width` bytes of a number in big-endian order. `width` is at most 8. If they fit
-/// into the buffer of the sink, this is faster than [`put_number`].
-#[inline(always)]
-pub fn put_next_number<W: Write>(
-    sink: &mut Sink<'_, W>,
-    width: usize,
-    number: u64,
-) -> Result<(), Error>
-    requires width { width ≤ 8 }
-    ensures { Puts W.contents sink.old (big_endian width number) result sink.new }
-{
-    if try_put_number(sink, width, number) {
-        return Ok(());
-    }
-    put_number(sink, width, number)
-}
-
-/// Puts an unsigned integer: a marker, and the number in the smallest of 1, 2, 4 and 8 bytes into
-/// which it fits.
-pub fn put_unsigned<W: Write>(sink: &mut Sink<'_, W>, number: u64) -> Result<(), Error>
-    ensures { Puts W.contents sink.old (unsigned_form number) result sink.new }
-{
-    make_room(sink)?;
-    push_unsigned(sink.buffer, number);
-    Ok(())
-}
-
 /// Puts a marker of this kind with a length. A length below 15 is in the low half of the marker,
 /// and any other length follows the marker as an unsigned integer.
+#[inline(always)]
 pub fn put_length<W: Write>(
     sink: &mut Sink<'_, W>,
     kind: CountedKind,
@@ -104,13 +70,28 @@ pub fn put_length<W: Write>(
     Ok(())
 }
 
+/// Puts the object of a scalar. An error is that of [`Sink::put`].
+pub fn put_scalar<W: Write>(sink: &mut Sink<'_, W>, scalar: ScalarRef<'_>) -> Result<(), Error>
+    ensures { Puts W.contents sink.old (scalar_form (scalar_of_ref scalar.entry)) result sink.new }
+{
+    make_room(sink)?;
+    match scalar {
+        ScalarRef::String(text) => return put_text(sink, text),
+        ScalarRef::Data(bytes) => return put_data(sink, bytes),
+        ScalarRef::Boolean(value) => push_boolean(sink.buffer, value),
+        ScalarRef::Date(date) => push_date(sink.buffer, date),
+        ScalarRef::Integer(value) => push_integer(sink.buffer, value),
+        ScalarRef::Real(bits) => push_real(sink.buffer, bits),
+        ScalarRef::Uid(uid) => push_uid(sink.buffer, uid),
+    }
+    Ok(())
+}
+
 /// Puts a Boolean.
 pub fn put_boolean<W: Write>(sink: &mut Sink<'_, W>, value: bool) -> Result<(), Error>
     ensures { Puts W.contents sink.old (boolean_form value) result sink.new }
 {
-    make_room(sink)?;
-    push_boolean(sink.buffer, value);
-    Ok(())
+    put_scalar(sink, ScalarRef::Boolean(value))
 }
 
 /// Puts data.
@@ -126,27 +107,21 @@ pub fn put_data<W: Write>(sink: &mut Sink<'_, W>, content: &[u8]) -> Result<(), 
 pub fn put_date<W: Write>(sink: &mut Sink<'_, W>, date: Date) -> Result<(), Error>
     ensures { Puts W.contents sink.old (date_form date) result sink.new }
 {
-    make_room(sink)?;
-    push_date(sink.buffer, date);
-    Ok(())
+    put_scalar(sink, ScalarRef::Date(date))
 }
 
 /// Puts a real: a marker and its four or eight bytes.
 pub fn put_real<W: Write>(sink: &mut Sink<'_, W>, bits: RealBits) -> Result<(), Error>
     ensures { Puts W.contents sink.old (real_form bits) result sink.new }
 {
-    make_room(sink)?;
-    push_real(sink.buffer, bits);
-    Ok(())
+    put_scalar(sink, ScalarRef::Real(bits))
 }
 
 /// Puts a Uid in the smallest of 1, 2, 4 and 8 bytes into which it fits.
 pub fn put_uid<W: Write>(sink: &mut Sink<'_, W>, uid: Uid) -> Result<(), Error>
     ensures { Puts W.contents sink.old (uid_form uid) result sink.new }
 {
-    make_room(sink)?;
-    push_uid(sink.buffer, uid);
-    Ok(())
+    put_scalar(sink, ScalarRef::Uid(uid))
 }
 
 /// Puts an integer. One from 0 to `i64::MAX` has the smallest of 1, 2, 4 and 8 bytes into which it
@@ -154,9 +129,7 @@ pub fn put_uid<W: Write>(sink: &mut Sink<'_, W>, uid: Uid) -> Result<(), Error>
 pub fn put_integer<W: Write>(sink: &mut Sink<'_, W>, value: Integer) -> Result<(), Error>
     ensures { Puts W.contents sink.old (integer_form value) result sink.new }
 {
-    make_room(sink)?;
-    push_integer(sink.buffer, value);
-    Ok(())
+    put_scalar(sink, ScalarRef::Integer(value))
 }
 
 /// Puts each number of a list in `width` bytes, as in an offset table. `width` is at most 8.
@@ -169,7 +142,10 @@ pub fn put_numbers<W: Write>(
     ensures { Puts W.contents sink.old (table_form width list.now) result sink.new }
 {
     for index in 0..list.len() {
-        put_next_number(sink, width, list.get(index) as u64)?;
+        let number = list.get(index) as u64;
+        if !try_put_number(sink, width, number) {
+            put_number(sink, width, number)?;
+        }
     }
     Ok(())
 }

@@ -2,7 +2,7 @@
 
 ghost use Rattle.plist_binwrite.specs.EventClasses.{IsClassed, events_in};
 ghost use Rattle.plist_binwrite.specs.EventTable.{IsBracketed};
-ghost use Rattle.plist_binwrite.specs.inner.Planning.{IsNumberingOfEvents};
+ghost use Rattle.plist_binwrite.specs.inner.Numbering.{IsNumberingOfEvents};
 ghost use Rattle.std.specs.Prelude.{IfOk};
 
 use crate::children::{Children, Half, begins_collection};
@@ -24,8 +24,7 @@ impl Numbering {
     ghost use Rattle.std.specs.Prelude.{◌≡◌, ◌<◌, [], length, replicate, IfOk, OnOk};
     ghost use Rattle.plist_binwrite.specs.EventClasses.{IsListed, class_in, events_in};
     ghost use Rattle.plist_binwrite.specs.EventTable.{nth_number, HasItem, IsBracketed};
-    ghost use Rattle.plist_binwrite.specs.inner.Numbering.{BeginsAt, IsNumberedSoFar, KeepsNumbers, NumbersAll, NumbersChildren, NumbersHalf, NumbersItem, RootIsFirst};
-    ghost use Rattle.plist_binwrite.specs.inner.Planning.{object_number};
+    ghost use Rattle.plist_binwrite.specs.inner.Numbering.{AllHaveNumbers, IsNumberedSoFar, KeepsNumbers, NumbersChildren, NumbersHalf, NumbersItem, object_number, stored_number};
 
     // Creates a numbering in which no object has a number. The memory of `firsts` is reserved at
     // once: if this list grew, it would leave gaps in the heap between the lists that don't grow.
@@ -65,7 +64,8 @@ impl Numbering {
         requires item { HasItem (events_in given.now) index }
         // Result.
         ensures numbered { OnOk result (NumbersItem given.now index self.new) }
-        ensures first { OnOk result (BeginsAt given.now index self.old self.new) }
+        ensures first { OnOk result (length self.old.firsts ≡ 0
+            → stored_number given.now self.new index ≡ 1) }
         // State afterwards.
         ensures so_far { OnOk result (IsNumberedSoFar given.now self.new) }
         ensures keeps { OnOk result (KeepsNumbers given.now self.old self.new) }
@@ -80,6 +80,7 @@ impl Numbering {
     }
 
     // Numbers the objects of one half of the children of the collection that begins at an index.
+    #[inline(always)]
     fn number_half(
         &mut self,
         given: &Classed<'_, '_>,
@@ -122,8 +123,9 @@ impl Numbering {
         requires none { self.old.firsts ≡ [] }
         requires whole { IsBracketed (events_in given.now) }
         ensures so_far { OnOk result (IsNumberedSoFar given.now self.new) }
-        ensures all { OnOk result (NumbersAll given.now self.new) }
-        ensures root { OnOk result (RootIsFirst given.now self.new) }
+        ensures all { OnOk result (AllHaveNumbers (events_in given.now)
+            (stored_number given.now self.new)) }
+        ensures root { OnOk result (stored_number given.now self.new 0 ≡ 1) }
     {
         self.number_one(given, 0)?;
         for index in 0..given.events.len() {

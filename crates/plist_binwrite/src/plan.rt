@@ -1,32 +1,130 @@
-//! Plans a file. The plan is complete before the first byte of the file is written.
+//! Plans a file: numbers its objects, and then lays them out. The plan is complete before the first
+//! byte of the file is written.
 
-ghost use Rattle.std.specs.Prelude.{IfOk};
+ghost use Rattle.std.specs.Prelude.{◌≡◌, ◌<◌, IfOk, IfSome};
 ghost use Rattle.plist_base.specs.Outcomes.{IfFault};
 ghost use Rattle.plist_binwrite.specs.EventClasses.{IsClassed, events_in};
 ghost use Rattle.plist_binwrite.specs.EventTable.{IsBracketed};
-ghost use Rattle.plist_binwrite.specs.inner.PlannedFiles.{IsFilePlan, IsPlanFault};
+ghost use Rattle.plist_binwrite.specs.inner.Layout.{IsFilePlan, IsPlanFault};
 
+use crate::children::{Children, Half};
 use crate::classes::Classed;
 use crate::compact_numbers::Numbers;
-use crate::layout::{FileLayout, lay_out};
 use crate::numbering::{Numbering, number_objects};
-use crate::size::check_size;
-use plist_base::{Error, ErrorKind};
-use std::alloc::Global;
+use crate::size::{add, has_size, size_of_object};
+use crate::widths::reference_width;
+use plist_base::{Error, ErrorKind, EventShape};
+use std::alloc::{AllocError, Global};
 
-/// The plan of a file of less than 2^64 bytes.
+/// The plan of a file, as far as its objects are laid out.
 #[derive(Drop)]
 pub struct FilePlan {
     /// The number of each class's object.
     pub numbering: Numbering,
-    /// The numbers of the objects, in the order of the file.
-    pub order: Numbers,
-    /// The byte offset of each object, indexed by its number.
-    pub places: Numbers,
     /// The number of bytes in a reference.
     pub width: usize,
-    /// The byte offset of the offset table.
-    pub table: usize,
+    /// The numbers of the objects that have offsets, in the order of the file.
+    pub order: Numbers,
+    /// The byte offset of each object, indexed by its number, or 0 while it has none.
+    pub places: Numbers,
+    /// The offset after the last of these objects, or `None` if it is 2^64 or more; the offsets are
+    /// unspecified then.
+    pub end: Option<u64>,
+}
+
+// Returns an offset, or 2^64 - 1 for `None`. That number is never written, because a file with an
+// offset of 2^64 or more is too large.
+fn place_or_greatest(place: Option<u64>) -> usize
+    ensures value { IfSome place (λ number. result ≡ number) }
+    ensures positive { IfSome place (λ number. 0 < number) → 0 < result }
+{
+    place.unwrap_or(u64::MAX) as usize
+}
+
+impl FilePlan {
+    ghost use Rattle.std.specs.Prelude.{◌<◌, length, IfOk, IfSome, OnOk};
+    ghost use Rattle.plist_binwrite.specs.EventClasses.{IsClassed, events_in};
+    ghost use Rattle.plist_binwrite.specs.EventTable.{HasItem, IsBracketed};
+    ghost use Rattle.plist_binwrite.specs.inner.Layout.{HasAll, IsLayout, Places};
+    ghost use Rattle.plist_binwrite.specs.inner.Numbering.{count_of};
+
+    // Numbers the objects, of which none has an offset yet. The first one will follow the magic,
+    // which has 8 bytes.
+    fn new(alloc: Global, given: &Classed<'_, '_>) -> Result<FilePlan, AllocError>
+        requires whole { IsBracketed (events_in given.now) }
+        requires classed { IsClassed given.now }
+        ensures { IfOk result (IsLayout given.now) }
+    {
+        let numbering = number_objects(alloc, given)?;
+        let count = numbering.firsts.len();
+        let places = Numbers::zeros(alloc, count)?;
+        let order = Numbers::with_capacity(alloc, count)?;
+        Ok(FilePlan {
+            numbering,
+            width: reference_width(count as u64),
+            order,
+            places,
+            end: Some(8),
+        })
+    }
+
+    /// Returns the byte offset of the offset table, once all objects have offsets.
+    pub fn table(&self) -> usize
+        ensures { IfSome self.now.end (λ table. result ≡ table) }
+    {
+        place_or_greatest(self.end)
+    }
+
+    // Appends the object of the event at an index to the layout: its offset is the one after the
+    // last object. Does nothing if the object has an offset already.
+    #[inline(always)]
+    fn place(&mut self, given: &Classed<'_, '_>, index: usize) -> Result<(), AllocError>
+        requires item { HasItem (events_in given.now) index }
+        requires layout { IsLayout given.now self.old }
+        ensures { OnOk result (Places given.now index self.old self.new) }
+    {
+        let number = self.numbering.number(given, index);
+        if self.places.get(number) != 0 {
+            return Ok(());
+        }
+        self.order.push(number)?;
+        self.places.set(number, place_or_greatest(self.end))?;
+        let size = size_of_object(given.events, self.width, index);
+        self.end = add(self.end, size);
+        Ok(())
+    }
+
+    // Places the object of the event at an index, and then those of its keys. An end has no object.
+    fn place_here(&mut self, given: &Classed<'_, '_>, index: usize) -> Result<(), AllocError>
+        requires index { index < length (events_in given.now) }
+        requires layout { IsLayout given.now self.old }
+        ensures { OnOk result (Places given.now index self.old self.new) }
+    {
+        match given.events.kind_at(index) {
+            EventShape::EndCollection => Ok(()),
+            EventShape::Scalar | EventShape::StartArray => self.place(given, index),
+            EventShape::StartDictionary => {
+                self.place(given, index)?;
+                for key in Children::new(given.events, index, Half::Keys) {
+                    self.place(given, key)?;
+                }
+                Ok(())
+            }
+        }
+    }
+
+    // Places all objects, in the order of their first events, except that the keys of a dictionary
+    // precede its values.
+    fn place_all(&mut self, given: &Classed<'_, '_>) -> Result<(), AllocError>
+        requires layout { IsLayout given.now self.old }
+        ensures layout { OnOk result (IsLayout given.now self.new) }
+        ensures all { OnOk result (HasAll (count_of self.new.numbering) self.new.order) }
+    {
+        for index in 0..given.events.len() {
+            self.place_here(given, index)?;
+        }
+        Ok(())
+    }
 }
 
 /// Plans the file of a tree's events, which has one object for each class.
@@ -41,22 +139,10 @@ pub fn plan_file(alloc: Global, given: &Classed<'_, '_>) -> Result<FilePlan, Err
     ensures plan { IfOk result (IsFilePlan given.now) }
     ensures refused { IfFault result (IsPlanFault given.now) }
 {
-    let numbering = number_objects(alloc, given)?;
-    let layout = lay_out(alloc, given, &numbering)?;
-    let FileLayout {
-        width,
-        order,
-        places,
-        end,
-    } = layout;
-    match check_size(end, places.len() as u64) {
-        Some(table) => Ok(FilePlan {
-            numbering,
-            order,
-            places,
-            width,
-            table: table as usize,
-        }),
-        None => Err(ErrorKind::PlistTooLarge.without_position()),
+    let mut plan = FilePlan::new(alloc, given)?;
+    plan.place_all(given)?;
+    if has_size(plan.end, plan.places.len() as u64) {
+        return Ok(plan);
     }
+    Err(ErrorKind::PlistTooLarge.without_position())
 }

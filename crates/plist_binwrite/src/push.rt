@@ -1,12 +1,15 @@
-//! Pushes objects of at most 17 bytes, and lengths, into a buffer that has room for them.
+//! Pushes lengths, and the objects of scalars, into a buffer that has room for them.
 //!
 //! If the room is known, nothing can fail, so no `Result` is passed through the calls.
 
-ghost use Rattle.std.specs.Prelude.{◌≡◌, ◌+◌, ◌++◌, ◌∷◌, ◌≤◌, length};
+ghost use Rattle.std.specs.Prelude.{◌≡◌, ◌+◌, ◌++◌, ◌∷◌, ◌≤◌, length, true, false};
 ghost use Rattle.plist_base.specs.Sinks.{buffered, room};
-ghost use Rattle.plist_binwrite.specs.Forms.{doublings, unsigned_form, integer_form, uid_form, length_form, boolean_form, date_form, real_form, marker_and_number};
+ghost use Rattle.plist_binwrite.specs.Forms.{doublings, unsigned_form, integer_form, uid_form, length_form, boolean_form, data_form, date_form, real_form, scalar_form, text_form, marker_and_number};
+ghost use Rattle.plist_binwrite.specs.StoredScalars.{scalar_of_ref};
 ghost use Rattle.plist_format.specs.Marker.{byte_of, high_half};
 
+use crate::stored_scalar::ScalarRef;
+use crate::text::is_ascii_text;
 use crate::widths::least_width;
 use plist_base::{Date, FixedBuffer, Integer, RealBits, Uid};
 use plist_format::{CountedKind, LowHalf, Marker, UidWidth};
@@ -63,9 +66,9 @@ fn push_marked_number(buffer: &mut FixedBuffer, marker: Marker, width: usize, nu
     push_marked(buffer, marker, &digits[8 - width..]);
 }
 
-/// Pushes an unsigned integer.
+// Pushes an unsigned integer.
 #[inline(always)]
-pub fn push_unsigned(buffer: &mut FixedBuffer, number: u64)
+fn push_unsigned(buffer: &mut FixedBuffer, number: u64)
     requires { 9 ≤ room buffer.old }
     ensures pushed { buffered buffer.new ≡ buffered buffer.old ++ unsigned_form number }
 {
@@ -157,4 +160,60 @@ pub fn push_integer(buffer: &mut FixedBuffer, value: Integer)
         }
         (None, None) => {}
     }
+}
+
+// Pushes a string, if it is ASCII and surely fits into the buffer, and returns whether it was
+// pushed.
+#[inline(always)]
+fn push_text(buffer: &mut FixedBuffer, text: &str) -> bool
+    requires { 17 ≤ room buffer.old }
+    ensures pushed { result ≡ true
+        → buffered buffer.new ≡ buffered buffer.old ++ text_form text.now }
+    ensures unchanged { result ≡ false → buffer.new ≡ buffer.old }
+{
+    if text.len() > buffer.room() - 10 || !is_ascii_text(text) {
+        return false;
+    }
+    push_length(buffer, CountedKind::Text, text.len() as u64);
+    buffer.push(text.as_bytes());
+    true
+}
+
+// Pushes data, if it surely fits into the buffer, and returns whether it was pushed.
+#[inline(always)]
+fn push_data(buffer: &mut FixedBuffer, bytes: &[u8]) -> bool
+    requires { 17 ≤ room buffer.old }
+    ensures pushed { result ≡ true
+        → buffered buffer.new ≡ buffered buffer.old ++ data_form bytes.now }
+    ensures unchanged { result ≡ false → buffer.new ≡ buffer.old }
+{
+    if bytes.len() > buffer.room() - 10 {
+        return false;
+    }
+    push_length(buffer, CountedKind::Data, bytes.len() as u64);
+    buffer.push(bytes);
+    true
+}
+
+/// Pushes the object of a scalar, and returns `true`. If the scalar is a string or data for which
+/// there may be no room, or a string that isn't ASCII, nothing is pushed, and the result is
+/// `false`. There must be room for 17 bytes. A loop calls this before `put_scalar`, because then no
+/// large `Result` is zeroed.
+#[inline(always)]
+pub fn push_scalar(buffer: &mut FixedBuffer, scalar: ScalarRef<'_>) -> bool
+    requires { 17 ≤ room buffer.old }
+    ensures pushed { result ≡ true
+        → buffered buffer.new ≡ buffered buffer.old ++ scalar_form (scalar_of_ref scalar.entry) }
+    ensures unchanged { result ≡ false → buffer.new ≡ buffer.old }
+{
+    match scalar {
+        ScalarRef::String(text) => return push_text(buffer, text),
+        ScalarRef::Data(bytes) => return push_data(buffer, bytes),
+        ScalarRef::Boolean(value) => push_boolean(buffer, value),
+        ScalarRef::Date(date) => push_date(buffer, date),
+        ScalarRef::Integer(value) => push_integer(buffer, value),
+        ScalarRef::Real(bits) => push_real(buffer, bits),
+        ScalarRef::Uid(uid) => push_uid(buffer, uid),
+    }
+    true
 }

@@ -9,7 +9,7 @@ ghost use Rattle.plist_binwrite.specs.EventClasses.{IsClassed, class_in, events_
 ghost use Rattle.plist_binwrite.specs.EventTable.{plain_events};
 ghost use Rattle.plist_binwrite.specs.Sending.{Sends};
 ghost use Rattle.plist_binwrite.specs.SendingAs.{SendsAs};
-ghost use Rattle.plist_binwrite.specs.inner.PlannedFiles.{IsFilePlan, SendsPlan};
+ghost use Rattle.plist_binwrite.specs.inner.Layout.{IsFilePlan, SendsPlan};
 ghost use Rattle.plist_binwrite.specs.inner.Putting.{PutsFile};
 
 use crate::classes::{Classed, Classes};
@@ -32,7 +32,7 @@ fn put_file<W: Write>(
 {
     sink.put(b"bplist00")?;
     put_objects(sink, given, plan)?;
-    put_table_and_trailer(sink, &plan.places, plan.table)
+    put_table_and_trailer(sink, &plan.places, plan.table())
 }
 
 // Puts a planned file into a sink without pending bytes, and then writes what is pending and

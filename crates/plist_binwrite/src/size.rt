@@ -1,17 +1,129 @@
-//! Computes the sizes of the objects and of the file in bytes, before any byte is written. A size
-//! of 2^64 or more is `None`.
+//! Computes the lengths of objects and of the file in bytes, before any byte is written. A length of
+//! 2^64 or more is `None`.
 
-ghost use Rattle.std.specs.Prelude.{◌≡◌, ◌+◌, ◌<◌, ℕ, length, true, false, IfSome, None, Some};
+ghost use Rattle.std.specs.Prelude.{◌≡◌, ◌+◌, ◌*◌, ◌≤◌, ◌<◌, ◌^◌, ℕ, length, true, false, IfSome, None, Some};
+ghost use Rattle.plist_base.specs.Events.{ScalarEvent};
+ghost use Rattle.plist_base.specs.Trees.{Scalar, Tree};
 ghost use Rattle.plist_binwrite.specs.Children.{half_of};
-ghost use Rattle.plist_binwrite.specs.EventTable.{plain_events};
-ghost use Rattle.plist_binwrite.specs.Sizes.{IsSizeOrNone, size_with};
-ghost use Rattle.plist_binwrite.specs.inner.Sizing.{ExceedsWith, FitsWith, IsWritableAt, IsSizeOrNoneAt};
+ghost use Rattle.plist_binwrite.specs.EventTable.{plain_events, table_event};
+ghost use Rattle.plist_binwrite.specs.Forms.{IsDateBytes, IsInteger, IsReal, IsText, IsWritableScalar, unsigned_form, integer_form, uid_form, length_form, date_form, real_form, text_form};
+ghost use Rattle.plist_binwrite.specs.Occurrences.{OccursAt};
+ghost use Rattle.plist_binwrite.specs.Sizes.{IsSizeOrNone, marked_size, object_size, scalar_size, size_with};
+ghost use Rattle.plist_binwrite.specs.StoredScalars.{scalar_of_ref};
+ghost use Rattle.plist_binwrite.specs.inner.Layout.{ExceedsWith, FitsWith};
 
 use crate::children::{Children, Half};
 use crate::event_table::EventTable;
-use crate::lengths::{add, length_of_collection, length_of_scalar};
-use crate::widths::offset_width;
-use plist_base::EventShape;
+use crate::stored_scalar::ScalarRef;
+use crate::text::{count_units, is_ascii_text};
+use crate::widths::{least_width, offset_width};
+use plist_base::{Date, EventShape, Integer, RealBits, Uid};
+use plist_format::LowHalf;
+
+/// Returns the sum of two lengths, or `None` if it is 2^64 or more, or if a length is `None`.
+pub fn add(length: Option<u64>, more: Option<u64>) -> Option<u64>
+    ensures sum { (a b : ℕ) → IsSizeOrNone length a → IsSizeOrNone more b
+        → IsSizeOrNone result (a + b) }
+    ensures none { length ≡ None → result ≡ None }
+{
+    length?.checked_add(more?)
+}
+
+// Returns the length of an unsigned integer with its marker, in bytes.
+fn length_of_unsigned(number: u64) -> u64
+    ensures value { result ≡ length (unsigned_form number) }
+    ensures small { result ≤ 9 }
+{
+    1 + least_width(number) as u64
+}
+
+// Returns the length in bytes of a marker with this count, which is in the marker or follows it.
+fn length_of_count(count: u64) -> u64
+    ensures value { (high : ℕ) → result ≡ length (length_form high count) }
+    ensures small { result ≤ 10 }
+{
+    match LowHalf::of_length(count) {
+        Some(_) => 1,
+        None => 1 + length_of_unsigned(count),
+    }
+}
+
+// Returns the length of a marker with this count and of the `count` bytes that follow it.
+fn length_of_bytes(count: u64) -> Option<u64>
+    ensures value { (high : ℕ) → IsSizeOrNone result (marked_size high count count) }
+{
+    count.checked_add(length_of_count(count))
+}
+
+fn length_of_text(text: &str) -> Option<u64>
+    ensures value { IsSizeOrNone result (length (text_form text.now)) }
+    ensures writable { IsText text.now }
+{
+    if is_ascii_text(text) {
+        return length_of_bytes(text.len() as u64);
+    }
+    let count = count_units(text) as u64;
+    add(Some(length_of_count(count)), count.checked_mul(2))
+}
+
+fn length_of_date(date: Date) -> u64
+    ensures value { result ≡ length (date_form date) }
+    ensures writable { IsDateBytes date }
+{
+    1 + date.to_plist_real().len() as u64
+}
+
+fn length_of_integer(value: Integer) -> u64
+    ensures value { result ≡ length (integer_form value) }
+    ensures writable { IsInteger value }
+{
+    match (value.as_unsigned(), value.as_signed()) {
+        (Some(number), Some(_)) => length_of_unsigned(number),
+        (Some(_), None) => 17,
+        (None, _) => 9,
+    }
+}
+
+fn length_of_real(bits: RealBits) -> u64
+    ensures value { result ≡ length (real_form bits) }
+    ensures writable { IsReal bits }
+{
+    match bits {
+        RealBits::Four(_) => 5,
+        RealBits::Eight(_) => 9,
+    }
+}
+
+fn length_of_uid(uid: Uid) -> u64
+    ensures value { result ≡ length (uid_form uid) }
+    ensures writable { uid < 2 ^ 64 }
+{
+    1 + least_width(uid.get()) as u64
+}
+
+// Returns the length of a scalar's object in bytes, or `None` if it is 2^64 or more.
+fn length_of_scalar(scalar: ScalarRef<'_>) -> Option<u64>
+    ensures value { IsSizeOrNone result (scalar_size (scalar_of_ref scalar.entry)) }
+    ensures writable { IsWritableScalar (scalar_of_ref scalar.entry) }
+{
+    match scalar {
+        ScalarRef::Boolean(_) => Some(1),
+        ScalarRef::Data(bytes) => length_of_bytes(bytes.len() as u64),
+        ScalarRef::Date(date) => Some(length_of_date(date)),
+        ScalarRef::Integer(value) => Some(length_of_integer(value)),
+        ScalarRef::Real(bits) => Some(length_of_real(bits)),
+        ScalarRef::String(text) => length_of_text(text),
+        ScalarRef::Uid(uid) => Some(length_of_uid(uid)),
+    }
+}
+
+// Returns the length of a collection's object in bytes, or `None` if it is 2^64 or more. The
+// object is a marker with this count, followed by `references` references of `width` bytes each.
+fn length_of_collection(count: u64, references: u64, width: u64) -> Option<u64>
+    ensures value { (high : ℕ) → IsSizeOrNone result (marked_size high count (references * width)) }
+{
+    add(Some(length_of_count(count)), references.checked_mul(width))
+}
 
 /// Returns the number of children in one half of the collection that begins at an index.
 pub fn count_children(events: &EventTable<'_>, index: usize, half: Half) -> usize
@@ -25,8 +137,10 @@ pub fn count_children(events: &EventTable<'_>, index: usize, half: Half) -> usiz
 /// `width` bytes.
 pub fn size_of_object(events: &EventTable<'_>, width: usize, index: usize) -> Option<u64>
     requires index { index < length (plain_events events.now) }
-    ensures size { IsSizeOrNoneAt events.now width index result }
-    ensures writable { IsWritableAt events.now index }
+    ensures size { (t : Tree) → OccursAt (plain_events events.now) t index
+        → IsSizeOrNone result (object_size width t) }
+    ensures writable { (x : Scalar) → table_event events.now index ≡ ScalarEvent x
+        → IsWritableScalar x }
 {
     match events.kind_at(index) {
         EventShape::StartArray => {
@@ -52,24 +166,14 @@ fn size_of_file(table: u64, count: u64) -> Option<u64>
     add(add(Some(table), offsets), Some(32))
 }
 
-// Returns whether a file with this many objects and its offset table at this offset has less than
-// 2^64 bytes.
-fn has_size(table: u64, count: u64) -> bool
-    ensures yes { result ≡ true → FitsWith table count }
-    ensures no { result ≡ false → ExceedsWith table count }
-{
-    size_of_file(table, count).is_some()
-}
-
-/// Returns `table`, which is the offset of the offset table, if a file with `count` objects has
-/// less than 2^64 bytes, and otherwise `None`. The call allocates no memory.
-pub fn check_size(table: Option<u64>, count: u64) -> Option<u64>
-    ensures table { IfSome result (λ place. table ≡ Some place) }
-    ensures fits { IfSome result (λ place. FitsWith place count) }
-    ensures oversized { result ≡ None → IfSome table (λ place. ExceedsWith place count) }
+/// Returns whether a file with `count` objects, whose offset table lies at `table`, has less than
+/// 2^64 bytes. The call allocates no memory.
+pub fn has_size(table: Option<u64>, count: u64) -> bool
+    ensures fits { result ≡ true → (place : ℕ) × (table ≡ Some place) × FitsWith place count }
+    ensures oversized { result ≡ false → IfSome table (λ place. ExceedsWith place count) }
 {
     match table {
-        Some(place) if has_size(place, count) => Some(place),
-        _ => None,
+        Some(place) => size_of_file(place, count).is_some(),
+        None => false,
     }
 }

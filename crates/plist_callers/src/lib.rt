@@ -5,7 +5,7 @@
 //! `events`, `sources`, `limits`, `data`; the readers `binary` (also over `small_files`), `ascii`
 //! and `either`, and the `writer`; `values` and their `contents`; `writers`, for values that are
 //! written; `stored`, for files; `pairs`, `entries` and `iterators`, for dictionaries; `depths`,
-//! for recursions over dictionaries; and `archives`.
+//! for recursions over dictionaries; `archives`; and `commands`.
 //!
 //! A caller that is named after a bug returns whether the library has that bug, or returns the
 //! result that the bug would change. Unless its documentation names other errors, a caller returns
@@ -15,6 +15,7 @@
 pub mod archives;
 pub mod ascii;
 pub mod binary;
+pub mod commands;
 pub mod contents;
 pub mod data;
 pub mod dates;

@@ -4,7 +4,6 @@
 #![tactic(auto)]
 
 mod arguments;
-pub mod callers;
 mod collector;
 mod commands;
 mod convert;

@@ -14,8 +14,7 @@ use Rattle.plist_base.proofs.WriterBytes.{Appends-at}
 use Rattle.plist_base.proofs.SinkSteps.{same_itself, same_then}
 use Rattle.plist_base.proofs.Visits.{kept_all}
 use Rattle.plist_print.specs.declared.printer.Printer.{Printer}
-use Rattle.plist_print.specs.Printers.{IsSamePrinter, PrintsLine, pending_lines}
-use Rattle.plist_print.specs.Printers.{printed}
+use Rattle.plist_print.specs.Printers.{IsSamePrinter, PrintsLine, pending_lines, printed}
 use Rattle.plist_print.specs.PrintRuns.{PrintsRun}
 use Rattle.plist_print.proofs.Runs.{HasRun, run_more, run_none, run_stopped}
 

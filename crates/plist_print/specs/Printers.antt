@@ -15,11 +15,11 @@ use Rattle.plist_print.specs.EscapedLines.{line_of}
 
 -- the sink into which a printer puts its lines
 abbrev pub printer_sink : {W : Type 0} → Printer W → Sink W
-printer_sink printer = record { writer = printer.writer; buffer = printer.buffer }
+printer_sink printer = printer.sink
 
 -- the lines that are pending
 abbrev pub pending_lines : {W : Type 0} → Printer W → List ℕ
-pending_lines printer = buffered printer.buffer.now
+pending_lines printer = buffered printer.sink.buffer.now
 
 -- the printer has the same writer and the same buffer
 abbrev pub IsSamePrinter : {W : Type 0} → (old new : Printer W) → Type 0
@@ -34,7 +34,7 @@ answer_of_flow (Break stop) failure = Err (fault_of failure)
 module _ {W : Type 0} (contents : W → Option (List ℕ)) where
   -- the bytes of the writer, if they are known
   abbrev pub printed : Printer W → Option (List ℕ)
-  printed printer = contents printer.writer.now
+  printed printer = contents printer.sink.writer.now
 
   -- the bytes are put into the sink, after the pending lines
   abbrev pub PrintsBytes : (old : Printer W) → (bytes : List ℕ) → Flow → (new : Printer W) → Type 0

@@ -8,7 +8,7 @@ ghost use Rattle.plist_print.specs.PrintRuns.{PrintsReader, PrintsRun, PrintsSou
 
 use crate::printer::Printer;
 use plist_base::send::flush;
-use plist_base::{Error, EventSource, FixedBuffer, Source};
+use plist_base::{Error, EventSource, FixedBuffer, Sink, Source};
 use plist_binread::BinaryReader;
 use std::alloc::Global;
 use std::io::Write;
@@ -23,7 +23,8 @@ fn print_unflushed<I: EventSource, W: Write>(
         (W.contents writer.new) }
 {
     let mut buffer = FixedBuffer::new(alloc)?;
-    Printer::new(&mut buffer, writer).print_all(source)
+    let mut printer = Printer::new(Sink::new(&mut buffer, writer));
+    printer.print_all(source)
 }
 
 /// Prints the remaining events of a source, each on a line of its own, and flushes the writer at the

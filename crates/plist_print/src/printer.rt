@@ -11,8 +11,7 @@ use crate::lines::{
     MAX_FIXED_LINE, Notation, ShortLine, push_bytes, push_data, push_short, push_string,
 };
 use plist_base::{
-    Date, Error, ErrorKind, Event, EventSource, EventVisitor, FixedBuffer, Integer, RealBits, Sink,
-    Uid, Visited,
+    Date, Error, ErrorKind, Event, EventSource, EventVisitor, Integer, RealBits, Sink, Uid, Visited,
 };
 use std::borrow::{CowSlice, CowStr};
 use std::io::Write;
@@ -92,27 +91,21 @@ fn put_parts<W: Write>(sink: &mut Sink<'_, W>, line: &Parts<'_>) -> Result<(), E
 /// one is pushed, so the buffer never grows.
 #[derive(Drop)]
 pub struct Printer<'p, W> {
-    writer: &'p mut W,
-    buffer: &'p mut FixedBuffer,
+    sink: Sink<'p, W>,
     // The error of the failed write that stopped the printer; unspecified until a write fails.
     failure: Error,
 }
 
 impl<'p, W: Write> Printer<'p, W> {
     ghost use Rattle.std.specs.declared.ops.ControlFlow.TheVariants.{Continue};
-    ghost use Rattle.plist_print.specs.Printers.{FailsAfterLines, IsSamePrinter, PrintsBytes, PrintsLine, pending_lines, printer_sink};
-    ghost use Rattle.plist_print.specs.Printers.{printed};
+    ghost use Rattle.plist_print.specs.Printers.{FailsAfterLines, IsSamePrinter, PrintsBytes, PrintsLine, pending_lines, printed, printer_sink};
 
-    /// Creates a printer. Lines that the buffer already contains are pending.
-    pub fn new(buffer: &'p mut FixedBuffer, writer: &'p mut W) -> Printer<'p, W>
-        ensures writer { result.writer.ghost_name ≡ writer.entry.ghost_name }
-        ensures buffer { result.buffer.ghost_name ≡ buffer.entry.ghost_name }
-        ensures unwritten { result.writer.now ≡ writer.old }
-        ensures pending { result.buffer.now ≡ buffer.old }
+    /// Creates a printer. The lines that are pending in the sink stay pending.
+    pub fn new(sink: Sink<'p, W>) -> Printer<'p, W>
+        ensures { result.sink ≡ sink.entry }
     {
         Printer {
-            writer,
-            buffer,
+            sink,
             failure: ErrorKind::OutOfMemory.without_position(),
         }
     }
@@ -123,10 +116,9 @@ impl<'p, W: Write> Printer<'p, W> {
     fn write_pending(&mut self) -> ControlFlow<()>
         ensures put { PrintsBytes W.contents self.old [] result self.new }
         ensures empty { result ≡ Continue tt → pending_lines self.new ≡ [] }
-        ensures room { result ≡ Continue tt → room self.new.buffer.now ≡ sink_capacity }
+        ensures room { result ≡ Continue tt → room self.new.sink.buffer.now ≡ sink_capacity }
     {
-        let mut sink = Sink::new(self.buffer, self.writer);
-        match sink.write_pending() {
+        match self.sink.write_pending() {
             Ok(()) => ControlFlow::Continue(()),
             Err(error) => {
                 self.failure = error;
@@ -140,9 +132,9 @@ impl<'p, W: Write> Printer<'p, W> {
     fn make_room(&mut self, size: usize) -> ControlFlow<()>
         requires { size ≤ sink_capacity }
         ensures put { PrintsBytes W.contents self.old [] result self.new }
-        ensures room { result ≡ Continue tt → size ≤ room self.new.buffer.now }
+        ensures room { result ≡ Continue tt → size ≤ room self.new.sink.buffer.now }
     {
-        if size <= self.buffer.room() {
+        if size <= self.sink.room() {
             return ControlFlow::Continue(());
         }
         self.write_pending()
@@ -155,7 +147,7 @@ impl<'p, W: Write> Printer<'p, W> {
     {
         match self.make_room(MAX_FIXED_LINE) {
             ControlFlow::Continue(()) => {
-                push_short(self.buffer, line);
+                push_short(self.sink.buffer, line);
                 ControlFlow::Continue(())
             }
             ControlFlow::Break(()) => ControlFlow::Break(()),
@@ -170,8 +162,7 @@ impl<'p, W: Write> Printer<'p, W> {
             ++ in_notation line.now.notation line.now.bytes.now ++ line.now.end.now)
             result self.new }
     {
-        let mut sink = Sink::new(self.buffer, self.writer);
-        match put_parts(&mut sink, line) {
+        match put_parts(&mut self.sink, line) {
             Ok(()) => ControlFlow::Continue(()),
             Err(error) => {
                 self.failure = error;
@@ -195,7 +186,7 @@ impl<'p, W: Write> Printer<'p, W> {
         }
         match self.make_room(4 * text.len() + MAX_FIXED_LINE) {
             ControlFlow::Continue(()) => {
-                push_string(self.buffer, text);
+                push_string(self.sink.buffer, text);
                 ControlFlow::Continue(())
             }
             ControlFlow::Break(()) => ControlFlow::Break(()),
@@ -216,7 +207,7 @@ impl<'p, W: Write> Printer<'p, W> {
         }
         match self.make_room(2 * bytes.len() + MAX_FIXED_LINE) {
             ControlFlow::Continue(()) => {
-                push_data(self.buffer, bytes);
+                push_data(self.sink.buffer, bytes);
                 ControlFlow::Continue(())
             }
             ControlFlow::Break(()) => ControlFlow::Break(()),
@@ -226,9 +217,7 @@ impl<'p, W: Write> Printer<'p, W> {
     // Takes the error that stopped the printer.
     fn take_failure(&mut self) -> Error
         ensures failure { result ≡ self.old.failure }
-        ensures same { IsSamePrinter self.old self.new }
-        ensures writer { self.new.writer.now ≡ self.old.writer.now }
-        ensures pending { self.new.buffer.now ≡ self.old.buffer.now }
+        ensures sink { self.new.sink ≡ self.old.sink }
     {
         mem::replace(&mut self.failure, ErrorKind::OutOfMemory.without_position())
     }

@@ -13,8 +13,7 @@ use Rattle.plist_binwrite.proofs.TreePositions.{Stands, positions_stand}
 use Rattle.plist_binwrite.proofs.Uniques.{unique_seen}
 use Rattle.plist_share.specs.Distinct.{tree_eq, subtrees, subtrees_of_items, subtrees_of_pairs, distinct_subtrees}
 use Rattle.plist_share.specs.inner.Nodes.{SeparatesTrees}
-use Rattle.plist_share.specs.SharedFiles.{IsSharedFileOf}
-use Rattle.plist_share.specs.SharedSizes.{shared_objects_size, shared_file_size}
+use Rattle.plist_share.specs.SharedFiles.{IsSharedFileOf, shared_objects_size, shared_file_size}
 use Rattle.plist_share.proofs.Least.{least}
 use Rattle.plist_share.proofs.TreeEquality.{tree_same, tree_other}
 

@@ -7,3 +7,4 @@ pub mod ClassTrees
 pub mod TreeEquality
 pub mod DistinctSubtrees
 pub mod SharedFile
+pub mod SharedFilesOfTrees

@@ -1,5 +1,3 @@
 pub mod Distinct
-pub mod SharedSizes
 pub mod SharedFiles
-pub mod Examples
 pub mod inner

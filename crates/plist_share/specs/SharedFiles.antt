@@ -1,12 +1,24 @@
 -- What the sharing writer writes for a tree: a file of it with one object for each different
 -- subtree. No file with the same events has fewer objects.
 use Rattle.std.specs.Prelude.{◌≡◌, ℕ, ◌^◌, ◌<◌, List, length}
+use Rattle.std.specs.Set.{unique_keys}
 use Rattle.plist_base.specs.Trees.{Tree}
 use Rattle.plist_binwrite.specs.ObjectCounts.{HasObjects}
 use Rattle.plist_binwrite.specs.SendingAs.{FileKind}
+use Rattle.plist_binwrite.specs.Sizes.{total, object_size, size_with}
+use Rattle.plist_binwrite.specs.Widths.{reference_width}
 use Rattle.plist_binwrite.specs.Written.{IsWrittenAs}
-use Rattle.plist_share.specs.Distinct.{distinct_subtrees, IsLeastOfAll}
-use Rattle.plist_share.specs.SharedSizes.{shared_file_size}
+use Rattle.plist_share.specs.Distinct.{tree_eq, subtrees, distinct_subtrees, IsLeastOfAll}
+
+-- the number of bytes of the objects, one for each different subtree of the tree
+abbrev pub shared_objects_size : (width : ℕ) → Tree → ℕ
+shared_objects_size width tree = total (object_size width) (unique_keys tree_eq (subtrees tree))
+
+-- the number of bytes of the whole file
+abbrev pub shared_file_size : Tree → ℕ
+shared_file_size tree =
+    size_with (distinct_subtrees tree)
+    (shared_objects_size (reference_width (distinct_subtrees tree)) tree)
 
 -- the bytes are such a file of the tree
 pub record IsSharedFileOf (tree : Tree) (file : List ℕ) : Type 0 where

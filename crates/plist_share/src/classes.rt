@@ -1,12 +1,13 @@
 //! Classes of the trees among events: two events have the same class if and only if the same tree
 //! begins at both.
 
-ghost use Rattle.std.specs.Prelude.{◌≡◌, ◌+◌, ◌<◌, length, IfOk, OnOk};
+ghost use Rattle.std.specs.Prelude.{◌≡◌, ◌+◌, ◌<◌, ◌++◌, Some, length, map, slice_get, IfOk, OnOk};
 ghost use Rattle.plist_base.specs.Events.{shape_of};
 ghost use Rattle.plist_binwrite.specs.Children.{half_of};
-ghost use Rattle.plist_binwrite.specs.EventTable.{plain_events, table_event};
+ghost use Rattle.plist_binwrite.specs.EventTable.{nth_number, plain_events, table_event};
+ghost use Rattle.plist_binwrite.specs.declared.children.Half.TheVariants.{Keys, Values};
 ghost use Rattle.plist_binwrite.specs.inner.Scalars.{AreDistinct};
-ghost use Rattle.plist_share.specs.inner.Nodes.{AreEventClasses, SeparatesAll, Extends, nodes_seen, AddsClasses, AreClassesWithin, AreClassesFrom, IsClassAt, IsNodeAt, is_dictionary};
+ghost use Rattle.plist_share.specs.inner.Nodes.{AreEventClasses, SeparatesAll, Extends, node_of, nodes_seen, AreClassesFrom, IsClassAt, is_dictionary};
 
 use indexmap::IndexSet;
 use plist_base::EventShape;
@@ -37,7 +38,8 @@ pub struct Collection {
 // Returns the index of a collection in the set, and inserts it if the set contains no equal one.
 fn index_of(seen: &mut IndexSet<Collection>, collection: Collection) -> Result<usize, AllocError>
     // Result.
-    ensures stored { IfOk result (IsNodeAt seen.new.keys collection) }
+    ensures stored { IfOk result (λ index. slice_get (nodes_seen seen.new.keys) index
+        ≡ Some (node_of collection)) }
     ensures below { IfOk result (λ index. index < length (nodes_seen seen.new.keys)) }
     // State afterwards.
     ensures extends { OnOk result (Extends (nodes_seen seen.old.keys) (nodes_seen seen.new.keys)) }
@@ -59,8 +61,8 @@ fn push_half(
 ) -> Result<(), AllocError>
     requires index { index < length (plain_events events.now) }
     requires long { length classes.now ≡ length (plain_events events.now) }
-    ensures { OnOk result (AddsClasses found.old classes.now
-        (half_of (plain_events events.now) half index) found.new) }
+    ensures { OnOk result (found.new.items ≡ found.old.items
+        ++ map (nth_number classes.now) (half_of (plain_events events.now) half index)) }
 {
     for child in Children::new(events, index, half) {
         found.push(classes.get(child))?;
@@ -77,7 +79,9 @@ fn classes_within(
 ) -> Result<Vec<usize>, AllocError>
     requires index { index < length (plain_events events.now) }
     requires long { length classes.now ≡ length (plain_events events.now) }
-    ensures { IfOk result (AreClassesWithin events.now classes.now index) }
+    ensures { IfOk result (λ found. found.items
+        ≡ map (nth_number classes.now) (half_of (plain_events events.now) Keys index)
+        ++ map (nth_number classes.now) (half_of (plain_events events.now) Values index)) }
 {
     let mut found = Vec::new(alloc);
     push_half(&mut found, events, classes, index, Half::Keys)?;

@@ -1,14 +1,75 @@
--- The numbers that the objects of buffered events have so far, and how a call changes them.
-use Rattle.std.specs.Prelude.{◌≡◌, ℕ, length}
-use Rattle.std.specs.List.{AllByRecursion}
-use Rattle.plist_binwrite.specs.Children.{half_of}
+-- The numbers of objects. `by_class` has 1 more than the number of each class's object, or 0 if that
+-- has no number yet. `firsts` has the index of the first event of each object, by its number.
+use Rattle.std.specs.Prelude.{◌≡◌, ℕ, ◌+◌, ◌-◌, ◌^◌, ◌<◌, ◌≤◌, false, List, length, get_or}
+use Rattle.plist_base.specs.Events.{PlainEvent}
+use Rattle.plist_binwrite.specs.EventTable.{is_end, event_at, IsBracketed}
+use Rattle.plist_binwrite.specs.Classes.{AreClasses}
 use Rattle.plist_binwrite.specs.EventClasses.{IsListed, class_in, events_in}
-use Rattle.plist_binwrite.specs.declared.children.Half.{Half}
-use Rattle.plist_binwrite.specs.declared.children.Half.TheVariants.{Keys, Values}
 use Rattle.plist_binwrite.specs.declared.classes.Classed.{Classed}
 use Rattle.plist_binwrite.specs.declared.numbering.Numbering.{Numbering}
-use Rattle.plist_binwrite.specs.inner.Planning.{stored_number}
-use Rattle.plist_binwrite.specs.inner.PlansBy.{AllHaveNumbers, IsNumbered, IsPlan, KeepsNumbering}
+use Rattle.std.specs.List.{AllByRecursion}
+use Rattle.plist_binwrite.specs.Children.{half_of}
+use Rattle.plist_binwrite.specs.declared.children.Half.{Half}
+use Rattle.plist_binwrite.specs.declared.children.Half.TheVariants.{Keys, Values}
+
+-- 1 more than the number of an event's object, or 0 if that has no number yet
+abbrev pub stored_by : (class : ℕ → ℕ) (by_class : List ℕ) → (index : ℕ) → ℕ
+stored_by class by_class index = get_or by_class (class index) 0
+
+-- the number of an event's object
+abbrev pub number_by : (class : ℕ → ℕ) (by_class : List ℕ) → (index : ℕ) → ℕ
+number_by class by_class index = stored_by class by_class index - 1
+
+-- the object of the event at an index has a number
+abbrev pub IsNumbered : (stored : ℕ → ℕ) → (index : ℕ) → Type 0
+IsNumbered stored index = 0 < stored index
+
+-- each event other than an end has a number
+abbrev pub AllHaveNumbers : List PlainEvent → (stored : ℕ → ℕ) → Type 0
+AllHaveNumbers es stored =
+    (p : ℕ) → p < length es → is_end (event_at es p) ≡ false → IsNumbered stored p
+
+-- each object that has a number keeps it
+pub record KeepsNumbering (old new : ℕ → ℕ) : Type 0 where
+  pub kept : (p : ℕ) → IsNumbered old p → new p ≡ old p
+
+-- each class has the number of the one object whose first event is of that class, or no number yet
+pub record IsPlan (es : List PlainEvent) (class : ℕ → ℕ) (by_class firsts : List ℕ) : Type 0 where
+  pub below : (p : ℕ) → p < length es → class p < length by_class
+  pub small : length firsts < 2 ^ 64
+  pub known : (k : ℕ) → k < length firsts → (get_or firsts k 0 < length es)
+      × (stored_by class by_class (get_or firsts k 0) ≡ k + 1)
+      × (is_end (event_at es (get_or firsts k 0)) ≡ false)
+  pub same : (c : ℕ) → c < length by_class → 0 < get_or by_class c 0
+      → class (get_or firsts (get_or by_class c 0 - 1) 0) ≡ c
+  pub few : (c : ℕ) → c < length by_class → get_or by_class c 0 ≤ length firsts
+
+-- the events are those of a tree, and each of its objects has the number of its class
+pub record IsPlanned (es : List PlainEvent) (class : ℕ → ℕ) (by_class firsts : List ℕ) : Type 0
+  where
+    pub whole : IsBracketed es
+    pub classes : AreClasses es class
+    pub numbered : IsPlan es class by_class firsts
+    pub all : AllHaveNumbers es (stored_by class by_class)
+    pub root : number_by class by_class 0 ≡ 0
+
+-- 1 more than the number of an event's object, or 0 if that has no number yet
+abbrev pub stored_number : Classed → Numbering → (index : ℕ) → ℕ
+stored_number given numbering = stored_by (class_in given) numbering.by_class
+
+-- the number of an event's object
+abbrev pub object_number : Classed → Numbering → (index : ℕ) → ℕ
+object_number given numbering = number_by (class_in given) numbering.by_class
+
+-- the number of objects
+abbrev pub count_of : Numbering → ℕ
+count_of numbering = length numbering.firsts
+
+-- all objects of a tree's events have numbers
+pub record IsNumberingOfEvents (given : Classed) (numbering : Numbering) : Type 0 where
+  pub listed : IsListed given
+  pub planned : IsPlanned (events_in given) (class_in given) numbering.by_class numbering.firsts
+  pub open planned use *
 
 -- each event has a class, and the numbers so far follow the classes
 pub record IsNumberedSoFar (given : Classed) (found : Numbering) : Type 0 where
@@ -16,10 +77,6 @@ pub record IsNumberedSoFar (given : Classed) (found : Numbering) : Type 0 where
   pub plan : IsPlan (events_in given) (class_in given) found.by_class found.firsts
 
 module _ (given : Classed) where
-  -- if no object had a number, the object of the event at this index now has the first one
-  abbrev pub BeginsAt : (index : ℕ) → (old new : Numbering) → Type 0
-  BeginsAt index old new = length old.firsts ≡ 0 → stored_number given new index ≡ 1
-
   -- each object that has a number keeps it
   abbrev pub KeepsNumbers : (old new : Numbering) → Type 0
   KeepsNumbers old new = KeepsNumbering (stored_number given old) (stored_number given new)
@@ -37,11 +94,3 @@ module _ (given : Classed) where
   -- all children of the collection that begins at this index have numbers
   abbrev pub NumbersChildren : (index : ℕ) → Numbering → Type 0
   NumbersChildren index found = NumbersHalf Keys index found × NumbersHalf Values index found
-
-  -- each event other than an end has a number
-  abbrev pub NumbersAll : Numbering → Type 0
-  NumbersAll found = AllHaveNumbers (events_in given) (stored_number given found)
-
-  -- the root has the first number
-  abbrev pub RootIsFirst : Numbering → Type 0
-  RootIsFirst found = stored_number given found 0 ≡ 1

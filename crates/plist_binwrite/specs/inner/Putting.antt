@@ -16,8 +16,8 @@ use Rattle.plist_binwrite.specs.declared.children.Half.TheVariants.{Keys, Values
 use Rattle.plist_binwrite.specs.Written.{object_table}
 use Rattle.plist_binwrite.specs.declared.classes.Classed.{Classed}
 use Rattle.plist_binwrite.specs.declared.plan.FilePlan.{FilePlan}
-use Rattle.plist_binwrite.specs.inner.PlannedFiles.{AreObjectsOf, file_of}
-use Rattle.plist_binwrite.specs.inner.Planning.{object_number}
+use Rattle.plist_binwrite.specs.inner.Layout.{file_of, AreObjectsOf}
+use Rattle.plist_binwrite.specs.inner.Numbering.{object_number}
 
 -- the references to a half of the children of the collection that begins at an index
 abbrev pub references_of : Classed → FilePlan → Half → (index : ℕ) → List ℕ

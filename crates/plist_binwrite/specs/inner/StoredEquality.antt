@@ -1,13 +1,8 @@
--- Equal scalars of a table have the same content, and so they write the same to a hasher.
-use Rattle.std.proofs.Common.{◌≡◌, Bool, true, ap, sym, subst}
+-- Equal scalars have the same content, and so they write the same to a hasher.
+use Rattle.std.proofs.Common.{◌≡◌, true, ap, sym, subst}
 use Rattle.std.specs.Cmp.{IsEquivalence, both_ways}
-use Rattle.plist_base.specs.Events.{ScalarEvent}
 use Rattle.plist_base.specs.Scalars.{scalar_eq, scalar_is, scalar_refl, writes_of_scalar}
 use Rattle.plist_base.specs.Trees.{Scalar}
-use Rattle.plist_binwrite.specs.declared.stored_scalar.StoredScalar.{StoredScalar}
-use Rattle.plist_binwrite.specs.StoredScalars.{scalar_of, event_of_scalar}
-
--- ---- scalars
 
 -- `scalar_eq` is true of identical scalars
 eq_from_is : (a b : Scalar) → a ≡ b → scalar_eq a b ≡ true
@@ -26,17 +21,3 @@ scalars_equiv = record {
 -- equal scalars write the same to a hasher
 pub equal_stored_write_same : (a b : Scalar) → scalar_eq a b ≡ true → writes_of_scalar a ≡ writes_of_scalar b
 equal_stored_write_same a b h = ap writes_of_scalar (scalar_is a b h)
-
--- ---- stored scalars
-
--- equality of stored scalars
-abbrev pub stored_eq : StoredScalar → StoredScalar → Bool
-stored_eq a b = scalar_eq (scalar_of a) (scalar_of b)
-
--- equal stored scalars have the same event
-pub stored_same : (a b : StoredScalar) → stored_eq a b ≡ true → event_of_scalar a ≡ event_of_scalar b
-stored_same a b h = ap ScalarEvent (scalar_is (scalar_of a) (scalar_of b) h)
-
--- stored scalars with the same event are equal
-pub same_stored : (a b : StoredScalar) → event_of_scalar a ≡ event_of_scalar b → stored_eq a b ≡ true
-same_stored a b h = eq_from_is (scalar_of a) (scalar_of b) (cc)

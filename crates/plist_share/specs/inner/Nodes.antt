@@ -2,11 +2,7 @@
 use Rattle.std.specs.Prelude.{◌≡◌, ◌↔◌, ℕ, ◌+◌, ◌<◌, ◌≤◌, Bool, true, false, List, ◌++◌, length, map, Option, None, Some, slice_get}
 use Rattle.plist_base.specs.Events.{PlainEvent, shape_of}
 use Rattle.plist_base.specs.Trees.{Tree, Leaf, Array, Dictionary}
-use Rattle.std.specs.declared.alloc.Global.{Global}
-use Rattle.std.specs.declared.vec.Vec.{Vec}
-use Rattle.plist_binwrite.specs.Children.{half_of}
 use Rattle.plist_binwrite.specs.Classes.{AreClasses}
-use Rattle.plist_binwrite.specs.declared.children.Half.TheVariants.{Keys, Values}
 use Rattle.plist_binwrite.specs.EventTable.{AllBelow, table_event, keys_in, nth_number, plain_events, values_in}
 use Rattle.plist_binwrite.specs.declared.event_table.EventTable.{EventTable}
 use Rattle.plist_base.specs.declared.event.EventShape.{EventShape}
@@ -70,21 +66,6 @@ SeparatesTrees es class =
     (t u : Tree) (p q : ℕ) → OccursAt es t p → OccursAt es u q → (class p ≡ class q) ↔ (t ≡ u)
 
 -- ---- classes of buffered events
-
--- a collection has this index among those found so far
-abbrev pub IsNodeAt : (seen : List Collection) → Collection → (index : ℕ) → Type 0
-IsNodeAt seen collection index = slice_get (nodes_seen seen) index ≡ Some (node_of collection)
-
--- the classes of the events at these indices are appended
-abbrev pub AddsClasses : (old : Vec ℕ Global) → (classes indices : List ℕ) → (new : Vec ℕ Global)
-    → Type 0
-AddsClasses old classes indices new = new.items ≡ old.items ++ map (nth_number classes) indices
-
--- these are the classes of the children of the collection that begins at an index
-abbrev pub AreClassesWithin : EventTable → (classes : List ℕ) → (index : ℕ) → Vec ℕ Global → Type 0
-AreClassesWithin held classes index found =
-    found.items ≡ map (nth_number classes) (half_of (plain_events held) Keys index)
-    ++ map (nth_number classes) (half_of (plain_events held) Values index)
 
 -- is the event the start of a dictionary?
 abbrev pub is_dictionary : EventShape → Bool

@@ -4,7 +4,7 @@ use Rattle.plist_base.proofs.SinkSteps.{puts_after, puts_as, puts_none, puts_the
 use Rattle.plist_binwrite.specs.Children.{half_of, indices_left}
 use Rattle.plist_binwrite.specs.EventTable.{HasItem}
 use Rattle.plist_binwrite.specs.Forms.{table_form}
-use Rattle.plist_binwrite.specs.inner.Planning.{object_number}
+use Rattle.plist_binwrite.specs.inner.Numbering.{object_number}
 use Rattle.plist_binwrite.specs.EventClasses.{events_in}
 use Rattle.plist_binwrite.proofs.ChildIndices.{are_items}
 use Rattle.plist_binwrite.proofs.objects.put_half.Goals as goal

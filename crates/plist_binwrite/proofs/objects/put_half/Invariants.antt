@@ -3,7 +3,7 @@ use Rattle.std.specs.List.{AllByRecursion}
 use Rattle.plist_binwrite.specs.Children.{indices_left}
 use Rattle.plist_binwrite.specs.EventTable.{HasItem}
 use Rattle.plist_binwrite.specs.Forms.{table_form}
-use Rattle.plist_binwrite.specs.inner.Planning.{object_number}
+use Rattle.plist_binwrite.specs.inner.Numbering.{object_number}
 use Rattle.plist_binwrite.specs.EventClasses.{events_in}
 use Rattle.plist_binwrite.proofs.NumberLists.{PutsRest}
 use Rattle.plist_binwrite.proofs.objects.put_half.Given as goal

@@ -3,10 +3,16 @@ use Rattle.std.proofs.lemmas.List.{take_all}
 use Rattle.plist_binwrite.specs.Forms.{form}
 use Rattle.plist_base.proofs.SinkSteps.{puts_after, puts_then, puts_refused, puts_as}
 use Rattle.plist_binwrite.proofs.NumberLists.{one_part, all_parts}
-use Rattle.plist_binwrite.proofs.ObjectOffsets.{described}
+use Rattle.plist_binwrite.proofs.ObjectOffsets.{any_at, described}
 use Rattle.plist_binwrite.proofs.TreeObjects.{scalar_there}
 use Rattle.plist_binwrite.proofs.objects.put_objects.Goals as goal
 use Rattle.plist_binwrite.proofs.objects.put_objects.Goals.{then-not-try_put_object+in_ok-put_object, else-not-try_put_object}
+
+pub first-first-requires : goal.first-first-requires
+first-first-requires g c =
+    let plan = c.args.plan.now in
+    rw c.get.ensures (c.requires.order.below _ (any_at plan.order c.loop-index.index
+    (omega (arith, c.loop-index-test.true, c.len-index-end.ensures))))
 
 pub loop-index-preserved : goal.loop-index-preserved
 loop-index-preserved g c = λ objects d.
@@ -15,7 +21,7 @@ loop-index-preserved g c = λ objects d.
     let within : i < length plan.order =
     omega (arith, c.loop-index-test.true, c.len-index-end.ensures) in
     let u = described c.requires.numbered.planned objects _ _
-    (rw c.get.ensures at c.first-first.ensures) (c.requires.order i within) d in
+    (rw c.get.ensures at c.first-first.ensures) (c.requires.order.below _ (any_at plan.order i within)) d in
     puts_as (one_part (λ k. form plan.width (objects k)) plan.order i within)
     (puts_then (c.loop-index.invariant objects d) (elim c.if-not-try_put_object.branch [
       | then-not-try_put_object+in_ok-put_object w ↦ rw w.sink-is
@@ -35,7 +41,7 @@ returns-in_err-put_object g c = λ objects d.
     let within : i < length plan.order =
     omega (arith, c.loop-index-test.true, c.len-index-end.ensures) in
     let u = described c.requires.numbered.planned objects _ _
-    (rw c.get.ensures at c.first-first.ensures) (c.requires.order i within) d in
+    (rw c.get.ensures at c.first-first.ensures) (c.requires.order.below _ (any_at plan.order i within)) d in
     puts_as (all_parts (λ k. form plan.width (objects k)) plan.order i within)
     (puts_refused _ _ _ c.from_residual.ensures.1
     (puts_then (c.loop-index.invariant objects d)

@@ -1,7 +1,7 @@
 use Rattle.std.proofs.Common.{ℕ, take, Ok}
 use Rattle.plist_format.specs.Object.{Object}
 use Rattle.plist_base.specs.Sinks.{PutsBytes}
-use Rattle.plist_binwrite.specs.inner.PlannedFiles.{AreObjectsOf}
+use Rattle.plist_binwrite.specs.inner.Layout.{AreObjectsOf}
 use Rattle.plist_binwrite.specs.Written.{object_table}
 use Rattle.plist_binwrite.proofs.objects.put_objects.Given as goal
 

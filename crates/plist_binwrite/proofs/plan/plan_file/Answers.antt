@@ -1,19 +1,18 @@
-use Rattle.std.proofs.Common.{inr, refl}
+use Rattle.std.proofs.Common.{inr}
 use Rattle.plist_binwrite.proofs.PlannedFiles.{oversized, plan_made}
 use Rattle.plist_binwrite.proofs.plan.plan_file.Goals as goal
 
-pub returns-in-Some-clause-plan : goal.returns-in-Some-clause-plan
-returns-in-Some-clause-plan c =
-    let layout = c.in_ok-layout.ensures in
-    let fits = c.in-Some.ensures in
-    plan_made c.in_ok-numbering.ensures layout.layout layout.all fits.table
-    (rw c.len.ensures at fits.fits)
+pub returns-then-has_size-clause-plan : goal.returns-then-has_size-clause-plan
+returns-then-has_size-clause-plan c =
+    let placed = c.in_ok-place_all.ensures in
+    let fits = c.has_size.ensures.fits c.if-has_size.true in
+    plan_made placed.layout placed.all fits.1 (rw c.len.ensures at fits.2)
 
-pub returns-in-None-clause-refused : goal.returns-in-None-clause-refused
-returns-in-None-clause-refused c =
-    let layout = c.in_ok-layout.ensures in
+pub returns-clause-refused : goal.returns-clause-refused
+returns-clause-refused c =
+    let placed = c.in_ok-place_all.ensures in
     inr (
       c.without_position.ensures.fault,
-      oversized c.in_ok-numbering.ensures layout.layout layout.all
-          (rw c.len.ensures at (c.in-None.ensures.oversized refl)),
+      oversized placed.layout placed.all
+          (rw c.len.ensures at (c.has_size.ensures.oversized c.if-has_size.false)),
     )

@@ -1,4 +1,4 @@
-use Rattle.std.proofs.Common.{rules, inl, subst}
+use Rattle.std.proofs.Common.{rules, subst}
 use Rattle.std.proofs.lemmas.Result.{err_from_is_err_and}
 use Rattle.plist_base.specs.Writing.{answer_of}
 use Rattle.plist_binwrite.specs.Classes.{files_by}
@@ -20,12 +20,6 @@ returns g c =
     (search rules)
     (plan_sends g.W.Write.contents given _ _ c.requires.whole c.in_ok-plan.ensures.plan
     (answer_of c.send_plan.result) (rw c.new-sink.ensures.unwritten at c.send_plan.ensures.sent))
-
-pub returns-in_err-buffer : goal.returns-in_err-buffer
-returns-in_err-buffer g c =
-    let p = err_from_is_err_and c.from_residual.result c.from_residual.ensures.1 in
-    rw (p.1, p.2) (sends_nothing g.W.Write.contents c.args.given.now _ _ _ c.requires.whole
-    (inl c.in_err-buffer.ensures.memory) (search rules))
 
 pub returns-in_err-plan : goal.returns-in_err-plan
 returns-in_err-plan g c =

@@ -1,6 +1,6 @@
 use Rattle.std.proofs.Common.{arith, length, ◌/◌}
-use Rattle.plist_print.proofs.printer.put_blocks.Goals as goal
 use Rattle.plist_print.proofs.LineParts.{block_put, block_refused, rest_put}
+use Rattle.plist_print.proofs.printer.put_blocks.Goals as goal
 
 pub loop-block-preserved : goal.loop-block-preserved
 loop-block-preserved g c =

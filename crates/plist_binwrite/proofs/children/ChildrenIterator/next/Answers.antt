@@ -8,7 +8,7 @@ pub returns-clause-steps : goal.returns-clause-steps
 returns-clause-steps c =
     let old = c.args.self.now in
     let whole : is_end (event_at (plain_events old.events.now) (last_at old.child old.next)) ≡ false
-    = rw c.last-last.ensures at (c.if-not-has_item-2.ensures.yes refl).1 in
+    = rw c.last-last.ensures at (c.if-not-has_last.ensures.yes refl).1 in
     rw (c.index.ensures, c.index_after-self.ensures, c.last-last.ensures)
     (one_left old.child _ _ (c.if-not-has_item.ensures.yes refl).1 whole)
 

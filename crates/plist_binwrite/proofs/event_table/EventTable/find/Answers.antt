@@ -2,7 +2,7 @@ use Rattle.std.proofs.Common.{◌≡◌, ℕ, List, Option, None, Some, map, pos
 use Rattle.std.specs.Prelude.{IfSome, slice_get}
 use Rattle.plist_binwrite.specs.StoredScalars.{event_of_scalar}
 use Rattle.plist_binwrite.specs.declared.stored_scalar.StoredScalar.{StoredScalar}
-use Rattle.plist_binwrite.specs.inner.StoredEquality.{stored_eq, stored_same}
+use Rattle.plist_binwrite.proofs.SameScalars.{stored_eq, stored_same}
 use Rattle.plist_binwrite.proofs.SetKeys.{key_found}
 use Rattle.plist_binwrite.proofs.event_table.EventTable.find.Goals as goal
 

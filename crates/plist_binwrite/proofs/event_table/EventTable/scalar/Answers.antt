@@ -1,6 +1,6 @@
 use Rattle.std.proofs.Common.{take, ap, ◌∙◌, arith, length, refl}
 use Rattle.plist_binwrite.specs.StoredScalars.{event_of_scalar}
-use Rattle.plist_binwrite.specs.inner.StoredEquality.{same_stored, stored_eq, stored_same}
+use Rattle.plist_binwrite.proofs.SameScalars.{same_stored, stored_eq, stored_same}
 use Rattle.plist_binwrite.proofs.EntryEvents.{kept_scalar, scalar_shown}
 use Rattle.plist_binwrite.proofs.SetKeys.{key_at, key_came, keys_apart, keys_back, keys_more}
 use Rattle.plist_binwrite.proofs.event_table.EventTable.scalar.Goals as goal

@@ -1,8 +1,7 @@
 use Rattle.std.proofs.Common.{arith, below_more, subst}
 use Rattle.std.specs.List.{AllByRecursion}
 use Rattle.plist_binwrite.specs.EventClasses.{events_in}
-use Rattle.plist_binwrite.specs.inner.Planning.{stored_number}
-use Rattle.plist_binwrite.specs.inner.PlansBy.{IsNumbered}
+use Rattle.plist_binwrite.specs.inner.Numbering.{stored_number, IsNumbered}
 use Rattle.plist_binwrite.proofs.ChildIndices.{keys_are_in, values_are_in}
 use Rattle.plist_binwrite.proofs.TreePositions.{positions_all, positions_have}
 use Rattle.plist_binwrite.proofs.TreeOccurrences.{occurs_whole}

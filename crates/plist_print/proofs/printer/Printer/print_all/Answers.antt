@@ -15,9 +15,9 @@ returns-in-Ok-Ended-clause-ran g c =
     let done = empties g.W.Write.contents (printer_sink c.visit.new.visitor) (printer_sink c.finish.new.self)
     c.finish.result c.finish.ensures.put c.finish.ensures.empty in
     run_ended g.I.EventSource.yields c.args.source.now left c.visit.new.self
-    (g.W.Write.contents c.args.self.now.writer.now)
-    (g.W.Write.contents c.visit.new.visitor.writer.now)
-    (g.W.Write.contents c.finish.new.self.writer.now) _ c.finish.result run last
+    (g.W.Write.contents c.args.self.now.sink.writer.now)
+    (g.W.Write.contents c.visit.new.visitor.sink.writer.now)
+    (g.W.Write.contents c.finish.new.self.sink.writer.now) _ c.finish.result run last
     done.sent done.fault done.prefix
 
 pub returns-in-Ok-Ended-clause-same : goal.returns-in-Ok-Ended-clause-same
@@ -31,7 +31,7 @@ returns-in-Ok-Ended-clause-same g c =
 pub returns-in-Ok-Stopped-clause-ran : goal.returns-in-Ok-Stopped-clause-ran
 returns-in-Ok-Stopped-clause-ran g c =
     let is : c.visit.result ≡ Ok Stopped = search rules in
-    rw (c.take_failure.ensures.failure, c.take_failure.ensures.writer)
+    rw (c.take_failure.ensures.failure, c.take_failure.ensures.sink)
     (visited_stopped g.I.EventSource.yields g.W.Write.contents (c.args.source.now, c.args.self.now)
     (c.visit.new.self, c.visit.new.visitor) c.requires.empty (rw is at c.visit.ensures)).0
 
@@ -41,7 +41,7 @@ returns-in-Ok-Stopped-clause-same g c =
     let same = (visited_stopped g.I.EventSource.yields g.W.Write.contents
     (c.args.source.now, c.args.self.now) (c.visit.new.self, c.visit.new.visitor) c.requires.empty
     (rw is at c.visit.ensures)).1 in
-    same_then same c.take_failure.ensures.same
+    rw c.take_failure.ensures.sink same
 
 pub returns-in-Err-clause-ran : goal.returns-in-Err-clause-ran
 returns-in-Err-clause-ran g c =
@@ -50,9 +50,9 @@ returns-in-Err-clause-ran g c =
     (c.args.source.now, c.args.self.now) (c.visit.new.self, c.visit.new.visitor) c.in-Err.error
     c.requires.empty (rw is at c.visit.ensures) in
     run_faulted g.I.EventSource.yields c.args.source.now left c.visit.new.self
-    (g.W.Write.contents c.args.self.now.writer.now)
-    (g.W.Write.contents c.visit.new.visitor.writer.now)
-    (g.W.Write.contents c.finish_before.new.self.writer.now) _ c.in-Err.error
+    (g.W.Write.contents c.args.self.now.sink.writer.now)
+    (g.W.Write.contents c.visit.new.visitor.sink.writer.now)
+    (g.W.Write.contents c.finish_before.new.self.sink.writer.now) _ c.in-Err.error
     c.finish_before.result run last c.finish_before.ensures.lines
     c.finish_before.ensures.prefix
 

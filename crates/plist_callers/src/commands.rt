@@ -1,4 +1,4 @@
-//! Proved callers: what the commands write to a vector for known bytes, what is reported if there
+//! Callers of the commands: what they write to a vector for known bytes, what is reported if there
 //! are no arguments, and how a run ends.
 
 ghost use Rattle.std.specs.Prelude.{◌≡◌, ◌++◌, Bool, Err, IfSome, Ok, Some, codes, false, true};
@@ -10,12 +10,10 @@ ghost use Rattle.plist_commands.specs.declared.convert.Streamed.TheVariants.{Nee
 ghost use Rattle.plist_format.specs.Unfolding.{items_of_file};
 ghost use Rattle.plist_commands.specs.Messages.{Fault, Usage};
 
-use crate::commands::{Commands, run_words};
-use crate::convert::{Streamed, convert_binary};
-use crate::failure::Failure;
-use crate::messages::{Message, Messages};
 use plist_base::Error;
-use plist_print::print_events;
+use plist_commands::{
+    Commands, Failure, Message, Messages, Streamed, convert_binary, print_events, run_words,
+};
 use std::alloc::Global;
 use std::io::Write;
 

@@ -2,9 +2,8 @@ use Rattle.std.proofs.Common.{◌≡◌, inl, inr, ℕ, ◌<◌, List, length, g
 use Rattle.std.proofs.lemmas.Bool.Decides.{leb_tells}
 use Rattle.std.proofs.lemmas.List.{length-replicate, get_or-replicate}
 use Rattle.std.proofs.Math.ListN.{get_or-eq_default}
-use Rattle.plist_binwrite.specs.inner.Planning.{count_of}
 use Rattle.plist_binwrite.proofs.ObjectOffsets.{order_none}
-use Rattle.plist_binwrite.proofs.layout.FileLayout.new.Goals as goal
+use Rattle.plist_binwrite.proofs.plan.FilePlan.new.Goals as goal
 
 all_zero : (xs : List ℕ) (n : ℕ) → length xs ≡ n → ((k : ℕ) → k < n → get_or xs k 0 ≡ 0) → (k : ℕ)
     → get_or xs k 0 ≡ 0
@@ -19,10 +18,11 @@ pub returns : goal.returns
 returns c =
     let count = c.len-count.result in
     let zeros = c.in_ok-places.ensures.zeros in
-    let n : count ≡ count_of c.args.numbering.now = c.len-count.ensures in
+    let n = c.len-count.ensures in
     let long = ap length zeros ∙ length-replicate count 0 in
     let wide = c.reference_width.ensures in
     record {
+      numbered = c.in_ok-numbering.ensures;
       width = rw n at wide.value;
       narrow = wide.range.1;
       fits = rw n at wide.holds;

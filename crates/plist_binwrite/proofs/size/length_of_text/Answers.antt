@@ -1,6 +1,6 @@
 use Rattle.std.proofs.Common.{◌∙◌, sym}
 use Rattle.plist_binwrite.proofs.TreeObjects.{wide_length, told_if}
-use Rattle.plist_binwrite.proofs.lengths.length_of_text.Goals as goal
+use Rattle.plist_binwrite.proofs.size.length_of_text.Goals as goal
 
 pub returns-clause-value : goal.returns-clause-value
 returns-clause-value c =

@@ -1,6 +1,6 @@
 use Rattle.std.proofs.Common.{length, arith, sym, ap}
 use Rattle.plist_binwrite.proofs.NumberForms.{length_short, length_long}
-use Rattle.plist_binwrite.proofs.lengths.length_of_count.Goals as goal
+use Rattle.plist_binwrite.proofs.size.length_of_count.Goals as goal
 
 pub returns-in-Some-clause-value : goal.returns-in-Some-clause-value
 returns-in-Some-clause-value c =

@@ -1,0 +1,62 @@
+use Rattle.std.proofs.Common.{◌≡◌, ◌<◌, ℕ, get_or, ap, arith, sym, ◌∙◌}
+use Rattle.plist_binwrite.specs.EventTable.{scalars_of}
+use Rattle.plist_binwrite.specs.inner.Numbering.{count_of, object_number}
+use Rattle.plist_binwrite.proofs.ClassObjects.{numbered}
+use Rattle.plist_binwrite.proofs.EntryEvents.{long_shown}
+use Rattle.plist_binwrite.proofs.ObjectOffsets.{end_positive, keeps_more, laid_next, marked_more, not_in_order, order_more, sized}
+use Rattle.plist_binwrite.proofs.NumberingSteps.{numbers_below}
+use Rattle.plist_binwrite.proofs.TreeObjects.{object_fits}
+use Rattle.plist_binwrite.proofs.plan.FilePlan.place.Goals as goal
+use Rattle.plist_binwrite.proofs.plan.FilePlan.place.Goals.{In_ok-set as Placed}
+
+-- the number of the object, which has no offset yet
+abbrev number : Placed → ℕ
+number c = object_number c.args.given.now c.args.self.now.numbering c.args.index
+
+below : (c : Placed) → number c < count_of c.args.self.now.numbering
+below c = let item = c.requires.item in numbers_below c.requires.layout.numbered.planned _ item.0 item.1
+
+none : (c : Placed) → get_or c.args.self.now.places (number c) 0 ≡ 0
+none c =
+    let zero : get_or c.args.self.now.places c.number-number.result 0 ≡ 0 = omega arith in
+    ap (λ k. get_or c.args.self.now.places k 0) (sym c.number-number.ensures) ∙ zero
+
+positive : (c : Placed) → 0 < c.place_or_greatest.result
+positive c =
+    let of = numbered c.requires.layout.numbered.planned in
+    c.place_or_greatest.ensures.positive
+    (end_positive _ of.objects _ _ (c.requires.layout.laid of.objects of.describes).end)
+
+pub returns : goal.returns
+returns c =
+    let a = (goal.at.returns c).In_ok-set in
+    let old = c.requires.layout in
+    let planned = old.numbered.planned in
+    let held = c.args.given.now.events.now in
+    record {
+      layout = record {
+        numbered = old.numbered;
+        width = old.width;
+        narrow = old.narrow;
+        fits = old.fits;
+        order = rw (c.in_ok-set.ensures.set, c.in_ok-push.ensures.pushed, c.number-number.ensures)
+            (order_more (number a) _ old.order (below a) (none a) (positive a));
+        laid = λ objects d.
+            let fit = sized planned.whole objects d c.args.index c.requires.item _ _
+            c.size_of_object-size.ensures.size
+            (λ t. object_fits _ _ _ _ (numbers_below planned) old.fits
+            (omega (arith, long_shown (scalars_of held) held.entries, held.few)) _
+            c.size_of_object-size.ensures.writable t) in
+            rw (c.in_ok-set.ensures.set, c.in_ok-push.ensures.pushed, c.number-number.ensures)
+            (laid_next c.args.self.now.width objects c.args.self.now.order c.args.self.now.places
+            (number a) _ c.args.self.now.end c.size_of_object-size.result _
+            (omega (arith, below a, old.order.long))
+            (not_in_order (number a) _ old.order (below a) (none a) (positive a)) fit
+            c.place_or_greatest.ensures.value c.add-self.ensures.sum c.add-self.ensures.none
+            (old.laid objects d));
+      };
+      keeps = λ p n. rw (c.in_ok-set.ensures.set, c.number-number.ensures)
+          (keeps_more (number a) _ old.order (below a) (none a) (positive a) _ n);
+      placed = λ item. rw (c.in_ok-set.ensures.set, c.number-number.ensures)
+          (marked_more (number a) _ old.order (below a) (none a) (positive a));
+    }

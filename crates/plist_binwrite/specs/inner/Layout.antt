@@ -1,0 +1,117 @@
+-- The order of a file's objects, their offsets, the size of the file, and a planned file.
+use Rattle.std.specs.Prelude.{◌≡◌, ◌≢◌, ℕ, ◌<◌, true, false, eqb, List, ◌++◌, length, get_or, ◌+◌, ◌^◌, ◌≤◌, Option, IfSome, ◌⊎◌, Some, Ok, Err}
+use Rattle.std.specs.List.{list_any, IsDistinct}
+use Rattle.plist_format.specs.Container.{magic}
+use Rattle.plist_format.specs.Object.{Object}
+use Rattle.plist_binwrite.specs.Written.{object_table, table_and_trailer, Laid}
+use Rattle.plist_base.specs.Events.{ScalarEvent}
+use Rattle.plist_base.specs.Trees.{Scalar, Tree}
+use Rattle.plist_binwrite.specs.Forms.{IsWritableScalar}
+use Rattle.plist_binwrite.specs.EventTable.{plain_events, table_event, Describes, HasItem}
+use Rattle.plist_binwrite.specs.EventClasses.{events_in, class_in}
+use Rattle.plist_binwrite.specs.Sizes.{IsSizeOrNone, object_size, size_with}
+use Rattle.plist_binwrite.specs.Occurrences.{OccursAt}
+use Rattle.plist_binwrite.specs.Widths.{reference_width}
+use Rattle.plist_binwrite.specs.declared.event_table.EventTable.{EventTable}
+use Rattle.plist_binwrite.specs.declared.plan.FilePlan.{FilePlan}
+use Rattle.plist_binwrite.specs.declared.classes.Classed.{Classed}
+use Rattle.plist_binwrite.specs.inner.Numbering.{IsNumberingOfEvents, count_of, object_number}
+use Rattle.std.specs.Io.KnownBytes.{Appends}
+use Rattle.plist_base.specs.Bracketing.{lengthless}
+use Rattle.plist_base.specs.Faults.{Fault, Io, OutOfMemory, PlistTooLarge, fault_without_offset}
+use Rattle.plist_base.specs.Prefixes.{AppendsPrefix}
+use Rattle.plist_base.specs.Writing.{Answer}
+use Rattle.plist_binwrite.specs.Classes.{IsFileBy, IsOversized}
+
+-- `order` contains numbers below the count, none of them twice, and exactly these have a mark other
+-- than 0
+pub record IsOrder (count : ℕ) (order marks : List ℕ) : Type 0 where
+  pub long : length marks ≡ count
+  pub distinct : IsDistinct eqb order
+  pub below : (k : ℕ) → list_any (eqb k) order ≡ true → k < count
+  pub marked : (k : ℕ) → list_any (eqb k) order ≡ true → get_or marks k 0 ≢ 0
+  pub others : (k : ℕ) → list_any (eqb k) order ≡ false → get_or marks k 0 ≡ 0
+
+-- each number below the count is in the order
+abbrev pub HasAll : (count : ℕ) → (order : List ℕ) → Type 0
+HasAll count order = (k : ℕ) → k < count → list_any (eqb k) order ≡ true
+
+-- the magic and the objects in this order
+abbrev pub laid_out : (width : ℕ) (objects : ℕ → Object) (order : List ℕ) → List ℕ
+laid_out width objects order = magic ++ object_table width objects order
+
+-- the file with its offset table and trailer
+abbrev pub with_table_and_trailer : (file places : List ℕ) → List ℕ
+with_table_and_trailer file places = file ++ table_and_trailer places (length file)
+
+-- a file with `count` objects, whose offset table lies at `table`, has less than 2^64 bytes
+abbrev pub FitsWith : (table count : ℕ) → Type 0
+FitsWith table count =
+    (objects : ℕ) → table ≡ 8 + objects → size_with count objects < 2 ^ 64
+
+-- a file with `count` objects, whose offset table lies at `table`, has 2^64 bytes or more
+abbrev pub ExceedsWith : (table count : ℕ) → Type 0
+ExceedsWith table count =
+    (objects : ℕ) → table ≡ 8 + objects → 2 ^ 64 ≤ size_with count objects
+
+-- the objects in this order have these offsets, and `found` is the offset after them, or `None` only
+-- if that is 2^64 or more
+pub record AreLaidOut (width : ℕ) (objects : ℕ → Object) (order places : List ℕ)
+    (found : Option ℕ) : Type 0 where
+  pub end : IsSizeOrNone found (length (laid_out width objects order))
+  pub laid : IfSome found (λ _. Laid width objects places order 8)
+
+-- these are the objects of a planned file
+abbrev pub AreObjectsOf : Classed → FilePlan → (ℕ → Object) → Type 0
+AreObjectsOf given plan objects =
+    Describes (events_in given) (object_number given plan.numbering) objects
+
+-- all objects have numbers, and those that have offsets so far lie back to back
+pub record IsLayout (given : Classed) (plan : FilePlan) : Type 0 where
+  pub numbered : IsNumberingOfEvents given plan.numbering
+  pub width : plan.width ≡ reference_width (count_of plan.numbering)
+  pub narrow : plan.width ≤ 8
+  pub fits : count_of plan.numbering ≤ 256 ^ plan.width
+  pub order : IsOrder (count_of plan.numbering) plan.order plan.places
+  pub laid : (objects : ℕ → Object) → AreObjectsOf given plan objects
+      → AreLaidOut plan.width objects plan.order plan.places plan.end
+
+-- the object of the event at this index has an offset
+abbrev pub HasPlace : Classed → FilePlan → (index : ℕ) → Type 0
+HasPlace given plan index = get_or plan.places (object_number given plan.numbering index) 0 ≢ 0
+
+-- the object of the event at this index has an offset now, unless the event is an end, and each
+-- object that had an offset has one
+pub record Places (given : Classed) (index : ℕ) (old new : FilePlan) : Type 0 where
+  pub layout : IsLayout given new
+  pub keeps : (p : ℕ) → HasPlace given old p → HasPlace given new p
+  pub placed : HasItem (events_in given) index → HasPlace given new index
+
+-- the planned file, if its objects are these
+abbrev pub file_of : FilePlan → (ℕ → Object) → List ℕ
+file_of plan objects =
+    with_table_and_trailer (laid_out plan.width objects plan.order) plan.places
+
+-- the file of the tree with these events is planned, and has less than 2^64 bytes
+pub record IsFilePlan (given : Classed) (plan : FilePlan) : Type 0 where
+  pub layout : IsLayout given plan
+  pub open layout use *
+  pub table : (objects : ℕ → Object) → AreObjectsOf given plan objects
+      → plan.end ≡ Some (length (laid_out plan.width objects plan.order))
+  pub file : (objects : ℕ → Object) → AreObjectsOf given plan objects → (t : Tree)
+      → events_in given ≡ lengthless t → IsFileBy (class_in given) t (file_of plan objects)
+
+-- the fault says why a file can't be planned: an allocation failed, or the file would have 2^64
+-- bytes or more
+abbrev pub IsPlanFault : Classed → Fault → Type 0
+IsPlanFault given fault = (fault ≡ fault_without_offset OutOfMemory)
+    ⊎ ((fault ≡ fault_without_offset PlistTooLarge) × IsOversized (class_in given) (events_in given))
+
+module _ {W : Type 0} (contents : W → Option (List ℕ)) where
+  -- the file is written; or an I/O operation fails, and a prefix of the file is written
+  abbrev pub SendsPlan : Classed → FilePlan → Answer → (old new : W) → Type 0
+  SendsPlan given plan (Ok done) old new = (objects : ℕ → Object) → AreObjectsOf given plan objects
+      → Appends (contents old) (contents new) (file_of plan objects)
+  SendsPlan given plan (Err fault) old new = (fault ≡ fault_without_offset Io)
+      × ((objects : ℕ → Object) → AreObjectsOf given plan objects
+      → AppendsPrefix (contents old) (contents new) (file_of plan objects))
