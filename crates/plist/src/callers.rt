@@ -61,9 +61,9 @@ pub fn file_by_events<S: Sharing>(alloc: Global, value: &Value) -> Result<Vec<u8
 }
 
 /// Returns whether two values are equal, that is, whether their trees are the same up to the order
-/// of a dictionary's pairs. The laws say that this is an equivalence, under which scalars are the
-/// same exactly if they are equal, and dictionaries exactly if they have the same values at all
-/// keys.
+/// of a dictionary's pairs. The laws say that `same`, which compares trees in this way, is an
+/// equivalence. Two scalars are the same if and only if they are equal, and two dictionaries are
+/// the same if and only if they have the same values at all keys.
 #[tactic(auto, using(crate::proofs::SameTrees::sameness))]
 pub fn are_equal(value: &Value, other: &Value) -> bool
     // Result.

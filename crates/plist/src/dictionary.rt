@@ -1,4 +1,4 @@
-//! Dictionaries: pairs of a key and a value, in the order in which the keys were inserted.
+//! Dictionaries: pairs of a key and a value, in an order in which a new key is last.
 
 ghost use Rattle.std.specs.Prelude.{◌≡◌, ◌<◌, ◌++◌, ◌∷◌, ◌↔◌, MatchOption, IsTrue, Some, [], length, is_some, string_bytes, IfOk, IfSome, OnOk, IfErr, OnErr, slice_get};
 ghost use Rattle.std.specs.Str.{bytes_eq};

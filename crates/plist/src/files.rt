@@ -79,8 +79,8 @@ impl<'a, R: Files> LazyFile<'a, R> {
         }
     }
 
-    /// Has the system store what was written. It succeeds for a pipe or a terminal, which store
-    /// nothing.
+    /// Syncs the file, so that the system stores what was written. The sync of a pipe or a
+    /// terminal, which store nothing, succeeds.
     ///
     /// # Errors
     ///
@@ -98,7 +98,7 @@ impl<'a, R: Files> LazyFile<'a, R> {
         }
     }
 
-    /// Writes the value as a binary property list, and has the system store it.
+    /// Writes the value as a binary property list, and syncs the file.
     ///
     /// # Errors
     ///
@@ -180,8 +180,8 @@ impl Value {
         }
     }
 
-    /// Writes the value as a binary property list to the file of this name, and has the system
-    /// store it. If the file exists, it is truncated before the first byte is written.
+    /// Writes the value as a binary property list to the file of this name, and syncs the file. If
+    /// the file exists, it is truncated before the first byte is written.
     ///
     /// # Errors
     ///

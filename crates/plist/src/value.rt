@@ -250,7 +250,7 @@ impl Value {
         collect(alloc, LimitedItems::new(reader, limits))
     }
 
-    /// Like [`Value::from_reader_with_limits`], but fails also once the strings, keys among them,
+    /// Like [`Value::from_reader_with_limits`], but also fails once the strings, including keys,
     /// and the data have more than this many bytes together. A string counts by its bytes in UTF-8,
     /// and counts again for each further reference to it.
     ///

@@ -58,7 +58,9 @@ impl<R> Input<R> {
 }
 
 impl<R: ByteReader> Input<R> {
-    /// Returns the bytes that can be taken without a read.
+    /// Returns bytes that can be taken without a read: the byte that was read but not taken, if
+    /// there is one, and otherwise the buffered bytes. The slice is empty if the input has ended or
+    /// if 2^64 - 1 bytes were taken.
     #[inline(always)]
     pub fn at_hand(&self) -> &[u8]
         ensures hand { result.now ≡ hand R.window self.now }
@@ -241,7 +243,7 @@ impl<R: ByteReader> Input<R> {
         goes_on
     }
 
-    /// Appends `front` to a text, and then takes and appends the bytes that `at_hand` returns, up
+    /// Appends `front` to `text`, and then takes and appends the bytes that `at_hand` returns, up
     /// to the first stop, which isn't taken. Returns `true` if there is no stop among them, so that
     /// the run may continue after them.
     #[inline(always)]

@@ -179,8 +179,8 @@ impl<R: ByteReader + Drop> AsciiReader<R> {
     /// Hands the next event to a visitor, and returns what the visitor returns, or `None` if no
     /// event remains. A quoted string without escapes, or a bare string that spells no integer and
     /// doesn't begin with a slash, is borrowed from the buffer of the inner reader if that has all
-    /// of the string and the byte that ends it, and if no comment lies between the previous event
-    /// and the string. Any other string is handed over as an owned one.
+    /// bytes from the end of the previous item to the byte that ends the string, and if there is no
+    /// comment among them. Any other string is handed over as an owned one.
     ///
     /// # Errors
     ///

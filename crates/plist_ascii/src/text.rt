@@ -111,7 +111,7 @@ pub fn quoted_event(bytes: Vec<u8>) -> Result<OwnedEvent, TokenFault>
 }
 
 impl<R: ByteReader> Input<R> {
-    /// Takes the bytes before the next stop, and appends them to a text. An error is `Io` or
+    /// Takes the bytes before the next stop, and appends them to `text`. An error is `Io` or
     /// `OutOfMemory`.
     #[inline(always)]
     pub fn take_run(&mut self, stop: Stop, text: &mut Vec<u8>) -> Result<(), TokenFault>
@@ -136,7 +136,7 @@ impl<R: ByteReader> Input<R> {
         }
     }
 
-    // Appends `first` to a text, and then takes and appends the bytes before the next stop.
+    // Appends `first` to `text`, and then takes and appends the bytes before the next stop.
     #[inline(always)]
     fn take_bare(&mut self, stop: Stop, first: u8, text: &mut Vec<u8>) -> Result<(), TokenFault>
         // Result.

@@ -125,7 +125,8 @@ fn lone_char(unit: u16) -> Option<char>
     char::from_u32(u32::from(unit))
 }
 
-// Returns whether this byte is the letter between the backslash and the digits of a unit.
+// Returns whether this byte is a letter that may be between the backslash and the digits of the
+// second unit of a surrogate pair.
 fn is_unit_letter(byte: u8) -> bool
     ensures { result ≡ is_one_of "uU" byte }
 {

@@ -24,7 +24,8 @@ use crate::walk::Walk;
 use plist_base::{ErrorKind, EventVisitor, Source};
 use std::ops::ControlFlow;
 
-// Stores the error of the reference at offset `at`, because no object has its number.
+// Stores the error of a reference whose number no object has. `at` is the offset of the collection
+// that contains the reference, or of the trailer for the root.
 #[cold]
 #[inline(never)]
 fn refuse_number(slot: &mut FaultSlot, at: u64) -> StepError
@@ -51,7 +52,8 @@ enum Known {
     Small(PackedKind, u64),
 }
 
-// Looks up an object that is about to be entered. The reference to the object lies at offset `at`.
+// Looks up an object that is about to be entered. `at` is the offset of the collection that refers
+// to the object, or of the trailer for the root.
 #[inline(always)]
 fn look_up(walk: &Walk, slot: &mut FaultSlot, at: u64, number: u64) -> Result<Known, StepError>
     // Result.

@@ -56,7 +56,7 @@ impl FaultSlot {
         self.refuse(ErrorKind::OutOfMemory.without_position())
     }
 
-    /// Stores the error that the object at this offset doesn't end before the trailer.
+    /// Stores the error of the object at this offset, which doesn't end before the trailer.
     #[cold]
     #[inline(never)]
     pub fn refuse_overrun(&mut self, place: u64) -> StepError

@@ -34,8 +34,9 @@ fn text_event(bytes: Vec<u8>, place: u64) -> Result<OwnedEvent, Error>
 
 // Returns the string in these units, or an error with the object's offset if they aren't UTF-16.
 //
-// The string has more than eight bytes, because a shorter one is decoded together with the first
-// bytes of its object.
+// A string of at most eight bytes in UTF-8 is decoded together with the first bytes of its object.
+// So there can be one here only if the source returned other bytes before. The error is
+// `OutOfMemory` then.
 fn text_of_units_event(alloc: Global, units: &[u16], place: u64) -> Result<OwnedEvent, Error>
     ensures decoded { Decodes (text_of_units units.now) place result }
     ensures large { IsLarge result }

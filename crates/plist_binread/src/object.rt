@@ -140,8 +140,8 @@ pub fn buffered_front<'a, S: Source>(source: &'a S, bounds: &Bounds, place: u64)
     None
 }
 
-/// Reads the first bytes of the object at an offset, and decodes it. If the object doesn't lie
-/// before the trailer, or if the read fails, the slot stores the error.
+/// Reads the first bytes of the object at an offset, and decodes it. If the offset isn't before the
+/// trailer, or if the read fails, the slot stores the error.
 #[cold]
 #[inline(never)]
 pub fn read_object<S: Source, C: DecodeCounter>(

@@ -13,9 +13,10 @@ use std::ops::ControlFlow;
 /// Passes all events on to another visitor.
 ///
 /// The code that enters an object, and the code that hands over a small scalar, are compiled once
-/// for each type of visitor. The first event of a file and the scalars that are cached are passed
-/// on by this visitor, so that the code for all other events has only one caller and becomes part
-/// of the loop over the events. This saves a tenth of the instructions for each event.
+/// for each type of visitor that they are called with. The first event of a file, and each scalar
+/// that is found in the cache, are handed to a `Relay`. All other events are handed to the inner
+/// visitor directly. So the code for these has only one caller, and becomes part of the loop over
+/// the events. This saves a tenth of the instructions for each event.
 #[derive(Drop)]
 pub struct Relay<'v, V> {
     visitor: &'v mut V,

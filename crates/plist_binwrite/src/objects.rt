@@ -67,7 +67,8 @@ fn put_collection<W: Write>(
 }
 
 // Puts the object of the scalar at an index, if it surely fits into the buffer and isn't a string
-// beyond ASCII, and returns whether it was put. If no scalar is at the index, nothing is put.
+// with characters outside ASCII, and returns whether it was put. If no scalar is at the index,
+// nothing is put.
 #[inline(always)]
 fn try_put_object<W: Write>(sink: &mut Sink<'_, W>, events: &EventTable<'_>, index: usize) -> bool
     requires { index < length (plain_events events.now) }
