@@ -59,7 +59,7 @@ fn quoted_length(bytes: &[u8]) -> Option<usize>
 }
 
 // Returns the bare string with which these bytes begin, unless it begins with a slash, may continue
-// after the last byte, or spells an integer.
+// after the last byte, isn't UTF-8, or spells an integer.
 #[inline(always)]
 fn bare_front(stop: Stop, bytes: &[u8]) -> Option<BorrowedText<'_>>
     ensures text { IfSome result (λ borrowed. BeginWithText (stops stop) bytes.now borrowed.count
@@ -81,8 +81,8 @@ fn bare_front(stop: Stop, bytes: &[u8]) -> Option<BorrowedText<'_>>
     }
 }
 
-// Returns the quoted string with which these bytes begin, unless it has an escape or doesn't end
-// among them.
+// Returns the quoted string with which these bytes begin, unless it has an escape, doesn't end
+// among them, or isn't UTF-8.
 #[inline(always)]
 fn quoted_front(bytes: &[u8]) -> Option<BorrowedText<'_>>
     ensures text { IfSome result (λ borrowed. (ends : ℕ → Bool)
@@ -114,8 +114,9 @@ fn front_text(stop: Stop, bytes: &[u8]) -> Option<BorrowedText<'_>>
 
 impl<R: ByteReader> Input<R> {
     /// Returns the string that is next after blanks, if it is a quoted string without escapes, or a
-    /// bare string that spells no integer and doesn't begin with a slash, and if all of it and the
-    /// byte that ends it are at hand. Nothing is read or taken.
+    /// bare string that spells no integer and doesn't begin with a slash. Returns `None` if it
+    /// isn't UTF-8, or isn't at hand up to and including the byte that ends it. Nothing is read or
+    /// taken.
     #[inline(always)]
     pub fn borrowed_text(&self, stop: Stop) -> Option<BorrowedText<'_>>
         ensures text { IfSome result (λ borrowed. IfKnown (unread R.remaining self.now)

@@ -17,7 +17,7 @@ pub enum TokenFault {
     OutOfMemory,
     /// A quoted string has no closing quote.
     UnclosedString,
-    /// A comment has no end, or the input ends after a slash.
+    /// A block comment has no `*/`, or the input ends after a slash.
     IncompleteComment,
     /// A string isn't UTF-8, or an escape isn't defined.
     InvalidUtf8,

@@ -127,7 +127,8 @@ impl<R: ByteReader> AsciiReader<R> {
         }
     }
 
-    /// Returns the inner reader, from which at most one byte past the last item has been read.
+    /// Returns the inner reader. Unless this reader has ended, at most one byte past the last item
+    /// has been read from the inner one.
     ///
     /// If such a byte was read, it is lost. After a bracket or a quoted string, no such byte has
     /// been read.

@@ -6,7 +6,7 @@ use Rattle.plist_keyed.specs.declared.error.KeyedError.TheVariants as error
 use Rattle.plist_keyed.specs.declared.error.WalkError.{WalkError}
 use Rattle.plist_keyed.specs.declared.error.WalkError.TheVariants as walk
 
--- the printed form of an error: its name, and its number in brackets, if it has one
+-- the printed form of an error: its name, and its number in parentheses, if it has one
 abbrev pub text_of_error : KeyedError → List ℕ
 text_of_error error.NotAnArchive = codes "NotAnArchive"
 text_of_error (error.UidOutOfRange uid) = codes "UidOutOfRange(" ++ decimal uid ++ codes ")"

@@ -61,7 +61,7 @@ impl KeyedError {
     }
 }
 
-/// Writes the variant's name, and its number in brackets if it has one.
+/// Writes the variant's name, and its number in parentheses if it has one.
 impl fmt::Display for KeyedError {
     ghost output = { λ error. Some (text_of_error error) };
 
