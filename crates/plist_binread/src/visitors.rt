@@ -1,4 +1,5 @@
-//! Defines the visitors that a reader puts between itself and another visitor, or uses for one event.
+//! Defines the visitors that a reader puts between itself and another visitor, or uses for one
+//! event.
 
 ghost use Rattle.std.specs.Prelude.{◌≡◌};
 

@@ -1,5 +1,5 @@
-//! Computes the lengths of objects and of the file in bytes, before any byte is written. A length of
-//! 2^64 or more is `None`.
+//! Computes the lengths of objects and of the file in bytes, before any byte is written. A length
+//! of 2^64 or more is `None`.
 
 ghost use Rattle.std.specs.Prelude.{◌≡◌, ◌+◌, ◌*◌, ◌≤◌, ◌<◌, ◌^◌, ℕ, length, true, false, IfSome, None, Some};
 ghost use Rattle.plist_base.specs.Events.{ScalarEvent};

@@ -57,8 +57,9 @@ pub trait Commands {
     /// # Errors
     ///
     /// An error is returned if a file can't be opened, read or written, if it doesn't contain a
-    /// property list, or if an allocation fails. For `keyed` an error is also returned if the file
-    /// isn't an archive with a tree under the key.
+    /// property list, if writing to `out` fails, or if an allocation fails. For `print` an error is
+    /// also returned if the property list isn't binary, and for `keyed` if the file isn't an
+    /// archive with a tree under the key.
     fn perform<O: Write>(
         &self,
         alloc: Global,

@@ -120,9 +120,9 @@ fn send_events<W: Write>(
 
 /// Writes the property list of a source as a binary file, without making a value, and returns
 /// [`Streamed::Sent`]. If a dictionary has a key twice, or the events aren't those of a value, it
-/// writes nothing and returns [`Streamed::NeedsValue`]. All of the source is read before the first
-/// byte is written, and the bytes are those that [`Value::to_writer_binary`] writes for the value
-/// that [`Value::from_reader`] returns.
+/// writes nothing and returns [`Streamed::NeedsValue`]. All events of the source are read before
+/// the first byte is written, and the bytes are those that [`Value::to_writer_binary`] writes for
+/// the value that [`Value::from_reader`] returns.
 ///
 /// # Errors
 ///

@@ -27,8 +27,8 @@ fn print_unflushed<I: EventSource, W: Write>(
     printer.print_all(source)
 }
 
-/// Prints the remaining events of a source, each on a line of its own, and flushes the writer at the
-/// end.
+/// Prints the remaining events of a source, each on a line of its own, and flushes the writer at
+/// the end.
 ///
 /// # Errors
 ///
