@@ -93,7 +93,8 @@ impl Dictionary {
     /// Returns a mutable reference to the key's value, or `None` if the key isn't there.
     pub fn get_mut(&mut self, key: &str) -> Option<&mut Value>
         ensures value { option_copied_mut result ≡ lookup (bytes_eq key.now) (pairs_of self.old) }
-        ensures member { IfSome result (λ borrowed. IsAmong (values_of (pairs_of self.old)) borrowed.now) }
+        ensures member { IfSome result (λ borrowed. IsAmong (values_of (pairs_of self.old))
+            borrowed.now) }
         ensures* writes_back { sem 𝓛 (DictionaryLendsAtKey self.entry key.now result) }
     {
         self.pairs.get_mut(key)

@@ -55,11 +55,11 @@ impl Model for OpenCollections {
 
     ghost coded = { Prim.hlevel (codes, value.the_row.coded, dictionary.the_row.coded) };
 
-    ghost view = { λ collections. contents_by_level (reverse collections.levels.items) collections.arrays
-        (reverse collections.dictionaries.items) };
+    ghost view = { λ collections. contents_by_level (reverse collections.levels.items)
+        collections.arrays (reverse collections.dictionaries.items) };
 
-    ghost invariant = { λ collections. HaveContents (reverse collections.levels.items) collections.arrays
-        (reverse collections.dictionaries.items) };
+    ghost invariant = { λ collections. HaveContents (reverse collections.levels.items)
+        collections.arrays (reverse collections.dictionaries.items) };
 }
 
 // Adds a value to the innermost dictionary, in a pair with the last key. If memory runs out, the

@@ -121,7 +121,8 @@ impl<R: ByteReader> Input<R> {
     pub fn borrowed_text(&self, stop: Stop) -> Option<BorrowedText<'_>>
         ensures text { IfSome result (λ borrowed. IfKnown (unread R.remaining self.now)
             (λ bytes. LeadsToText (stops stop) bytes borrowed.count borrowed.text.now)) }
-        ensures within { IfSome result (λ borrowed. borrowed.count ≤ length (hand R.window self.now)) }
+        ensures within { IfSome result (λ borrowed. borrowed.count
+            ≤ length (hand R.window self.now)) }
         ensures some { IfSome result (λ borrowed. 0 < borrowed.count) }
     {
         let bytes = self.at_hand();

@@ -201,7 +201,8 @@ fn value_below(
 /// allocation fails.
 pub(crate) fn value_at(alloc: Global, objects: &[Value], uid: Uid) -> Result<Value, WalkError>
     ensures read { IfOk result (λ value. IsFaultless (steps_from (objects_seen objects.now) uid)
-        × IsValueOf (items_of_steps (steps_from (objects_seen objects.now) uid)) (Ok (tree_of value))) }
+        × IsValueOf (items_of_steps (steps_from (objects_seen objects.now) uid))
+        (Ok (tree_of value))) }
     ensures itself { OnOk result ((value : Value) → last_wins (tree_of value) ≡ tree_of value) }
     ensures refused { IfErr result (IsFirstFaultOf (steps_from (objects_seen objects.now) uid)) }
 {

@@ -171,7 +171,8 @@ impl<'a> Entry<'a> {
     ///
     /// The errors are those of [`VacantEntry::insert`].
     pub fn or_insert(self, value: Value) -> Result<&'a mut Value, (String, Value)>
-        ensures value { IfOk result (λ borrowed. borrowed.now ≡ unwrap_or (entry_value self.entry) value) }
+        ensures value { IfOk result (λ borrowed. borrowed.now
+            ≡ unwrap_or (entry_value self.entry) value) }
         ensures absent { OnErr result (entry_value self.entry ≡ None) }
         ensures handed_back { IfErr result (HandsBack self.entry (λ v. v ≡ value)) }
         ensures* writes_back { sem 𝓛 (entry_lends_ok self.entry result) }
