@@ -11,9 +11,9 @@ use Rattle.plist.specs.Building.{OpenCollection, InArray, InDictionary, AfterKey
 use Rattle.plist.specs.inner.BuilderSteps.{and_pair, and_tree, at_value, in_array, in_dictionary, and_event}
 use Rattle.plist_base.specs.declared.expects.Expect.{Expect}
 use Rattle.plist_base.specs.declared.expects.Expect.TheVariants.{OneValue, Items, Pairs}
-use Rattle.plist_base.specs.declared.expects.Change.{Change}
-use Rattle.plist_base.specs.declared.expects.Change.TheVariants.{Refused}
-use Rattle.plist_base.specs.Expects.{change_of, changed, step, steps, expected_after}
+use Rattle.plist_base.specs.declared.expects.Transition.{Transition}
+use Rattle.plist_base.specs.declared.expects.Transition.TheVariants.{Refused}
+use Rattle.plist_base.specs.Expects.{transition_of, changed, step, steps, expected_after}
 use Rattle.plist_base.proofs.OneTree.{one_tree}
 use Rattle.plist_base.proofs.Stacks.{Stack, steps_items, steps_pairs}
 
@@ -222,7 +222,7 @@ expected (Complete t) ok = all_taken (bracketing t) t refl
 -- ---- an event that is rejected can't come next
 
 -- a change that rejects an event leaves no stack
-change-stops : (c : Change) (kind : FaultKind) (top : Expect) (rest : Stack)
+change-stops : (c : Transition) (kind : FaultKind) (top : Expect) (rest : Stack)
     → (if_refused c kind ≡ None → ⊥) → changed c top rest ≡ None
 change-stops Refused kind top rest no_ = refl
 change-stops c kind top rest no_ = absurd (no_ refl)
@@ -230,7 +230,7 @@ change-stops c kind top rest no_ = absurd (no_ refl)
 -- an event that is rejected where this is expected leaves no stack
 top-stops : (top : Expect) (rest : Stack) (e : PlainEvent) → (refusal_of top e ≡ None → ⊥)
     → step (top ∷ rest) e ≡ None
-top-stops top rest e no_ = change-stops (change_of top e) _ top rest no_
+top-stops top rest e no_ = change-stops (transition_of top e) _ top rest no_
 
 -- an event that is rejected after an unfinished tree leaves no stack
 stops : (u : Unfinished) (e : PlainEvent) → (refusal_at u e ≡ None → ⊥) → step (stack_of u) e ≡ None

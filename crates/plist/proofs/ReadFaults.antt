@@ -8,11 +8,11 @@ use Rattle.plist_base.specs.declared.byte_budget.ByteBudget.{ByteBudget}
 use Rattle.plist_base.specs.declared.limited_items.LimitedItems.{LimitedItems}
 use Rattle.plist_base.specs.declared.limits.LimitCounter.{LimitCounter}
 use Rattle.plist_base.specs.declared.source.Source.{Ghosts}
-use Rattle.plist_base.specs.declared.expects.Change.{Change}
-use Rattle.plist_base.specs.declared.expects.Change.TheVariants.{Refused}
+use Rattle.plist_base.specs.declared.expects.Transition.{Transition}
+use Rattle.plist_base.specs.declared.expects.Transition.TheVariants.{Refused}
 use Rattle.plist_base.specs.declared.expects.Expect.TheVariants.{OneValue}
 use Rattle.plist_base.specs.Events.{Item, PlainEvent, event_of}
-use Rattle.plist_base.specs.Expects.{change_of}
+use Rattle.plist_base.specs.Expects.{transition_of}
 use Rattle.plist_base.specs.Faults.{FaultKind, Fault, LimitReached, fault_of}
 use Rattle.plist_base.specs.Allowances.{GivesAllowed, PassesNext}
 use Rattle.plist_base.specs.Budgets.{GivesWithinBudget, IsBudgetUsedUp, within_budget}
@@ -27,16 +27,16 @@ use Rattle.plist.specs.FromReader.{IsFaultOfEvents, IsReadingFault}
 
 -- ---- an event that can't come next
 
-if-refused : (change : Change) (kind : FaultKind) → IsFaultOfEvents kind
+if-refused : (change : Transition) (kind : FaultKind) → IsFaultOfEvents kind
     → IfSome (if_refused change kind) IsFaultOfEvents
 if-refused Refused kind h = h
 if-refused change kind h = tt
 
 refused-events : (unfinished : Unfinished) (event : PlainEvent)
     → IfSome (refusal_at unfinished event) IsFaultOfEvents
-refused-events NotBegun event = if-refused (change_of OneValue event) _ tt
+refused-events NotBegun event = if-refused (transition_of OneValue event) _ tt
 refused-events (Within collection outer) event =
-    if-refused (change_of (expected_within collection) event) _ tt
+    if-refused (transition_of (expected_within collection) event) _ tt
 refused-events (Complete tree) event = tt
 
 of-refusal : (limited : Bool) (refusal : Option FaultKind) (fault : Fault)

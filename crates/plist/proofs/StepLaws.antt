@@ -3,11 +3,11 @@ use Rattle.std.specs.Prelude.{◌≡◌, ◌++◌, ◌∷◌, [], true, false, S
 use Rattle.std.proofs.Common.{inr}
 use Rattle.std.proofs.Common.{refl, sym, ◌∙◌, subst, true≢false}
 use Rattle.std.proofs.lemmas.Option.{none-some, same_Some}
-use Rattle.plist_base.specs.declared.expects.Change.{Change}
-use Rattle.plist_base.specs.declared.expects.Change.TheVariants as change
+use Rattle.plist_base.specs.declared.expects.Transition.{Transition}
+use Rattle.plist_base.specs.declared.expects.Transition.TheVariants as change
 use Rattle.plist_base.specs.declared.expects.Expect.TheVariants.{OneValue}
 use Rattle.plist_base.specs.Events.{PlainEvent}
-use Rattle.plist_base.specs.Expects.{change_of}
+use Rattle.plist_base.specs.Expects.{transition_of}
 use Rattle.plist_base.specs.Faults as faults
 use Rattle.plist_base.specs.Faults.{FaultKind, fault_without_offset, WriterFailed}
 use Rattle.plist_base.specs.Bracketing.{CanContinue, ContinueAlike}
@@ -27,7 +27,7 @@ for_order kind other p x = subst IsForOrder (same_Some other kind p) x
 
 -- if the given kind is that of an event that can't come next, so is the kind with which a change is
 -- rejected
-change-order : (c : Change) (kind other : FaultKind) → if_refused c other ≡ Some kind
+change-order : (c : Transition) (kind other : FaultKind) → if_refused c other ≡ Some kind
     → IsForOrder other → IsForOrder kind
 change-order change.Refused kind other p x = for_order _ _ p x
 change-order c kind other p x = absurd (none-some _ p)
@@ -35,8 +35,8 @@ change-order c kind other p x = absurd (none-some _ p)
 -- the kind of a rejection is that of an event that can't come next
 pub refusal-order : (u : Unfinished) (e : PlainEvent) (kind : FaultKind)
     → refusal_at u e ≡ Some kind → IsForOrder kind
-refusal-order NotBegun e kind p = change-order (change_of OneValue e) _ _ p tt
-refusal-order (Within c outer) e kind p = change-order (change_of (expected_within c) e) _ _ p tt
+refusal-order NotBegun e kind p = change-order (transition_of OneValue e) _ _ p tt
+refusal-order (Within c outer) e kind p = change-order (transition_of (expected_within c) e) _ _ p tt
 refusal-order (Complete tree) e kind p =
     for_order _ _ p tt
 

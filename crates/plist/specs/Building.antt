@@ -5,9 +5,9 @@ use Rattle.plist_base.specs.declared.error.EventKind.{EventKind}
 use Rattle.plist_base.specs.declared.error.EventKind.TheVariants as event_kind
 use Rattle.plist_base.specs.declared.expects.Expect.{Expect}
 use Rattle.plist_base.specs.declared.expects.Expect.TheVariants.{OneValue, Items, Pairs}
-use Rattle.plist_base.specs.declared.expects.Change.{Change}
-use Rattle.plist_base.specs.declared.expects.Change.TheVariants.{Refused}
-use Rattle.plist_base.specs.Expects.{change_of}
+use Rattle.plist_base.specs.declared.expects.Transition.{Transition}
+use Rattle.plist_base.specs.declared.expects.Transition.TheVariants.{Refused}
+use Rattle.plist_base.specs.Expects.{transition_of}
 use Rattle.plist_base.specs.Events.{PlainEvent, StartArray, StartDictionary, ScalarEvent, kind_of_event}
 use Rattle.plist_base.specs.Faults.{FaultKind, Fault, UnexpectedEventType, ExpectedEndOfEventStream, UnexpectedEndOfEventStream, OutOfMemory, WriterFailed}
 use Rattle.plist_base.specs.Trees.{Tree, String, trees_of, members_of}
@@ -126,13 +126,13 @@ kind_expected Pairs = event_kind.DictionaryKeyOrEndCollection
 kind_expected expect = event_kind.ValueOrStartCollection
 
 -- a fault of this kind, if the event is rejected
-abbrev pub if_refused : Change → FaultKind → Option FaultKind
+abbrev pub if_refused : Transition → FaultKind → Option FaultKind
 if_refused Refused kind = Some kind
 if_refused change kind = None
 
 -- the fault of an event that can't come next where this is expected
 abbrev pub refusal_of : Expect → PlainEvent → Option FaultKind
-refusal_of expect event = if_refused (change_of expect event)
+refusal_of expect event = if_refused (transition_of expect event)
     (UnexpectedEventType (kind_expected expect) (kind_of_event event))
 
 -- the fault of an event that can't come next

@@ -13,7 +13,7 @@ ghost use Rattle.plist.specs.ValueTrees.{tree_of};
 
 use crate::Value;
 use crate::open_collections::OpenCollections;
-use plist_base::{Change, ErrorKind, Event, EventKind, Expect};
+use plist_base::{ErrorKind, Event, EventKind, Expect, Transition};
 use std::alloc::{AllocError, Global};
 
 /// The open collections, and the root once it is complete. The values may be deep, and are dropped
@@ -48,11 +48,12 @@ fn refusal_of(expect: Expect, event: &Event<'_>) -> Option<ErrorKind>
     ensures { option_map kind_of result ≡ refusal_of expect (event_of event.now) }
 {
     match expect.change_by(event) {
-        Change::Refused => Some(ErrorKind::UnexpectedEventType {
+        Transition::Refused => Some(ErrorKind::UnexpectedEventType {
             expected: kind_expected(expect),
             found: EventKind::of_event(event),
         }),
-        Change::Popped | Change::Kept | Change::Pushed(_) | Change::Replaced(_) => None,
+        Transition::Closed | Transition::Kept | Transition::Pushed(_) | Transition::Replaced(_) =>
+            None,
     }
 }
 

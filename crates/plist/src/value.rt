@@ -32,7 +32,7 @@ pub(crate) use crate::value::dropping::destroy_all;
 use crate::writing::collect_events;
 use plist_ascii::{AsciiReader, ByteReader, Dialect};
 use plist_base::{Date, Error, EventKind, Integer, LimitedItems, Limits, RealBits, Source, Uid};
-use plist_binwrite::complete;
+use plist_binwrite::write_file;
 use plist_reader::Reader;
 use std::alloc::Global;
 use std::io::Write;
@@ -349,7 +349,7 @@ impl Value {
         ensures sent { SendsValue W.contents self.now result writer.old writer.new }
     {
         let events = collect_events(alloc, self)?;
-        complete(alloc, &events, writer)
+        write_file(alloc, &events, writer)
     }
 }
 

@@ -2,7 +2,7 @@
 
 ghost use Rattle.std.specs.Prelude.{◌≡◌};
 ghost use Rattle.plist_base.specs.Events.{event_of};
-ghost use Rattle.plist_base.specs.Expects.{change_of, change_of_value, change_of_items, change_of_pairs};
+ghost use Rattle.plist_base.specs.Expects.{transition_of, transition_of_value, transition_of_items, transition_of_pairs};
 
 use crate::{Event, EventShape};
 
@@ -19,11 +19,11 @@ pub enum Expect {
 
 /// How an event changes the topmost expectation of a stack.
 #[derive(Clone, Copy, Drop)]
-pub enum Change {
+pub enum Transition {
     /// The event isn't allowed here.
     Refused,
     /// The event completes what was expected, which is popped from the stack.
-    Popped,
+    Closed,
     /// The stack is unchanged.
     Kept,
     /// This expectation is pushed onto the stack.
@@ -33,40 +33,40 @@ pub enum Change {
 }
 
 // Returns how an event of this shape changes the expectation of a value.
-fn change_of_value(shape: EventShape) -> Change
-    ensures { result ≡ change_of_value shape }
+fn transition_of_value(shape: EventShape) -> Transition
+    ensures { result ≡ transition_of_value shape }
 {
     match shape {
-        EventShape::StartArray => Change::Replaced(Expect::Items),
-        EventShape::StartDictionary => Change::Replaced(Expect::Pairs),
-        EventShape::EndCollection => Change::Refused,
-        EventShape::Scalar => Change::Popped,
+        EventShape::StartArray => Transition::Replaced(Expect::Items),
+        EventShape::StartDictionary => Transition::Replaced(Expect::Pairs),
+        EventShape::EndCollection => Transition::Refused,
+        EventShape::Scalar => Transition::Closed,
     }
 }
 
 // Returns how an event of this shape changes the expectation of an array's items.
-fn change_of_items(shape: EventShape) -> Change
-    ensures { result ≡ change_of_items shape }
+fn transition_of_items(shape: EventShape) -> Transition
+    ensures { result ≡ transition_of_items shape }
 {
     match shape {
-        EventShape::StartArray => Change::Pushed(Expect::Items),
-        EventShape::StartDictionary => Change::Pushed(Expect::Pairs),
-        EventShape::EndCollection => Change::Popped,
-        EventShape::Scalar => Change::Kept,
+        EventShape::StartArray => Transition::Pushed(Expect::Items),
+        EventShape::StartDictionary => Transition::Pushed(Expect::Pairs),
+        EventShape::EndCollection => Transition::Closed,
+        EventShape::Scalar => Transition::Kept,
     }
 }
 
 // Returns how an event changes the expectation of a dictionary's pairs.
-fn change_of_pairs(event: &Event<'_>) -> Change
-    ensures { result ≡ change_of_pairs (event_of event.now) }
+fn transition_of_pairs(event: &Event<'_>) -> Transition
+    ensures { result ≡ transition_of_pairs (event_of event.now) }
 {
     if let Event::String(_) = event {
-        return Change::Pushed(Expect::OneValue);
+        return Transition::Pushed(Expect::OneValue);
     }
     match event.shape() {
-        EventShape::EndCollection => Change::Popped,
+        EventShape::EndCollection => Transition::Closed,
         EventShape::StartArray | EventShape::StartDictionary | EventShape::Scalar => {
-            Change::Refused
+            Transition::Refused
         }
     }
 }
@@ -74,13 +74,13 @@ fn change_of_pairs(event: &Event<'_>) -> Change
 impl Expect {
     /// Returns how an event changes this expectation.
     #[inline(always)]
-    pub fn change_by(self, event: &Event<'_>) -> Change
-        ensures { result ≡ change_of self (event_of event.now) }
+    pub fn change_by(self, event: &Event<'_>) -> Transition
+        ensures { result ≡ transition_of self (event_of event.now) }
     {
         match self {
-            Expect::OneValue => change_of_value(event.shape()),
-            Expect::Items => change_of_items(event.shape()),
-            Expect::Pairs => change_of_pairs(event),
+            Expect::OneValue => transition_of_value(event.shape()),
+            Expect::Items => transition_of_items(event.shape()),
+            Expect::Pairs => transition_of_pairs(event),
         }
     }
 }

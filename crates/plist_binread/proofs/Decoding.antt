@@ -82,52 +82,52 @@ fault_there fault.NotUtf16 kind place e other same is =
 -- ---- strings and data
 
 -- a string or data of which only the length was read is decoded as such
-pub long_decoded : (kind : ContentKind) (low count first : ℕ) (rest behind more : List ℕ)
-    → length_in low (rest ++ more) ≡ Some (count, behind ++ more)
-    → count * unit_size kind ≤ length (behind ++ more) → length behind ≤ length rest
-    → drop (length rest - length behind) rest ≡ behind → IsLongCount kind count
+pub long_decoded : (kind : ContentKind) (low count first : ℕ) (rest following more : List ℕ)
+    → length_in low (rest ++ more) ≡ Some (count, following ++ more)
+    → count * unit_size kind ≤ length (following ++ more) → length following ≤ length rest
+    → drop (length rest - length following) rest ≡ following → IsLongCount kind count
     → (width : ℕ) → IsDecodedAs width (first ∷ (rest ++ more)) (counted_with kind low (rest ++ more))
-    (decoded.Long kind (1 + (length rest - length behind)) count)
-long_decoded kind low count first rest behind more is fits short lies long width =
-    let k = length rest - length behind in
+    (decoded.Long kind (1 + (length rest - length following)) count)
+long_decoded kind low count first rest following more is fits short lies long width =
+    let k = length rest - length following in
     let next : 1 + k ≡ suc k = omega arith in
-    let there : drop (1 + k) (first ∷ (rest ++ more)) ≡ behind ++ more =
+    let there : drop (1 + k) (first ∷ (rest ++ more)) ≡ following ++ more =
     rw next (drop-append-le k rest more (omega arith) ∙ ap (λ xs. xs ++ more) lies) in (
-      omega (arith, length-append rest more, length-append behind more, fits, short),
-      rw (is, le-leb (count * unit_size kind) (length (behind ++ more)) fits)
+      omega (arith, length-append rest more, length-append following more, fits, short),
+      rw (is, le-leb (count * unit_size kind) (length (following ++ more)) fits)
           (ap (λ xs. content_means kind (take (count * unit_size kind) xs)) (sym there)),
       long,
     )
 
 -- data of at most eight bytes is decoded as a small scalar
-pub small_data : (low count content first : ℕ) (rest behind bytes more : List ℕ)
-    → length_in low (rest ++ more) ≡ Some (count, behind ++ more) → count ≤ length behind → count ≤ 8
-    → bytes ≡ take count behind → take (length bytes) (content_bytes content) ≡ bytes
+pub small_data : (low count content first : ℕ) (rest following bytes more : List ℕ)
+    → length_in low (rest ++ more) ≡ Some (count, following ++ more) → count ≤ length following → count ≤ 8
+    → bytes ≡ take count following → take (length bytes) (content_bytes content) ≡ bytes
     → (width : ℕ)
     → IsDecodedAs width (first ∷ (rest ++ more)) (counted_with content_kind.Data low (rest ++ more))
     (decoded.Small (kind.Data count) content)
-small_data low count content first rest behind bytes more is seen small cut packed width =
+small_data low count content first rest following bytes more is seen small cut packed width =
     let one : count * 1 ≡ count = omega arith in
-    let n : length bytes ≡ count = ap length cut ∙ length-take-le count behind seen in (
+    let n : length bytes ≡ count = ap length cut ∙ length-take-le count following seen in (
       trees.Data bytes,
-      content_seen low 1 count rest behind more is (rw one seen) data_of_content
-          ∙ ap (λ xs. Scalar (trees.Data xs)) (ap (λ k. take k behind) one ∙ sym cut),
+      content_seen low 1 count rest following more is (rw one seen) data_of_content
+          ∙ ap (λ xs. Scalar (trees.Data xs)) (ap (λ k. take k following) one ∙ sym cut),
       ap (λ xs. Some (trees.Data xs)) (rw n at packed),
       small,
     )
 
 -- if the content is among the bytes that were read, the object means what the content means
-pub few_bytes : (kind : ContentKind) (low count size first : ℕ) (rest behind bytes more : List ℕ)
+pub few_bytes : (kind : ContentKind) (low count size first : ℕ) (rest following bytes more : List ℕ)
     (answer : Decoded)
-    → length_in low (rest ++ more) ≡ Some (count, behind ++ more) → size ≡ count * unit_size kind
-    → size ≤ length behind → bytes ≡ take size behind
+    → length_in low (rest ++ more) ≡ Some (count, following ++ more) → size ≡ count * unit_size kind
+    → size ≤ length following → bytes ≡ take size following
     → MeansDecoded (content_means kind bytes) answer → (width : ℕ)
     → IsDecodedAs width (first ∷ (rest ++ more)) (counted_with kind low (rest ++ more)) answer
-few_bytes kind low count size first rest behind bytes more answer is same seen cut means width =
+few_bytes kind low count size first rest following bytes more answer is same seen cut means width =
     let e : counted_with kind low (rest ++ more) ≡ content_means kind bytes =
-    content_seen low (unit_size kind) count rest behind more is (rw same at seen)
+    content_seen low (unit_size kind) count rest following more is (rw same at seen)
     (content_means kind)
-    ∙ ap (content_means kind) (ap (λ k. take k behind) (sym same) ∙ sym cut) in
+    ∙ ap (content_means kind) (ap (λ k. take k following) (sym same) ∙ sym cut) in
     subst (λ object. IsDecodedAs width (first ∷ (rest ++ more)) object answer) (sym e)
     (means width (first ∷ (rest ++ more)))
 
@@ -328,9 +328,9 @@ cached_if known number (Ok value) slot current d tags small caches =
 cached_if known number (Err error) slot current d tags small caches = IfSome-all known (λ _. tt)
 
 -- if the content is short, all of its bytes are among those that were read
-pub content_enough : (size to_trailer rest behind : ℕ) → (rest < 25 → to_trailer ≤ rest)
-    → rest - behind + size ≤ to_trailer → behind ≤ rest → rest ≤ behind + 9 → size ≤ 16 → size ≤ behind
-content_enough size to_trailer rest behind shown within short near few = elim (cases_lt rest 25) [
+pub content_enough : (size to_trailer rest following : ℕ) → (rest < 25 → to_trailer ≤ rest)
+    → rest - following + size ≤ to_trailer → following ≤ rest → rest ≤ following + 9 → size ≤ 16 → size ≤ following
+content_enough size to_trailer rest following shown within short near few = elim (cases_lt rest 25) [
   | inl less ↦ let whole = shown less in omega arith
   | inr more ↦ omega arith
 ]

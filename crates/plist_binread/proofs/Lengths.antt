@@ -12,45 +12,45 @@ use Rattle.plist_binread.proofs.Extents.{leb_short, length_beyond}
 pub tail_whole : (w : ℕ) (xs : List ℕ) → take (length xs - w) (drop w xs) ≡ drop w xs
 tail_whole w xs = take_all (length xs - w) (drop w xs) (omega (arith, length-drop w xs))
 
-module _ (m byte w : ℕ) (rest behind : List ℕ) (beyond : 15 ≤ m % 16) (is : rest ≡ byte ∷ behind)
+module _ (m byte w : ℕ) (rest following : List ℕ) (beyond : 15 ≤ m % 16) (is : rest ≡ byte ∷ following)
     (width : w ≡ 2 ^ (byte % 4)) where
-  pub length_front : (tail more : List ℕ) → w ≤ length behind → tail ≡ drop w behind
-      → length_in m (rest ++ more) ≡ Some (number_of (take w behind), tail ++ more)
+  pub length_front : (tail more : List ℕ) → w ≤ length following → tail ≡ drop w following
+      → length_in m (rest ++ more) ≡ Some (number_of (take w following), tail ++ more)
   length_front tail more h cut =
-      let enough : w ≤ length (behind ++ more) = omega (arith, length-append behind more) in
+      let enough : w ≤ length (following ++ more) = omega (arith, length-append following more) in
       length_beyond m (rest ++ more) beyond
       ∙ rw (
         is,
         ← width,
-        le-leb w (length (behind ++ more)) enough,
-        take-append-le w behind more h,
-        drop-append-le w behind more h,
+        le-leb w (length (following ++ more)) enough,
+        take-append-le w following more h,
+        drop-append-le w following more h,
         cut,
       ) refl
 
   -- if the number of the length is cut off, the object has no length
-  pub length_cut : w ≤ 8 → length behind < w → (length rest < 9) × (length_in m rest ≡ None)
+  pub length_cut : w ≤ 8 → length following < w → (length rest < 9) × (length_in m rest ≡ None)
   length_cut small short = (
     omega (arith, ap length is),
-    length_beyond m rest beyond ∙ rw (is, ← width, leb_short w (length behind) short) refl,
+    length_beyond m rest beyond ∙ rw (is, ← width, leb_short w (length following) short) refl,
   )
 
-pub lies_behind : (byte w : ℕ) (rest behind tail : List ℕ) → rest ≡ byte ∷ behind
-    → w ≤ length behind → tail ≡ drop w behind → drop (length rest - length tail) rest ≡ tail
-lies_behind byte w rest behind tail is h cut =
-    let n : length rest - length (drop w behind) ≡ suc w = omega
-    (arith, ap length is, length-drop w behind) in
+pub lies_behind : (byte w : ℕ) (rest following tail : List ℕ) → rest ≡ byte ∷ following
+    → w ≤ length following → tail ≡ drop w following → drop (length rest - length tail) rest ≡ tail
+lies_behind byte w rest following tail is h cut =
+    let n : length rest - length (drop w following) ≡ suc w = omega
+    (arith, ap length is, length-drop w following) in
     rw (cut, n, is) refl
 
 -- ---- what follows the length
 
 -- if all bytes of the content are among these, the object is what the content means
-pub content_seen : (m size count : ℕ) (rest behind more : List ℕ)
-    → length_in m (rest ++ more) ≡ Some (count, behind ++ more) → count * size ≤ length behind
+pub content_seen : (m size count : ℕ) (rest following more : List ℕ)
+    → length_in m (rest ++ more) ≡ Some (count, following ++ more) → count * size ≤ length following
     → (meaning : List ℕ → Object) → meaning_counted size (λ _. meaning) (length_in m (rest ++ more))
-    ≡ meaning (take (count * size) behind)
-content_seen m size count rest behind more is h meaning =
-    let enough : count * size ≤ length (behind ++ more) = omega (arith, length-append behind more)
+    ≡ meaning (take (count * size) following)
+content_seen m size count rest following more is h meaning =
+    let enough : count * size ≤ length (following ++ more) = omega (arith, length-append following more)
     in
-    rw (is, le-leb (count * size) (length (behind ++ more)) enough)
-    (ap meaning (take-append-le (count * size) behind more h))
+    rw (is, le-leb (count * size) (length (following ++ more)) enough)
+    (ap meaning (take-append-le (count * size) following more h))

@@ -47,12 +47,12 @@ fn split_length(low: LowHalf, rest: &[u8]) -> Option<(u64, &[u8])>
     if let Some(length) = low.length() {
         return Some((length, rest));
     }
-    let (byte, behind) = rest.split_first()?;
+    let (byte, following) = rest.split_first()?;
     let width = number_width(u64::from(*byte)) as usize;
-    if behind.len() < width {
+    if following.len() < width {
         return None;
     }
-    Some((number_from(&behind[..width]), &behind[width..]))
+    Some((number_from(&following[..width]), &following[width..]))
 }
 
 // Returns the number of elements of an object and the bytes after its length, or `None` if the
@@ -70,10 +70,10 @@ fn split_count(low: LowHalf, rest: &[u8], to_trailer: u64, size: u64) -> Option<
     ensures after { IfSome result (LiesAfter rest.now) }
     ensures refused { IfNone result (RefusesCounted low size to_trailer rest.now) }
 {
-    let (count, behind) = split_length(low, rest)?;
-    let left = to_trailer - (rest.len() - behind.len()) as u64;
+    let (count, following) = split_length(low, rest)?;
+    let left = to_trailer - (rest.len() - following.len()) as u64;
     match count.checked_mul(size) {
-        Some(all) if all <= left => Some((count, behind)),
+        Some(all) if all <= left => Some((count, following)),
         _ => None,
     }
 }
@@ -81,12 +81,12 @@ fn split_count(low: LowHalf, rest: &[u8], to_trailer: u64, size: u64) -> Option<
 // Describes the content of a string or data by its kind, its start and its length, without reading
 // it.
 #[inline(always)]
-fn long_content(kind: ContentKind, rest: &[u8], behind: &[u8], count: u64) -> Decoded
-    requires within { length behind.now ≤ length rest.now }
-    requires near { length rest.now ≤ length behind.now + 9 }
-    ensures { result ≡ LongContent kind (1 + (length rest.now - length behind.now)) count }
+fn long_content(kind: ContentKind, rest: &[u8], following: &[u8], count: u64) -> Decoded
+    requires within { length following.now ≤ length rest.now }
+    requires near { length rest.now ≤ length following.now + 9 }
+    ensures { result ≡ LongContent kind (1 + (length rest.now - length following.now)) count }
 {
-    Decoded::Long(kind, 1 + (rest.len() - behind.len()) as u8, count)
+    Decoded::Long(kind, 1 + (rest.len() - following.len()) as u8, count)
 }
 
 /// Decodes data.
@@ -95,13 +95,13 @@ pub fn decode_data(low: LowHalf, rest: &[u8], to_trailer: u64) -> Decoded
     requires shown { ShowsContent to_trailer rest.now }
     ensures { DecodesScalar to_trailer (counted_with KindData low) rest.now result }
 {
-    let Some((count, behind)) = split_count(low, rest, to_trailer, 1) else {
+    let Some((count, following)) = split_count(low, rest, to_trailer, 1) else {
         return Decoded::Faulty(ObjectFault::Overrun);
     };
     if count > 8 {
-        return long_content(ContentKind::Data, rest, behind, count);
+        return long_content(ContentKind::Data, rest, following, count);
     }
-    let bytes = &behind[..count as usize];
+    let bytes = &following[..count as usize];
     Decoded::Small(PackedKind::Data(count as u8), content_from(bytes))
 }
 
@@ -135,13 +135,13 @@ pub fn decode_text(low: LowHalf, rest: &[u8], to_trailer: u64) -> Decoded
     requires shown { ShowsContent to_trailer rest.now }
     ensures { DecodesScalar to_trailer (counted_with KindText low) rest.now result }
 {
-    let Some((count, behind)) = split_count(low, rest, to_trailer, 1) else {
+    let Some((count, following)) = split_count(low, rest, to_trailer, 1) else {
         return Decoded::Faulty(ObjectFault::Overrun);
     };
     if count > 8 {
-        return long_content(ContentKind::Text, rest, behind, count);
+        return long_content(ContentKind::Text, rest, following, count);
     }
-    short_text(&behind[..count as usize])
+    short_text(&following[..count as usize])
 }
 
 // Decodes a UTF-16 string of at most eight units. Returns `None` if the string has more than eight
@@ -173,14 +173,14 @@ pub fn decode_wide_text(alloc: Global, low: LowHalf, rest: &[u8], to_trailer: u6
     requires shown { ShowsContent to_trailer rest.now }
     ensures { DecodesScalar to_trailer (counted_with KindWideText low) rest.now result }
 {
-    let Some((count, behind)) = split_count(low, rest, to_trailer, 2) else {
+    let Some((count, following)) = split_count(low, rest, to_trailer, 2) else {
         return Decoded::Faulty(ObjectFault::Overrun);
     };
-    let long = long_content(ContentKind::WideText, rest, behind, count);
+    let long = long_content(ContentKind::WideText, rest, following, count);
     if count > 8 {
         return long;
     }
-    match short_wide_text(alloc, &behind[..2 * count as usize]) {
+    match short_wide_text(alloc, &following[..2 * count as usize]) {
         Some(short) => short,
         None => long,
     }
@@ -203,8 +203,8 @@ pub fn decode_collection(
         result }
 {
     match split_count(low, rest, to_trailer, kind.children(width as u64)) {
-        Some((count, behind)) => {
-            Decoded::Collection(kind, 1 + (rest.len() - behind.len()) as u8, count)
+        Some((count, following)) => {
+            Decoded::Collection(kind, 1 + (rest.len() - following.len()) as u8, count)
         }
         None => Decoded::Faulty(ObjectFault::Overrun),
     }

@@ -139,12 +139,12 @@ module _ {scalars : List PlainEvent} {es : List EventEntry} {unclosed : List ℕ
       → reverse after ≡ unclosed_after_event (event_of_entry scalars e) (length es) (unclosed_after events)
       → ((p k : ℕ) → skip_after_event (event_of_entry scalars e) (length es) (unclosed_after events) p k ≡ k)
       → AreEntriesOf scalars (es ++ e ∷ []) after
-  entries_more e after one behind starts same =
+  entries_more e after one following starts same =
       entries_by (es ++ e ∷ []) after (event_of_entry scalars e) (shown_more scalars es e)
       (λ p lt. at_more es e entry.End p (λ d. is_sound scalars d ≡ true) lt (λ d. one) (t.sound p))
       starts
       (λ p lt. ap (index_after_entry p) (entry_before es e p lt) ∙ sym (same p (index_after_at es p)))
-      (ap (index_after_entry (length es)) (entry_last es e) ∙ behind)
+      (ap (index_after_entry (length es)) (entry_last es e) ∙ following)
 
   entries_scalar : (i : ℕ) → is_leaf (event_at scalars i) ≡ true
       → AreEntriesOf scalars (es ++ entry.Scalar i ∷ []) unclosed
@@ -154,7 +154,7 @@ module _ {scalars : List PlainEvent} {es : List EventEntry} {unclosed : List ℕ
 
   entries_start : (e : EventEntry) → is_start e ≡ true → index_after_entry (length es) e ≡ length es + 1
       → AreEntriesOf scalars (es ++ e ∷ []) (unclosed ++ length es ∷ [])
-  entries_start e starts behind = by e starts behind
+  entries_start e starts following = by e starts following
     where
       opens : reverse (unclosed ++ length es ∷ []) ≡ length es ∷ unclosed_after events
       opens = cc (reverse-append unclosed (length es ∷ []))
@@ -200,8 +200,8 @@ module _ {scalars : List PlainEvent} {es : List EventEntry} {unclosed : List ℕ
     closing_same f array dictionary = by _ _
       where
         by : (e : EventEntry) (n : ℕ) → f (closed_at e n) ≡ f e
-        by (entry.Array behind) n = array n behind
-        by (entry.Dictionary behind) n = dictionary n behind
+        by (entry.Array following) n = array n following
+        by (entry.Dictionary following) n = dictionary n following
         by e n = refl
 
     same_named : (i : ℕ) (l : List EventEntry) (p : ℕ) (e : EventEntry) → p < length l
@@ -227,8 +227,8 @@ module _ {scalars : List PlainEvent} {es : List EventEntry} {unclosed : List ℕ
 
     closing_behind : (e : EventEntry) (n : ℕ) → is_sound scalars e ≡ true
         → opened.is_start (event_of_entry scalars e) ≡ true → index_after_entry start (closed_at e n) ≡ n
-    closing_behind (entry.Array behind) n h s = refl
-    closing_behind (entry.Dictionary behind) n h s = refl
+    closing_behind (entry.Array following) n h s = refl
+    closing_behind (entry.Dictionary following) n h s = refl
     closing_behind (entry.Scalar i) n h s =
         let f = leaf_is _ h in
         let never : opened.is_start (without_length (event_at scalars i))
@@ -293,10 +293,10 @@ module _ {scalars : List PlainEvent} {es : List EventEntry} {unclosed : List ℕ
 
   pub kept_start : (e : EventEntry) → is_start e ≡ true → index_after_entry (length es) e ≡ length es + 1
       → IsValidTable scalars (es ++ e ∷ []) (unclosed ++ length es ∷ [])
-  kept_start e starts behind = record {
+  kept_start e starts following = record {
     apart = kept.apart;
     used = still_used e;
-    entries_are = entries_start kept.entries_are e starts behind;
+    entries_are = entries_start kept.entries_are e starts following;
   }
 
   pub kept_stray : unclosed ≡ [] → IsValidTable scalars (es ++ entry.End ∷ []) []

@@ -4,12 +4,12 @@ use Rattle.std.specs.Option.{is_none}
 use Rattle.plist_base.specs.Bracketing.{without_length, CanContinue}
 use Rattle.plist_base.specs.Events.{PlainEvent, StartArray, StartDictionary, EndCollection, ScalarEvent}
 use Rattle.plist_base.specs.Trees.{String}
-use Rattle.plist_base.specs.Expects.{change_of, changed, step, expected_after}
+use Rattle.plist_base.specs.Expects.{transition_of, changed, step, expected_after}
 use Rattle.plist_base.specs.declared.expects.Expect.{Expect}
 use Rattle.plist_base.specs.declared.expects.Expect.TheVariants.{OneValue, Items, Pairs}
-use Rattle.plist_base.specs.declared.expects.Change.{Change}
-use Rattle.plist_base.specs.declared.expects.Change.TheVariants.{Refused}
-use Rattle.plist_base.specs.declared.expects.Change.TheVariants as change
+use Rattle.plist_base.specs.declared.expects.Transition.{Transition}
+use Rattle.plist_base.specs.declared.expects.Transition.TheVariants.{Refused}
+use Rattle.plist_base.specs.declared.expects.Transition.TheVariants as change
 use Rattle.plist_base.proofs.Grammar.{none_is, wanted_alike, can_continue, continues, bracketed, all_taken, complete_of_whole, alike_last, steps_snoc}
 use Rattle.plist_binwrite.specs.declared.event_buffer.EventBuffer.{EventBuffer}
 use Rattle.plist_binwrite.specs.EventBuffers.{buffered_events, is_whole, TestsWhole}
@@ -61,7 +61,7 @@ ended top rest (kind ∷ outer) is =
 
 goes : (top : Expect) (rest : List Expect) (e : PlainEvent) (kinds : List OpenKind)
     → map expects_in kinds ≡ inside_of (top ∷ rest)
-    → IfSome (changed (change_of top e) top rest) (Goes (next_expected (change_of top e) (Some top)
+    → IfSome (changed (transition_of top e) top rest) (Goes (next_expected (transition_of top e) (Some top)
     (innermost (map expects_in (open_after_event e kinds)))) (open_after_event e kinds))
 goes OneValue rest (StartArray hint) kinds is = (ap (λ l. Items ∷ l) is, refl)
 goes OneValue rest (StartDictionary hint) kinds is = (ap (λ l. Pairs ∷ l) is, refl)
@@ -82,17 +82,17 @@ all_again (Items ∷ rest) = refl
 all_again (Pairs ∷ rest) = refl
 
 -- the change is that of an event that isn't rejected
-abbrev IsAccepted : Change → Type 0
-IsAccepted c = (c ≡ change.Popped) ⊎ ((c ≡ change.Kept)
+abbrev IsAccepted : Transition → Type 0
+IsAccepted c = (c ≡ change.Closed) ⊎ ((c ≡ change.Kept)
     ⊎ (((w : Expect) × (c ≡ change.Pushed w)) ⊎ ((w : Expect) × (c ≡ change.Replaced w))))
 
-not_refused : (c : Change) → IsAccepted c → c ≡ Refused → ⊥
+not_refused : (c : Transition) → IsAccepted c → c ≡ Refused → ⊥
 not_refused c (inl is) r = cc
 not_refused c (inr (inl is)) r = cc
 not_refused c (inr (inr (inl is))) r = cc (is.1)
 not_refused c (inr (inr (inr is))) r = cc (is.1)
 
-changed_some : (c : Change) (top : Expect) (rest : List Expect) → (c ≡ Refused → ⊥)
+changed_some : (c : Transition) (top : Expect) (rest : List Expect) → (c ≡ Refused → ⊥)
     → (new : List Expect) × (changed c top rest ≡ Some new)
 changed_some Refused top rest n = absurd (n refl)
 changed_some c top rest n = (_, refl)
@@ -137,7 +137,7 @@ module _ (s : EventBuffer) (e : PlainEvent) (still : is_whole s ≡ false) where
   is_top : s.expects ≡ Some top
   is_top = split.3
 
-  changes : change_on s.expects e ≡ change_of top e
+  changes : change_on s.expects e ≡ transition_of top e
   changes = ap (λ next. change_on next e) is_top
 
   after : expected_after (held ++ e ∷ []) ≡ changed (change_on s.expects e) top rest
@@ -176,7 +176,7 @@ module _ (s : EventBuffer) (e : PlainEvent) (still : is_whole s ≡ false) where
         by (Some x) top rest l is all = cc
 
     abbrev GoesOn : (after : List Expect) → Type 0
-    GoesOn = Goes (next_expected (change_of top e) (Some top)
+    GoesOn = Goes (next_expected (transition_of top e) (Some top)
         (innermost (map expects_in (open_after_event e kinds)))) (open_after_event e kinds)
 
     goes_on : GoesOn new
@@ -184,7 +184,7 @@ module _ (s : EventBuffer) (e : PlainEvent) (still : is_whole s ≡ false) where
         (ap (λ c. changed c top rest) (sym changes) ∙ sym after ∙ is_new) (goes top rest e kinds inside)
 
     -- the event was buffered, and what is expected after it was computed
-    module _ {events : List PlainEvent} {c : Change} {next : Option Expect} (m : events ≡ more)
+    module _ {events : List PlainEvent} {c : Transition} {next : Option Expect} (m : events ≡ more)
         (is : c ≡ change_on s.expects e)
         (found : next ≡ next_expected c s.expects (innermost (expected_inside events))) where
       now_open : open_after events [] ≡ open_after_event e kinds

@@ -125,13 +125,13 @@ counted {size} {meaning} width high count content rest layout small len =
           ) read
       | inr long ↦
           let m : (high * 16 + 15) % 16 ≡ 15 = omega arith in
-          let behind = ap length_that_follows (append_assoc (unsigned_form count) content rest)
+          let following = ap length_that_follows (append_assoc (unsigned_form count) content rest)
           ∙ follows count (content ++ rest) small in
           rw (
             length_long high count long,
             layout (high * 16 + 15) (omega arith) (omega arith),
             m,
-            behind,
+            following,
           ) read
     ]
 

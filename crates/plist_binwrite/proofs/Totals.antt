@@ -116,7 +116,7 @@ module _ {K : Type 0} (eq : K → K → Bool) (tells : (a b : K)
   -- the keys have numbers below a count, and no two have the same number
   module _ (count : ℕ) (At : K → ℕ → Type 0)
       (one : (a b : K) (n : ℕ) → At a n → At b n → a ≡ b) where
-    record Numbers (xs : List K) : Type 0 where
+    record CompactNumbers (xs : List K) : Type 0 where
       numbers : List ℕ
       long : length numbers ≡ length xs
       below : AllByRecursion (λ n. n < count) numbers
@@ -125,7 +125,7 @@ module _ {K : Type 0} (eq : K → K → Bool) (tells : (a b : K)
           → AllByRecursion (λ m. eqb n m ≡ false) numbers
 
     numbered : (xs : List K) → AllByRecursion (λ x. (n : ℕ) × (n < count) × At x n) xs
-        → IsDistinct eq xs → Numbers xs
+        → IsDistinct eq xs → CompactNumbers xs
     unfolding IsDistinct
     numbered [] a d =
         record { numbers = []; long = refl; below = tt; distinct = tt; apart = λ y n h e. tt }

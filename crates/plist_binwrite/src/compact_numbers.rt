@@ -32,12 +32,12 @@ fn widened(narrow: &Vec<u32>, wide: &Vec<usize>) -> Result<Vec<usize>, AllocErro
 
 /// A list of numbers. The first ones are stored in four bytes each, and all later ones in eight.
 #[derive(Drop)]
-pub struct Numbers {
+pub struct CompactNumbers {
     narrow: Vec<u32>,
     wide: Vec<usize>,
 }
 
-impl Model for Numbers {
+impl Model for CompactNumbers {
     ghost use Rattle.std.specs.Prelude.{List, ℕ, ◌++◌};
 
     ghost Value = { List ℕ };
@@ -45,12 +45,12 @@ impl Model for Numbers {
     ghost view = { λ numbers. numbers.narrow.items ++ numbers.wide.items };
 }
 
-impl Numbers {
+impl CompactNumbers {
     /// Creates an empty list. It allocates no memory.
-    pub fn new(alloc: Global) -> Numbers
+    pub fn new(alloc: Global) -> CompactNumbers
         ensures { result ≡ [] }
     {
-        Numbers {
+        CompactNumbers {
             narrow: Vec::new(alloc),
             wide: Vec::new(alloc),
         }
@@ -58,22 +58,22 @@ impl Numbers {
 
     /// Creates an empty list with capacity for `count` numbers of four bytes, or fails if the
     /// allocation fails.
-    pub fn with_capacity(alloc: Global, count: usize) -> Result<Numbers, AllocError>
+    pub fn with_capacity(alloc: Global, count: usize) -> Result<CompactNumbers, AllocError>
         ensures { IfOk result (λ r. r ≡ []) }
     {
         let narrow = Vec::with_capacity(alloc, count)?;
-        Ok(Numbers {
+        Ok(CompactNumbers {
             narrow,
             wide: Vec::new(alloc),
         })
     }
 
     /// Creates a list of `count` zeros, or fails if the allocation fails.
-    pub fn zeros(alloc: Global, count: usize) -> Result<Numbers, AllocError>
+    pub fn zeros(alloc: Global, count: usize) -> Result<CompactNumbers, AllocError>
         ensures zeros { IfOk result (λ r. r ≡ replicate count 0) }
     {
         let narrow = vec![in alloc; 0u32; count]?;
-        Ok(Numbers {
+        Ok(CompactNumbers {
             narrow,
             wide: Vec::new(alloc),
         })

@@ -5,7 +5,7 @@ ghost use Rattle.std.specs.Prelude.{◌≡◌, ◌-◌, ◌^◌, ◌<◌, ◌++�
 ghost use Rattle.plist_binwrite.specs.inner.Columns.{entry_of, kind_in, number_in, scalar_named, IsEntryNumber};
 ghost use Rattle.plist_binwrite.specs.inner.Entries.{index_after_at, ended_at, entry_at, is_start};
 
-use crate::compact_numbers::Numbers;
+use crate::compact_numbers::CompactNumbers;
 use plist_base::EventShape;
 use std::alloc::{AllocError, Global};
 use std::marker::Model;
@@ -41,8 +41,8 @@ fn number_in(entry: EventEntry) -> usize
     ensures { result ≡ number_in entry }
 {
     match entry {
-        EventEntry::Array(behind) => behind,
-        EventEntry::Dictionary(behind) => behind,
+        EventEntry::Array(following) => following,
+        EventEntry::Dictionary(following) => following,
         EventEntry::Scalar(index) => index,
         EventEntry::End => 0,
     }
@@ -52,7 +52,7 @@ fn number_in(entry: EventEntry) -> usize
 #[derive(Drop)]
 pub struct Entries {
     kinds: Vec<EventShape>,
-    numbers: Numbers,
+    numbers: CompactNumbers,
 }
 
 impl Model for Entries {
@@ -74,7 +74,7 @@ impl Entries {
     {
         Entries {
             kinds: Vec::new(alloc),
-            numbers: Numbers::new(alloc),
+            numbers: CompactNumbers::new(alloc),
         }
     }
 
@@ -103,7 +103,7 @@ impl Entries {
 
     /// Returns the index after the tree that begins at an index: the stored index for a start, and
     /// the next index for any other entry.
-    pub fn behind(&self, index: usize) -> usize
+    pub fn following(&self, index: usize) -> usize
         requires within { index < length self.now }
         requires small { index < 2 ^ 64 - 1 }
         ensures { result ≡ index_after_at self.now index }

@@ -7,7 +7,7 @@ ghost use Rattle.plist_binwrite.specs.EventTable.{plain_events};
 ghost use Rattle.plist_binwrite.specs.inner.Expected.{ExpectsNext, change_on, expected_inside, innermost, next_expected};
 
 use crate::event_table::EventTable;
-use plist_base::{Change, Event, EventKind, Expect};
+use plist_base::{Event, EventKind, Expect, Transition};
 use std::alloc::{AllocError, Global};
 
 /// The reason why an event wasn't buffered. The type is small because the memory of a result is
@@ -47,18 +47,18 @@ pub struct EventBuffer {
 }
 
 // Returns how an event changes what is expected next.
-fn change_on(expects: Option<Expect>, event: &Event<'_>) -> Change
+fn change_on(expects: Option<Expect>, event: &Event<'_>) -> Transition
     ensures { result ≡ change_on expects (event_of event.now) }
 {
     match expects {
         Some(expect) => expect.change_by(event),
-        None => Change::Refused,
+        None => Transition::Refused,
     }
 }
 
 // Returns what is expected next. The event that made this change is already in `held`.
 fn next_expected(
-    change: Change,
+    change: Transition,
     expects: Option<Expect>,
     held: &EventTable<'static>,
 ) -> Option<Expect>
@@ -66,9 +66,9 @@ fn next_expected(
         (innermost (expected_inside (plain_events held.now))) }
 {
     match change {
-        Change::Refused | Change::Kept => expects,
-        Change::Popped => held.innermost_expect(),
-        Change::Pushed(expect) | Change::Replaced(expect) => Some(expect),
+        Transition::Refused | Transition::Kept => expects,
+        Transition::Closed => held.innermost_expect(),
+        Transition::Pushed(expect) | Transition::Replaced(expect) => Some(expect),
     }
 }
 
@@ -114,7 +114,12 @@ impl EventBuffer {
     // Buffers an event that can follow the buffered ones, given how it changes what is expected
     // next.
     #[inline(always)]
-    fn hold(&mut self, alloc: Global, event: Event<'_>, change: Change) -> Result<(), AllocError>
+    fn hold(
+        &mut self,
+        alloc: Global,
+        event: Event<'_>,
+        change: Transition,
+    ) -> Result<(), AllocError>
         requires still { is_whole self.old ≡ false }
         requires accepted { CanTake self.old (event_of event) }
         requires change { change ≡ change_on self.old.expects (event_of event) }
@@ -142,8 +147,11 @@ impl EventBuffer {
     {
         let change = change_on(self.expects, &event);
         match change {
-            Change::Refused => Err(self.error_of_kind(EventKind::of_event(&event))),
-            Change::Popped | Change::Kept | Change::Pushed(_) | Change::Replaced(_) => {
+            Transition::Refused => Err(self.error_of_kind(EventKind::of_event(&event))),
+            Transition::Closed
+            | Transition::Kept
+            | Transition::Pushed(_)
+            | Transition::Replaced(_) => {
                 self.hold(alloc, event, change)?;
                 Ok(())
             }

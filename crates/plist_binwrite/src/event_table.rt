@@ -6,7 +6,7 @@ ghost use Rattle.plist_base.specs.Events.{EndCollection, ScalarEvent, shape_of};
 ghost use Rattle.plist_base.specs.Outcomes.{OnlyMemory};
 ghost use Rattle.plist_binwrite.specs.inner.Entries.{is_leaf, AreValidEntries};
 
-use crate::compact_numbers::Numbers;
+use crate::compact_numbers::CompactNumbers;
 use crate::entries::{Entries, EventEntry};
 use crate::stored_scalar::{ScalarRef, StoredScalar};
 use indexmap::IndexSet;
@@ -24,7 +24,7 @@ pub struct EventTable<'e> {
     scalars: IndexSet<StoredScalar<'e>>,
     entries: Entries,
     // The indices of the open starts, the innermost last.
-    unclosed: Numbers,
+    unclosed: CompactNumbers,
     // The expected number of different scalars.
     expected: usize,
     // The number of different scalars at which `make_room` next checks whether their table is full.
@@ -49,7 +49,7 @@ impl<'e> EventTable<'e> {
         EventTable {
             scalars: IndexSet::new(alloc),
             entries: Entries::new(alloc),
-            unclosed: Numbers::new(alloc),
+            unclosed: CompactNumbers::new(alloc),
             expected: 0,
             full_at: 0,
         }
@@ -135,7 +135,7 @@ impl<'e> EventTable<'e> {
         requires { index < length (plain_events self.now) }
         ensures { result ≡ skip_after (plain_events self.now) index }
     {
-        self.entries.behind(index)
+        self.entries.following(index)
     }
 
     /// If the event at this index is a scalar, returns its index among the different scalars, which
@@ -261,10 +261,10 @@ impl<'e> EventTable<'e> {
         ensures events { OnOk result (GrowsBy self.old (plain_event event.entry) self.new) }
         ensures unchanged { OnErr result (plain_events self.new ≡ plain_events self.old) }
     {
-        let behind = self.entries.len() + 1;
+        let following = self.entries.len() + 1;
         match event {
-            Event::StartArray(_) => self.start(EventEntry::Array(behind)),
-            Event::StartDictionary(_) => self.start(EventEntry::Dictionary(behind)),
+            Event::StartArray(_) => self.start(EventEntry::Array(following)),
+            Event::StartDictionary(_) => self.start(EventEntry::Dictionary(following)),
             Event::EndCollection => self.end(),
             Event::Boolean(value) => self.scalar(StoredScalar::Boolean(value)),
             Event::Data(bytes) => self.scalar(StoredScalar::of_data(bytes)),
@@ -349,10 +349,10 @@ impl EventTable<'static> {
         ensures events { OnOk result (GrowsBy self.old (plain_event event.entry) self.new) }
         ensures unchanged { OnErr result (plain_events self.new ≡ plain_events self.old) }
     {
-        let behind = self.entries.len() + 1;
+        let following = self.entries.len() + 1;
         match event {
-            Event::StartArray(_) => self.start(EventEntry::Array(behind)),
-            Event::StartDictionary(_) => self.start(EventEntry::Dictionary(behind)),
+            Event::StartArray(_) => self.start(EventEntry::Array(following)),
+            Event::StartDictionary(_) => self.start(EventEntry::Dictionary(following)),
             Event::EndCollection => self.end(),
             Event::Boolean(value) => self.scalar(StoredScalar::Boolean(value)),
             Event::Data(bytes) => self.copy_data(alloc, bytes),

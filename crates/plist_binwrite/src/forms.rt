@@ -11,7 +11,7 @@ ghost use Rattle.plist_format.specs.Marker.{high_half};
 ghost use Rattle.plist_base.specs.Sinks.{Puts, PutsBytes, PutsNothing, room};
 ghost use Rattle.plist_binwrite.specs.Written.{table_and_trailer, trailer_of};
 
-use crate::compact_numbers::Numbers;
+use crate::compact_numbers::CompactNumbers;
 use crate::push::{push_boolean, push_date, push_integer, push_length, push_real, push_uid};
 use crate::stored_scalar::ScalarRef;
 pub use crate::text::put_text;
@@ -136,7 +136,7 @@ pub fn put_integer<W: Write>(sink: &mut Sink<'_, W>, value: Integer) -> Result<(
 pub fn put_numbers<W: Write>(
     sink: &mut Sink<'_, W>,
     width: usize,
-    list: &Numbers,
+    list: &CompactNumbers,
 ) -> Result<(), Error>
     requires width { width ≤ 8 }
     ensures { Puts W.contents sink.old (table_form width list.now) result sink.new }
@@ -171,7 +171,7 @@ pub fn put_trailer<W: Write>(
 /// table itself lies at the byte offset `table`.
 pub fn put_table_and_trailer<W: Write>(
     sink: &mut Sink<'_, W>,
-    places: &Numbers,
+    places: &CompactNumbers,
     table: usize,
 ) -> Result<(), Error>
     ensures { Puts W.contents sink.old (table_and_trailer places.now table) result sink.new }

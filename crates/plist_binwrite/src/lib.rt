@@ -28,6 +28,6 @@ mod writer;
 
 pub use event_table::EventTable;
 pub use plist_base::send::send_and_flush;
-pub use send_file::{complete, complete_by_class};
+pub use send_file::{write_file, write_file_by_class};
 pub use sharing::{EqualScalars, Sharing};
 pub use writer::{BinaryWriter, FileWriter};

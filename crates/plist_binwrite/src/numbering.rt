@@ -7,7 +7,7 @@ ghost use Rattle.std.specs.Prelude.{IfOk};
 
 use crate::children::{Children, Half, begins_collection};
 use crate::classes::Classed;
-use crate::compact_numbers::Numbers;
+use crate::compact_numbers::CompactNumbers;
 use std::alloc::{AllocError, Global};
 
 /// The number of each class's object, and the first event of each object.
@@ -15,9 +15,9 @@ use std::alloc::{AllocError, Global};
 pub struct Numbering {
     /// One more than the number of each class's object, indexed by the class, or 0 if the object
     /// has no number yet.
-    pub by_class: Numbers,
+    pub by_class: CompactNumbers,
     /// The index of the first event of each object, in the order of the objects' numbers.
-    pub firsts: Numbers,
+    pub firsts: CompactNumbers,
 }
 
 impl Numbering {
@@ -32,8 +32,8 @@ impl Numbering {
         ensures unknown { IfOk result (λ r. r.by_class ≡ replicate bound 0) }
         ensures firsts { IfOk result (λ r. r.firsts ≡ []) }
     {
-        let by_class = Numbers::zeros(alloc, bound)?;
-        let firsts = Numbers::with_capacity(alloc, bound)?;
+        let by_class = CompactNumbers::zeros(alloc, bound)?;
+        let firsts = CompactNumbers::with_capacity(alloc, bound)?;
         Ok(Numbering { by_class, firsts })
     }
 

@@ -9,7 +9,7 @@ ghost use Rattle.plist_binwrite.specs.inner.Layout.{IsFilePlan, IsPlanFault};
 
 use crate::children::{Children, Half};
 use crate::classes::Classed;
-use crate::compact_numbers::Numbers;
+use crate::compact_numbers::CompactNumbers;
 use crate::numbering::{Numbering, number_objects};
 use crate::size::{add, has_size, size_of_object};
 use crate::widths::reference_width;
@@ -24,9 +24,9 @@ pub struct FilePlan {
     /// The number of bytes in a reference.
     pub width: usize,
     /// The numbers of the objects that have offsets, in the order of the file.
-    pub order: Numbers,
+    pub order: CompactNumbers,
     /// The byte offset of each object, indexed by its number, or 0 while it has none.
-    pub places: Numbers,
+    pub places: CompactNumbers,
     /// The offset after the last of these objects, or `None` if it is 2^64 or more; the offsets are
     /// unspecified then.
     pub end: Option<u64>,
@@ -57,8 +57,8 @@ impl FilePlan {
     {
         let numbering = number_objects(alloc, given)?;
         let count = numbering.firsts.len();
-        let places = Numbers::zeros(alloc, count)?;
-        let order = Numbers::with_capacity(alloc, count)?;
+        let places = CompactNumbers::zeros(alloc, count)?;
+        let order = CompactNumbers::with_capacity(alloc, count)?;
         Ok(FilePlan {
             numbering,
             width: reference_width(count as u64),

@@ -64,7 +64,7 @@ fn send_plan<W: Write>(
 /// `PlistTooLarge` if the file would have 2^64 bytes or more, and `OutOfMemory` if an allocation
 /// fails: no byte was written. `Io` if a write or the flush fails: a prefix of the file was
 /// written, and all of it if the flush failed. No error has an offset.
-pub fn complete_by_class<W: Write>(
+pub fn write_file_by_class<W: Write>(
     alloc: Global,
     given: &Classed<'_, '_>,
     writer: &mut W,
@@ -86,8 +86,8 @@ pub fn complete_by_class<W: Write>(
 ///
 /// # Errors
 ///
-/// The errors are those of [`complete_by_class`], with the same state after each.
-pub fn complete<W: Write>(
+/// The errors are those of [`write_file_by_class`], with the same state after each.
+pub fn write_file<W: Write>(
     alloc: Global,
     events: &EventTable<'_>,
     writer: &mut W,
@@ -99,5 +99,5 @@ pub fn complete<W: Write>(
         events,
         classes: &Classes::EqualScalars,
     };
-    complete_by_class(alloc, &given, writer)
+    write_file_by_class(alloc, &given, writer)
 }

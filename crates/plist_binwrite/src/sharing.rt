@@ -26,7 +26,7 @@ pub trait Sharing: Sealed + Drop {
     /// `PlistTooLarge` if the file would have 2^64 bytes or more, and `OutOfMemory` if an
     /// allocation fails: no byte was written. `Io` if a write or the flush fails: a prefix of the
     /// file was written, and all of it if the flush failed. No error has an offset.
-    fn complete<W: Write>(
+    fn write_file<W: Write>(
         alloc: Global,
         events: &EventTable<'_>,
         writer: &mut W,
@@ -45,11 +45,11 @@ impl Sealed for EqualScalars {}
 impl Sharing for EqualScalars {
     ghost kind = { least_files };
 
-    fn complete<W: Write>(
+    fn write_file<W: Write>(
         alloc: Global,
         events: &EventTable<'_>,
         writer: &mut W,
     ) -> Result<(), Error> {
-        send_file::complete(alloc, events, writer)
+        send_file::write_file(alloc, events, writer)
     }
 }

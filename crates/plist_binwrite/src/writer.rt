@@ -98,7 +98,7 @@ impl<W: Write, S: Sharing> Writer for FileWriter<W, S> {
         }
         if self.pending.is_whole() {
             self.has_failed = true;
-            S::complete(self.alloc, self.pending.events(), &mut self.writer)?;
+            S::write_file(self.alloc, self.pending.events(), &mut self.writer)?;
             self.pending.clear();
             self.has_failed = false;
         }

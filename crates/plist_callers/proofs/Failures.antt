@@ -4,11 +4,11 @@ use Rattle.std.specs.Iterator.{Yields}
 use Rattle.plist_base.specs.declared.error.Error.{Error}
 use Rattle.plist_base.specs.declared.event.Event.{Event}
 use Rattle.plist_base.specs.declared.source.Source.{Ghosts}
-use Rattle.plist_base.specs.declared.expects.Change.{Change}
-use Rattle.plist_base.specs.declared.expects.Change.TheVariants.{Refused}
+use Rattle.plist_base.specs.declared.expects.Transition.{Transition}
+use Rattle.plist_base.specs.declared.expects.Transition.TheVariants.{Refused}
 use Rattle.plist_base.specs.declared.expects.Expect.TheVariants.{OneValue}
 use Rattle.plist_base.specs.Events.{PlainEvent, event_of}
-use Rattle.plist_base.specs.Expects.{change_of}
+use Rattle.plist_base.specs.Expects.{transition_of}
 use Rattle.plist_base.specs.Faults.{FaultKind, Fault, Io, MatchFault, error_kind_of, fault_of, kind_of}
 use Rattle.plist_base.specs.Sources.{Rises}
 use Rattle.plist_reader.specs.declared.reader.Reader.{Reader}
@@ -24,15 +24,15 @@ IsNotIo kind = kind ≡ Io → ⊥
 
 -- ---- an event that can't come next
 
-if-refused : (change : Change) (kind : FaultKind) → IsNotIo kind
+if-refused : (change : Transition) (kind : FaultKind) → IsNotIo kind
     → IfSome (if_refused change kind) IsNotIo
 if-refused Refused kind h = h
 if-refused change kind h = tt
 
 refused-event : (held : Unfinished) (event : PlainEvent) → IfSome (refusal_at held event) IsNotIo
-refused-event NotBegun event = if-refused (change_of OneValue event) _ (λ e. cc e)
+refused-event NotBegun event = if-refused (transition_of OneValue event) _ (λ e. cc e)
 refused-event (Within collection outer) event =
-    if-refused (change_of (expected_within collection) event) _ (λ e. cc e)
+    if-refused (transition_of (expected_within collection) event) _ (λ e. cc e)
 refused-event (Complete tree) event = λ e. cc e
 
 of-refusal : (refusal : Option FaultKind) (fault : Fault) → IfSome refusal IsNotIo

@@ -6,13 +6,13 @@ ghost use Rattle.plist_commands.specs.Commands.{Answered};
 ghost use Rattle.plist_commands.specs.Failures.{PlainFailure, plain_failure_of, failure_text};
 ghost use Rattle.plist_commands.specs.Converting.{IfOkIs, LeavesToValue, SendsBytes};
 ghost use Rattle.plist_print.specs.Printing.{PrintsKnown};
-ghost use Rattle.plist_commands.specs.declared.convert.Streamed.TheVariants.{NeedsValue, Sent};
+ghost use Rattle.plist_commands.specs.declared.convert.FastPath.TheVariants.{NotApplicable, Sent};
 ghost use Rattle.plist_format.specs.Unfolding.{items_of_file};
 ghost use Rattle.plist_commands.specs.Messages.{Fault, Usage};
 
 use plist_base::Error;
 use plist_commands::{
-    Commands, Failure, Message, Messages, Streamed, convert_binary, print_events, run_words,
+    Commands, Failure, FastPath, Message, Messages, convert_binary, print_events, run_words,
 };
 use std::alloc::Global;
 use std::io::Write;
@@ -30,15 +30,15 @@ pub fn print_bytes(alloc: Global, bytes: &[u8], out: &mut Vec<u8>) -> Result<(),
 }
 
 /// Converts the property list in these bytes. It writes a file of the property list's tree, and
-/// returns [`Streamed::Sent`]. If a value is needed, it writes nothing, and returns
-/// [`Streamed::NeedsValue`].
+/// returns [`FastPath::Sent`]. If a value is needed, it writes nothing, and returns
+/// [`FastPath::NotApplicable`].
 ///
 /// # Errors
 ///
 /// The errors are those of [`convert_binary`].
-pub fn convert_bytes(alloc: Global, bytes: &[u8], out: &mut Vec<u8>) -> Result<Streamed, Error>
+pub fn convert_bytes(alloc: Global, bytes: &[u8], out: &mut Vec<u8>) -> Result<FastPath, Error>
     ensures sent { IfOkIs result Sent (SendsBytes bytes.now out.old.items out.new.items) }
-    ensures left { IfOkIs result NeedsValue (LeavesToValue (Some bytes.now) out.old out.new) }
+    ensures left { IfOkIs result NotApplicable (LeavesToValue (Some bytes.now) out.old out.new) }
 {
     convert_binary(alloc, bytes, out)
 }

@@ -12,8 +12,8 @@ use Rattle.plist_binread.specs.FaultOffsets.{HasOffset}
 use Rattle.plist_binread.specs.ReaderSteps.{Steps}
 use Rattle.plist_reader.specs.Reader.{reader_source, Gives, BinaryReaderOf, IsNewReader}
 use Rattle.plist_reader.specs.declared.reader.Reader.{Reader}
-use Rattle.plist_commands.specs.declared.convert.Streamed.{Streamed}
-use Rattle.plist_commands.specs.declared.convert.Streamed.TheVariants.{NeedsValue, Sent}
+use Rattle.plist_commands.specs.declared.convert.FastPath.{FastPath}
+use Rattle.plist_commands.specs.declared.convert.FastPath.TheVariants.{NotApplicable, Sent}
 use Rattle.plist_print.specs.Printing.{CountsReads, CountsReadsOf}
 
 module _ {I : Type 0} (gives : I → PlainItem → I → Type 0) where
@@ -79,16 +79,16 @@ ReadsSource {S} known failed source answer held =
 -- The result of a conversion, given that of buffering the events. If the events are those of a
 -- whole property list, a file of them was written, or a value is needed, or writing failed. If they
 -- aren't, a value is needed. If buffering failed, its error is returned.
-abbrev pub ComesOfReading : (sent : Type 0) → Result Bool Error → Result Streamed Error → Type 0
+abbrev pub ComesOfReading : (sent : Type 0) → Result Bool Error → Result FastPath Error → Type 0
 ComesOfReading sent (Ok true) answer =
     MatchResult answer (λ found. found ≡ Sent → sent) (λ error. offset_of error ≡ None)
-ComesOfReading sent (Ok false) answer = answer ≡ Ok NeedsValue
+ComesOfReading sent (Ok false) answer = answer ≡ Ok NotApplicable
 ComesOfReading sent (Err error) answer = answer ≡ Err error
 
 -- a source's events were buffered, and this is the result of the conversion; `sends` says what was
 -- written for them
 abbrev pub ConvertsSource : {S : Type 0} (known : S → Option (List ℕ)) (failed : S → ℕ)
-    (source : S) → Result Streamed Error → (sends : List PlainEvent → Type 0) → Type 0
+    (source : S) → Result FastPath Error → (sends : List PlainEvent → Type 0) → Type 0
 ConvertsSource known failed source answer sends =
     (read : Result Bool Error) × (held : List PlainEvent)
     × ReadsSource known failed source read held × ComesOfReading (sends held) read answer

@@ -8,8 +8,8 @@ use Rattle.plist_base.specs.Faults.{Fault, fault_of}
 use Rattle.plist_base.specs.Trees.{Tree}
 use Rattle.plist_base.specs.Writing.{Answer}
 use Rattle.plist_binwrite.specs.Files.{IsFileOf}
-use Rattle.plist_commands.specs.declared.convert.Streamed.{Streamed}
-use Rattle.plist_commands.specs.declared.convert.Streamed.TheVariants.{NeedsValue, Sent}
+use Rattle.plist_commands.specs.declared.convert.FastPath.{FastPath}
+use Rattle.plist_commands.specs.declared.convert.FastPath.TheVariants.{NotApplicable, Sent}
 use Rattle.plist_reader.specs.Reader.{items_of_input}
 use Rattle.plist.specs.ValueOfItems.{AreItemsOfTree, IsValueOf, IsReadIfKnown}
 use Rattle.plist.specs.LastWins.{last_wins}
@@ -60,9 +60,9 @@ IfOkIs answer wanted P = IfOk answer (λ found. found ≡ wanted → P)
 -- the bytes. If it needs a value, nothing was written. If it fails, the error is that of reading or
 -- of writing.
 pub record Converts {W : Type 0} (contents : W → Option (List ℕ)) (known : Option (List ℕ))
-    (answer : Result Streamed Error) (old new : W) : Type 0 where
+    (answer : Result FastPath Error) (old new : W) : Type 0 where
   pub sent : IfOkIs answer Sent (SendsAll contents known old new)
-  pub left : IfOkIs answer NeedsValue (LeavesToValue known old new)
+  pub left : IfOkIs answer NotApplicable (LeavesToValue known old new)
   pub refused : IfErr answer (λ error. IsStopped contents known (fault_of error) old new)
 
 -- ---- the buffered events of a reader

@@ -9,16 +9,16 @@ ghost use Rattle.plist_reader.specs.Formats.{format_of};
 ghost use Rattle.plist_commands.specs.Converting.{CollectsItems, Converts, IfOkIs, ForBytesOf, items_of_known};
 ghost use Rattle.plist_commands.specs.CollectorSteps.{IsEmpty, collected, is_complete};
 ghost use Rattle.plist_commands.specs.BufferRuns.{ConvertsSource, HoldsBinary, HoldsOther, ReadsSource};
-ghost use Rattle.plist_commands.specs.declared.convert.Streamed.TheVariants.{Sent};
+ghost use Rattle.plist_commands.specs.declared.convert.FastPath.TheVariants.{Sent};
 
 use crate::collector::Collector;
 use crate::open::open_source;
 use plist::{LazyFile, Value};
 use plist_base::{Error, EventSource, Source};
 use plist_binread::BinaryReader;
-use plist_binwrite::complete;
 use plist_binwrite::event_buffer::EventBuffer;
 use plist_binwrite::repeated_keys::repeats_key;
+use plist_binwrite::write_file;
 use plist_reader::{Format, Reader, format_of};
 use std::alloc::Global;
 use std::io::Write;
@@ -26,11 +26,11 @@ use std::rt::Files;
 
 /// The result of writing a property list without making its value.
 #[derive(Clone, Copy)]
-pub enum Streamed {
+pub enum FastPath {
     /// The file was written.
     Sent,
     /// Nothing was written: a dictionary has a key twice, or the events aren't those of a value.
-    NeedsValue,
+    NotApplicable,
 }
 
 // Buffers the events of a binary source. The collector pauses after the first event, since the
@@ -102,7 +102,7 @@ fn send_events<W: Write>(
     alloc: Global,
     pending: &EventBuffer,
     writer: &mut W,
-) -> Result<Streamed, Error>
+) -> Result<FastPath, Error>
     requires { AreTreeEvents (buffered_events pending.now) }
     ensures converts { ForBytesOf (buffered_events pending.now)
         (λ known. Converts W.contents known result writer.old writer.new) }
@@ -112,15 +112,15 @@ fn send_events<W: Write>(
 {
     let events = pending.events();
     if repeats_key(alloc, events)? {
-        return Ok(Streamed::NeedsValue);
+        return Ok(FastPath::NotApplicable);
     }
-    complete(alloc, events, writer)?;
-    Ok(Streamed::Sent)
+    write_file(alloc, events, writer)?;
+    Ok(FastPath::Sent)
 }
 
 /// Writes the property list of a source as a binary file, without making a value, and returns
-/// [`Streamed::Sent`]. If a dictionary has a key twice, or the events aren't those of a value, it
-/// writes nothing and returns [`Streamed::NeedsValue`]. All events of the source are read before
+/// [`FastPath::Sent`]. If a dictionary has a key twice, or the events aren't those of a value, it
+/// writes nothing and returns [`FastPath::NotApplicable`]. All events of the source are read before
 /// the first byte is written, and the bytes are those that [`Value::to_writer_binary`] writes for
 /// the value that [`Value::from_reader`] returns.
 ///
@@ -132,14 +132,14 @@ pub fn convert_binary<S: Source, W: Write>(
     alloc: Global,
     source: S,
     writer: &mut W,
-) -> Result<Streamed, Error>
+) -> Result<FastPath, Error>
     ensures converts { Converts W.contents (S.known source) result writer.old writer.new }
     ensures answers { ConvertsSource S.known S.failures source result
         (λ held. Sends W.contents held (Ok tt) writer.old writer.new) }
 {
     let mut collector = Collector::new(alloc);
     if !collect_source(alloc, source, &mut collector)? {
-        return Ok(Streamed::NeedsValue);
+        return Ok(FastPath::NotApplicable);
     }
     send_events(alloc, &collector.pending, writer)
 }
@@ -150,10 +150,10 @@ fn stream_to<R: Files, S: Source>(
     alloc: Global,
     source: S,
     to: &str,
-) -> Result<Streamed, Error> {
+) -> Result<FastPath, Error> {
     let mut output = LazyFile::new(rt, to);
     let sent = convert_binary(alloc, source, &mut output)?;
-    if let Streamed::Sent = sent {
+    if let FastPath::Sent = sent {
         output.sync()?;
     }
     Ok(sent)
@@ -177,7 +177,7 @@ fn convert_value<R: Files>(rt: &R, alloc: Global, from: &str, to: &str) -> Resul
 pub fn convert_file<R: Files>(rt: &R, alloc: Global, from: &str, to: &str) -> Result<(), Error> {
     let source = open_source(rt, alloc, from)?;
     match stream_to(rt, alloc, source, to)? {
-        Streamed::Sent => Ok(()),
-        Streamed::NeedsValue => convert_value(rt, alloc, from, to),
+        FastPath::Sent => Ok(()),
+        FastPath::NotApplicable => convert_value(rt, alloc, from, to),
     }
 }

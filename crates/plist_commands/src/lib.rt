@@ -15,7 +15,7 @@ mod print;
 
 pub use arguments::program_arguments;
 pub use commands::{Command, Commands, command_of, run_words};
-pub use convert::{Streamed, convert_binary, convert_file};
+pub use convert::{FastPath, convert_binary, convert_file};
 pub use failure::Failure;
 pub use keyed::{keyed_file, print_at};
 pub use messages::{Message, Messages};

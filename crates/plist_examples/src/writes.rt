@@ -142,7 +142,7 @@ fn expect_whole(alloc: Global, device: &Device, bytes: &[u8]) -> Result<(), Wron
     expect_that(
         alloc,
         is_flushed,
-        "a call for each byte, and one flush behind them",
+        "a call for each byte, and one flush following them",
     )?;
     let is_at_once = device.longest == bytes.len() || bytes.len() > ROOM;
     expect_that(

@@ -166,13 +166,13 @@ fn expect_faulty<S: Sharing>(
 // Returns the text before, inside and after the first parentheses, or `None` if there are none.
 fn parts_of(field: &str) -> Option<(&str, &str, &str)> {
     let (before, rest) = field.split_once('(')?;
-    let (within, behind) = rest.split_once(')')?;
-    Some((before, within, behind))
+    let (within, following) = rest.split_once(')')?;
+    Some((before, within, following))
 }
 
 // Expands a field in which `(00*3)` stands for `000000`.
 fn repeated(alloc: Global, field: &str) -> Result<String, Wrong> {
-    let Some((before, within, behind)) = parts_of(field) else {
+    let Some((before, within, following)) = parts_of(field) else {
         return unreadable(alloc, field);
     };
     let Some((part, times)) = within.split_once('*') else {
@@ -183,7 +183,7 @@ fn repeated(alloc: Global, field: &str) -> Result<String, Wrong> {
     for _ in 0..times {
         whole.push_str(part)?;
     }
-    whole.push_str(behind)?;
+    whole.push_str(following)?;
     Ok(whole)
 }
 

@@ -4,7 +4,7 @@ use crate::support::{
     RECURSIVE, broken_file, expect_done, expect_fault, expect_holds, expect_missing, expect_taken,
     failing, must, put, remove, sound,
 };
-use plist_commands::{Streamed, convert_binary};
+use plist_commands::{FastPath, convert_binary};
 use plist_support::{expect_io, front};
 use std::env::Env;
 use std::io::ErrorKind;
@@ -135,7 +135,7 @@ fn an_integer_is_no_key(rt: HostRuntime) {
 fn expect_sent(rt: &(impl Abort + AllocGlobal), bytes: &[u8], wanted: &[u8]) {
     let mut writer = sound(rt);
     let done = must(rt, convert_binary(rt.alloc(), bytes, &mut writer));
-    assert!(rt; matches!(done, Streamed::Sent));
+    assert!(rt; matches!(done, FastPath::Sent));
     expect_taken(rt, &writer, wanted, wanted.len() as u64 + 1, wanted.len());
 }
 
@@ -143,7 +143,7 @@ fn expect_sent(rt: &(impl Abort + AllocGlobal), bytes: &[u8], wanted: &[u8]) {
 fn expect_left(rt: &(impl Abort + AllocGlobal), bytes: &[u8]) {
     let mut writer = sound(rt);
     let done = must(rt, convert_binary(rt.alloc(), bytes, &mut writer));
-    assert!(rt; matches!(done, Streamed::NeedsValue));
+    assert!(rt; matches!(done, FastPath::NotApplicable));
     expect_taken(rt, &writer, b"", 0, 0);
 }
 

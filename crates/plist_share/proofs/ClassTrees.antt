@@ -62,7 +62,7 @@ module _ {es : List PlainEvent} {scalar class : ℕ → ℕ} {count : ℕ} {keys
     (owners : AreIdentities es scalar count) (have : HaveTreeClasses class count scalar es keys from)
     (none : from ≡ 0) where
   all : (t : Tree) (p : ℕ) → OccursAt es t p → IsClass count keys (scalar p) (node_at class t p) (class p)
-  all t p s = have.behind t p (omega arith) s
+  all t p s = have.following t p (omega arith) s
 
   one_scalar : (x y : Scalar) (p q : ℕ) → OccursAt es (Leaf x) p → OccursAt es (Leaf y) q
       → class p ≡ class q → x ≡ y
@@ -215,12 +215,12 @@ module _ (classes : List ℕ) (p c : ℕ) where
       (node_by (nth_number classes) (is_dictionary (shape_of (event_at es p))) t p) c)
       → HaveTreeClasses after count scalar es new p
   collection_written {es} {scalar} {count} {keys} {new} old more lt low k this = record {
-    behind = λ t q le s. at_set classes p c 0 q (IsClass count new (scalar q) (node_at after t q)) lt
+    following = λ t q le s. at_set classes p c 0 q (IsClass count new (scalar q) (node_at after t q)) lt
         (λ e. subst (λ r. OccursAt es t r → IsClass count new (scalar r) (node_at after t r) c) (sym e)
         (λ r. stays new (λ i h. refl) t p c (omega arith)
         (by_collection es scalar (nth_number classes) count new t p c r k (this t r))) s)
         (λ d. stays keys more.keeps t q (nth_number classes q) (omega (arith, le))
-        (old.behind t q (omega (arith, le, d)) s));
+        (old.following t q (omega (arith, le, d)) s));
     before = λ q h. other q (λ e. absurd (omega (arith, h, e))) ∙ old.before q (omega (arith, h));
     below = λ q h. at_set classes p c 0 q (λ v. v < count + length new) lt (λ e. low)
         (λ d. omega (arith, old.below q h, more.grows));
@@ -248,11 +248,11 @@ pub none_written : {es : List PlainEvent} {scalar class : ℕ → ℕ} {count : 
     → HaveTreeClasses class count scalar es keys (p + 1)
     → HaveTreeClasses class count scalar es keys p
 none_written {es} {scalar} {class} {count} {keys} p a d old = record {
-  behind = λ t q le s. elim (eqb_tells q p) [
+  following = λ t q le s. elim (eqb_tells q p) [
     | inl e ↦ subst (λ r. OccursAt es t r → IsClass count keys (scalar r) (node_at class t r) (class r)) (sym e.1)
         (λ r. by_scalar es scalar class count keys t p (class p) r a d
         (old.before p (omega arith))) s
-    | inr n ↦ old.behind t q (omega (arith, le, n.1)) s
+    | inr n ↦ old.following t q (omega (arith, le, n.1)) s
   ];
   before = λ q h. old.before q (omega (arith, h));
   below = old.below;

@@ -14,14 +14,14 @@ use plist_base::EventShape;
 use plist_binwrite::EventTable;
 use plist_binwrite::children::{Children, Half};
 use plist_binwrite::classes::{Classed, Classes};
-use plist_binwrite::compact_numbers::Numbers;
+use plist_binwrite::compact_numbers::CompactNumbers;
 use std::alloc::{AllocError, Global};
 
 /// The class of each event, and an exclusive upper bound of the classes.
 #[derive(Drop)]
 pub struct TreeClasses {
     /// The class of each event, at the event's index.
-    pub of: Numbers,
+    pub of: CompactNumbers,
     /// An exclusive upper bound of the classes.
     pub count: usize,
 }
@@ -55,7 +55,7 @@ fn index_of(seen: &mut IndexSet<Collection>, collection: Collection) -> Result<u
 fn push_half(
     found: &mut Vec<usize>,
     events: &EventTable<'_>,
-    classes: &Numbers,
+    classes: &CompactNumbers,
     index: usize,
     half: Half,
 ) -> Result<(), AllocError>
@@ -74,7 +74,7 @@ fn push_half(
 fn classes_within(
     alloc: Global,
     events: &EventTable<'_>,
-    classes: &Numbers,
+    classes: &CompactNumbers,
     index: usize,
 ) -> Result<Vec<usize>, AllocError>
     requires index { index < length (plain_events events.now) }
@@ -196,7 +196,7 @@ fn event_classes(alloc: Global, events: &EventTable<'_>) -> Result<TreeClasses, 
         events,
         classes: &Classes::EqualScalars,
     };
-    let mut of = Numbers::with_capacity(alloc, events.len())?;
+    let mut of = CompactNumbers::with_capacity(alloc, events.len())?;
     for index in 0..events.len() {
         of.push(given.class_at(index))?;
     }

@@ -5,7 +5,7 @@ ghost use Rattle.plist_share.specs.SharedFiles.{shared_files};
 use crate::classes::tree_classes;
 use plist_base::{Error, Sealed};
 use plist_binwrite::classes::{Classed, Classes};
-use plist_binwrite::{EventTable, Sharing, complete_by_class};
+use plist_binwrite::{EventTable, Sharing, write_file_by_class};
 use std::alloc::Global;
 use std::io::Write;
 
@@ -18,7 +18,7 @@ impl Sealed for EqualTrees {}
 impl Sharing for EqualTrees {
     ghost kind = { shared_files };
 
-    fn complete<W: Write>(
+    fn write_file<W: Write>(
         alloc: Global,
         events: &EventTable<'_>,
         writer: &mut W,
@@ -29,6 +29,6 @@ impl Sharing for EqualTrees {
             events,
             classes: &classes,
         };
-        complete_by_class(alloc, &given, writer)
+        write_file_by_class(alloc, &given, writer)
     }
 }

@@ -3,6 +3,6 @@
 
 pub use plist_base::{FixedBuffer, Sink};
 pub use plist_binwrite::{
-    EqualScalars, EventTable, FileWriter, Sharing, classes, compact_numbers, complete,
-    complete_by_class, forms, widths,
+    EqualScalars, EventTable, FileWriter, Sharing, classes, compact_numbers, forms, widths,
+    write_file, write_file_by_class,
 };

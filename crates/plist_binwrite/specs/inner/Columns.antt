@@ -8,15 +8,15 @@ use Rattle.plist_base.specs.declared.event.EventShape.TheVariants as shape
 
 -- the kind of an entry
 abbrev pub kind_in : EventEntry → EventShape
-kind_in (entry.Array behind) = shape.StartArray
-kind_in (entry.Dictionary behind) = shape.StartDictionary
+kind_in (entry.Array following) = shape.StartArray
+kind_in (entry.Dictionary following) = shape.StartDictionary
 kind_in (entry.Scalar index) = shape.Scalar
 kind_in entry.End = shape.EndCollection
 
 -- the number of an entry, which is 0 for an end
 abbrev pub number_in : EventEntry → ℕ
-number_in (entry.Array behind) = behind
-number_in (entry.Dictionary behind) = behind
+number_in (entry.Array following) = following
+number_in (entry.Dictionary following) = following
 number_in (entry.Scalar index) = index
 number_in entry.End = 0
 

@@ -25,8 +25,8 @@ entry_at entries index = get_or entries index entry.End
 
 -- the event of an entry, given the different scalars
 abbrev pub event_of_entry : (scalars : List PlainEvent) → EventEntry → PlainEvent
-event_of_entry scalars (entry.Array behind) = StartArray None
-event_of_entry scalars (entry.Dictionary behind) = StartDictionary None
+event_of_entry scalars (entry.Array following) = StartArray None
+event_of_entry scalars (entry.Dictionary following) = StartDictionary None
 event_of_entry scalars (entry.Scalar index) = without_length (get_or scalars index EndCollection)
 event_of_entry scalars entry.End = EndCollection
 
@@ -46,14 +46,14 @@ names scalar other = false
 
 -- is the entry a start?
 abbrev pub is_start : EventEntry → Bool
-is_start (entry.Array behind) = true
-is_start (entry.Dictionary behind) = true
+is_start (entry.Array following) = true
+is_start (entry.Dictionary following) = true
 is_start other = false
 
 -- the index after the tree that begins with the entry at this index
 abbrev pub index_after_entry : (index : ℕ) → EventEntry → ℕ
-index_after_entry index (entry.Array behind) = behind
-index_after_entry index (entry.Dictionary behind) = behind
+index_after_entry index (entry.Array following) = following
+index_after_entry index (entry.Dictionary following) = following
 index_after_entry index other = index + 1
 
 -- the index after the tree that begins at an index
@@ -65,11 +65,11 @@ index_after_at entries index = index_after_entry index (entry_at entries index)
 abbrev pub IsUnclosed : (index : ℕ) → EventEntry → Type 0
 IsUnclosed index entry = index_after_entry index entry ≡ index + 1
 
--- the entry with `behind` as the index after its end, if it is a start
+-- the entry with `following` as the index after its end, if it is a start
 abbrev pub closed_at : EventEntry → ℕ → EventEntry
-closed_at (entry.Array old) behind = entry.Array behind
-closed_at (entry.Dictionary old) behind = entry.Dictionary behind
-closed_at other behind = other
+closed_at (entry.Array old) following = entry.Array following
+closed_at (entry.Dictionary old) following = entry.Dictionary following
+closed_at other following = other
 
 -- the entries with an end appended, which closes the start at this index
 abbrev pub ended_at : List EventEntry → (start : ℕ) → List EventEntry

@@ -2,11 +2,11 @@
 -- item or a pair, unless the last event is a key.
 use Rattle.std.specs.Prelude.{◌≡◌, List, [], ◌∷◌, Option, None, Some, map}
 use Rattle.plist_base.specs.Events.{PlainEvent, StartArray, StartDictionary, EndCollection, ScalarEvent}
-use Rattle.plist_base.specs.Expects.{change_of, expected_after}
+use Rattle.plist_base.specs.Expects.{transition_of, expected_after}
 use Rattle.plist_base.specs.declared.expects.Expect.{Expect}
 use Rattle.plist_base.specs.declared.expects.Expect.TheVariants.{OneValue, Items, Pairs}
-use Rattle.plist_base.specs.declared.expects.Change.{Change}
-use Rattle.plist_base.specs.declared.expects.Change.TheVariants.{Refused, Popped, Kept, Pushed, Replaced}
+use Rattle.plist_base.specs.declared.expects.Transition.{Transition}
+use Rattle.plist_base.specs.declared.expects.Transition.TheVariants.{Refused, Closed, Kept, Pushed, Replaced}
 
 -- an open collection
 pub data OpenKind : Type 0 where
@@ -52,14 +52,14 @@ pub record ExpectsNext (events : List PlainEvent) (next : Option Expect) : Type 
   pub first : next ≡ innermost (all_expected next (expected_inside events))
 
 -- how an event changes what is expected next
-abbrev pub change_on : (next : Option Expect) → PlainEvent → Change
+abbrev pub change_on : (next : Option Expect) → PlainEvent → Transition
 change_on None event = Refused
-change_on (Some expect) event = change_of expect event
+change_on (Some expect) event = transition_of expect event
 
 -- what is expected next after a change
-abbrev pub next_expected : Change → (next inside : Option Expect) → Option Expect
+abbrev pub next_expected : Transition → (next inside : Option Expect) → Option Expect
 next_expected Refused next inside = next
 next_expected Kept next inside = next
-next_expected Popped next inside = inside
+next_expected Closed next inside = inside
 next_expected (Pushed expect) next inside = Some expect
 next_expected (Replaced expect) next inside = Some expect

@@ -55,7 +55,7 @@ module _ (count : ℕ) (nodes : List Node) where
 -- each tree from index `from` on has its class, and the classes before it are those of `scalar`
 pub record HaveTreeClasses (class : ℕ → ℕ) (count : ℕ) (scalar : ℕ → ℕ) (es : List PlainEvent)
     (nodes : List Node) (from : ℕ) : Type 0 where
-  pub behind : (t : Tree) (p : ℕ) → from ≤ p → OccursAt es t p
+  pub following : (t : Tree) (p : ℕ) → from ≤ p → OccursAt es t p
       → IsClass count nodes (scalar p) (node_at class t p) (class p)
   pub before : (p : ℕ) → p < from → class p ≡ scalar p
   pub below : (p : ℕ) → p < length es → class p < count + length nodes

@@ -5,7 +5,7 @@ pub returns-in-Some : goal.returns-in-Some
 returns-in-Some c = λ first more whole.
     let found = c.in-Some.ensures.count more whole in
     collection_decoded c.args.kind c.args.width c.args.low c.in-Some.count first c.args.rest.now
-    c.in-Some.behind.now more c.requires.width.0 found.0 (rw c.children.ensures at found.1)
+    c.in-Some.following.now more c.requires.width.0 found.0 (rw c.children.ensures at found.1)
     c.in-Some.ensures.short c.in-Some.ensures.near c.in-Some.ensures.after
 
 pub returns-in-None : goal.returns-in-None

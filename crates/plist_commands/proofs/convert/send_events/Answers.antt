@@ -22,28 +22,28 @@ pub returns-clause-converts : goal.returns-clause-converts
 returns-clause-converts g c = λ known held. record {
   sent = λ e. sends_read known (plain_events c.events-events.result.now)
       (rw c.events-events.ensures held) g.W.Write.contents (Ok tt) c.args.writer.now
-      c.complete.new.writer
+      c.write_file.new.writer
       (λ tree alike. (c.in_ok-repeats_key.ensures.once tree alike).0 c.if-branch.false)
-      c.in_ok-complete.ensures;
+      c.in_ok-write_file.ensures;
   left = λ e. absurd (cc);
   refused = tt;
 }
 
-pub returns-in_err-complete-clause-converts : goal.returns-in_err-complete-clause-converts
-returns-in_err-complete-clause-converts g c =
-    let f = err_from_is_err_and c.from_residual-in_err-complete.result
-    c.from_residual-in_err-complete.ensures.1 in
+pub returns-in_err-write_file-clause-converts : goal.returns-in_err-write_file-clause-converts
+returns-in_err-write_file-clause-converts g c =
+    let f = err_from_is_err_and c.from_residual-in_err-write_file.result
+    c.from_residual-in_err-write_file.ensures.1 in
     λ known held. rw (f.1, f.2) (record {
       sent = tt;
       left = tt;
       refused = inr (sends_read known (plain_events c.events-events.result.now)
           (rw c.events-events.ensures held) g.W.Write.contents
-          (Err (fault_of c.in_err-complete.field-0.0)) c.args.writer.now c.complete.new.writer
+          (Err (fault_of c.in_err-write_file.field-0.0)) c.args.writer.now c.write_file.new.writer
           (λ tree alike. (c.in_ok-repeats_key.ensures.once tree alike).0 c.if-branch.false)
-          c.in_err-complete.ensures);
+          c.in_err-write_file.ensures);
     })
 
 pub returns-clause-wrote : goal.returns-clause-wrote
 returns-clause-wrote g c = λ e.
-    subst (λ events. Sends g.W.Write.contents events (Ok tt) c.args.writer.now c.complete.new.writer)
-    c.events-events.ensures c.in_ok-complete.ensures
+    subst (λ events. Sends g.W.Write.contents events (Ok tt) c.args.writer.now c.write_file.new.writer)
+    c.events-events.ensures c.in_ok-write_file.ensures

@@ -10,7 +10,7 @@ give_classes-requires-clause-classes c =
       nth_number c.args.found.now.of,
       owners,
       record {
-        behind = λ t p le s. absurd (omega (arith, le, long, occurs_in s));
+        following = λ t p le s. absurd (omega (arith, le, long, occurs_in s));
         before = λ p lt. refl;
         below = λ p lt. omega (arith, owners.below p lt);
       },

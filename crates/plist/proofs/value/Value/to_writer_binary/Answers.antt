@@ -6,8 +6,8 @@ use Rattle.plist.specs.ValueTrees.{tree_of}
 use Rattle.plist.proofs.EventTables.{gathered_alike, whole_tree, sends_tree, wants_memory}
 use Rattle.plist.proofs.value.Value.to_writer_binary.Goals as goal
 
-pub complete-requires : goal.complete-requires
-complete-requires g c =
+pub write_file-requires : goal.write_file-requires
+write_file-requires g c =
     let tree = tree_of _ in
     record {
       whole = whole_tree tree (plain_events c.in_ok-events.events)
@@ -20,8 +20,8 @@ returns g c =
     record {
       sent = sends_tree tree (plain_events c.in_ok-events.events)
           (gathered_alike tree (plain_events c.in_ok-events.events) c.in_ok-events.ensures.events)
-          g.W.Write.contents c.args.writer.now c.complete.new.writer (answer_of c.complete.result)
-          c.complete.ensures;
+          g.W.Write.contents c.args.writer.now c.write_file.new.writer (answer_of c.write_file.result)
+          c.write_file.ensures;
     }
 
 pub returns-in_err-events : goal.returns-in_err-events

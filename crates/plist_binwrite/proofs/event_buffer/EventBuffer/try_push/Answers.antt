@@ -20,25 +20,25 @@ pub hold-requires : goal.hold-requires
 hold-requires c = record {
   still = c.requires.still;
   accepted = can_take c.args.self.now (event_of c.args.event) c.requires.still
-      (rw (← c.change_on-change.ensures) c.in-Popped.is);
+      (rw (← c.change_on-change.ensures) c.in-Closed.is);
   change = c.change_on-change.ensures;
 }
 
-pub returns-in_err-hold-in-Popped : goal.returns-in_err-hold-in-Popped
-returns-in_err-hold-in-Popped c =
+pub returns-in_err-hold-in-Closed : goal.returns-in_err-hold-in-Closed
+returns-in_err-hold-in-Closed c =
     let p = err_from_is_err_and c.from_residual.result c.from_residual.ensures.1 in
     rw (p.1, p.2) (record {
       taken = tt;
       refused = can_take c.args.self.now (event_of c.args.event) c.requires.still
-          (rw (← c.change_on-change.ensures) c.in-Popped.is);
+          (rw (← c.change_on-change.ensures) c.in-Closed.is);
     })
 
-pub returns-in_ok-hold-in-Popped : goal.returns-in_ok-hold-in-Popped
-returns-in_ok-hold-in-Popped c = record {
+pub returns-in_ok-hold-in-Closed : goal.returns-in_ok-hold-in-Closed
+returns-in_ok-hold-in-Closed c = record {
   taken = (
     can_take c.args.self.now (event_of c.args.event) c.requires.still
-        (rw (← c.change_on-change.ensures) c.in-Popped.is),
-    c.in_ok-hold-in-Popped.ensures.taken,
+        (rw (← c.change_on-change.ensures) c.in-Closed.is),
+    c.in_ok-hold-in-Closed.ensures.taken,
   );
   refused = tt;
 }

@@ -40,7 +40,7 @@ loop-child-preserved c =
 pub returns-clause-numbered : goal.returns-clause-numbered
 returns-clause-numbered c =
     let found = c.loop-child.self in
-    let Numbers = AllByRecursion (IsNumbered (stored_number c.args.given.now found)) in
-    subst Numbers (begun (goal.at.returns-clause-numbered c).After-into_iter-child-iterator)
+    let CompactNumbers = AllByRecursion (IsNumbered (stored_number c.args.given.now found)) in
+    subst CompactNumbers (begun (goal.at.returns-clause-numbered c).After-into_iter-child-iterator)
     (c.loop-child.invariant.numbered _ keeps_self
-    (subst Numbers (sym c.in-None.ensures.steps.0) tt))
+    (subst CompactNumbers (sym c.in-None.ensures.steps.0) tt))

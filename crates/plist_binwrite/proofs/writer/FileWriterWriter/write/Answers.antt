@@ -14,9 +14,9 @@ returns-in-Err-Misplaced g c =
     (c.without_position-in-Err-Misplaced.ensures.fault ∙ r.0.1)
     (same_state c.args.self.now c.try_push.new.self r.1 _)
 
-pub returns-in_err-complete : goal.returns-in_err-complete
-returns-in_err-complete g c =
+pub returns-in_err-write_file : goal.returns-in_err-write_file
+returns-in_err-write_file g c =
     let t = c.in-Ok.ensures.taken in
     let p = err_from_is_err_and c.from_residual.result c.from_residual.ensures.1 in
     rw (p.1, p.2) (takes_unsent c.args.self.now _ (event_of c.args.event) (search rules) (plain_events c.events.result.now)
-    t.0 (c.events.ensures ∙ t.1.0) _ refl c.in_err-complete.ensures)
+    t.0 (c.events.ensures ∙ t.1.0) _ refl c.in_err-write_file.ensures)

@@ -7,7 +7,7 @@ use Rattle.plist_binwrite.specs.SendingAs.{SendsAs}
 use Rattle.plist_binwrite.proofs.Lengthless.{whole_bracketed}
 use Rattle.plist_binwrite.proofs.PlannedFiles.{plan_sends}
 use Rattle.plist_binwrite.proofs.SendingFiles.{sends_nothing}
-use Rattle.plist_binwrite.proofs.send_file.complete_by_class.Goals as goal
+use Rattle.plist_binwrite.proofs.send_file.write_file_by_class.Goals as goal
 
 pub plan_file-requires-clause-whole : goal.plan_file-requires-clause-whole
 plan_file-requires-clause-whole g c = whole_bracketed c.args.given.now.events.now c.requires.whole
