@@ -79,8 +79,8 @@ impl<'a, R: Files> LazyFile<'a, R> {
         }
     }
 
-    /// Syncs the file, so that the system stores what was written. The sync of a pipe or a
-    /// terminal, which store nothing, succeeds.
+    /// Syncs the file, so that the system stores what was written. Pipes and terminals store
+    /// nothing, and their sync succeeds.
     ///
     /// # Errors
     ///

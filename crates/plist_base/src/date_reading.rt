@@ -169,8 +169,8 @@ fn unix_second(day: i32, time: u32, zone: i32) -> i64
 /// Returns the Unix second that a string spells, or `None` if it isn't a date.
 ///
 /// The form is `YYYY-MM-DD`, then `T`, `t` or a space, then `HH:MM:SS`, and then `Z`, `z` or a sign
-/// with `HH:MM`, in the years 0 to 9999. The calendar must have the day, and the second 60 isn't
-/// allowed.
+/// with `HH:MM`, in the years 0 to 9999. The calendar must have the day. Hours are from 00 to 23,
+/// and minutes and seconds from 00 to 59, so the second 60 isn't allowed.
 #[tactic(auto, unfolding(crate::specs::UnixSeconds::unix_second_of_text))]
 pub fn unix_second_of_text(text: &str) -> Option<i64>
     ensures is { result ≡ spec.unix_second_of_text text.now }

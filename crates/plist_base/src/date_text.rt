@@ -20,7 +20,8 @@ impl Date {
     /// Parses a date, such as `2001-01-01T00:00:00Z`.
     ///
     /// The form is a year of four digits and `-MM-DD`, then `T`, `t` or a space, then `HH:MM:SS`,
-    /// and then `Z`, `z` or a sign with `HH:MM`. Fractions and the second 60 aren't allowed.
+    /// and then `Z`, `z` or a sign with `HH:MM`. Hours are from 00 to 23, and minutes and seconds
+    /// from 00 to 59. Fractions and the second 60 aren't allowed.
     ///
     /// # Errors
     ///

@@ -21,7 +21,8 @@ use std::io::Write;
 ///
 /// # Errors
 ///
-/// The first fault, or `OutOfMemory` if an allocation fails.
+/// The first fault; `Io`, without an offset, if the vector can't grow; or `OutOfMemory` if another
+/// allocation fails.
 pub fn print_bytes(alloc: Global, bytes: &[u8], out: &mut Vec<u8>) -> Result<(), Error>
     ensures { PrintsKnown (items_of_file bytes.now) result (Some out.old.items)
         (Some out.new.items) }

@@ -25,7 +25,7 @@ const LIMITS: Limits = Limits {
 /// The error of executing an argument.
 #[derive(Debug, Drop)]
 enum Failure {
-    /// A file can't be read or written, or a line can't be printed.
+    /// A file can't be read or written, a line can't be printed, or an allocation fails.
     Plist(Error),
     /// The root of the file isn't a dictionary.
     NoDictionary,

@@ -2,7 +2,8 @@
 //!
 //! Nothing here ends the process: if an example doesn't find what it expects, or a word or digits
 //! can't be parsed, the error is a [`Wrong`], with which the test fails. If an allocation fails,
-//! the error is `AllocError` or [`Wrong::OutOfMemory`].
+//! the error is `AllocError`, a [`Wrong`] (usually [`Wrong::OutOfMemory`]) or, in the `write` of a
+//! [`Device`], an I/O error.
 #![tactic(auto)]
 
 mod device;

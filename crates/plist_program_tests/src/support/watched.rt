@@ -32,7 +32,8 @@ pub(crate) struct FailingCall {
     pub kind: ErrorKind,
 }
 
-// The files of another runtime, and how many were opened. One call may fail.
+// The files of another runtime, and how many were opened. If `failure` is `Some`, each call that
+// leads to its stage fails.
 #[derive(Drop)]
 pub(crate) struct Watched<'a, R> {
     pub rt: &'a R,
