@@ -31,7 +31,7 @@ FROM_NOTHING = {"first", "gate"}
 
 # A line of a function, and another that does the same.
 CHANGES = {
-    "plist_binread": ("src/trailer.rt", "if end <= trailer =>", "if trailer >= end =>"),
+    "plist_decode": ("src/trailer.rt", "if end <= trailer =>", "if trailer >= end =>"),
     "plist_pairs": ("src/dictionary/store.rt", "        self.keys.contains(key)\n",
                     "        let found = self.keys.contains(key);\n        found\n"),
 }

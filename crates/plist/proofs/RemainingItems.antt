@@ -21,7 +21,7 @@ use Rattle.plist.specs.Collecting.{item_by}
 use Rattle.plist.specs.ValueOfItems.{IsValueOf, IsReadIfKnown, BeginsWith, BeginsWithIfKnown}
 use Rattle.plist.specs.Events.{GivesEvent, remaining_events}
 use Rattle.plist_base.proofs.Refusals.{MatchFault-weaker, MatchFault-at}
-use Rattle.plist_binread.specs.declared.counter.DecodeCounter.{Ghosts as CounterGhosts}
+use Rattle.plist_decode.specs.declared.counter.DecodeCounter.{Ghosts as CounterGhosts}
 use Rattle.plist_base.specs.Bracketing.{bracketing}
 use Rattle.plist_format.specs.Container.{magic}
 use Rattle.plist_binwrite.specs.Written.{IsWrittenAs}

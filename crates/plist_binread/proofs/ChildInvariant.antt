@@ -11,17 +11,18 @@ use Rattle.plist_binread.specs.Step.{YieldsResult, WalkTakesNextChild, stored_re
 use Rattle.plist_binread.specs.declared.frames.NextChild.{NextChild}
 use Rattle.plist_binread.specs.declared.frames.NextChild.TheVariants.{Child}
 use Rattle.plist_binread.specs.declared.walk.Walk.{Walk}
-use Rattle.plist_binread.specs.declared.head.Bounds.{Bounds}
+use Rattle.plist_decode.specs.declared.head.Bounds.{Bounds}
 use Rattle.plist_binread.specs.declared.frames.Frame.{Frame}
 use Rattle.plist_binread.proofs.Tags.{open_uncached}
 use Rattle.plist_format.specs.Unfolding.{until_fault}
-use Rattle.plist_binread.specs.Reading.{AreReferencesOf, ReadsChildAt, object_at}
+use Rattle.plist_decode.specs.Reading.{object_at}
+use Rattle.plist_binread.specs.References.{AreReferencesOf, ReadsChildAt}
 use Rattle.plist_binread.specs.Remaining.{place_at, children_at, entries_of, next_number, Explains}
 use Rattle.plist_binread.specs.NextChild.{IsCurrentCached, ParentIsOpen, TakesNextChild}
 use Rattle.plist_binread.specs.Walking.{IsWalkOf, open_in, remaining_entering, remaining_in}
 use Rattle.plist_binread.proofs.WalkInvariant.{as_many, entry_there, held_place}
 use Rattle.std.proofs.lemmas.Option.{IfSome_then}
-use Rattle.plist_binread.proofs.UnknownBytes.{IfSome-both}
+use Rattle.plist_decode.proofs.UnknownBytes.{IfSome-both}
 
 -- ---- the next child
 

@@ -10,26 +10,26 @@ use Rattle.plist_base.specs.Faults.{Fault, OutOfMemory, MatchFault, fault_withou
 use Rattle.plist_base.specs.Events.{PlainEvent, Item}
 use Rattle.plist_base.proofs.Refusals.{MatchFault-all, MatchFault-at, MatchFault-weaker}
 use Rattle.plist_binread.specs.declared.frames.Frame.{Frame}
-use Rattle.plist_binread.specs.declared.head.Head as code
+use Rattle.plist_decode.specs.declared.head.Head as code
 use Rattle.plist_format.specs.Container.{Head, head_of}
 use Rattle.plist_format.specs.Object.{Object}
 use Rattle.plist_format.specs.Unfolding.{table_of, items_of, unfolding_of, until_fault, items_with, items_of_file}
-use Rattle.plist_binread.specs.declared.head.Bounds.{Bounds}
+use Rattle.plist_decode.specs.declared.head.Bounds.{Bounds}
 use Rattle.plist_binread.specs.Remaining.{path_of, remaining_items, entries_of, places_with, places_of, CountsObjects, IsHeld, MatchesFile, SomeRemain, AllocatesFirst}
 use Rattle.plist_binread.specs.FirstStep.{CachesRoot, CountsRoot, RefusesFirst}
 use Rattle.plist_binread.specs.Step.{CachesEntered, YieldsResult}
-use Rattle.plist_binread.specs.declared.fault_slot.FaultSlot.{FaultSlot}
-use Rattle.plist_binread.specs.declared.fault_slot.StepError.{StepError}
+use Rattle.plist_decode.specs.declared.fault_slot.FaultSlot.{FaultSlot}
+use Rattle.plist_decode.specs.declared.fault_slot.StepError.{StepError}
 use Rattle.plist_binread.specs.Walking.{walk_objects}
 use Rattle.plist_binread.specs.declared.walk.Walk.{Walk}
-use Rattle.plist_binread.specs.Packed.{is_marked}
-use Rattle.plist_binread.specs.inner.Heads.{head_seen}
+use Rattle.plist_decode.specs.Packed.{is_marked}
+use Rattle.plist_decode.specs.inner.Heads.{head_seen}
 use Rattle.plist_binread.proofs.WalkSteps.{items_beyond, items_step, remaining_at}
 use Rattle.plist_format.proofs.Tables.{slice_get-within, slice_get-beyond}
 use Rattle.plist_binread.proofs.OpenObjects.{get_or-zeros}
 use Rattle.plist_binread.proofs.WalkInvariant.{found}
 use Rattle.std.proofs.lemmas.Option.{IfSome_then}
-use Rattle.plist_binread.proofs.UnknownBytes.{IfSome-all, IfSome-both}
+use Rattle.plist_decode.proofs.UnknownBytes.{IfSome-all, IfSome-both}
 use Rattle.std.proofs.lemmas.List.{nil_from_length}
 
 -- if the first item may need memory, some items remain

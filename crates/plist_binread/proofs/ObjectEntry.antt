@@ -3,30 +3,31 @@ use Rattle.std.proofs.Common.{◌≡◌, ℕ, ◌<◌, ◌≤◌, false, List, l
 use Rattle.std.specs.List.{slice_get}
 use Rattle.plist_base.specs.Events.{PlainEvent}
 use Rattle.plist_base.specs.declared.error.Error.{Error}
-use Rattle.plist_binread.specs.Reading.{object_at}
-use Rattle.plist_binread.specs.declared.decoded.ContentKind.{ContentKind}
-use Rattle.plist_binread.specs.declared.decoded.Decoded.{Decoded}
-use Rattle.plist_binread.specs.declared.decoded.Decoded.TheVariants as decoded
-use Rattle.plist_binread.specs.declared.fault_slot.FaultSlot.{FaultSlot}
-use Rattle.plist_binread.specs.declared.fault_slot.StepError.{StepError}
-use Rattle.plist_binread.specs.Slot.{result_in}
+use Rattle.plist_decode.specs.Reading.{object_at}
+use Rattle.plist_decode.specs.declared.decoded.ContentKind.{ContentKind}
+use Rattle.plist_decode.specs.declared.decoded.Decoded.{Decoded}
+use Rattle.plist_decode.specs.declared.decoded.Decoded.TheVariants as decoded
+use Rattle.plist_decode.specs.declared.fault_slot.FaultSlot.{FaultSlot}
+use Rattle.plist_decode.specs.declared.fault_slot.StepError.{StepError}
+use Rattle.plist_decode.specs.Slot.{result_in}
 use Rattle.std.specs.Prelude.{OnOk}
-use Rattle.plist_binread.specs.declared.head.Bounds.{Bounds}
+use Rattle.plist_decode.specs.declared.head.Bounds.{Bounds}
 use Rattle.plist_binread.specs.declared.walk.Walk.{Walk}
 use Rattle.plist_binread.specs.FirstStep.{IsKnownWalk}
 use Rattle.plist_binread.specs.Remaining.{Explains, entries_of}
-use Rattle.plist_binread.specs.Decoded.{DecodesAt, IsDecodedThere, RefusesObjectAt, SetsDecoded, SetsEvent, event_of_object, is_refused}
-use Rattle.plist_binread.specs.Decoding.{IsRefusedAs}
+use Rattle.plist_decode.specs.Decoded.{DecodesAt, IsDecodedThere, RefusesObjectAt}
+use Rattle.plist_binread.specs.ObjectEvents.{SetsDecoded, SetsEvent, event_of_object, is_refused}
+use Rattle.plist_decode.specs.Decoding.{IsRefusedAs}
 use Rattle.plist_binread.specs.Step.{YieldsResult, YieldsCurrent, OpensObject}
 use Rattle.plist_binread.specs.Walking.{IsWalkOf, open_in, remaining_entering, remaining_in, walk_objects}
 use Rattle.plist_format.specs.Unfolding.{until_fault}
-use Rattle.plist_binread.specs.Packed.{is_marked, unmarked, cached, scalar_event}
-use Rattle.plist_binread.proofs.Decoding.{named-long}
+use Rattle.plist_decode.specs.Packed.{is_marked, unmarked, cached, scalar_event}
+use Rattle.plist_binread.proofs.ObjectEvents.{named-long}
 use Rattle.plist_binread.proofs.OpenObjects.{not_open}
 use Rattle.plist_binread.proofs.WalkSteps.{yields_scalar}
 use Rattle.plist_binread.proofs.WalkInvariant.{IsPlaceIn, as_many, entry_of, entry_there, found_refused, found_scalar, held_scalar, place_is}
 use Rattle.std.proofs.lemmas.Option.{IfSome_then}
-use Rattle.plist_binread.proofs.UnknownBytes.{IfSome-both, IfSome-three}
+use Rattle.plist_decode.proofs.UnknownBytes.{IfSome-both, IfSome-three}
 
 -- the object of this number, which lies at `place`, was decoded as `d`
 pub record IsDecodedAt (bytes : List ℕ) (bounds : Bounds) (number place : ℕ) (d : Decoded) : Type 0

@@ -6,10 +6,9 @@ use Rattle.std.proofs.Math.Dec.{eqb-suc-suc, eqb-suc-zero, eqb-zero-suc}
 use Rattle.std.proofs.lemmas.Bool.{or_right, eq-eqb, lt-ltb}
 use Rattle.plist_base.proofs.Paths.{none_equal, any_none, below_cons, path_fuel, path_rises}
 use Rattle.plist_binread.specs.declared.frames.Frame.{Frame}
-use Rattle.plist_binread.specs.Packed.{is_marked, packed_kind, unmarked, KeepsOtherTags}
-use Rattle.plist_binread.specs.declared.packed.PackedKind.{PackedKind}
-use Rattle.plist_binread.proofs.PackedScalars.{kind_of_tag-some}
-use Rattle.plist_binread.proofs.Tags.{kept_everywhere}
+use Rattle.plist_decode.specs.Packed.{is_marked, packed_kind, unmarked, KeepsOtherTags}
+use Rattle.plist_decode.specs.declared.packed.PackedKind.{PackedKind}
+use Rattle.plist_binread.proofs.Tags.{kind_of_tag-some, kept_everywhere}
 use Rattle.plist_binread.specs.Remaining.{path_of, MarksOpenPath, cached_count}
 use Rattle.std.proofs.lemmas.List.{nil_from_length}
 

@@ -4,9 +4,9 @@ use Rattle.std.proofs.lemmas.List.{length-reverse}
 use Rattle.plist_base.specs.declared.source.Source.{Ghosts}
 use Rattle.plist_base.specs.Events.{PlainEvent}
 use Rattle.plist_binread.specs.declared.frames.Frame.{Frame}
-use Rattle.plist_binread.specs.declared.counter.DecodeCounter.{Ghosts as CounterGhosts}
+use Rattle.plist_decode.specs.declared.counter.DecodeCounter.{Ghosts as CounterGhosts}
 use Rattle.plist_binread.specs.declared.reader.BinaryReader.{BinaryReader}
-use Rattle.plist_binread.specs.declared.head.Bounds.{Bounds}
+use Rattle.plist_decode.specs.declared.head.Bounds.{Bounds}
 use Rattle.plist_binread.specs.declared.walk.Walk.{Walk}
 use Rattle.plist_format.specs.Container.{head_of}
 use Rattle.plist_binread.specs.FirstStep.{IsBounded, IsKnownWalk}
@@ -14,7 +14,7 @@ use Rattle.plist_binread.specs.BinaryReader.{AreListsWithin, GivesAs, KeepsInvar
 use Rattle.plist_binread.specs.Remaining.{AreBoundsOf, places_of}
 use Rattle.plist_binread.specs.Walking.{cached_in, walk_objects}
 use Rattle.plist_binread.proofs.OpenObjects.{IsOpen-length}
-use Rattle.plist_binread.proofs.UnknownBytes.{IfSome-all}
+use Rattle.plist_decode.proofs.UnknownBytes.{IfSome-all}
 use Rattle.std.proofs.lemmas.Option.{IfSome_then}
 
 -- a walk over a file has the bounds and the number of objects of the file's head

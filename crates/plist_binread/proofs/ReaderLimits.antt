@@ -9,7 +9,7 @@ use Rattle.plist_base.specs.Faults.{Fault, LimitReached, MatchFault, fault_of, f
 use Rattle.plist_base.specs.Limits.{RefusesAny, limited_by_any}
 use Rattle.plist_base.specs.Visits.{PlainItem}
 use Rattle.plist_binread.specs.BinaryReader.{GivesAs}
-use Rattle.plist_binread.specs.FaultOffsets.{IsGivenWithin}
+use Rattle.plist_decode.specs.FaultOffsets.{IsGivenWithin}
 use Rattle.std.proofs.lemmas.Option.{IfSome_then}
 
 -- ---- the error of a limit

@@ -6,25 +6,25 @@ use Rattle.plist_base.specs.declared.error.Error.{Error}
 use Rattle.plist_base.specs.declared.source.Source.{Ghosts}
 use Rattle.plist_base.specs.Faults.{error_kind_of, kind_of}
 use Rattle.plist_format.specs.Unfolding.{until_fault}
-use Rattle.plist_binread.specs.declared.counter.DecodeCounter.{Ghosts as CounterGhosts}
+use Rattle.plist_decode.specs.declared.counter.DecodeCounter.{Ghosts as CounterGhosts}
 use Rattle.plist_binread.specs.declared.reader.BinaryReader.{BinaryReader}
 use Rattle.plist_binread.specs.declared.reader.WalkState.{WalkState}
 use Rattle.plist_binread.specs.declared.reader.WalkState.TheVariants.{Fresh, Walking}
 use Rattle.plist_binread.specs.FirstStep.{CountsRoot, GivesRoot, IsBounded, IsKnownWalk, CachesRoot}
 use Rattle.plist_binread.specs.BinaryReader.{objects_in_head}
 use Rattle.plist_binread.specs.Remaining.{CountsObjects, walk_steps}
-use Rattle.plist_binread.specs.FaultOffsets.{ErrWithin, ItemWithin}
+use Rattle.plist_decode.specs.FaultOffsets.{ErrWithin, ItemWithin}
 use Rattle.plist_binread.specs.Step.{YieldsNext, CachesNext, LightensNext}
 use Rattle.plist_base.specs.Events.{PlainEvent}
 use Rattle.plist_base.specs.Visits.{Flow}
 use Rattle.plist_binread.specs.ReaderSteps.{Walks, item_with}
-use Rattle.plist_binread.specs.declared.fault_slot.StepError.{StepError}
-use Rattle.plist_binread.specs.Slot.{SlotCountsIo, ItemSlotCountsIo, result_in, item_in}
+use Rattle.plist_decode.specs.declared.fault_slot.StepError.{StepError}
+use Rattle.plist_decode.specs.Slot.{SlotCountsIo, ItemSlotCountsIo, result_in, item_in}
 use Rattle.plist_binread.specs.NextChild.{is_fresh, is_walking, state_after}
 use Rattle.plist_binread.specs.Walking.{cached_in, remaining_in, walk_objects, weight_in}
 use Rattle.plist_base.proofs.Refusals.{MatchFault-all}
-use Rattle.plist_binread.proofs.FaultOffsets.{from_within}
-use Rattle.plist_binread.proofs.UnknownBytes.{IfSome-all, IfSome-never}
+use Rattle.plist_decode.proofs.FaultOffsets.{from_within}
+use Rattle.plist_decode.proofs.UnknownBytes.{IfSome-all, IfSome-never}
 use Rattle.plist_binread.proofs.WalkSteps.{steps_up}
 use Rattle.plist_binread.proofs.ReaderCalls.{holds_head, left_behind}
 use Rattle.std.proofs.lemmas.Option.{IfSome_then}

@@ -8,7 +8,7 @@ use Rattle.plist_base.specs.declared.limits.LimitCounter.{LimitCounter}
 use Rattle.plist_base.specs.Visits.{Flow}
 use Rattle.plist_binread.specs.ReaderSteps.{TakesWithin}
 use Rattle.plist_binread.specs.Handovers.{HandsItem, PassesOn, Takes}
-use Rattle.plist_binread.specs.declared.fault_slot.StepError.{StepError}
+use Rattle.plist_decode.specs.declared.fault_slot.StepError.{StepError}
 use Rattle.plist_binread.specs.declared.visitors.Relay.{Relay}
 use Rattle.plist_binread.specs.declared.visitors.Within.{Within}
 

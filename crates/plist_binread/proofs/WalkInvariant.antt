@@ -10,23 +10,22 @@ use Rattle.plist_base.specs.Events.{PlainEvent, ScalarEvent, Item}
 use Rattle.plist_base.specs.Trees.{Scalar}
 use Rattle.plist_base.proofs.Refusals.{MatchFault-at, MatchFault-weaker}
 use Rattle.plist_binread.specs.declared.frames.Frame.{Frame}
-use Rattle.plist_binread.specs.Decoded.{DecodesAt, IsDecodedAs}
-use Rattle.plist_binread.specs.Reading.{object_at}
-use Rattle.plist_binread.specs.declared.decoded.Decoded.{Decoded}
-use Rattle.plist_binread.specs.declared.decoded.Decoded.TheVariants as decoded
+use Rattle.plist_decode.specs.Decoded.{DecodesAt, IsDecodedAs}
+use Rattle.plist_decode.specs.Reading.{object_at, bytes_at}
+use Rattle.plist_decode.specs.declared.decoded.Decoded.{Decoded}
+use Rattle.plist_decode.specs.declared.decoded.Decoded.TheVariants as decoded
 use Rattle.plist_binread.specs.Step.{IsCollectionStart}
 use Rattle.plist_binread.specs.Walking.{IsWalkOf, open_in, walk_objects}
 use Rattle.plist_binread.specs.declared.walk.Walk.{Walk}
-use Rattle.plist_binread.specs.declared.head.Bounds.{Bounds}
+use Rattle.plist_decode.specs.declared.head.Bounds.{Bounds}
 use Rattle.plist_format.specs.Object.{Object, object_in}
-use Rattle.plist_binread.specs.Packed.{is_marked, kind_of_tag, open_tag, packed_kind, scalar_of_kind, unmarked, unpacked, cached, scalar_event, IsTextOrData, MayAllocate, KeepsOtherTags}
-use Rattle.plist_binread.specs.declared.decoded.CollectionKind.{CollectionKind}
-use Rattle.plist_binread.proofs.Tags.{cached_closed, open_tag-kind, open_tag-marked, open_tag-start, open_uncached}
-use Rattle.plist_binread.specs.declared.packed.PackedKind.{PackedKind}
-use Rattle.plist_binread.proofs.PackedScalars.{kind_of_tag-some}
+use Rattle.plist_decode.specs.Packed.{is_marked, kind_of_tag, open_tag, packed_kind, scalar_of_kind, unmarked, unpacked, cached, scalar_event, IsTextOrData, MayAllocate, KeepsOtherTags}
+use Rattle.plist_decode.specs.declared.decoded.CollectionKind.{CollectionKind}
+use Rattle.plist_binread.proofs.Tags.{cached_closed, open_tag-kind, open_tag-marked, open_tag-start, open_uncached, kind_of_tag-some}
+use Rattle.plist_decode.specs.declared.packed.PackedKind.{PackedKind}
 use Rattle.plist_format.specs.Unfolding.{TableEntry, unfolding_of, until_fault}
-use Rattle.plist_binread.specs.Remaining.{bytes_at, children_at, place_at, scalar_at, path_of, MarksOpenPath, HoldsPlaceOr, IsHeld, LocatesReferences, MatchesFile, places_of, entries_of, remaining_items, Explains}
-use Rattle.plist_binread.specs.Decoding.{AreReferencesAt, IsCollection, IsRefusedAs, children_in, scalar_event_in, scalar_in}
+use Rattle.plist_binread.specs.Remaining.{children_at, place_at, scalar_at, path_of, MarksOpenPath, HoldsPlaceOr, IsHeld, LocatesReferences, MatchesFile, places_of, entries_of, remaining_items, Explains}
+use Rattle.plist_decode.specs.Decoding.{AreReferencesAt, IsCollection, IsRefusedAs, children_in, scalar_event_in, scalar_in}
 use Rattle.plist_binread.proofs.WalkSteps.{collection_count, items_beyond, items_open, yields_refused, yields_scalar, refused_cached, refused_memory}
 use Rattle.plist_format.proofs.Tables.{slice_get-within, slice_get-beyond, length-table_of}
 use Rattle.std.proofs.lemmas.Option.{IfSome_then}

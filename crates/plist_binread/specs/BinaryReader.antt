@@ -12,11 +12,11 @@ use Rattle.plist_base.specs.declared.limits.LimitCounter.{LimitCounter}
 use Rattle.plist_base.specs.Limits.{limited_items, limited_by_any}
 use Rattle.plist_base.specs.declared.limits.Limits.{Limits}
 use Rattle.plist_format.specs.Unfolding.{items_of_file}
-use Rattle.plist_binread.specs.FaultOffsets.{ItemGivenWithin}
+use Rattle.plist_decode.specs.FaultOffsets.{ItemGivenWithin}
 use Rattle.plist_binread.specs.declared.reader.BinaryReader.{BinaryReader}
 use Rattle.plist_binread.specs.declared.reader.WalkState.TheVariants.{Ended}
 use Rattle.plist_binread.specs.declared.frames.Frame.{Frame}
-use Rattle.plist_binread.specs.declared.counter.DecodeCounter.{Ghosts as CounterGhosts}
+use Rattle.plist_decode.specs.declared.counter.DecodeCounter.{Ghosts as CounterGhosts}
 use Rattle.plist_binread.specs.Remaining.{MarksOpenPath, remaining_now, cached_count, places_of, AreBoundsOf, CountsObjects, SomeRemain, AllocatesFirst, steps_left}
 use Rattle.plist_binread.specs.NextChild.{upcoming_number, IsCachedIfSmall, is_fresh, is_walking}
 

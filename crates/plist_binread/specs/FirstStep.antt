@@ -4,14 +4,14 @@ use Rattle.plist_base.specs.declared.error.Error.{Error}
 use Rattle.plist_base.specs.Faults.{MatchFault, kind_of, error_kind_of, fault_of}
 use Rattle.plist_format.specs.Container.{head_of}
 use Rattle.plist_binread.specs.Remaining.{CountsObjects, SomeRemain, places_of}
-use Rattle.plist_binread.specs.declared.fault_slot.StepError.{StepError}
+use Rattle.plist_decode.specs.declared.fault_slot.StepError.{StepError}
 use Rattle.plist_base.specs.Events.{PlainEvent}
-use Rattle.plist_binread.specs.Slot.{result_in}
+use Rattle.plist_decode.specs.Slot.{result_in}
 use Rattle.plist_binread.specs.NextChild.{IsCurrentCached, root_with}
 use Rattle.plist_format.specs.Unfolding.{until_fault, items_of_file}
 use Rattle.plist_binread.specs.Walking.{IsWalkOf, walk_objects, remaining_in}
-use Rattle.plist_binread.specs.declared.head.Bounds.{Bounds}
-use Rattle.plist_binread.specs.declared.fault_slot.FaultSlot.{FaultSlot}
+use Rattle.plist_decode.specs.declared.head.Bounds.{Bounds}
+use Rattle.plist_decode.specs.declared.fault_slot.FaultSlot.{FaultSlot}
 use Rattle.plist_binread.specs.declared.walk.Walk.{Walk}
 
 -- the walk has no more objects than the file

@@ -4,8 +4,8 @@ use Rattle.plist_base.specs.declared.error.Error.{Error}
 use Rattle.plist_base.specs.declared.event.Event.{Event}
 use Rattle.plist_base.specs.Events.{PlainEvent, event_of, IsTextOrDataEvent}
 use Rattle.plist_base.specs.Visits.{Flow}
-use Rattle.plist_binread.specs.Packed.{MayAllocate, scalar_event}
-use Rattle.plist_binread.specs.declared.fault_slot.StepError.{StepError}
+use Rattle.plist_decode.specs.Packed.{MayAllocate, scalar_event}
+use Rattle.plist_decode.specs.declared.fault_slot.StepError.{StepError}
 use Rattle.plist_binread.specs.declared.visitors.Relay.{Relay}
 use Rattle.std.specs.declared.ops.ControlFlow.TheVariants.{Break}
 use Rattle.plist_base.specs.Faults.{OutOfMemory, fault_without_offset, fault_of}

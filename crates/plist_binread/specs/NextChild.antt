@@ -1,22 +1,20 @@
 -- Which child of the innermost frame is next, and which object it is.
-use Rattle.std.specs.Prelude.{◌≡◌, ℕ, ◌+◌, ◌-◌, ◌<◌, Bool, true, false, not, List, [], ◌∷◌, ◌++◌, length, reverse, nat_lt, get_or, Result, Ok, Err, Option, None, Some, MatchResult, MatchOption, IfOk, IfSome, ⊤}
+use Rattle.std.specs.Prelude.{◌≡◌, ℕ, ◌+◌, ◌-◌, ◌<◌, Bool, true, false, not, List, [], ◌∷◌, ◌++◌, length, reverse, nat_lt, get_or, Result, Ok, Err, Option, None, Some, MatchOption, IfOk, IfSome, ⊤}
 use Rattle.std.specs.List.{slice_get}
 use Rattle.plist_base.specs.declared.error.Error.{Error}
-use Rattle.plist_base.specs.Faults.{Fault, IsIo, kind_of, error_kind_of}
+use Rattle.plist_base.specs.Faults.{Fault}
 use Rattle.plist_base.specs.Events.{PlainEvent, EndCollection}
 use Rattle.plist_binread.specs.declared.frames.Frame.{Frame}
 use Rattle.plist_binread.specs.declared.frames.NextChild.{NextChild}
 use Rattle.plist_binread.specs.declared.frames.NextChild.TheVariants as child
-use Rattle.plist_binread.specs.declared.head.Bounds.{Bounds}
+use Rattle.plist_decode.specs.declared.head.Bounds.{Bounds}
 use Rattle.plist_format.specs.Container.{Head, head_of}
-use Rattle.plist_binread.specs.Packed.{is_marked, is_small_event, unmarked, cached, unpacked}
+use Rattle.plist_decode.specs.Packed.{is_marked, is_small_event, unmarked, cached, unpacked}
 use Rattle.plist_binread.specs.declared.enter.Known.{Known}
 use Rattle.plist_binread.specs.declared.enter.Known.TheVariants as looked
 use Rattle.plist_binread.specs.declared.reader.WalkState.{WalkState}
 use Rattle.plist_binread.specs.declared.reader.WalkState.TheVariants.{Fresh, Walking, Ended}
-use Rattle.plist_format.specs.Object.{Object}
 use Rattle.plist_format.specs.Unfolding.{TableEntry, unfolding_of, until_fault}
-use Rattle.plist_binread.specs.Decoding.{children_in}
 use Rattle.plist_binread.specs.Remaining.{SomeRemain, children_at, entries_of, next_number, remaining_items, path_of, place_at, walk_steps, walk_weight}
 
 -- ---- the next child of the innermost frame
@@ -71,20 +69,13 @@ abbrev pub IsEnd : NextChild → Type 0
 IsEnd (child.End object) = ⊤
 IsEnd _ = ⊥
 
--- ---- what is looked up and read
+-- ---- what is looked up
 
 -- the tag and the content encode this: the object's offset, or a small scalar that is cached
 abbrev pub IsFound : (tag content : ℕ) → Known → Type 0
 IsFound tag content (looked.Small kind packed) =
     (0 < unmarked tag) × (cached tag content ≡ unpacked kind packed)
 IsFound tag content (looked.At place) = (unmarked tag ≡ 0) × (place ≡ content)
-
--- if the object has a child of this index, the result is the child's number or `Io`
-abbrev pub ReadsChild : Object → (index : ℕ) → Result ℕ Error → Type 0
-ReadsChild object index answer =
-    index < length (children_in object)
-    → MatchResult answer (λ number. number ≡ get_or (children_in object) index 0)
-    (λ error. IsIo (kind_of (error_kind_of error)))
 
 -- the collection that contains the next child is open, and it has this child
 abbrev pub ParentIsOpen : (tags : List ℕ) → NextChild → Type 0

@@ -7,7 +7,7 @@ use Rattle.plist_base.specs.Faults.{fault_of}
 use Rattle.plist_base.specs.Limits.{Admits, Refuses}
 use Rattle.plist_base.specs.Visits.{Flow, PlainItem}
 use Rattle.plist_binread.specs.declared.reader.BinaryReader.{BinaryReader}
-use Rattle.plist_binread.specs.declared.counter.DecodeCounter.{Ghosts as CounterGhosts}
+use Rattle.plist_decode.specs.declared.counter.DecodeCounter.{Ghosts as CounterGhosts}
 use Rattle.plist_binread.specs.declared.visitors.Within.{Within}
 use Rattle.plist_binread.specs.BinaryReader.{GivesBinaryBy, HasEndedBinary, has_limits, binary_steps, items_to_come, unlimited_items}
 

@@ -7,13 +7,14 @@ use Rattle.plist_base.specs.Events.{StartArray, StartDictionary, EndCollection, 
 use Rattle.plist_base.specs.Trees as trees
 use Rattle.plist_base.specs.Trees.{Data, String}
 use Rattle.plist_binread.specs.declared.frames.Frame.{Frame}
-use Rattle.plist_binread.specs.declared.head.Bounds.{Bounds}
+use Rattle.plist_decode.specs.declared.head.Bounds.{Bounds}
 use Rattle.plist_format.specs.Container.{Head, head_of}
-use Rattle.plist_binread.specs.Packed.{is_marked, unmarked, cached, open_kind, open_start}
+use Rattle.plist_decode.specs.Packed.{is_marked, unmarked, cached, open_kind, open_start}
 use Rattle.plist_binread.specs.declared.reader.WalkState.{WalkState}
 use Rattle.plist_binread.specs.declared.reader.WalkState.TheVariants.{Fresh, Walking, Ended}
 use Rattle.plist_format.specs.Unfolding.{TableEntry, table_of, unfolding_of, until_fault, items_of_file}
-use Rattle.plist_binread.specs.Decoding.{AreReferencesAt, children_in, scalar_in}
+use Rattle.plist_decode.specs.Decoding.{AreReferencesAt, children_in, scalar_in}
+use Rattle.plist_decode.specs.Reading.{bytes_at}
 
 -- ---- the path
 
@@ -81,10 +82,6 @@ CountsObjects bytes answer found = MatchResult answer (λ _. found ≡ length (p
 abbrev pub entries_of : List ℕ → Bounds → List TableEntry
 entries_of bytes bounds =
     table_of (take bounds.trailer bytes) bounds.reference_width (places_of bytes)
-
--- the bytes from the offset of an object up to the trailer
-abbrev pub bytes_at : Bounds → (place : ℕ) → List ℕ → List ℕ
-bytes_at bounds place bytes = drop place (take bounds.trailer bytes)
 
 -- a file with this head has these bounds
 abbrev pub AreBoundsOf : Result Head Fault → Bounds → Type 0

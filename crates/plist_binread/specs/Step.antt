@@ -2,24 +2,26 @@
 use Rattle.std.specs.Prelude.{◌≡◌, ℕ, ◌<◌, List, false, get_or, Option, Some, Result, IfSome, OnOk, ⊤, [], ◌∷◌, Ok, MatchOption, MatchResult}
 use Rattle.std.specs.List.{slice_get}
 use Rattle.plist_base.specs.Events.{PlainEvent, EndCollection, Item}
-use Rattle.plist_binread.specs.Remaining.{Explains, bytes_at, entries_of, next_number, walk_weight}
-use Rattle.plist_binread.specs.Decoded.{IsDecodedAs, event_of_object, is_refused, small_count}
-use Rattle.plist_binread.specs.Packed.{open_kind, open_start, unmarked}
+use Rattle.plist_binread.specs.Remaining.{Explains, entries_of, next_number, walk_weight}
+use Rattle.plist_decode.specs.Reading.{bytes_at}
+use Rattle.plist_decode.specs.Decoded.{IsDecodedAs, small_count}
+use Rattle.plist_binread.specs.ObjectEvents.{event_of_object, is_refused}
+use Rattle.plist_decode.specs.Packed.{open_kind, open_start, unmarked}
 use Rattle.plist_binread.specs.declared.references.References.{References}
 use Rattle.plist_binread.specs.declared.frames.Frame.{Frame}
-use Rattle.plist_binread.specs.declared.fault_slot.StepError.{StepError}
+use Rattle.plist_decode.specs.declared.fault_slot.StepError.{StepError}
 use Rattle.plist_base.specs.Faults.{MatchFault, kind_of, error_kind_of}
 use Rattle.plist_base.specs.declared.error.Error.{Error}
 use Rattle.plist_binread.specs.declared.enter.Known.{Known}
 use Rattle.plist_binread.specs.NextChild.{IsFound, IsCurrentCached, WeightFalls, TakesNextChild}
 use Rattle.plist_format.specs.Unfolding.{TableEntry, until_fault}
 use Rattle.plist_binread.specs.Walking.{IsWalkOf, walk_objects, open_in, remaining_entering, remaining_in, weight_entering, weight_in}
-use Rattle.plist_binread.specs.declared.decoded.Decoded.{Decoded}
-use Rattle.plist_binread.specs.declared.head.Bounds.{Bounds}
-use Rattle.plist_binread.specs.declared.fault_slot.FaultSlot.{FaultSlot}
+use Rattle.plist_decode.specs.declared.decoded.Decoded.{Decoded}
+use Rattle.plist_decode.specs.declared.head.Bounds.{Bounds}
+use Rattle.plist_decode.specs.declared.fault_slot.FaultSlot.{FaultSlot}
 use Rattle.plist_binread.specs.declared.frames.NextChild.{NextChild}
 use Rattle.plist_binread.specs.declared.walk.Walk.{Walk}
-use Rattle.plist_binread.specs.declared.decoded.Decoded.TheVariants as decoded
+use Rattle.plist_decode.specs.declared.decoded.Decoded.TheVariants as decoded
 
 -- ---- the remaining items
 

@@ -1,7 +1,7 @@
 -- What contracts say about a walk over a file's objects: what it stores, and what remains of it.
 use Rattle.std.specs.Prelude.{◌≡◌, ℕ, ◌+◌, ◌-◌, List, ◌++◌, length, reverse}
 use Rattle.plist_base.specs.Events.{Item}
-use Rattle.plist_binread.specs.declared.head.Bounds.{Bounds}
+use Rattle.plist_decode.specs.declared.head.Bounds.{Bounds}
 use Rattle.plist_binread.specs.declared.frames.Frame.{Frame}
 use Rattle.plist_binread.specs.declared.walk.Walk.{Walk}
 use Rattle.plist_binread.specs.Remaining.{MatchesFile, cached_count, entries_of, remaining_items, path_of, walk_steps, walk_weight}

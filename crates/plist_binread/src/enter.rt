@@ -2,26 +2,27 @@
 
 ghost use Rattle.std.specs.Prelude.{◌≡◌, ◌+◌, ◌<◌, get_or, true, false, IfOk, IfErr, OnOk, IfSome};
 ghost use Rattle.plist_base.specs.Faults.{ObjectReferenceTooLarge, RecursiveObject, fault_at, fault_of};
-ghost use Rattle.plist_binread.specs.Packed.{is_marked};
+ghost use Rattle.plist_decode.specs.Packed.{is_marked};
 ghost use Rattle.plist_binread.specs.Walking.{IsWalkOf, cached_in, remaining_entering, remaining_in, walk_objects};
 ghost use Rattle.plist_binread.specs.Step.{YieldsResult, IsFoundAt, IsLighterEntered, IsUnchanged, CachesDecoded, CachesEntered, IsCollectionStart, OpensObject, RefusesEntering, RefusesWithoutIo};
-ghost use Rattle.plist_binread.specs.FaultOffsets.{ErrWithin};
-ghost use Rattle.plist_binread.specs.Decoded.{FitsWalk, small_count};
+ghost use Rattle.plist_decode.specs.FaultOffsets.{ErrWithin};
+ghost use Rattle.plist_decode.specs.Decoded.{small_count};
+ghost use Rattle.plist_binread.specs.ObjectEvents.{FitsWalk};
 ghost use Rattle.plist_binread.specs.Handovers.{Hands};
-ghost use Rattle.plist_binread.specs.declared.decoded.Decoded.TheVariants.{Collection as OpenCollection};
-ghost use Rattle.plist_binread.specs.Slot.{SlotCountsIo, result_in};
+ghost use Rattle.plist_decode.specs.declared.decoded.Decoded.TheVariants.{Collection as OpenCollection};
+ghost use Rattle.plist_decode.specs.Slot.{SlotCountsIo, result_in};
 
-use crate::counter::DecodeCounter;
-use crate::decoded::{CollectionKind, Content, Decoded};
-use crate::decoder::Decoder;
-use crate::fault_slot::{FaultSlot, StepError};
 use crate::hand::{hand_bytes, hand_decoded, hand_small};
-use crate::object::{buffered_front, decode_front, read_object};
-use crate::packed::{PackedKind, cache, is_open, mark_open};
 use crate::references::Reference;
 use crate::visitors::Relay;
 use crate::walk::Walk;
 use plist_base::{ErrorKind, EventVisitor, Source};
+use plist_decode::counter::DecodeCounter;
+use plist_decode::decoded::{CollectionKind, Content, Decoded};
+use plist_decode::decoder::Decoder;
+use plist_decode::fault_slot::{FaultSlot, StepError};
+use plist_decode::object::{buffered_front, decode_front, read_object};
+use plist_decode::packed::{PackedKind, cache, is_open, mark_open};
 use std::ops::ControlFlow;
 
 // Stores the error of a reference whose number no object has. `at` is the offset of the collection

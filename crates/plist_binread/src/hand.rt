@@ -3,23 +3,24 @@
 ghost use Rattle.std.specs.Prelude.{◌≡◌, ◌≤◌, ℕ, false, take, OnOk};
 ghost use Rattle.plist_base.specs.Sources.{ResultCountsIo};
 ghost use Rattle.plist_format.specs.Object.{date, text, wide_text};
-ghost use Rattle.plist_binread.specs.CountedContent.{AreUnits, content_means, unit_size};
-ghost use Rattle.plist_binread.specs.Decoded.{EndsIn64Bits, FailsInContent, FitsBefore, IsLong, IsLongBytes, SetsAsSmall, SetsContentAt, SetsDecoded, SetsEvent, is_refused};
-ghost use Rattle.plist_binread.specs.Decoding.{start_event};
-ghost use Rattle.plist_binread.specs.FaultOffsets.{ErrWithin};
+ghost use Rattle.plist_decode.specs.CountedContent.{AreUnits, content_means, unit_size};
+ghost use Rattle.plist_decode.specs.Decoded.{EndsIn64Bits, FailsInContent, FitsBefore, IsLong, IsLongBytes};
+ghost use Rattle.plist_binread.specs.ObjectEvents.{SetsAsSmall, SetsContentAt, SetsDecoded, SetsEvent, is_refused};
+ghost use Rattle.plist_decode.specs.Decoding.{start_event};
+ghost use Rattle.plist_decode.specs.FaultOffsets.{ErrWithin};
 ghost use Rattle.plist_binread.specs.Handovers.{Hands, HandsRead, HandsSmall};
-ghost use Rattle.plist_binread.specs.Packed.{content_bytes, is_small_event, text_if_any, unpacked};
-ghost use Rattle.plist_binread.specs.Slot.{SlotCountsIo, result_in};
-ghost use Rattle.plist_binread.specs.declared.decoded.ContentKind.TheVariants.{Text as KindText};
+ghost use Rattle.plist_decode.specs.Packed.{content_bytes, is_small_event, text_if_any, unpacked};
+ghost use Rattle.plist_decode.specs.Slot.{SlotCountsIo, result_in};
+ghost use Rattle.plist_decode.specs.declared.decoded.ContentKind.TheVariants.{Text as KindText};
 
-use crate::counter::DecodeCounter;
-use crate::decoded::{CollectionKind, Content, ContentKind, Decoded, ObjectFault};
-use crate::decoder::Decoder;
-use crate::fault_slot::{FaultSlot, StepError};
-use crate::long_content::{read_long, wide_text_event};
-use crate::packed::PackedKind;
-use crate::utf8::{short_text_in, text_in};
 use plist_base::{Date, Error, EventVisitor, Integer, OwnedEvent, RealBits, Source, Uid};
+use plist_decode::counter::DecodeCounter;
+use plist_decode::decoded::{CollectionKind, Content, ContentKind, Decoded, ObjectFault};
+use plist_decode::decoder::Decoder;
+use plist_decode::fault_slot::{FaultSlot, StepError};
+use plist_decode::long_content::{read_long, wide_text_event};
+use plist_decode::packed::PackedKind;
+use plist_decode::utf8::{short_text_in, text_in};
 use std::borrow::{CowSlice, CowStr};
 use std::ops::ControlFlow;
 

@@ -1,16 +1,16 @@
 //! Reads the references of collections to their children, from copies of a few bytes.
 
 ghost use Rattle.std.specs.Prelude.{◌≤◌, ◌≡◌, ◌+◌, ◌^◌, ◌<◌};
-ghost use Rattle.plist_binread.specs.FaultOffsets.{ErrWithin};
-ghost use Rattle.plist_binread.specs.Reading.{RefusesNumber, ReadsNumber};
-ghost use Rattle.plist_binread.specs.Slot.{SlotCountsIo, result_in};
+ghost use Rattle.plist_decode.specs.FaultOffsets.{ErrWithin};
+ghost use Rattle.plist_binread.specs.References.{RefusesNumber, ReadsNumber};
+ghost use Rattle.plist_decode.specs.Slot.{SlotCountsIo, result_in};
 
-use crate::counter::DecodeCounter;
-use crate::decoded::CollectionKind;
-use crate::decoder::Decoder;
-use crate::fault_slot::{FaultSlot, StepError};
-use crate::numbers::{number_from, read_number};
 use plist_base::Source;
+use plist_decode::counter::DecodeCounter;
+use plist_decode::decoded::CollectionKind;
+use plist_decode::decoder::Decoder;
+use plist_decode::fault_slot::{FaultSlot, StepError};
+use plist_decode::numbers::{number_from, read_number};
 
 // The largest number of bytes in a run.
 const RUN: usize = 32;
@@ -32,7 +32,7 @@ pub struct Run {
 
 impl Run {
     ghost use Rattle.std.specs.Prelude.{◌≡◌, ◌≤◌, ℕ, List, Option};
-    ghost use Rattle.plist_binread.specs.Reading.{IfFound, IsNumberAt};
+    ghost use Rattle.plist_binread.specs.References.{IfFound, IsNumberAt};
     ghost use Rattle.plist_binread.specs.Runs.{IsRunOf, LieAt};
 
     /// Creates an empty run.
@@ -148,8 +148,8 @@ pub struct References {
 
 impl References {
     ghost use Rattle.std.specs.Prelude.{◌≡◌, ◌^◌, ◌<◌};
-    ghost use Rattle.plist_binread.specs.Decoding.{reference_index};
-    ghost use Rattle.plist_binread.specs.Reading.{reference_place};
+    ghost use Rattle.plist_decode.specs.Decoding.{reference_index};
+    ghost use Rattle.plist_binread.specs.References.{reference_place};
 
     // Returns whether the child with this index is a value of a dictionary.
     #[inline(always)]
@@ -230,10 +230,10 @@ pub struct ReferenceReader {
 
 impl ReferenceReader {
     ghost use Rattle.std.specs.Prelude.{◌≡◌, ◌<◌, ◌≤◌, Option, List, ℕ};
-    ghost use Rattle.plist_binread.specs.FaultOffsets.{ErrWithin};
-    ghost use Rattle.plist_binread.specs.Reading.{AreReferencesOf, IfFound, IsNumberAt, ReadsChildAt};
+    ghost use Rattle.plist_decode.specs.FaultOffsets.{ErrWithin};
+    ghost use Rattle.plist_binread.specs.References.{AreReferencesOf, IfFound, IsNumberAt, ReadsChildAt};
     ghost use Rattle.plist_binread.specs.Runs.{AreRunsOf};
-    ghost use Rattle.plist_binread.specs.Slot.{SlotCountsIo, result_in};
+    ghost use Rattle.plist_decode.specs.Slot.{SlotCountsIo, result_in};
 
     /// Creates a reader that hasn't read any references yet.
     pub fn new() -> Self

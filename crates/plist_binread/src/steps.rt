@@ -3,25 +3,25 @@
 ghost use Rattle.std.specs.Prelude.{◌≡◌, ◌^◌, ◌<◌, Ok, replicate, IfOk, IfSome, OnOk, true};
 ghost use Rattle.plist_base.specs.Outcomes.{OnlyMemory};
 ghost use Rattle.plist_binread.specs.Remaining.{walk_steps};
-ghost use Rattle.plist_binread.specs.FaultOffsets.{ErrWithin, ItemWithin};
+ghost use Rattle.plist_decode.specs.FaultOffsets.{ErrWithin, ItemWithin};
 ghost use Rattle.plist_binread.specs.Handovers.{Hands, HandsItem};
-ghost use Rattle.plist_binread.specs.Slot.{SlotCountsIo, result_in, ItemSlotCountsIo, item_in};
+ghost use Rattle.plist_decode.specs.Slot.{SlotCountsIo, result_in, ItemSlotCountsIo, item_in};
 ghost use Rattle.plist_binread.specs.Walking.{IsEmptyWalk, cached_in, walk_objects, weight_in, IsWalkOf, open_in};
 ghost use Rattle.plist_binread.specs.FirstStep.{CountsRoot, GivesRoot, IsBounded, IsKnownWalk, CachesRoot};
 ghost use Rattle.plist_binread.specs.NextChild.{closes};
 ghost use Rattle.plist_binread.specs.Step.{IsCurrentEnd, CachesNext, LightensNext, YieldsItem};
 ghost use Rattle.plist_binread.specs.Runs.{AreRunsOf};
 
-use crate::counter::DecodeCounter;
-use crate::decoder::Decoder;
 use crate::enter::enter;
-use crate::fault_slot::StepError;
 use crate::frames::NextChild;
-use crate::head::{Bounds, Head};
 use crate::references::{Reference, ReferenceReader};
 use crate::visitors::Relay;
 use crate::walk::Walk;
 use plist_base::{Error, EventVisitor, Source};
+use plist_decode::counter::DecodeCounter;
+use plist_decode::decoder::Decoder;
+use plist_decode::fault_slot::StepError;
+use plist_decode::head::{Bounds, Head};
 use std::alloc::Global;
 use std::ops::ControlFlow;
 

@@ -6,8 +6,8 @@ ghost use Rattle.plist_binread.specs.Remaining.{MarksOpenPath};
 ghost use Rattle.plist_binread.specs.NextChild.{IsEnd, ParentIsOpen, closes};
 
 use crate::frames::{Frame, Frames, NextChild};
-use crate::packed::{open_kind, open_start, unmark_open};
 use crate::references::References;
+use plist_decode::packed::{open_kind, open_start, unmark_open};
 use std::alloc::Global;
 
 /// The state of a walk over the objects of a file.

@@ -17,7 +17,7 @@ use Rattle.plist_base.specs.Sequential.{from_place}
 use Rattle.plist_reader.specs.Streams.{stream_bytes_left, stream_source, buffered_bytes}
 use Rattle.plist_base.specs.Sources.{ItemCountsIo}
 use Rattle.plist_base.proofs.Refusals.{MatchFault-weaker}
-use Rattle.plist_binread.specs.FaultOffsets.{HasOffset}
+use Rattle.plist_decode.specs.FaultOffsets.{HasOffset}
 use Rattle.plist_binread.specs.Remaining.{SomeRemain}
 use Rattle.plist_ascii.specs.Ascii.{items_of_ascii, items_in, BeginsWithText}
 use Rattle.plist_ascii.specs.AsciiReader as ascii

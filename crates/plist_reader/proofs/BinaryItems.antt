@@ -9,7 +9,7 @@ use Rattle.plist_base.specs.Faults.{FaultKind, Io, UnexpectedEof, OutOfMemory, I
 use Rattle.plist_base.specs.Sources.{ItemCountsIo, IsOffsetWithin}
 use Rattle.plist_base.proofs.Refusals.{MatchFault-weaker}
 use Rattle.plist_binread.specs.BinaryReader as binary
-use Rattle.plist_binread.specs.FaultOffsets.{HasOffset, MatchGiven, ItemGivenWithin}
+use Rattle.plist_decode.specs.FaultOffsets.{HasOffset, MatchGiven, ItemGivenWithin}
 use Rattle.plist_binread.specs.Remaining.{SomeRemain, AllocatesFirst}
 use Rattle.plist_ascii.specs.declared.dialect.Dialect.{Dialect}
 use Rattle.plist_reader.specs.declared.reader.State.TheVariants as state

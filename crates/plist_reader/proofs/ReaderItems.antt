@@ -11,7 +11,7 @@ use Rattle.plist_base.specs.Limits.{limited_items}
 use Rattle.plist_base.specs.Faults.{FaultKind, Fault, Io, InvalidUtf16String, UnclosedString, IncompleteComment, InvalidUtf8AsciiStream, InvalidOctalString, MatchFault, XmlUnsupported, IsIo, fault_at, kind_of, error_kind_of, fault_of}
 use Rattle.plist_base.specs.Sources.{ItemCountsIo}
 use Rattle.plist_base.proofs.Refusals.{MatchFault-weaker}
-use Rattle.plist_binread.specs.FaultOffsets.{HasOffset}
+use Rattle.plist_decode.specs.FaultOffsets.{HasOffset}
 use Rattle.plist_ascii.specs.declared.dialect.Dialect.{Dialect}
 use Rattle.plist_reader.specs.declared.reader.State.{State}
 use Rattle.plist_reader.specs.declared.reader.State.TheVariants as state

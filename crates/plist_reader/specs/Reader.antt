@@ -14,9 +14,9 @@ use Rattle.plist_base.specs.Events.{Item, event_of}
 use Rattle.plist_base.specs.Sources.{ItemCountsIo}
 use Rattle.plist_binread.specs.BinaryReader as binary
 use Rattle.plist_binread.specs.declared.reader.BinaryReader.{BinaryReader}
-use Rattle.plist_binread.specs.declared.counter.Uncounted.{Uncounted}
-use Rattle.plist_binread.specs.contracts.counter.UncountedDecodeCounter.TheImpl.{ghosts}
-use Rattle.plist_binread.specs.FaultOffsets.{HasOffset, MatchGiven}
+use Rattle.plist_decode.specs.declared.counter.Uncounted.{Uncounted}
+use Rattle.plist_decode.specs.contracts.counter.UncountedDecodeCounter.TheImpl.{ghosts}
+use Rattle.plist_decode.specs.FaultOffsets.{HasOffset, MatchGiven}
 use Rattle.plist_binread.specs.Remaining.{SomeRemain, walk_steps}
 use Rattle.plist_format.specs.Unfolding.{items_of_file}
 use Rattle.plist_ascii.specs.Ascii.{items_of_ascii}

@@ -5,7 +5,7 @@ ghost use Rattle.std.specs.List.{starts_with};
 ghost use Rattle.plist_base.specs.Faults.{IsIo, Io, fault_at, kind_of, error_kind_of, offset_of};
 ghost use Rattle.plist_base.specs.Outcomes.{OnlyFault, DecodesBy};
 ghost use Rattle.plist_base.specs.Sources.{ResultCountsIo};
-ghost use Rattle.plist_binread.specs.FaultOffsets.{HasOffset};
+ghost use Rattle.plist_decode.specs.FaultOffsets.{HasOffset};
 ghost use Rattle.plist_reader.specs.Formats.{is_white, byte_order_mark_length, input_front, xml_place, format_of};
 
 use crate::bytes::read_byte;

@@ -1,15 +1,15 @@
 use Rattle.std.proofs.Common.{arith, ap, sym, ◌∙◌}
 use Rattle.std.proofs.lemmas.Bool.{false≢true}
 use Rattle.plist_base.specs.Events.{ScalarEvent}
-use Rattle.plist_binread.specs.Decoding.{scalar_event_in}
-use Rattle.plist_binread.specs.Packed.{content_bytes, unmarked, scalar_event}
+use Rattle.plist_decode.specs.Decoding.{scalar_event_in}
+use Rattle.plist_decode.specs.Packed.{content_bytes, unmarked, scalar_event}
 use Rattle.plist_binread.specs.Remaining.{scalar_at}
 use Rattle.plist_binread.proofs.WalkSteps.{yields_scalar, steps_positive}
 use Rattle.plist_binread.proofs.OpenObjects.{not_open, cached_count-more}
 use Rattle.plist_binread.proofs.WalkInvariant.{as_many, known_cached}
 use Rattle.plist_binread.proofs.ObjectEntry.{long_opens}
-use Rattle.plist_binread.proofs.PackedScalars.{kind_of_tag-some}
-use Rattle.plist_binread.proofs.Decoding.{named-date, named-scalar}
+use Rattle.plist_binread.proofs.Tags.{kind_of_tag-some}
+use Rattle.plist_binread.proofs.ObjectEvents.{named-date, named-scalar}
 use Rattle.plist_binread.proofs.enter.cache_or_open.Goals as goal
 
 pub returns-in-Small-clause-counted : goal.returns-in-Small-clause-counted

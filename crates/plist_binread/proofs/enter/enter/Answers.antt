@@ -1,22 +1,23 @@
 use Rattle.std.proofs.Common.{◌≡◌, ℕ, ◌<◌, true, arith, get_or, length, List, Ok, Option, IfSome, ap, refl, rules, subst, sym, ◌∙◌}
 use Rattle.plist_base.specs.Events.{EndCollection}
-use Rattle.plist_binread.proofs.Decoding.{borrowed_sets, cached_if, fits_walk, large_unlike, long_bytes, long_sets, seen_decodes, seen_fits}
-use Rattle.plist_binread.proofs.FaultOffsets.{err_within, passed}
+use Rattle.plist_decode.proofs.Decoding.{long_bytes, seen_decodes, seen_fits}
+use Rattle.plist_binread.proofs.ObjectEvents.{borrowed_sets, cached_if, fits_walk, large_unlike, long_sets}
+use Rattle.plist_decode.proofs.FaultOffsets.{err_within, passed}
 use Rattle.plist_binread.proofs.ObjectEntry.{IsDecodedAt, always_ok, known_decoded, known_opens, known_refused, known_set, known_unpacked, long_opens, on_answer}
 use Rattle.std.proofs.lemmas.List.{length-drop, length-take-le}
 use Rattle.std.proofs.lemmas.Option.{IfSome_then}
 use Rattle.plist_binread.proofs.VisitorLimits.{passed_on}
 use Rattle.plist_binread.proofs.WalkInvariant.{known_full, unfound_memory}
-use Rattle.plist_binread.proofs.UnknownBytes.{IfSome-all}
+use Rattle.plist_decode.proofs.UnknownBytes.{IfSome-all}
 use Rattle.plist_binread.proofs.WalkSteps.{steps_positive}
-use Rattle.plist_binread.specs.Decoded.{DecodesAt, FitsBefore}
-use Rattle.plist_binread.specs.Front.{IsFrontAt}
-use Rattle.plist_binread.specs.declared.decoded.Content.{Content}
-use Rattle.plist_binread.specs.declared.decoded.Decoded.{Decoded}
-use Rattle.plist_binread.specs.declared.head.Bounds.{Bounds}
-use Rattle.plist_binread.specs.declared.decoded.Decoded.TheVariants as decoded
-use Rattle.plist_binread.specs.Packed.{is_small_event, scalar_event, unmarked}
-use Rattle.plist_binread.specs.Slot.{result_in}
+use Rattle.plist_decode.specs.Decoded.{DecodesAt, FitsBefore}
+use Rattle.plist_decode.specs.Front.{IsFrontAt}
+use Rattle.plist_decode.specs.declared.decoded.Content.{Content}
+use Rattle.plist_decode.specs.declared.decoded.Decoded.{Decoded}
+use Rattle.plist_decode.specs.declared.head.Bounds.{Bounds}
+use Rattle.plist_decode.specs.declared.decoded.Decoded.TheVariants as decoded
+use Rattle.plist_decode.specs.Packed.{is_small_event, scalar_event, unmarked}
+use Rattle.plist_decode.specs.Slot.{result_in}
 use Rattle.plist_binread.proofs.enter.enter.Goals as goal
 use Rattle.plist_binread.proofs.enter.enter.Goals.{After-cache_or_open, In-Long, in-Some-buffered_front+in-Long+else-lies_in, in-Some-buffered_front+in_default, in-None-buffered_front+in_ok-decoded-in-None-buffered_front}
 

@@ -1,6 +1,6 @@
 use Rattle.std.proofs.Common.{arith, ◌<◌, length, ap, sym, ◌∙◌}
 use Rattle.std.proofs.lemmas.List.{get_or_read}
-use Rattle.plist_binread.specs.Packed.{is_marked}
+use Rattle.plist_decode.specs.Packed.{is_marked}
 use Rattle.plist_binread.proofs.WalkInvariant.{unfound_beyond, unfound_open}
 use Rattle.plist_binread.proofs.enter.look_up.Goals as goal
 

@@ -1,7 +1,7 @@
 use Rattle.std.proofs.Common.{arith, refl, ap, sym, ◌∙◌, ◌≡◌}
-use Rattle.plist_binread.specs.Packed.{is_marked, unmarked}
-use Rattle.plist_binread.specs.Decoding.{start_event}
-use Rattle.plist_binread.proofs.Decoding.{collection-named}
+use Rattle.plist_decode.specs.Packed.{is_marked, unmarked}
+use Rattle.plist_decode.specs.Decoding.{start_event}
+use Rattle.plist_binread.proofs.ObjectEvents.{collection-named}
 use Rattle.plist_binread.proofs.WalkSteps.{yields_collection, reverse-push, start_falls}
 use Rattle.plist_binread.proofs.OpenObjects.{IsOpen-push, not_open, admits_more, cached_count-kept}
 use Rattle.plist_binread.proofs.Tags.{open_tag-marked, open_uncached}

@@ -1,5 +1,5 @@
-use Rattle.plist_binread.specs.Slot.{result_in}
-use Rattle.plist_binread.proofs.Decoding.{large_unlike, long_sets}
+use Rattle.plist_decode.specs.Slot.{result_in}
+use Rattle.plist_binread.proofs.ObjectEvents.{large_unlike, long_sets}
 use Rattle.plist_binread.proofs.hand.hand_decoded.Goals as goal
 
 pub returns-in-Long-clause-handed : goal.returns-in-Long-clause-handed

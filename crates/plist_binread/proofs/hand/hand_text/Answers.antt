@@ -1,9 +1,9 @@
 use Rattle.std.proofs.Common.{ap, sym, refl, ◌∙◌, Some}
 use Rattle.plist_base.specs.Events.{EndCollection, ScalarEvent}
 use Rattle.plist_base.specs.Trees.{String}
-use Rattle.plist_binread.specs.Decoded.{event_of_object}
-use Rattle.plist_binread.proofs.Contents.{text-utf8, text-not_utf8}
-use Rattle.plist_binread.proofs.Decoding.{large_text}
+use Rattle.plist_binread.specs.ObjectEvents.{event_of_object}
+use Rattle.plist_decode.proofs.Contents.{text-utf8, text-not_utf8}
+use Rattle.plist_binread.proofs.ObjectEvents.{large_text}
 use Rattle.plist_binread.proofs.hand.hand_text.Goals as goal
 
 pub returns-in-Some-clause-handed : goal.returns-in-Some-clause-handed

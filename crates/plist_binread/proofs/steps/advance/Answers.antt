@@ -2,8 +2,8 @@ use Rattle.std.proofs.Common.{arith, ◌<◌, length, ◌-◌, reverse, IfSome, 
 use Rattle.std.proofs.lemmas.Result.{on_ok_weaker}
 use Rattle.plist_binread.specs.declared.frames.NextChild.TheVariants.{Child}
 use Rattle.plist_base.specs.Events.{EndCollection}
-use Rattle.plist_binread.specs.Slot.{result_in}
-use Rattle.plist_binread.proofs.UnknownBytes.{IfSome-all}
+use Rattle.plist_decode.specs.Slot.{result_in}
+use Rattle.plist_decode.proofs.UnknownBytes.{IfSome-all}
 use Rattle.plist_binread.specs.Walking.{weight_in}
 use Rattle.plist_binread.proofs.WalkSteps.{steps_positive}
 use Rattle.plist_binread.proofs.ChildInvariant.{ChildTaken, known_child_taken, child_failed, child_kept, child_references, child_yields}

@@ -1,10 +1,10 @@
 use Rattle.std.proofs.Common.{◌≡◌, arith, ◌∙◌, sym, ap, refl, rules, length, replicate}
 use Rattle.std.proofs.Math.ListN.{length-replicate}
-use Rattle.plist_binread.proofs.FaultOffsets.{passed}
-use Rattle.plist_binread.specs.declared.head.Bounds.{Bounds}
+use Rattle.plist_decode.proofs.FaultOffsets.{passed}
+use Rattle.plist_decode.specs.declared.head.Bounds.{Bounds}
 use Rattle.plist_base.specs.Events.{EndCollection}
-use Rattle.plist_binread.specs.Slot.{result_in}
-use Rattle.plist_binread.proofs.UnknownBytes.{IfSome-all}
+use Rattle.plist_decode.specs.Slot.{result_in}
+use Rattle.plist_decode.proofs.UnknownBytes.{IfSome-all}
 use Rattle.plist_binread.proofs.OpenObjects.{IsOpen-none, cached_count-none, cached_count-empty}
 use Rattle.plist_binread.proofs.FirstItem.{known_unread, known_wanted, known_opens, known_begun, known_cached, known_counted, known_hidden, known_uncounted}
 use Rattle.plist_binread.proofs.VisitorLimits.{passed_on}

@@ -1,7 +1,7 @@
 use Rattle.std.proofs.Common.{refl, Some}
 use Rattle.plist_base.specs.Events.{EndCollection}
 use Rattle.plist_binread.proofs.ReaderCalls.{left_behind, nothing_ended}
-use Rattle.plist_binread.proofs.UnknownBytes.{IfSome-all, IfSome-never}
+use Rattle.plist_decode.proofs.UnknownBytes.{IfSome-all, IfSome-never}
 use Rattle.plist_binread.proofs.UnlimitedSteps.{first_walks, item_walks, not_fresh, walks_on_ok}
 use Rattle.plist_binread.proofs.reader.BinaryReader.step.Goals as goal
 

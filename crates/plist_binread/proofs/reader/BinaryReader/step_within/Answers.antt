@@ -4,9 +4,9 @@ use Rattle.plist_base.specs.Faults.{fault_of}
 use Rattle.plist_base.specs.Limits.{RefusesAny}
 use Rattle.plist_binread.specs.ReaderSteps.{Walks, item_with}
 use Rattle.plist_binread.specs.BinaryReader.{is_new, binary_source, unlimited_items}
-use Rattle.plist_binread.specs.Slot.{item_in}
+use Rattle.plist_decode.specs.Slot.{item_in}
 use Rattle.plist_binread.proofs.ReaderLimits.{limit-current, refused-given, refused-other}
-use Rattle.plist_binread.proofs.UnknownBytes.{IfSome-all, IfSome-never}
+use Rattle.plist_decode.proofs.UnknownBytes.{IfSome-all, IfSome-never}
 use Rattle.plist_binread.proofs.UnlimitedSteps.{tells_fault}
 use Rattle.plist_binread.proofs.VisitorLimits.{Reached, reached_limit, refuses_any}
 use Rattle.plist_binread.proofs.reader.BinaryReader.step_within.Goals as goal

@@ -1,6 +1,6 @@
 use Rattle.std.proofs.Common.{Ok}
-use Rattle.plist_binread.specs.Slot.{result_in}
-use Rattle.plist_binread.proofs.Children.{known_slot}
+use Rattle.plist_decode.specs.Slot.{result_in}
+use Rattle.plist_binread.proofs.ChildReferences.{known_slot}
 use Rattle.plist_binread.proofs.references.ReferenceReader.read_child.Goals as goal
 
 pub returns-in-Some-clause-child : goal.returns-in-Some-clause-child

@@ -1,5 +1,5 @@
 use Rattle.std.proofs.Common.{arith}
-use Rattle.plist_binread.proofs.ObjectFronts.{known_suffix}
+use Rattle.plist_binread.proofs.ChildReferences.{known_suffix}
 use Rattle.plist_binread.proofs.references.Run.bytes_from.Goals as goal
 
 pub returns-in-Some : goal.returns-in-Some

@@ -1,7 +1,7 @@
 use Rattle.std.proofs.Common.{◌∙◌, ap, arith, take, length, ◌++◌, ◌≡◌, List, ℕ}
 use Rattle.std.proofs.Math.Seq.{take-append_seam}
 use Rattle.std.proofs.lemmas.List.{take-take}
-use Rattle.plist_binread.proofs.ObjectFronts.{known_prefix}
+use Rattle.plist_binread.proofs.ChildReferences.{known_prefix}
 use Rattle.plist_binread.proofs.references.Run.fill.Goals as goal
 
 pub returns-in-Some : goal.returns-in-Some

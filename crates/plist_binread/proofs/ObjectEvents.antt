@@ -1,0 +1,157 @@
+-- The event of an object that was decoded.
+use Rattle.std.proofs.Common.{◌≡◌, ℕ, ◌+◌, ◌<◌, ◌≤◌, Bool, true, false, List, length, take, drop, get_or, Option, None, Some, Result, Ok, Err, IfSome, ap, sym, subst, ◌∙◌, arith}
+use Rattle.std.specs.Prelude.{OnOk, if◌then◌else◌}
+use Rattle.std.proofs.lemmas.Bool.{false≢true, lt-leb}
+use Rattle.std.proofs.lemmas.List.{drop-drop}
+use Rattle.std.proofs.lemmas.Option.{IfSome_then}
+use Rattle.plist_base.specs.declared.error.Error.{Error}
+use Rattle.plist_base.specs.Events.{PlainEvent, ScalarEvent}
+use Rattle.plist_base.specs.Faults.{FaultKind}
+use Rattle.plist_base.specs.Faults as faults
+use Rattle.plist_base.specs.Sources.{LiesAt}
+use Rattle.plist_base.specs.Trees as trees
+use Rattle.plist_format.specs.Object.{Object, Scalar, Array, Dictionary, Faulty, date, date_if_any, text}
+use Rattle.plist_decode.specs.CountedContent.{content_means}
+use Rattle.plist_decode.specs.Decoded.{FitsBefore, content_size, small_count}
+use Rattle.plist_binread.specs.ObjectEvents.{FitsWalk, SetsContentAt, SetsDecoded, SetsEvent, event_of_object}
+use Rattle.plist_decode.specs.Decoding.{IsCollection, scalar_event_in}
+use Rattle.plist_decode.specs.Packed.{is_small_event, unmarked}
+use Rattle.plist_binread.specs.NextChild.{IsCurrentCached}
+use Rattle.plist_decode.specs.Slot.{result_in}
+use Rattle.plist_decode.specs.declared.decoded.Content.{Content}
+use Rattle.plist_decode.specs.declared.decoded.ContentKind.{ContentKind}
+use Rattle.plist_decode.specs.declared.decoded.ContentKind.TheVariants as content_kind
+use Rattle.plist_decode.specs.declared.decoded.Decoded.{Decoded}
+use Rattle.plist_decode.specs.declared.decoded.Decoded.TheVariants as decoded
+use Rattle.plist_decode.specs.declared.fault_slot.FaultSlot.{FaultSlot}
+use Rattle.plist_decode.specs.declared.fault_slot.StepError.{StepError}
+use Rattle.plist_decode.specs.declared.head.Bounds.{Bounds}
+use Rattle.plist_decode.proofs.NumberRuns.{take-drop-take}
+use Rattle.plist_decode.proofs.UnknownBytes.{IfSome-all}
+
+pub fits_walk : (bounds : Bounds) (place : ℕ) (d : Decoded) → FitsBefore bounds.trailer place d
+    → FitsWalk d
+fits_walk bounds place (decoded.Small kind content) h = h
+fits_walk bounds place (decoded.Date content) h = tt
+fits_walk bounds place (decoded.Long kind start count) h = tt
+fits_walk bounds place (decoded.Faulty fault) h = tt
+fits_walk bounds place (decoded.Collection kind start count) h =
+    let small = bounds.small in (omega (arith, h.0, small), h.1)
+
+-- ---- the event of an object
+
+pub named-scalar : (object : Object) (scalar : trees.Scalar) (event : PlainEvent)
+    → object ≡ Scalar scalar → event_of_object object ≡ Some event
+    → scalar_event_in object ≡ Some event
+named-scalar object scalar event is named =
+    ap scalar_event_in is ∙ sym (ap event_of_object is) ∙ named
+
+named-if : (b : Bool) (s : trees.Scalar) (k : FaultKind) (event : PlainEvent)
+    → event_of_object (if b then Scalar s else Faulty k) ≡ Some event
+    → scalar_event_in (if b then Scalar s else Faulty k) ≡ Some event
+named-if true s k event h = h
+named-if false s k event h = absurd (cc)
+
+named-unless : (b : Bool) (s : trees.Scalar) (k : FaultKind) (event : PlainEvent)
+    → event_of_object (if b then Faulty k else Scalar s) ≡ Some event
+    → scalar_event_in (if b then Faulty k else Scalar s) ≡ Some event
+named-unless true s k event h = absurd (cc)
+named-unless false s k event h = h
+
+named-content : (kind : ContentKind) (bytes : List ℕ) (event : PlainEvent)
+    → event_of_object (content_means kind bytes) ≡ Some event
+    → scalar_event_in (content_means kind bytes) ≡ Some event
+named-content content_kind.Data bytes event h = h
+named-content content_kind.Text bytes event h = named-if _ _ _ event h
+named-content content_kind.WideText bytes event h = named-unless _ _ _ event h
+
+pub named-long : (object : Object) (kind : ContentKind) (bytes : List ℕ) (event : PlainEvent)
+    → object ≡ content_means kind bytes → event_of_object object ≡ Some event
+    → scalar_event_in object ≡ Some event
+named-long object kind bytes event is named =
+    ap scalar_event_in is ∙ named-content kind bytes event (sym (ap event_of_object is) ∙ named)
+
+pub named-date : (object : Object) (bytes : List ℕ) (event : PlainEvent) → object ≡ date bytes
+    → event_of_object object ≡ Some event → scalar_event_in object ≡ Some event
+named-date object bytes event is named =
+    ap scalar_event_in is ∙ by _ (sym (ap event_of_object is) ∙ named)
+  where
+    by : (found : Option (List ℕ)) → event_of_object (date_if_any found) ≡ Some event
+        → scalar_event_in (date_if_any found) ≡ Some event
+    by None h = absurd (cc)
+    by (Some bytes) h = h
+
+pub collection-named : (object : Object) (start : PlainEvent) (count : ℕ)
+    → IsCollection object start count → event_of_object object ≡ Some start
+collection-named (Array items) start count h = ap Some (sym h.0)
+collection-named (Dictionary pairs) start count h = ap Some (sym h.0)
+collection-named (Scalar scalar) start count h = absurd h
+collection-named (Faulty kind) start count h = absurd h
+
+-- ---- a content
+
+-- the event of a content that is borrowed is that of the content in the file
+pub borrowed_sets : {A : Type 0} (known : Option (List ℕ)) (place : ℕ) (content : Content)
+    (seen : List ℕ) (answer : Result A Error) (current : PlainEvent)
+    → IfSome known (λ bytes. LiesAt bytes place seen)
+    → content.start + content_size content ≤ length seen
+    → SetsEvent (content_means content.kind (take (content_size content) (drop content.start seen)))
+    place answer current
+    → SetsContentAt known place content answer current
+borrowed_sets known place content seen answer current lies within sets =
+    IfSome_then known lies (λ bytes lies fits.
+    let start = content.start in
+    let size = content_size content in
+    let e : take size (drop start seen) ≡ take size (drop (place + start) bytes) =
+    ap (λ xs. take size (drop start xs)) lies
+    ∙ take-drop-take start size (length seen) (drop place bytes) within
+    ∙ ap (take size) (drop-drop start place bytes) in
+    subst (λ xs. SetsEvent (content_means content.kind xs) place answer current) e sets)
+
+-- a content's event is the event of the object that has this content
+pub long_sets : {A : Type 0} (known : Option (List ℕ)) (bounds : Bounds) (place : ℕ)
+    (content : Content) (answer : Result A Error) (current : PlainEvent)
+    → place + content.start + content_size content ≤ bounds.trailer
+    → SetsContentAt known place content answer current
+    → SetsDecoded known bounds place (decoded.Long content.kind content.start content.count) answer
+    current
+long_sets known bounds place content answer current lies sets =
+    IfSome_then known sets (λ bytes sets fits is.
+    let n = content_size content in
+    let there = is.1
+    ∙ ap (λ xs. content_means content.kind (take n xs))
+    (drop-drop content.start place (take bounds.trailer bytes))
+    ∙ ap (content_means content.kind)
+    (take-drop-take (place + content.start) n bounds.trailer bytes lies) in
+    subst (λ object. SetsEvent object place answer current) (sym there)
+    (sets (omega (arith, lies, fits))))
+
+-- ---- what is small
+
+pub large_text : (bytes : List ℕ) (current : PlainEvent) → 8 < length bytes
+    → event_of_object (text bytes) ≡ Some current → is_small_event current ≡ false
+large_text bytes current h is = by _ is
+  where
+    by : (b : Bool) → event_of_object (if b then Scalar (trees.String bytes) else Faulty
+        faults.InvalidUtf8String) ≡ Some current → is_small_event current ≡ false
+    by true is =
+        let e : current ≡ ScalarEvent (trees.String bytes) = cc in
+        ap is_small_event e ∙ lt-leb _ 8 h
+    by false is = absurd (cc)
+
+-- if the event isn't that of a small scalar, the object need not have been decoded as one
+pub large_unlike : {A E : Type 0} (answer : Result A E) (d : Decoded) (current : PlainEvent)
+    → OnOk answer (is_small_event current ≡ false)
+    → OnOk answer (is_small_event current ≡ true → small_count d ≡ 1)
+large_unlike (Ok value) d current large = λ small. absurd (false≢true (sym large ∙ small))
+large_unlike (Err error) d current large = tt
+
+-- if the event is that of a small scalar, the object is cached
+pub cached_if : {A : Type 0} (known : Option (List ℕ)) (number : ℕ) (answer : Result A StepError)
+    (slot : FaultSlot) (current : PlainEvent) (d : Decoded) (tags : List ℕ)
+    → OnOk answer (is_small_event current ≡ true → small_count d ≡ 1)
+    → (small_count d ≡ 1 → 0 < unmarked (get_or tags number 0))
+    → IfSome known (λ _. IsCurrentCached (Some number) (Some (result_in answer slot)) current tags)
+cached_if known number (Ok value) slot current d tags small caches =
+    IfSome-all known (λ _ is. caches (small is))
+cached_if known number (Err error) slot current d tags small caches = IfSome-all known (λ _. tt)

@@ -1,7 +1,0 @@
-use Rattle.std.proofs.Common.{ap, sym, ◌∙◌}
-use Rattle.plist_format.specs.Object.{date}
-use Rattle.plist_binread.proofs.fixed_content.decode_date.Goals as goal
-
-pub returns-in-Some : goal.returns-in-Some
-returns-in-Some c = λ width first more whole.
-    c.in-Some.ensures.content _ date ∙ ap date (sym c.content_of.ensures)

@@ -1,0 +1,58 @@
+-- The event that an object yields once it is decoded, and what the walk stores of the object.
+use Rattle.std.specs.Prelude.{◌≡◌, ℕ, ◌+◌, ◌^◌, ◌<◌, ◌≤◌, Bool, true, false, List, length, take, drop, Option, None, Some, Result, IfSome, MatchResult, OnOk, ⊤}
+use Rattle.plist_base.specs.declared.error.Error.{Error}
+use Rattle.plist_base.specs.Events.{PlainEvent, StartArray, StartDictionary, ScalarEvent}
+use Rattle.plist_format.specs.Object.{Object, Scalar, Array, Dictionary, Faulty}
+use Rattle.plist_decode.specs.CountedContent.{content_means}
+use Rattle.plist_decode.specs.Decoded.{IsDecodedThere, content_size, small_count}
+use Rattle.plist_decode.specs.Decoding.{IsRefusedAs, child_count}
+use Rattle.plist_decode.specs.Packed.{FitsContent, is_small_event}
+use Rattle.plist_decode.specs.Reading.{object_at}
+use Rattle.plist_decode.specs.declared.decoded.Content.{Content}
+use Rattle.plist_decode.specs.declared.decoded.Decoded.{Decoded}
+use Rattle.plist_decode.specs.declared.decoded.Decoded.TheVariants as decoded
+use Rattle.plist_decode.specs.declared.head.Bounds.{Bounds}
+
+-- whether the object is faulty, so that it has no event
+abbrev pub is_refused : Decoded → Bool
+is_refused (decoded.Faulty fault) = true
+is_refused other = false
+
+-- the walk can store what was decoded: the tag and the number of children aren't too large
+abbrev pub FitsWalk : Decoded → Type 0
+FitsWalk (decoded.Small kind content) = FitsContent kind
+FitsWalk (decoded.Collection kind start count) = (child_count kind count < 2 ^ 64) × (start < 16)
+FitsWalk other = ⊤
+
+-- the first event of an object, which is its start or its scalar, or `None` if it is faulty
+abbrev pub event_of_object : Object → Option PlainEvent
+event_of_object (Scalar scalar) = Some (ScalarEvent scalar)
+event_of_object (Array items) = Some (StartArray (Some (length items)))
+event_of_object (Dictionary pairs) = Some (StartDictionary (Some (length pairs)))
+event_of_object (Faulty kind) = None
+
+-- the current event is the first one of the object, or the result is an error of the object
+abbrev pub SetsEvent : {A : Type 0} → Object → (place : ℕ) → Result A Error → (current : PlainEvent)
+    → Type 0
+SetsEvent object place answer current =
+    MatchResult answer (λ _. event_of_object object ≡ Some current) (IsRefusedAs object place)
+
+-- if the content lies within known bytes, the current event is that of its object
+abbrev pub SetsContentAt : {A : Type 0} → (known : Option (List ℕ)) → (place : ℕ) → Content
+    → Result A Error → (current : PlainEvent) → Type 0
+SetsContentAt known place content answer current = IfSome known (λ bytes.
+    place + content.start + content_size content ≤ length bytes
+    → SetsEvent (content_means content.kind
+    (take (content_size content) (drop (place + content.start) bytes))) place answer current)
+
+-- over known bytes, the current event is the first one of the object that was decoded
+abbrev pub SetsDecoded : {A : Type 0} → (known : Option (List ℕ)) → Bounds → (place : ℕ) → Decoded
+    → Result A Error → (current : PlainEvent) → Type 0
+SetsDecoded known bounds place decoded answer current = IfSome known (λ bytes.
+    bounds.trailer ≤ length bytes → IsDecodedThere bytes bounds place decoded
+    → SetsEvent (object_at bounds place bytes) place answer current)
+
+-- the current event is that of a small scalar only if the object was decoded as one
+abbrev pub SetsAsSmall : {A E : Type 0} → Decoded → Result A E → (current : PlainEvent) → Type 0
+SetsAsSmall decoded answer current =
+    OnOk answer (is_small_event current ≡ true → small_count decoded ≡ 1)

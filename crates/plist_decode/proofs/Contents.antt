@@ -1,0 +1,171 @@
+-- What the bytes after a marker mean.
+use Rattle.std.proofs.Common.{◌≡◌, ℕ, suc, ◌+◌, ◌-◌, ◌*◌, ◌^◌, ◌<◌, ◌≤◌, inl, inr, pos, negsuc, ◌-ℤ◌, Bool, true, false, List, [], ◌∷◌, ◌++◌, length, take, drop, Option, Some, IfSome, Result, Ok, Err, refl, ap, sym, subst, ◌∙◌, arith, add_assoc}
+use Rattle.std.specs.Int.{cast_signed, w64}
+use Rattle.std.specs.Int.Digits.{number_from_digits, number_from_digits_after}
+use Rattle.std.specs.Char.Utf16.{utf16_lossy_chars}
+use Rattle.std.specs.Str.{IsUtf8, is_utf8, encode_utf8_all}
+use Rattle.std.proofs.lemmas.Bool.{lt-ltb, le-ltb, le-leb, cases_lt}
+use Rattle.std.proofs.lemmas.Int.{ints}
+use Rattle.std.proofs.lemmas.Int.Digits.{number_after_append}
+use Rattle.std.proofs.lemmas.List.{length-append, length-take-le, length-drop, take-append-le}
+use Rattle.std.proofs.lemmas.Option.{IfSome_then}
+use Rattle.std.proofs.lemmas.Str.{is_utf8-from_IsUtf8, IsUtf8-from_is_utf8}
+use Rattle.std.proofs.Math.Nat.{pow-zero, pow-succ', add-mul, mul_assoc}
+use Rattle.std.proofs.Math.Seq.{take-add}
+use Rattle.std.specs.Prelude.{⊤, IfErr, if◌then◌else◌}
+use Rattle.plist_base.specs.declared.error.Error.{Error}
+use Rattle.plist_base.specs.declared.event.Event.{Event}
+use Rattle.plist_base.specs.Sources.{ResultCountsIo}
+use Rattle.plist_base.specs.Faults.{FaultKind, Fault, IntegerOutOfRange, InvalidUtf8String, InvalidUtf16String, MatchFault, kind_of, error_kind_of, offset_of, fault_of, fault_at}
+use Rattle.plist_base.specs.Trees.{Integer, String}
+use Rattle.plist_base.proofs.Refusals.{MatchFault-at, MatchFault-weaker}
+use Rattle.plist_format.specs.Container.{number_of}
+use Rattle.plist_decode.specs.Decoding.{Decodes, Allocates, IsRefusedAs}
+use Rattle.plist_decode.specs.CountedContent.{content_means}
+use Rattle.plist_decode.specs.Reading.{IsIoOrMemoryAt}
+use Rattle.plist_decode.specs.declared.decoded.ContentKind.{ContentKind}
+use Rattle.plist_decode.specs.declared.decoded.ContentKind.TheVariants as kind
+use Rattle.plist_format.specs.Object.{Object, Scalar, Faulty, signed, integer_in_range, wide_integer, text, text_of_units, meaning_of_front}
+
+one_digit : (n b d power rest all : ℕ) → all ≡ b * power
+    → (n * b + d) * power + rest ≡ n * all + ((0 * b + d) * power + rest)
+one_digit n b d power rest all e =
+    let zero_first : 0 * b + d ≡ d = omega arith in
+    rw (e, zero_first, add-mul _ d _, mul_assoc n b _)
+    (add_assoc _ _ _)
+
+number_after : (b n : ℕ) (ds : List ℕ)
+    → number_from_digits_after b n ds ≡ n * b ^ length ds + number_from_digits b ds
+number_after b n [] = rw (pow-zero b) (omega arith)
+number_after b n (d ∷ ds) =
+    cc (
+      number_after b (n * b + d) ds,
+      one_digit n b d (b ^ length ds) (number_from_digits b ds)
+          (b ^ suc (length ds)) (pow-succ' b (length ds)),
+      number_after b (0 * b + d) ds,
+    )
+
+-- sixteen bytes encode two numbers of eight bytes
+sixteen : (xs : List ℕ) → 16 ≤ length xs
+    → number_of (take 16 xs) ≡ number_of (take 8 xs) * 2 ^ 64 + number_of (take 8 (drop 8 xs))
+sixteen xs h =
+    let rest = length-drop 8 xs in
+    let len = length-take-le 8 _ (omega arith) in
+    ap number_of (take-add 8 8 xs)
+    ∙ number_after_append 256 0 (take 8 xs) (take 8 (drop 8 xs))
+    ∙ number_after 256 _ (take 8 (drop 8 xs))
+    ∙ ap (λ k. number_of (take 8 xs) * 256 ^ k + number_of (take 8 (drop 8 xs))) len
+
+pub wide_front : (xs more : List ℕ) → 16 ≤ length xs
+    → meaning_of_front 16 wide_integer (xs ++ more) ≡ integer_in_range
+    (signed 128 (number_of (take 8 xs) * 2 ^ 64 + number_of (take 8 (drop 8 xs))))
+wide_front xs more h =
+    let enough : 16 ≤ length (xs ++ more) = omega (arith, length-append xs more) in
+    rw (le-leb 16 _ enough, take-append-le 16 xs _ h)
+    (ap (λ n. integer_in_range (signed 128 n)) (sixteen xs h))
+
+below_zero : (n m : ℕ) → n < m → pos n -ℤ pos m ≡ negsuc (m - n - 1)
+below_zero n m h = omega (arith, ints)
+
+-- an integer of sixteen bytes whose high half is zero is its low half
+pub wide_low : (low : ℕ) → low < 2 ^ 64
+    → integer_in_range (signed 128 (0 * 2 ^ 64 + low)) ≡ Scalar (Integer (pos low))
+wide_low low h =
+    let e : 0 * 2 ^ 64 + low ≡ low = omega arith in
+    let small : low < 2 ^ 127 = omega arith in
+    rw (e, lt-ltb low _ small, lt-ltb low _ h) refl
+
+pub negative_bits : (n : ℕ) → 2 ^ 63 ≤ n → n < 2 ^ 64 → cast_signed w64 n ≡ signed 64 n
+negative_bits n low high =
+    let t = le-ltb n (2 ^ 63) low in
+    let e : 2 ^ 64 - n - 1 ≡ 2 ^ 64 - suc n = omega arith in
+    rw t (sym (below_zero n (2 ^ 64) high ∙ ap negsuc e))
+
+out_of_range : (n : ℕ) → 2 ^ 64 ≤ n → n < 2 ^ 128
+    → integer_in_range (signed 128 n) ≡ Faulty IntegerOutOfRange
+out_of_range n big small = elim (cases_lt n _) [
+  | inl low ↦ rw (lt-ltb n (2 ^ 127) low, le-ltb n _ big) refl
+  | inr high ↦ rw (le-ltb n _ high, below_zero n _ small) refl
+]
+
+-- an integer of sixteen bytes whose high half isn't zero is out of range
+pub wide_high : (high low : ℕ) → 0 < high → high < 2 ^ 64 → low < 2 ^ 64
+    → integer_in_range (signed 128 (high * 2 ^ 64 + low)) ≡ Faulty IntegerOutOfRange
+wide_high high low some h l = out_of_range (high * 2 ^ 64 + low) (omega arith) (omega arith)
+
+-- an error with the kind of an object's fault, at the object's offset, is the error of the object
+pub refused_as : (object : Object) (place : ℕ) (e : Error) (kind : FaultKind)
+    → fault_of e ≡ fault_at kind place → MatchFault kind ⊥ ⊥ ⊤ → object ≡ Faulty kind
+    → IsRefusedAs object place e
+refused_as object place e kind fault inside is =
+    let same = ap (λ (f : Fault). f.kind) fault in
+    let there : offset_of e ≡ Some place = ap (λ (f : Fault). f.offset) fault in
+    MatchFault-at (kind_of (error_kind_of e)) kind _ _ _ same
+    (MatchFault-weaker kind (λ none. absurd none) (λ none. absurd none)
+    (λ _. (is ∙ ap Faulty (sym same), there)) inside)
+
+-- bytes that are UTF-8 mean a string, and bytes that aren't mean a fault
+pub text-utf8 : (bytes : List ℕ) → IsUtf8 bytes → text bytes ≡ Scalar (String bytes)
+text-utf8 bytes h = rw (is_utf8-from_IsUtf8 _ h) refl
+
+pub text-not_utf8 : (bytes : List ℕ) → (IsUtf8 bytes → ⊥) → text bytes ≡ Faulty InvalidUtf8String
+text-not_utf8 bytes h = by (is_utf8 bytes) refl
+  where
+    by : (b : Bool) → is_utf8 bytes ≡ b → text bytes ≡ Faulty InvalidUtf8String
+    by true is = absurd (h (IsUtf8-from_is_utf8 _ is))
+    by false is = rw is refl
+
+-- each string may need memory
+pub grows_text : (content : List ℕ) → Allocates (text content)
+grows_text content = by _
+  where
+    by : (b : Bool) → Allocates (if b then Scalar (String content) else Faulty InvalidUtf8String)
+    by true = tt
+    by false = tt
+
+pub grows_units : (units : List ℕ) → Allocates (text_of_units units)
+grows_units units = by _
+  where
+    by : (b : Bool) → Allocates (if b then Faulty InvalidUtf16String else Scalar
+        (String (encode_utf8_all (utf16_lossy_chars units))))
+    by true = tt
+    by false = tt
+
+-- ---- a content that was read
+
+pub grows_content : (kind : ContentKind) (content : List ℕ) → Allocates (content_means kind content)
+grows_content kind.Data content = tt
+grows_content kind.Text content = grows_text content
+grows_content kind.WideText content = grows_units _
+
+-- if the whole content was read, the result is that of the object
+pub content_read : (known : Option (List ℕ)) (kind : ContentKind) (place start size : ℕ)
+    (content : List ℕ) (answer : Result Event Error)
+    → IfSome known (λ bytes. content ≡ take size (drop start bytes))
+    → Decodes (content_means kind content) place answer
+    → IfSome known (λ bytes. start + size ≤ length bytes
+    → Decodes (content_means kind (take size (drop start bytes))) place answer)
+content_read known kind place start size content answer is decoded =
+    IfSome_then known is (λ bytes is fits.
+    subst (λ content. Decodes (content_means kind content) place answer) is decoded)
+
+-- if the content wasn't read because a read or an allocation failed, the error is possible for the
+-- object
+pub content_refused : (known : Option (List ℕ)) (kind : ContentKind) (place start size : ℕ)
+    (error : Error)
+    → IfSome known (λ bytes. IsIoOrMemoryAt start size bytes (fault_of error))
+    → IfSome known (λ bytes. start + size ≤ length bytes
+    → IsRefusedAs (content_means kind (take size (drop start bytes))) place error)
+content_refused known kind place start size error refused =
+    IfSome_then known refused (λ bytes refused fits.
+    MatchFault-weaker (kind_of (error_kind_of error)) (λ _. tt) (λ _. grows_content kind _)
+    (λ none. absurd none) (refused fits))
+
+-- an error other than `Io` leaves the count of failures unchanged
+pub counts_answer : {A : Type 0} (answer : Result A Error) (old new : ℕ)
+    → IfErr answer (λ error. MatchFault (kind_of (error_kind_of error)) ⊥ ⊤ ⊤) → new ≡ old
+    → ResultCountsIo answer old new
+counts_answer (Ok value) old new other same = same
+counts_answer (Err error) old new other same =
+    MatchFault-weaker (kind_of (error_kind_of error)) (λ none. absurd none) (λ _. same) (λ _. same)
+    other

@@ -1,0 +1,206 @@
+-- What is decoded from an object, and how an object can be faulty.
+use Rattle.std.proofs.Common.{◌≡◌, ℕ, suc, inl, inr, ◌+◌, ◌-◌, ◌*◌, ◌<◌, ◌≤◌, false, List, ◌∷◌, ◌++◌, length, take, drop, replicate, Option, Some, refl, ap, sym, subst, ◌∙◌, arith}
+use Rattle.std.specs.Prelude.{⊤}
+use Rattle.std.proofs.lemmas.Bool.{cases_lt, le-leb}
+use Rattle.std.proofs.lemmas.List.{length-append, length-drop, length-take-le, drop-append-le}
+use Rattle.std.proofs.lemmas.Option.{IfSome_then}
+use Rattle.std.specs.Char.Utf16.{has_unpaired_surrogate, utf16_lossy_chars}
+use Rattle.std.specs.Str.{encode_utf8_all}
+use Rattle.std.proofs.Math.ListN.{length-replicate}
+use Rattle.std.proofs.Math.Seq.{take-length}
+use Rattle.plist_base.specs.declared.error.Error.{Error}
+use Rattle.plist_base.specs.Faults.{FaultKind, MatchFault, fault_at, fault_of}
+use Rattle.plist_base.specs.Faults as faults
+use Rattle.plist_base.specs.Sources.{CountsIo}
+use Rattle.plist_base.specs.Trees as trees
+use Rattle.plist_format.specs.Object.{Object, Scalar, Faulty, length_in, object_in, text_of_units}
+use Rattle.plist_decode.specs.CountedContent.{content_means, counted_with, unit_size}
+use Rattle.plist_decode.specs.Decoded.{DecodesAfter, DecodesAt, DecodesSeen, FitsBefore, IsDecodedAs, IsObjectFault, MeansDecoded, IsLongCount, kind_of_object_fault}
+use Rattle.plist_decode.specs.Decoding.{IsRefusedAs}
+use Rattle.plist_decode.specs.FaultOffsets.{FailsWithin, MatchReader}
+use Rattle.plist_decode.specs.Front.{IsFrontAt}
+use Rattle.plist_decode.specs.Packed.{content_bytes}
+use Rattle.plist_decode.specs.Reading.{data_of_content, object_with}
+use Rattle.plist_decode.specs.declared.decoded.ContentKind.{ContentKind}
+use Rattle.plist_decode.specs.declared.decoded.ContentKind.TheVariants as content_kind
+use Rattle.plist_decode.specs.declared.decoded.Decoded.{Decoded}
+use Rattle.plist_decode.specs.declared.decoded.Decoded.TheVariants as decoded
+use Rattle.plist_decode.specs.declared.decoded.ObjectFault.{ObjectFault}
+use Rattle.plist_decode.specs.declared.decoded.ObjectFault.TheVariants as fault
+use Rattle.plist_decode.specs.declared.head.Bounds.{Bounds}
+use Rattle.plist_decode.specs.declared.packed.PackedKind.TheVariants as kind
+use Rattle.plist_decode.proofs.Contents.{refused_as}
+use Rattle.plist_decode.proofs.Lengths.{content_seen}
+use Rattle.plist_decode.proofs.FaultOffsets.{counts_at, from_fault}
+use Rattle.plist_decode.proofs.ObjectFronts.{known_front, object_front}
+
+-- ---- faults
+
+by_kind : (kind : FaultKind) (place : ℕ) (e : Error) → fault_of e ≡ fault_at kind place
+    → MatchFault kind ⊥ ⊥ ⊤ → MatchReader kind ⊥ ⊥ ⊤
+    → ((object : Object) → object ≡ Faulty kind → IsRefusedAs object place e)
+    × ((end : ℕ) → FailsWithin place end (fault_of e)) × ((count : ℕ) → CountsIo e count count)
+by_kind kind place e is inside reader = (
+  λ object h. refused_as object place e kind is inside h,
+  λ end. from_fault _ kind place place end is reader,
+  λ count. counts_at e kind place count count is inside refl,
+)
+
+-- the error that reports an object's fault is the error of the object, with an offset, and leaves
+-- the count of failures unchanged
+pub fault_there : (f : ObjectFault) (kind : FaultKind) (place : ℕ) (e : Error)
+    → (f ≡ fault.NoMemory → ⊥) → kind ≡ kind_of_object_fault f → fault_of e ≡ fault_at kind place
+    → ((object : Object) → IsObjectFault object f → IsRefusedAs object place e)
+    × ((end : ℕ) → FailsWithin place end (fault_of e)) × ((count : ℕ) → CountsIo e count count)
+fault_there fault.NoMemory kind place e other same is = absurd (other refl)
+fault_there fault.Overrun kind place e other same is =
+    by_kind faults.ObjectOffsetTooLarge place e (is ∙ ap (λ k. fault_at k place) same) tt tt
+fault_there fault.Null kind place e other same is =
+    by_kind faults.NullObjectUnimplemented place e (is ∙ ap (λ k. fault_at k place) same) tt tt
+fault_there fault.Fill kind place e other same is =
+    by_kind faults.FillObjectUnimplemented place e (is ∙ ap (λ k. fault_at k place) same) tt tt
+fault_there (fault.Unknown marker) kind place e other same is =
+    by_kind (faults.UnknownObjectType marker) place e (is ∙ ap (λ k. fault_at k place) same) tt tt
+fault_there fault.OutOfRange kind place e other same is =
+    by_kind faults.IntegerOutOfRange place e (is ∙ ap (λ k. fault_at k place) same) tt tt
+fault_there fault.NoDate kind place e other same is =
+    by_kind faults.OverflowOrNanDate place e (is ∙ ap (λ k. fault_at k place) same) tt tt
+fault_there fault.NotUtf8 kind place e other same is =
+    by_kind faults.InvalidUtf8String place e (is ∙ ap (λ k. fault_at k place) same) tt tt
+fault_there fault.NotUtf16 kind place e other same is =
+    by_kind faults.InvalidUtf16String place e (is ∙ ap (λ k. fault_at k place) same) tt tt
+
+-- ---- strings and data
+
+-- a string or data of which only the length was read is decoded as such
+pub long_decoded : (kind : ContentKind) (low count first : ℕ) (rest following more : List ℕ)
+    → length_in low (rest ++ more) ≡ Some (count, following ++ more)
+    → count * unit_size kind ≤ length (following ++ more) → length following ≤ length rest
+    → drop (length rest - length following) rest ≡ following → IsLongCount kind count
+    → (width : ℕ) → IsDecodedAs width (first ∷ (rest ++ more)) (counted_with kind low (rest ++ more))
+    (decoded.Long kind (1 + (length rest - length following)) count)
+long_decoded kind low count first rest following more is fits short lies long width =
+    let k = length rest - length following in
+    let next : 1 + k ≡ suc k = omega arith in
+    let there : drop (1 + k) (first ∷ (rest ++ more)) ≡ following ++ more =
+    rw next (drop-append-le k rest more (omega arith) ∙ ap (λ xs. xs ++ more) lies) in (
+      omega (arith, length-append rest more, length-append following more, fits, short),
+      rw (is, le-leb (count * unit_size kind) (length (following ++ more)) fits)
+          (ap (λ xs. content_means kind (take (count * unit_size kind) xs)) (sym there)),
+      long,
+    )
+
+-- data of at most eight bytes is decoded as a small scalar
+pub small_data : (low count content first : ℕ) (rest following bytes more : List ℕ)
+    → length_in low (rest ++ more) ≡ Some (count, following ++ more) → count ≤ length following → count ≤ 8
+    → bytes ≡ take count following → take (length bytes) (content_bytes content) ≡ bytes
+    → (width : ℕ)
+    → IsDecodedAs width (first ∷ (rest ++ more)) (counted_with content_kind.Data low (rest ++ more))
+    (decoded.Small (kind.Data count) content)
+small_data low count content first rest following bytes more is seen small cut packed width =
+    let one : count * 1 ≡ count = omega arith in
+    let n : length bytes ≡ count = ap length cut ∙ length-take-le count following seen in (
+      trees.Data bytes,
+      content_seen low 1 count rest following more is (rw one seen) data_of_content
+          ∙ ap (λ xs. Scalar (trees.Data xs)) (ap (λ k. take k following) one ∙ sym cut),
+      ap (λ xs. Some (trees.Data xs)) (rw n at packed),
+      small,
+    )
+
+-- if the content is among the bytes that were read, the object means what the content means
+pub few_bytes : (kind : ContentKind) (low count size first : ℕ) (rest following bytes more : List ℕ)
+    (answer : Decoded)
+    → length_in low (rest ++ more) ≡ Some (count, following ++ more) → size ≡ count * unit_size kind
+    → size ≤ length following → bytes ≡ take size following
+    → MeansDecoded (content_means kind bytes) answer → (width : ℕ)
+    → IsDecodedAs width (first ∷ (rest ++ more)) (counted_with kind low (rest ++ more)) answer
+few_bytes kind low count size first rest following bytes more answer is same seen cut means width =
+    let e : counted_with kind low (rest ++ more) ≡ content_means kind bytes =
+    content_seen low (unit_size kind) count rest following more is (rw same at seen)
+    (content_means kind)
+    ∙ ap (content_means kind) (ap (λ k. take k following) (sym same) ∙ sym cut) in
+    subst (λ object. IsDecodedAs width (first ∷ (rest ++ more)) object answer) (sym e)
+    (means width (first ∷ (rest ++ more)))
+
+pub long_bytes : (kind : ContentKind) (count : ℕ) (bytes : List ℕ)
+    → length bytes ≡ count * unit_size kind → IsLongCount kind count
+    → IsLongCount kind (length bytes)
+long_bytes content_kind.Data count bytes is h = omega (arith, is, h)
+long_bytes content_kind.Text count bytes is h = omega (arith, is, h)
+long_bytes content_kind.WideText count bytes is h = tt
+
+-- if the content is short, all of its bytes are among those that were read
+pub content_enough : (size to_trailer rest following : ℕ) → (rest < 25 → to_trailer ≤ rest)
+    → rest - following + size ≤ to_trailer → following ≤ rest → rest ≤ following + 9 → size ≤ 16 → size ≤ following
+content_enough size to_trailer rest following shown within short near few = elim (cases_lt rest 25) [
+  | inl less ↦ let whole = shown less in omega arith
+  | inr more ↦ omega arith
+]
+
+-- UTF-16 units without an unpaired surrogate mean this string
+pub units_text : (units bytes : List ℕ) → has_unpaired_surrogate units ≡ false
+    → bytes ≡ encode_utf8_all (utf16_lossy_chars units)
+    → text_of_units units ≡ Scalar (trees.String bytes)
+units_text units bytes paired is = rw paired (ap (λ xs. Scalar (trees.String xs)) (sym is))
+
+-- ---- the bytes that were read of an object
+
+-- the bytes that were read are a marker and the bytes after it
+pub seen_after : (w m to_trailer : ℕ) (seen rest : List ℕ) (answer : Decoded)
+    → seen ≡ m ∷ rest → DecodesAfter (to_trailer - 1) w (object_with w m) rest answer
+    → DecodesSeen to_trailer w seen answer
+seen_after w m to_trailer seen rest answer is means = λ more whole.
+    let e : seen ++ more ≡ m ∷ (rest ++ more) = ap (λ xs. xs ++ more) is in
+    let n : length (rest ++ more) ≡ to_trailer - 1 = omega (arith, ap length e, whole) in
+    let o : object_in w (seen ++ more) ≡ object_with w m (rest ++ more) =
+    object_front w m (seen ++ more) (rest ++ more) e in
+    subst (λ object. IsDecodedAs w (seen ++ more) object answer) (sym o)
+    (subst (λ all. IsDecodedAs w all (object_with w m (rest ++ more)) answer) (sym e)
+    (means m more n))
+
+-- if the bytes are known, the object at the offset is the one that was decoded
+pub seen_decodes : (known : Option (List ℕ)) (bounds : Bounds) (place : ℕ) (seen : List ℕ)
+    (answer : Decoded) → IsFrontAt known bounds place seen
+    → DecodesSeen (bounds.trailer - place) bounds.reference_width seen answer
+    → DecodesAt known bounds place answer
+seen_decodes known bounds place seen answer front means =
+    IfSome_then known front.lies (λ bytes is fits.
+    let cut = known_front (Some bytes) seen seen bounds.trailer place _ front.front.within (omega arith)
+    (sym (take-length _)) is fits in
+    let to_trailer = ap length (sym cut.1) ∙ length-drop place (take bounds.trailer bytes)
+    ∙ ap (λ m. m - place) (length-take-le bounds.trailer bytes fits) in
+    subst (λ all. IsDecodedAs bounds.reference_width all (object_in bounds.reference_width all)
+    answer) (sym cut.1)
+    (means cut.0 to_trailer))
+
+-- what was decoded ends before the trailer, whatever the bytes are
+decoded_fits : (trailer place width : ℕ) (all : List ℕ) (object : Object) (d : Decoded)
+    → place + length all ≤ trailer → IsDecodedAs width all object d → FitsBefore trailer place d
+decoded_fits trailer place width all object (decoded.Small kind content) h is = is.3
+decoded_fits trailer place width all object (decoded.Date content) h is = tt
+decoded_fits trailer place width all object (decoded.Long kind start count) h is =
+    (omega (arith, h, is.0), is.2)
+decoded_fits trailer place width all object (decoded.Collection kind start count) h is =
+    (omega (arith, h, is.1), is.2)
+decoded_fits trailer place width all object (decoded.Faulty fault) h is = tt
+
+-- some bytes before the trailer decode to this result
+pub seen_as : (bounds : Bounds) (place : ℕ) (seen : List ℕ) (answer : Decoded)
+    → place + length seen ≤ bounds.trailer
+    → DecodesSeen (bounds.trailer - place) bounds.reference_width seen answer
+    → (all : List ℕ) × (place + length all ≤ bounds.trailer)
+    × IsDecodedAs bounds.reference_width all (object_in bounds.reference_width all) answer
+seen_as bounds place seen answer h means =
+    let k = bounds.trailer - place - length seen in
+    let more = replicate k 0 in
+    let n : length (seen ++ more) ≡ bounds.trailer - place =
+    omega (arith, length-append seen more, length-replicate {A = ℕ} k 0, h) in
+    (seen ++ more, omega (arith, n, h), means more n)
+
+pub seen_fits : (bounds : Bounds) (place : ℕ) (seen : List ℕ) (answer : Decoded)
+    → place + length seen ≤ bounds.trailer
+    → DecodesSeen (bounds.trailer - place) bounds.reference_width seen answer
+    → FitsBefore bounds.trailer place answer
+seen_fits bounds place seen answer h means =
+    let a = seen_as bounds place seen answer h means in
+    decoded_fits bounds.trailer place bounds.reference_width a.0 _ answer a.1 a.2

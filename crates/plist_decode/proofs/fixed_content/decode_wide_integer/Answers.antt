@@ -1,0 +1,25 @@
+use Rattle.std.proofs.Common.{◌≡◌, ◌<◌, ◌++◌, pos, refl, ◌∙◌, arith}
+use Rattle.plist_base.specs.Trees.{Integer}
+use Rattle.plist_format.specs.Object.{Scalar, wide_integer, meaning_of_front}
+use Rattle.plist_decode.proofs.Contents.{wide_front, wide_low, wide_high}
+use Rattle.plist_decode.proofs.fixed_content.decode_wide_integer.Goals as goal
+
+pub returns-then-high-ne0 : goal.returns-then-high-ne0
+returns-then-high-ne0 c = λ width first more whole.
+    let some : 0 < c.number_from-high.result = omega arith in
+    wide_front _ _ c.if-rest-lt16.false
+    ∙ rw (← c.number_from-high.ensures.value, ← c.number_from-low.ensures.value)
+    (wide_high _ _ some (omega arith) (omega arith))
+
+pub returns : goal.returns
+returns c = λ width first more whole.
+    let is : meaning_of_front 16 wide_integer (c.args.rest.now ++ more)
+    ≡ Scalar (Integer (pos c.number_from-low.result)) = wide_front _ _
+    c.if-rest-lt16.false
+    ∙ rw (
+      ← c.number_from-high.ensures.value,
+      ← c.number_from-low.ensures.value,
+      c.if-high-ne0.false,
+    )
+    (wide_low c.number_from-low.result (omega arith)) in
+    (Integer (pos c.number_from-low.result), is, refl, tt)

@@ -1,0 +1,168 @@
+-- What is decoded from the bytes at an object's front, whatever follows them.
+use Rattle.std.specs.Prelude.{◌≡◌, ℕ, ◌+◌, ◌*◌, ◌^◌, ◌<◌, ◌≤◌, List, ◌∷◌, ◌++◌, length, take, drop, Option, Some, Result, IfSome, MatchResult, ⊤}
+use Rattle.plist_base.specs.declared.error.Error.{Error}
+use Rattle.plist_base.specs.Faults.{FaultKind, ObjectOffsetTooLarge, NullObjectUnimplemented, FillObjectUnimplemented, UnknownObjectType, IntegerOutOfRange, OverflowOrNanDate, InvalidUtf8String, InvalidUtf16String, OutOfMemory}
+use Rattle.plist_base.specs.Trees as trees
+use Rattle.plist_format.specs.Object.{Object, Scalar, Faulty, date, meaning_of_front, object_in}
+use Rattle.plist_decode.specs.CountedContent.{content_means, unit_size}
+use Rattle.plist_base.specs.declared.event.Event.{Event}
+use Rattle.plist_decode.specs.Decoding.{Allocates, AreReferencesAt, Decodes, IsCollection, IsRefusedAs, child_count, children_in, start_event}
+use Rattle.plist_decode.specs.Reading.{bytes_at, object_at}
+use Rattle.plist_decode.specs.Packed.{FitsContent, content_bytes, unpacked}
+use Rattle.plist_decode.specs.FaultOffsets.{ErrWithin}
+use Rattle.plist_decode.specs.declared.decoded.Content.{Content}
+use Rattle.plist_decode.specs.declared.decoded.ContentKind.{ContentKind}
+use Rattle.plist_decode.specs.declared.decoded.ContentKind.TheVariants as content_kind
+use Rattle.plist_decode.specs.declared.decoded.Decoded.{Decoded}
+use Rattle.plist_decode.specs.declared.decoded.Decoded.TheVariants as decoded
+use Rattle.plist_decode.specs.declared.decoded.ObjectFault.{ObjectFault}
+use Rattle.plist_decode.specs.declared.decoded.ObjectFault.TheVariants as fault
+use Rattle.plist_decode.specs.declared.head.Bounds.{Bounds}
+
+-- ---- faults of an object
+
+-- the kind of error that reports an object's fault
+abbrev pub kind_of_object_fault : ObjectFault → FaultKind
+kind_of_object_fault fault.Overrun = ObjectOffsetTooLarge
+kind_of_object_fault fault.Null = NullObjectUnimplemented
+kind_of_object_fault fault.Fill = FillObjectUnimplemented
+kind_of_object_fault (fault.Unknown marker) = UnknownObjectType marker
+kind_of_object_fault fault.OutOfRange = IntegerOutOfRange
+kind_of_object_fault fault.NoDate = OverflowOrNanDate
+kind_of_object_fault fault.NotUtf8 = InvalidUtf8String
+kind_of_object_fault fault.NotUtf16 = InvalidUtf16String
+kind_of_object_fault fault.NoMemory = OutOfMemory
+
+-- the object has this fault, or an allocation for it failed
+abbrev pub IsObjectFault : Object → ObjectFault → Type 0
+IsObjectFault object fault.NoMemory = Allocates object
+IsObjectFault object other = object ≡ Faulty (kind_of_object_fault other)
+
+-- ---- what is decoded
+
+-- the number of bytes in a content
+abbrev pub content_size : Content → ℕ
+content_size content = content.count * unit_size content.kind
+
+-- a string or data of this many elements isn't small, or isn't known to be small
+abbrev pub IsLongCount : ContentKind → (count : ℕ) → Type 0
+IsLongCount content_kind.Data count = 8 < count
+IsLongCount content_kind.Text count = 8 < count
+IsLongCount content_kind.WideText count = ⊤
+
+-- this content isn't known to be small
+abbrev pub IsLong : Content → Type 0
+IsLong content = IsLongCount content.kind content.count
+
+-- a content of this kind with these bytes isn't known to be small
+abbrev pub IsLongBytes : ContentKind → List ℕ → Type 0
+IsLongBytes kind bytes = IsLongCount kind (length bytes)
+
+-- the object, whose bytes up to the trailer are these, was decoded as this
+abbrev pub IsDecodedAs : (width : ℕ) (bytes : List ℕ) → Object → Decoded → Type 0
+IsDecodedAs width bytes object (decoded.Small kind content) =
+    (scalar : trees.Scalar) × (object ≡ Scalar scalar) × (unpacked kind content ≡ Some scalar)
+    × FitsContent kind
+IsDecodedAs width bytes object (decoded.Date content) = object ≡ date (content_bytes content)
+IsDecodedAs width bytes object (decoded.Long kind start count) =
+    (start + count * unit_size kind ≤ length bytes) × (object
+    ≡ content_means kind (take (count * unit_size kind) (drop start bytes)))
+    × IsLongCount kind count
+IsDecodedAs width bytes object (decoded.Collection kind start count) =
+    IsCollection object (start_event kind count) (child_count kind count)
+    × (child_count kind count ≤ length bytes) × (start < 16)
+    × AreReferencesAt width bytes (children_in object) kind start
+IsDecodedAs width bytes object (decoded.Faulty fault) = IsObjectFault object fault
+
+-- the object that begins with these bytes is decoded, whatever follows them before the trailer
+abbrev pub DecodesSeen : (to_trailer width : ℕ) → (seen : List ℕ) → Decoded → Type 0
+DecodesSeen to_trailer width seen decoded = (more : List ℕ) → length (seen ++ more) ≡ to_trailer
+    → IsDecodedAs width (seen ++ more) (object_in width (seen ++ more)) decoded
+
+-- like `DecodesSeen`, for an object whose first byte precedes `rest`
+abbrev pub DecodesAfter : (to_trailer width : ℕ) → (List ℕ → Object) → (rest : List ℕ)
+    → Decoded → Type 0
+DecodesAfter to_trailer width object rest decoded = (first : ℕ) (more : List ℕ)
+    → length (rest ++ more) ≡ to_trailer
+    → IsDecodedAs width (first ∷ (rest ++ more)) (object (rest ++ more)) decoded
+
+-- like `DecodesAfter`, for an object that has no references
+abbrev pub DecodesScalar : (to_trailer : ℕ) → (List ℕ → Object) → (rest : List ℕ) → Decoded → Type 0
+DecodesScalar to_trailer object rest decoded =
+    (width : ℕ) → DecodesAfter to_trailer width object rest decoded
+
+-- like `DecodesScalar`, for an object of a fixed size
+abbrev pub DecodesFixed : (to_trailer size : ℕ) → (List ℕ → Object) → (rest : List ℕ)
+    → Decoded → Type 0
+DecodesFixed to_trailer size meaning rest decoded =
+    DecodesScalar to_trailer (meaning_of_front size meaning) rest decoded
+
+-- the object, whatever its bytes are, was decoded as this
+abbrev pub MeansDecoded : Object → Decoded → Type 0
+MeansDecoded object decoded = (width : ℕ) (bytes : List ℕ) → IsDecodedAs width bytes object decoded
+
+-- 1 if a small scalar was decoded, or else 0
+abbrev pub small_count : Decoded → ℕ
+small_count (decoded.Small kind content) = 1
+small_count other = 0
+
+-- the counter rises by one if a small scalar was decoded
+abbrev pub CountsSmall : {C : Type 0} → (counts : Type 0) → (count : C → ℕ) → (old new : C)
+    → Decoded → Type 0
+CountsSmall counts count old new decoded = counts → count new ≡ count old + small_count decoded
+
+-- the counter rises by one if a small scalar was read and decoded
+abbrev pub CountsSmallRead : {C E : Type 0} → (counts : Type 0) → (count : C → ℕ) → (old new : C)
+    → Result Decoded E → Type 0
+CountsSmallRead counts count old new answer = MatchResult answer
+    (CountsSmall counts count old new) (λ _. new ≡ old)
+
+-- the string is decoded, or there is no result because it has more than eight bytes
+abbrev pub DecodesIfShort : Object → Option Decoded → Type 0
+DecodesIfShort object answer = IfSome answer (MeansDecoded object)
+
+-- ---- at an offset
+
+-- the object at this offset was decoded as this
+abbrev pub IsDecodedThere : List ℕ → Bounds → (place : ℕ) → Decoded → Type 0
+IsDecodedThere bytes bounds place decoded = IsDecodedAs bounds.reference_width
+    (bytes_at bounds place bytes) (object_at bounds place bytes) decoded
+
+-- if the bytes are known, the object at this offset was decoded
+abbrev pub DecodesAt : (known : Option (List ℕ)) → Bounds → (place : ℕ) → Decoded → Type 0
+DecodesAt known bounds place decoded = IfSome known (λ bytes. bounds.trailer ≤ length bytes
+    → IsDecodedThere bytes bounds place decoded)
+
+-- if the bytes are known, this is an error of the object at this offset
+abbrev pub RefusesObjectAt : (known : Option (List ℕ)) → Bounds → (place : ℕ) → Error → Type 0
+RefusesObjectAt known bounds place error = IfSome known (λ bytes. bounds.trailer ≤ length bytes
+    → IsRefusedAs (object_at bounds place bytes) place error)
+
+-- what was decoded at an offset ends before the trailer and has sizes in range
+abbrev pub FitsBefore : (trailer place : ℕ) → Decoded → Type 0
+FitsBefore trailer place (decoded.Small kind content) = FitsContent kind
+FitsBefore trailer place (decoded.Date content) = ⊤
+FitsBefore trailer place (decoded.Long kind start count) =
+    (place + start + count * unit_size kind ≤ trailer) × IsLongCount kind count
+FitsBefore trailer place (decoded.Collection kind start count) =
+    (child_count kind count ≤ trailer) × (start < 16)
+FitsBefore trailer place (decoded.Faulty fault) = ⊤
+
+-- ---- a content that is read
+
+-- the offset of the content's end is less than 2^64
+abbrev pub EndsIn64Bits : (place : ℕ) → Content → Type 0
+EndsIn64Bits place content = place + content.start + content_size content < 2 ^ 64
+
+-- if the content lies within known bytes, the result is the event of its object
+abbrev pub ReadsContent : (known : Option (List ℕ)) → (place : ℕ) → Content → Result Event Error
+    → Type 0
+ReadsContent known place content answer = IfSome known (λ bytes.
+    place + content.start + content_size content ≤ length bytes
+    → Decodes (content_means content.kind
+    (take (content_size content) (drop (place + content.start) bytes))) place answer)
+
+-- if a read fails, the error's offset lies between the object's offset and the content's end
+abbrev pub FailsInContent : {A : Type 0} → (place : ℕ) → Content → Result A Error → Type 0
+FailsInContent place content answer =
+    ErrWithin place (place + content.start + content_size content) answer

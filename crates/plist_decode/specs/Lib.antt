@@ -1,0 +1,9 @@
+pub mod Reading
+pub mod Decoding
+pub mod FaultOffsets
+pub mod Decoded
+pub mod CountedContent
+pub mod Front
+pub mod Packed
+pub mod Slot
+pub mod inner

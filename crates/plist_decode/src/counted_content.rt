@@ -1,0 +1,211 @@
+//! Decodes objects that have a length: strings, data, arrays and dictionaries.
+//!
+//! Each function reads the bytes that follow the marker. These reach up to the trailer, or there
+//! are at least 25 of them, which is enough for any object except a long string or long data.
+
+ghost use Rattle.std.specs.Prelude.{◌≡◌, ◌+◌, ◌-◌, ◌*◌, ◌%◌, ◌^◌, ◌<◌, ◌≤◌, length, IfNone, IfSome};
+ghost use Rattle.plist_base.specs.Trees.{String};
+ghost use Rattle.plist_format.specs.Object.{Scalar, text, wide_text};
+ghost use Rattle.plist_decode.specs.CountedContent.{AreUnits, EndsBefore, IsCount, IsLength, IsLengthCut, LiesAfter, RefusesCounted, counted_with};
+ghost use Rattle.plist_decode.specs.Decoded.{DecodesAfter, DecodesIfShort, DecodesScalar, MeansDecoded};
+ghost use Rattle.plist_decode.specs.Front.{ShowsContent};
+ghost use Rattle.plist_decode.specs.Reading.{counted_kind, object_counted};
+ghost use Rattle.plist_decode.specs.declared.decoded.ContentKind.TheVariants.{Data as KindData, Text as KindText, WideText as KindWideText};
+ghost use Rattle.plist_decode.specs.declared.decoded.Decoded.TheVariants.{Long as LongContent};
+
+use crate::decoded::{CollectionKind, ContentKind, Decoded, ObjectFault};
+use crate::numbers::{number_from, write_units};
+use crate::packed::{PackedKind, content_from};
+use crate::utf8::short_text_in;
+use plist_format::LowHalf;
+use std::alloc::Global;
+
+// Returns how many bytes a number has. The low two bits of the byte before the number encode this.
+#[inline(always)]
+fn number_width(byte: u64) -> u64
+    ensures value { result ≡ 2 ^ (byte % 4) }
+    ensures small { result ≤ 8 }
+{
+    match byte % 4 {
+        0 => 1,
+        1 => 2,
+        2 => 4,
+        _ => 8,
+    }
+}
+
+// Returns the length of an object and the bytes that follow it, or `None` if the length is cut
+// off.
+#[inline(always)]
+fn split_length(low: LowHalf, rest: &[u8]) -> Option<(u64, &[u8])>
+    ensures length { IfSome result (IsLength low rest.now) }
+    ensures short { IfSome result (λ found. length found.1.now ≤ length rest.now) }
+    ensures near { IfSome result (λ found. length rest.now ≤ length found.1.now + 9) }
+    ensures after { IfSome result (LiesAfter rest.now) }
+    ensures cut { IfNone result (IsLengthCut low rest.now) }
+{
+    if let Some(length) = low.length() {
+        return Some((length, rest));
+    }
+    let (byte, following) = rest.split_first()?;
+    let width = number_width(u64::from(*byte)) as usize;
+    if following.len() < width {
+        return None;
+    }
+    Some((number_from(&following[..width]), &following[width..]))
+}
+
+// Returns the number of elements of an object and the bytes after its length, or `None` if the
+// object doesn't end before the trailer. An element has `size` bytes, and `rest` begins
+// `to_trailer` bytes before the trailer.
+#[inline(always)]
+fn split_count(low: LowHalf, rest: &[u8], to_trailer: u64, size: u64) -> Option<(u64, &[u8])>
+    requires to_trailer { length rest.now ≤ to_trailer }
+    requires shown { ShowsContent to_trailer rest.now }
+    ensures count { IfSome result (IsCount low size to_trailer rest.now) }
+    ensures small { IfSome result (λ found. found.0 * size ≤ to_trailer) }
+    ensures within { IfSome result (EndsBefore size to_trailer rest.now) }
+    ensures short { IfSome result (λ found. length found.1.now ≤ length rest.now) }
+    ensures near { IfSome result (λ found. length rest.now ≤ length found.1.now + 9) }
+    ensures after { IfSome result (LiesAfter rest.now) }
+    ensures refused { IfNone result (RefusesCounted low size to_trailer rest.now) }
+{
+    let (count, following) = split_length(low, rest)?;
+    let left = to_trailer - (rest.len() - following.len()) as u64;
+    match count.checked_mul(size) {
+        Some(all) if all <= left => Some((count, following)),
+        _ => None,
+    }
+}
+
+// Describes the content of a string or data by its kind, its start and its length, without reading
+// it.
+#[inline(always)]
+fn long_content(kind: ContentKind, rest: &[u8], following: &[u8], count: u64) -> Decoded
+    requires within { length following.now ≤ length rest.now }
+    requires near { length rest.now ≤ length following.now + 9 }
+    ensures { result ≡ LongContent kind (1 + (length rest.now - length following.now)) count }
+{
+    Decoded::Long(kind, 1 + (rest.len() - following.len()) as u8, count)
+}
+
+/// Decodes data.
+pub fn decode_data(low: LowHalf, rest: &[u8], to_trailer: u64) -> Decoded
+    requires to_trailer { length rest.now ≤ to_trailer }
+    requires shown { ShowsContent to_trailer rest.now }
+    ensures { DecodesScalar to_trailer (counted_with KindData low) rest.now result }
+{
+    let Some((count, following)) = split_count(low, rest, to_trailer, 1) else {
+        return Decoded::Faulty(ObjectFault::Overrun);
+    };
+    if count > 8 {
+        return long_content(ContentKind::Data, rest, following, count);
+    }
+    let bytes = &following[..count as usize];
+    Decoded::Small(PackedKind::Data(count as u8), content_from(bytes))
+}
+
+// Packs a string of at most eight bytes.
+fn small_text(text: &str) -> Decoded
+    requires { length text.now ≤ 8 }
+    ensures { MeansDecoded (Scalar (String text.now)) result }
+{
+    Decoded::Small(
+        PackedKind::Text(text.len() as u8),
+        content_from(text.as_bytes()),
+    )
+}
+
+// Decodes a UTF-8 string of at most eight bytes.
+fn short_text(bytes: &[u8]) -> Decoded
+    requires { length bytes.now ≤ 8 }
+    ensures { MeansDecoded (text bytes.now) result }
+{
+    let content = content_from(bytes);
+    match short_text_in(&content.to_be_bytes(), bytes.len()) {
+        Some(_) => Decoded::Small(PackedKind::Text(bytes.len() as u8), content),
+        None => Decoded::Faulty(ObjectFault::NotUtf8),
+    }
+}
+
+/// Decodes a string in UTF-8.
+#[inline(always)]
+pub fn decode_text(low: LowHalf, rest: &[u8], to_trailer: u64) -> Decoded
+    requires to_trailer { length rest.now ≤ to_trailer }
+    requires shown { ShowsContent to_trailer rest.now }
+    ensures { DecodesScalar to_trailer (counted_with KindText low) rest.now result }
+{
+    let Some((count, following)) = split_count(low, rest, to_trailer, 1) else {
+        return Decoded::Faulty(ObjectFault::Overrun);
+    };
+    if count > 8 {
+        return long_content(ContentKind::Text, rest, following, count);
+    }
+    short_text(&following[..count as usize])
+}
+
+// Decodes a UTF-16 string of at most eight units. Returns `None` if the string has more than eight
+// bytes in UTF-8, because it can't be packed then.
+fn short_wide_text(alloc: Global, bytes: &[u8]) -> Option<Decoded>
+    requires few { length bytes.now ≤ 16 }
+    requires units { AreUnits 2 bytes.now }
+    ensures { DecodesIfShort (wide_text bytes.now) result }
+{
+    let mut all = [0; 8];
+    let units = &mut all[..bytes.len() / 2];
+    write_units(bytes, units);
+    let made: Result<Result<String, _>, _> = String::from_utf16(alloc, units);
+    match made {
+        Ok(Ok(text)) => {
+            if text.len() > 8 {
+                return None;
+            }
+            Some(small_text(text.as_str()))
+        }
+        Ok(Err(_)) => Some(Decoded::Faulty(ObjectFault::NotUtf16)),
+        Err(_) => Some(Decoded::Faulty(ObjectFault::NoMemory)),
+    }
+}
+
+/// Decodes a string in UTF-16.
+pub fn decode_wide_text(alloc: Global, low: LowHalf, rest: &[u8], to_trailer: u64) -> Decoded
+    requires to_trailer { length rest.now ≤ to_trailer }
+    requires shown { ShowsContent to_trailer rest.now }
+    ensures { DecodesScalar to_trailer (counted_with KindWideText low) rest.now result }
+{
+    let Some((count, following)) = split_count(low, rest, to_trailer, 2) else {
+        return Decoded::Faulty(ObjectFault::Overrun);
+    };
+    let long = long_content(ContentKind::WideText, rest, following, count);
+    if count > 8 {
+        return long;
+    }
+    match short_wide_text(alloc, &following[..2 * count as usize]) {
+        Some(short) => short,
+        None => long,
+    }
+}
+
+/// Decodes the start of a collection. The references of the collection have to end before the
+/// trailer.
+#[inline(always)]
+pub fn decode_collection(
+    kind: CollectionKind,
+    low: LowHalf,
+    rest: &[u8],
+    to_trailer: u64,
+    width: usize,
+) -> Decoded
+    requires to_trailer { length rest.now ≤ to_trailer }
+    requires shown { ShowsContent to_trailer rest.now }
+    requires width { (0 < width) × (width ≤ 8) }
+    ensures { DecodesAfter to_trailer width (object_counted width (counted_kind kind) low) rest.now
+        result }
+{
+    match split_count(low, rest, to_trailer, kind.children(width as u64)) {
+        Some((count, following)) => {
+            Decoded::Collection(kind, 1 + (rest.len() - following.len()) as u8, count)
+        }
+        None => Decoded::Faulty(ObjectFault::Overrun),
+    }
+}

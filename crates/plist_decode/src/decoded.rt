@@ -1,0 +1,185 @@
+//! Defines what an object's first bytes decode to, and how an object can be faulty.
+
+ghost use Rattle.std.specs.Prelude.{ℕ, ◌≡◌, ◌<◌, ◌≤◌};
+ghost use Rattle.plist_base.specs.Faults.{fault_of, kind_of};
+ghost use Rattle.plist_base.specs.Sources.{CountsIo};
+ghost use Rattle.plist_format.specs.Object.{Object};
+ghost use Rattle.plist_decode.specs.Decoded.{IsObjectFault, kind_of_object_fault};
+ghost use Rattle.plist_decode.specs.Decoding.{IsRefusedAs};
+ghost use Rattle.plist_decode.specs.FaultOffsets.{FailsWithin};
+ghost use Rattle.plist_decode.specs.CountedContent.{unit_size};
+
+use crate::packed::PackedKind;
+use plist_base::{Error, ErrorKind};
+
+/// How the content of a string or data is encoded.
+#[derive(Clone, Copy)]
+pub enum ContentKind {
+    /// The bytes are data.
+    Data,
+    /// The bytes are a string in UTF-8.
+    Text,
+    /// The bytes are a string in UTF-16, whose units have two bytes each.
+    WideText,
+}
+
+impl ContentKind {
+    /// Returns the size of an element of the content in bytes.
+    pub fn unit_size(self) -> u64
+        ensures value { result ≡ unit_size self }
+        ensures small { (0 < result) × (result ≤ 2) }
+    {
+        match self {
+            ContentKind::Data | ContentKind::Text => 1,
+            ContentKind::WideText => 2,
+        }
+    }
+}
+
+/// Describes the content of a string or data: how it is encoded, where it begins, and how long it
+/// is.
+#[derive(Clone, Copy)]
+pub struct Content {
+    /// How the content is encoded.
+    pub kind: ContentKind,
+    /// The number of bytes from the object's offset to the content.
+    pub start: u8,
+    /// The number of elements, which are units for a string in UTF-16, and bytes otherwise.
+    pub count: u64,
+}
+
+impl Content {
+    ghost use Rattle.std.specs.Prelude.{◌≡◌, ◌+◌, ◌^◌, ◌<◌, ◌≤◌, true, drop, length, take};
+    ghost use Rattle.plist_decode.specs.Decoded.{content_size};
+
+    // Returns the size of the content in bytes.
+    #[inline(always)]
+    fn size(self) -> u64
+        requires { content_size self < 2 ^ 64 }
+        ensures { result ≡ content_size self }
+    {
+        self.count * self.kind.unit_size()
+    }
+
+    /// Returns whether these first bytes of the object contain all of its content.
+    #[inline(always)]
+    pub fn lies_in(self, seen: &[u8]) -> bool
+        requires { content_size self < 2 ^ 64 }
+        ensures { result ≡ true → self.start + content_size self ≤ length seen.now }
+    {
+        let start = usize::from(self.start);
+        start <= seen.len() && self.size() <= (seen.len() - start) as u64
+    }
+
+    /// Returns the content of the object that begins with these bytes.
+    #[inline(always)]
+    pub fn bytes_in(self, seen: &[u8]) -> &[u8]
+        requires { self.start + content_size self ≤ length seen.now }
+        ensures { result.now ≡ take (content_size self) (drop self.start seen.now) }
+    {
+        &seen[usize::from(self.start)..][..self.size() as usize]
+    }
+}
+
+/// The kind of a collection.
+#[derive(Clone, Copy)]
+pub enum CollectionKind {
+    /// An array, which has a reference to each item.
+    Array,
+    /// A dictionary, which has references to all keys, followed by those to all values.
+    Dictionary,
+}
+
+impl CollectionKind {
+    ghost use Rattle.std.specs.Prelude.{◌≡◌, ◌^◌, ◌<◌};
+    ghost use Rattle.plist_decode.specs.Decoding.{child_count};
+
+    /// Returns the number of children of a collection of this many items or pairs.
+    #[inline(always)]
+    pub fn children(self, count: u64) -> u64
+        requires { child_count self count < 2 ^ 64 }
+        ensures { result ≡ child_count self count }
+    {
+        match self {
+            CollectionKind::Array => count,
+            CollectionKind::Dictionary => 2 * count,
+        }
+    }
+}
+
+/// An object that was decoded from its first bytes, or the reason why it couldn't be decoded.
+///
+/// Each variant has a few small fields followed by at most one `u64`, so that a value is passed in
+/// two registers.
+#[derive(Clone, Copy)]
+pub enum Decoded {
+    /// A scalar that can be cached. The fields are its kind and its packed content.
+    Small(PackedKind, u64),
+    /// The eight bytes of a date. The date may be out of range.
+    Date(u64),
+    /// A string or data that can't be cached. The fields are those of [`Content`].
+    Long(ContentKind, u8, u64),
+    /// A collection. The fields are its kind, the number of bytes from the object's offset to the
+    /// first reference, and the number of items or pairs.
+    Collection(CollectionKind, u8, u64),
+    /// An object that can't be decoded.
+    Faulty(ObjectFault),
+}
+
+/// Why an object can't be decoded.
+#[derive(Clone, Copy)]
+pub enum ObjectFault {
+    /// The object doesn't end before the trailer.
+    Overrun,
+    /// The object is a null object.
+    Null,
+    /// The object is a fill byte.
+    Fill,
+    /// No object has this marker.
+    Unknown(u8),
+    /// The integer doesn't fit into a `u64`.
+    OutOfRange,
+    /// The date's real is infinite or a NaN, or its second is outside the range of dates.
+    NoDate,
+    /// The bytes of a string aren't UTF-8.
+    NotUtf8,
+    /// The units of a string aren't UTF-16.
+    NotUtf16,
+    /// An allocation for a string failed.
+    NoMemory,
+}
+
+impl ObjectFault {
+    // Returns the kind of error that reports this fault.
+    fn kind(self) -> ErrorKind
+        ensures value { kind_of result ≡ kind_of_object_fault self }
+    {
+        match self {
+            ObjectFault::Overrun => ErrorKind::ObjectOffsetTooLarge,
+            ObjectFault::Null => ErrorKind::NullObjectUnimplemented,
+            ObjectFault::Fill => ErrorKind::FillObjectUnimplemented,
+            ObjectFault::Unknown(marker) => ErrorKind::UnknownObjectType(marker),
+            ObjectFault::OutOfRange => ErrorKind::IntegerOutOfRange,
+            ObjectFault::NoDate => ErrorKind::OverflowOrNanDate,
+            ObjectFault::NotUtf8 => ErrorKind::InvalidUtf8String,
+            ObjectFault::NotUtf16 => ErrorKind::InvalidUtf16String,
+            ObjectFault::NoMemory => ErrorKind::OutOfMemory,
+        }
+    }
+
+    /// Returns the error of the object at this offset. `OutOfMemory` is the only error without an
+    /// offset.
+    #[cold]
+    #[inline(never)]
+    pub fn at(self, place: u64) -> Error
+        ensures refused { (object : Object) → IsObjectFault object self
+            → IsRefusedAs object place result }
+        ensures fault { (end : ℕ) → FailsWithin place end (fault_of result) }
+        ensures failures { (count : ℕ) → CountsIo result count count }
+    {
+        match self {
+            ObjectFault::NoMemory => ErrorKind::OutOfMemory.without_position(),
+            fault => fault.kind().with_byte_offset(place),
+        }
+    }
+}

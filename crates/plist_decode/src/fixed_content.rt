@@ -1,0 +1,138 @@
+//! Decodes objects of a fixed size: integers, reals, dates and Uids.
+//!
+//! Each function reads the bytes that follow the marker. These reach up to the trailer, or there
+//! are at least 25 of them, which is enough for any of these objects.
+
+ghost use Rattle.std.specs.Prelude.{◌^◌, ◌<◌, ◌≤◌, length, IfNone, IfSome};
+ghost use Rattle.plist_format.specs.Object.{Scalar, date, signed, signed_integer, unsigned_integer, wide_integer};
+ghost use Rattle.plist_decode.specs.Decoded.{DecodesFixed, MeansDecoded};
+ghost use Rattle.plist_base.specs.Trees.{Integer};
+ghost use Rattle.plist_decode.specs.Front.{IsContent, IsNumber, ShowsContent};
+ghost use Rattle.plist_decode.specs.Reading.{short_real, long_real, uid_of_content};
+
+use crate::decoded::{Decoded, ObjectFault};
+use crate::numbers::number_from;
+use crate::packed::{PackedKind, content_from, content_of};
+use plist_format::UidWidth;
+
+// Returns the number in the first `width` bytes, or `None` if there are fewer bytes.
+#[inline(always)]
+fn front_number(rest: &[u8], width: usize) -> Option<u64>
+    requires { width ≤ 8 }
+    ensures value { IfSome result (IsNumber width rest.now) }
+    ensures small { IfSome result (λ n. n < 256 ^ width) }
+    ensures short { IfNone result (length rest.now < width) }
+{
+    if rest.len() < width {
+        return None;
+    }
+    Some(number_from(&rest[..width]))
+}
+
+// Returns the first `N` bytes, or `None` if there are fewer bytes.
+fn front_content<const N: usize>(rest: &[u8]) -> Option<[u8; N]>
+    ensures content { IfSome result (IsContent N rest.now) }
+    ensures short { IfNone result (length rest.now < N) }
+{
+    match rest.first_chunk::<N>() {
+        Some(content) => Some(*content),
+        None => None,
+    }
+}
+
+/// Decodes an unsigned integer.
+#[inline(always)]
+pub fn decode_unsigned(rest: &[u8], to_trailer: u64, width: usize) -> Decoded
+    requires width { width ≤ 8 }
+    requires shown { ShowsContent to_trailer rest.now }
+    ensures { DecodesFixed to_trailer width unsigned_integer rest.now result }
+{
+    match front_number(rest, width) {
+        Some(number) => Decoded::Small(PackedKind::Unsigned, number),
+        None => Decoded::Faulty(ObjectFault::Overrun),
+    }
+}
+
+// Packs the signed integer that these 64 bits represent in two's complement.
+fn signed_number(bits: u64) -> Decoded
+    ensures { MeansDecoded (Scalar (Integer (signed 64 bits))) result }
+{
+    if bits < 1 << 63 {
+        Decoded::Small(PackedKind::Unsigned, bits)
+    } else {
+        Decoded::Small(PackedKind::Negative, bits)
+    }
+}
+
+/// Decodes a signed integer of eight bytes.
+#[inline(always)]
+pub fn decode_signed(rest: &[u8], to_trailer: u64) -> Decoded
+    requires { ShowsContent to_trailer rest.now }
+    ensures { DecodesFixed to_trailer 8 signed_integer rest.now result }
+{
+    match front_number(rest, 8) {
+        Some(number) => signed_number(number),
+        None => Decoded::Faulty(ObjectFault::Overrun),
+    }
+}
+
+/// Decodes an integer of sixteen bytes. The first eight bytes have to be zero, because no other
+/// integer fits into a `u64`.
+pub fn decode_wide_integer(rest: &[u8], to_trailer: u64) -> Decoded
+    requires { ShowsContent to_trailer rest.now }
+    ensures { DecodesFixed to_trailer 16 wide_integer rest.now result }
+{
+    if rest.len() < 16 {
+        return Decoded::Faulty(ObjectFault::Overrun);
+    }
+    let high = number_from(&rest[..8]);
+    let low = number_from(&rest[8..16]);
+    if high != 0 {
+        return Decoded::Faulty(ObjectFault::OutOfRange);
+    }
+    Decoded::Small(PackedKind::Unsigned, low)
+}
+
+/// Decodes a Uid.
+pub fn decode_uid(rest: &[u8], to_trailer: u64, width: UidWidth) -> Decoded
+    requires { ShowsContent to_trailer rest.now }
+    ensures { DecodesFixed to_trailer width uid_of_content rest.now result }
+{
+    match front_number(rest, width.get()) {
+        Some(number) => Decoded::Small(PackedKind::Uid, number),
+        None => Decoded::Faulty(ObjectFault::Overrun),
+    }
+}
+
+/// Decodes a real of eight bytes.
+pub fn decode_real(rest: &[u8], to_trailer: u64) -> Decoded
+    requires { ShowsContent to_trailer rest.now }
+    ensures { DecodesFixed to_trailer 8 long_real rest.now result }
+{
+    match front_content(rest) {
+        Some(bytes) => Decoded::Small(PackedKind::Real, content_of(bytes)),
+        None => Decoded::Faulty(ObjectFault::Overrun),
+    }
+}
+
+/// Decodes a real of four bytes.
+pub fn decode_short_real(rest: &[u8], to_trailer: u64) -> Decoded
+    requires { ShowsContent to_trailer rest.now }
+    ensures { DecodesFixed to_trailer 4 short_real rest.now result }
+{
+    match front_content::<4>(rest) {
+        Some(bytes) => Decoded::Small(PackedKind::ShortReal, content_from(&bytes)),
+        None => Decoded::Faulty(ObjectFault::Overrun),
+    }
+}
+
+/// Decodes the bytes of a date, and leaves the check of its range to the caller.
+pub fn decode_date(rest: &[u8], to_trailer: u64) -> Decoded
+    requires { ShowsContent to_trailer rest.now }
+    ensures { DecodesFixed to_trailer 8 date rest.now result }
+{
+    match front_content(rest) {
+        Some(bytes) => Decoded::Date(content_of(bytes)),
+        None => Decoded::Faulty(ObjectFault::Overrun),
+    }
+}

@@ -1,0 +1,20 @@
+//! Decodes the objects of binary property lists, and reads the head of a file.
+//!
+//! The main contracts are those of [`object::decode_front`], which decodes an object from its first
+//! bytes, whatever follows them, and of [`head::Head::read`], which returns the head of the file or
+//! its first fault.
+#![tactic(auto)]
+
+mod counted_content;
+pub mod counter;
+pub mod decoded;
+pub mod decoder;
+pub mod fault_slot;
+mod fixed_content;
+pub mod head;
+pub mod long_content;
+pub mod numbers;
+pub mod object;
+pub mod packed;
+mod trailer;
+pub mod utf8;

@@ -1,0 +1,177 @@
+//! Decodes an object from its first bytes, which are buffered or read.
+//!
+//! The bytes reach up to the trailer, or there are at least 26 of them, which is enough for any
+//! object except a long string or long data.
+//!
+//! If an object has several faults, the first of the following is reported: the marker is invalid,
+//! the object doesn't end before the trailer, or the content is invalid.
+
+ghost use Rattle.std.specs.Prelude.{◌≡◌, ◌-◌, ◌<◌, ◌≤◌, cond, length, IfErr, IfOk, IfSome};
+ghost use Rattle.plist_decode.specs.Decoded.{CountsSmall, DecodesAfter, DecodesSeen, small_count, CountsSmallRead, DecodesAt, FitsBefore, RefusesObjectAt};
+ghost use Rattle.plist_decode.specs.Front.{IsFront, ShowsContent, IsFrontAt};
+ghost use Rattle.plist_decode.specs.Reading.{object_with};
+ghost use Rattle.plist_decode.specs.FaultOffsets.{ErrWithin};
+ghost use Rattle.plist_decode.specs.Slot.{SlotCountsIo, result_in};
+
+use crate::counted_content::{decode_collection, decode_data, decode_text, decode_wide_text};
+use crate::counter::DecodeCounter;
+use crate::decoded::{CollectionKind, Decoded, ObjectFault};
+use crate::decoder::Decoder;
+use crate::fault_slot::StepError;
+use crate::fixed_content::{
+    decode_date, decode_real, decode_short_real, decode_signed, decode_uid, decode_unsigned,
+    decode_wide_integer,
+};
+use crate::head::Bounds;
+use crate::packed::PackedKind;
+use plist_base::{Source, read_exact_at};
+use plist_format::{CountedKind, Marker};
+use std::alloc::Global;
+
+// Decodes an object from its marker and the bytes that follow the marker.
+#[inline(always)]
+fn decode_after_marker(
+    alloc: Global,
+    marker: u8,
+    rest: &[u8],
+    to_trailer: u64,
+    width: usize,
+) -> Decoded
+    requires to_trailer { length rest.now ≤ to_trailer }
+    requires shown { ShowsContent to_trailer rest.now }
+    requires width { (0 < width) × (width ≤ 8) }
+    ensures { DecodesAfter to_trailer width (object_with width marker) rest.now result }
+{
+    match Marker::decode(marker) {
+        Marker::Null => Decoded::Faulty(ObjectFault::Null),
+        Marker::Boolean(value) => Decoded::Small(PackedKind::Boolean(value), 0),
+        Marker::Fill => Decoded::Faulty(ObjectFault::Fill),
+        Marker::Integer1 => decode_unsigned(rest, to_trailer, 1),
+        Marker::Integer2 => decode_unsigned(rest, to_trailer, 2),
+        Marker::Integer4 => decode_unsigned(rest, to_trailer, 4),
+        Marker::Integer8 => decode_signed(rest, to_trailer),
+        Marker::Integer16 => decode_wide_integer(rest, to_trailer),
+        Marker::Real4 => decode_short_real(rest, to_trailer),
+        Marker::Real8 => decode_real(rest, to_trailer),
+        Marker::Date => decode_date(rest, to_trailer),
+        Marker::Counted(kind, low) => match kind {
+            CountedKind::Data => decode_data(low, rest, to_trailer),
+            CountedKind::Text => decode_text(low, rest, to_trailer),
+            CountedKind::WideText => decode_wide_text(alloc, low, rest, to_trailer),
+            CountedKind::Array => {
+                decode_collection(CollectionKind::Array, low, rest, to_trailer, width)
+            }
+            CountedKind::Dictionary => {
+                decode_collection(CollectionKind::Dictionary, low, rest, to_trailer, width)
+            }
+        },
+        Marker::Uid(size) => decode_uid(rest, to_trailer, size),
+        Marker::Unknown(byte) => Decoded::Faulty(ObjectFault::Unknown(byte)),
+    }
+}
+
+// Returns whether the object can be cached.
+#[inline(always)]
+fn is_small(decoded: Decoded) -> bool
+    ensures { cond result 1 0 ≡ small_count decoded }
+{
+    match decoded {
+        Decoded::Small(_, _) => true,
+        Decoded::Date(_) | Decoded::Long(..) | Decoded::Collection(..) | Decoded::Faulty(_) =>
+            false,
+    }
+}
+
+// Counts the object if it is small.
+#[inline(always)]
+fn count_small<C: DecodeCounter>(decoded: Decoded, counter: &mut C)
+    ensures { CountsSmall C.counts C.count counter.old counter.new decoded }
+{
+    if is_small(decoded) {
+        counter.raise();
+    }
+}
+
+/// Decodes the object at an offset from its first bytes, and counts it if it is small.
+///
+/// No other function decodes small objects, so that none is decoded without being counted.
+#[inline(always)]
+pub fn decode_front<C: DecodeCounter>(decoder: &mut Decoder<C>, place: u64, seen: &[u8]) -> Decoded
+    requires { IsFront decoder.old.bounds place seen.now }
+    // Result.
+    ensures decoded { DecodesSeen (decoder.old.bounds.trailer - place)
+        decoder.old.bounds.reference_width seen.now result }
+    // State afterwards.
+    ensures counted { CountsSmall C.counts C.count decoder.old.counter decoder.new.counter result }
+    ensures bounds { decoder.new.bounds ≡ decoder.old.bounds }
+{
+    let to_trailer = decoder.bounds.trailer - place;
+    let width = decoder.bounds.reference_width;
+    let alloc = decoder.slot.alloc;
+    match seen.split_first() {
+        Some((marker, rest)) => {
+            let decoded = decode_after_marker(alloc, *marker, rest, to_trailer - 1, width);
+            count_small(decoded, &mut decoder.counter);
+            decoded
+        }
+        None => Decoded::Faulty(ObjectFault::Overrun),
+    }
+}
+
+// The number of bytes that is enough for any object except a long string or long data: a marker, a
+// length of nine bytes, and sixteen bytes of content.
+const FRONT: usize = 26;
+
+/// Returns the bytes from the offset of an object up to the trailer, as far as they are buffered.
+/// Returns `None` if these may be too few to decode the object.
+#[inline(always)]
+pub fn buffered_front<'a, S: Source>(source: &'a S, bounds: &Bounds, place: u64) -> Option<&'a [u8]>
+    ensures { IfSome result (λ seen. IsFrontAt (S.known source.now) bounds.now place seen.now) }
+{
+    if place >= bounds.trailer {
+        return None;
+    }
+    let to_trailer = bounds.trailer - place;
+    let buffered = source.buffered(place);
+    let seen = &buffered[..to_trailer.min(buffered.len() as u64) as usize];
+    if seen.len() >= FRONT || seen.len() as u64 == to_trailer {
+        return Some(seen);
+    }
+    None
+}
+
+/// Reads the first bytes of the object at an offset, and decodes it. If the offset isn't before the
+/// trailer, or if the read fails, the slot stores the error.
+#[cold]
+#[inline(never)]
+pub fn read_object<S: Source, C: DecodeCounter>(
+    source: &mut S,
+    decoder: &mut Decoder<C>,
+    place: u64,
+) -> Result<Decoded, StepError>
+    // Result.
+    ensures decoded { IfOk result
+        (DecodesAt (S.known source.old) decoder.old.bounds place) }
+    ensures fits { IfOk result (FitsBefore decoder.old.bounds.trailer place) }
+    // Errors.
+    ensures refused { IfErr result (λ _.
+        RefusesObjectAt (S.known source.old) decoder.old.bounds place decoder.new.slot.fault) }
+    ensures fault { ErrWithin place decoder.old.bounds.trailer (result_in result decoder.new.slot) }
+    // State afterwards.
+    ensures counted { CountsSmallRead C.counts C.count decoder.old.counter decoder.new.counter
+        result }
+    ensures bounds { decoder.new.bounds ≡ decoder.old.bounds }
+    ensures unchanged { S.known source.new ≡ S.known source.old }
+    ensures failures { SlotCountsIo S.failures result decoder.new.slot source.old source.new }
+{
+    if place >= decoder.bounds.trailer {
+        return Err(decoder.slot.refuse_overrun(place));
+    }
+    let to_trailer = decoder.bounds.trailer - place;
+    let mut front = [0; FRONT];
+    let seen = &mut front[..to_trailer.min(FRONT as u64) as usize];
+    match read_exact_at(source, place, seen) {
+        Ok(()) => Ok(decode_front(decoder, place, seen)),
+        Err(error) => Err(decoder.slot.refuse(error)),
+    }
+}
