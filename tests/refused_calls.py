@@ -26,8 +26,8 @@ import call_tables
 
 HERE = pathlib.Path(__file__).resolve().parent
 CRATES = HERE.parent / "crates"
-STANDS_ON = ("plist_base plist_binread plist_binwrite plist_share plist_ascii "
-             "plist_reader plist_support plist plist_keyed plist_callers "
+STANDS_ON = ("plist_base plist_binread plist_buffer plist_binwrite plist_share "
+             "plist_ascii plist_reader plist_support plist plist_keyed plist_callers "
              "plist_uses hex")
 
 

@@ -6,12 +6,12 @@ use Rattle.std.proofs.lemmas.Bool.{false_from_ne_true}
 use Rattle.std.proofs.lemmas.Bool.Decides.{not_from_Decides}
 use Rattle.std.proofs.lemmas.Slice.Eq.{bytes_eq-Decides}
 use Rattle.plist_base.specs.Trees.{Tree, Leaf, Array, Dictionary, Trees, NoTrees, TreeAnd, Members, NoMembers, MemberAnd, trees_of, members_of}
-use Rattle.plist_binwrite.specs.RepeatedKeys.{HasDistinctKeys, HasKeysOnce, ItemsHaveKeysOnce, ValuesHaveKeysOnce}
+use Rattle.plist_buffer.specs.RepeatedKeys.{HasDistinctKeys, HasKeysOnce, ItemsHaveKeysOnce, ValuesHaveKeysOnce}
 use Rattle.plist.specs.LastWins.{TreePairs, last_values, last_wins, last_wins_in_items, last_wins_in_pairs}
 use Rattle.plist_pairs.proofs.DistinctKeys.{EachOnce, last-values-once, once-last}
 use Rattle.indexmap.specs.IndexMap.{insert_entry, insert_all}
 use Rattle.plist.specs.LimitedValues.{NestsWithin, ItemsNestWithin, PairsNestWithin}
-use Rattle.plist_binwrite.specs.RepeatedKeys as keys
+use Rattle.plist_buffer.specs.RepeatedKeys as keys
 
 abbrev list_of_members : Members → TreePairs
 list_of_members NoMembers = []

@@ -5,7 +5,7 @@ ghost use Rattle.plist_base.specs.Bracketing.{lengthless};
 ghost use Rattle.plist_base.specs.Events.{item_of};
 ghost use Rattle.plist_base.specs.Outcomes.{OnlyMemory};
 ghost use Rattle.plist_base.specs.Writing.{answer_of};
-ghost use Rattle.plist_binwrite.specs.EventTable.{plain_events};
+ghost use Rattle.plist_buffer.specs.EventTable.{plain_events};
 ghost use Rattle.plist.specs.WrittenEvents.{WritesItem, WritesValue};
 ghost use Rattle.plist.specs.ValueTrees.{tree_of};
 

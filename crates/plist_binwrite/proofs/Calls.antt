@@ -9,8 +9,8 @@ use Rattle.plist_base.specs.Faults.{FaultKind, Fault, Io, OutOfMemory, PlistTooL
 use Rattle.plist_base.specs.Writing.{Answer, MatchKind}
 use Rattle.plist_base.proofs.Grammar.{alike_last}
 use Rattle.plist_binwrite.specs.SendingAs.{FileKind, SendsAs, FailsAs}
-use Rattle.plist_binwrite.specs.declared.event_buffer.EventBuffer.{EventBuffer}
-use Rattle.plist_binwrite.specs.EventBuffers.{is_whole, misplaced_fault}
+use Rattle.plist_buffer.specs.declared.event_buffer.EventBuffer.{EventBuffer}
+use Rattle.plist_buffer.specs.EventBuffers.{is_whole, misplaced_fault}
 use Rattle.plist_binwrite.specs.declared.sharing.Sharing.{Ghosts as SharingGhosts}
 use Rattle.plist_binwrite.specs.declared.writer.FileWriter.{FileWriter}
 use Rattle.plist_binwrite.specs.FileWriter.{IsWriterStep, open_events, failed_of, sink_of}

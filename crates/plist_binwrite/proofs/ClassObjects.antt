@@ -7,14 +7,13 @@ use Rattle.plist_base.specs.Trees.{Scalar, Tree, Leaf, Array, Dictionary, Trees,
 use Rattle.plist_format.specs.Object as obj
 use Rattle.plist_format.specs.Object.{Object}
 use Rattle.plist_binwrite.specs.Classes.{AreClasses}
-use Rattle.plist_binwrite.specs.EventTable.{Describes}
-use Rattle.plist_binwrite.specs.Numberings.{references, pairs, object_of}
+use Rattle.plist_binwrite.specs.Numberings.{references, pairs, object_of, Describes}
 use Rattle.plist_binwrite.specs.inner.Numbering.{IsPlanned, number_by}
 use Rattle.plist_binwrite.proofs.TreeObjects.{occurs_at}
-use Rattle.plist_binwrite.specs.Occurrences.{event_count, OccursAt, ItemsOccurAt, PairsOccurAt}
-use Rattle.plist_binwrite.proofs.TreeOccurrences.{occurs_items, occurs_pairs, occurs_item, occurs_next, occurs_key, occurs_value, occurs_next_pair}
+use Rattle.plist_buffer.specs.Occurrences.{event_count, OccursAt, ItemsOccurAt, PairsOccurAt}
+use Rattle.plist_buffer.proofs.TreeOccurrences.{occurs_items, occurs_pairs, occurs_item, occurs_next, occurs_key, occurs_value, occurs_next_pair}
 use Rattle.plist_binwrite.proofs.NumberingSteps.{numbers_below}
-use Rattle.plist_binwrite.proofs.TreeStarts.{begins, occurs_in}
+use Rattle.plist_buffer.proofs.TreeStarts.{begins, occurs_in}
 
 pub the_scalar : (x y : Scalar) → obj.Scalar x ≡ obj.Scalar y → x ≡ y
 the_scalar x y p = cc

@@ -1,18 +1,33 @@
--- Classes of events.
-use Rattle.std.proofs.Common.{◌≡◌, ◌⊎◌, inl, inr, ℕ, ◌+◌, ◌<◌, ◌≤◌, true, false, List, length, Option, None, Some, refl, ap, sym, ◌∙◌, arith}
+-- The objects that events have, and the classes of events.
+use Rattle.std.proofs.Common.{◌≡◌, ◌⊎◌, inl, inr, ℕ, ◌+◌, ◌<◌, ◌≤◌, Bool, true, false, eqb, List, length, Option, None, Some, refl, ap, sym, ◌∙◌, arith}
 use Rattle.std.specs.Prelude.{slice_get}
+use Rattle.std.proofs.lemmas.Bool.Decides.{eqb_tells}
 use Rattle.std.proofs.lemmas.Option.{slice_get_within}
 use Rattle.plist_base.specs.Events.{ScalarEvent, PlainEvent}
+use Rattle.plist_base.specs.Scalars.{scalar_eq}
 use Rattle.plist_base.specs.Trees.{Scalar}
 use Rattle.plist_binwrite.specs.EventClasses.{class_of, scalar_or_own}
-use Rattle.plist_binwrite.specs.EventTable.{event_at, plain_events, scalars_of}
+use Rattle.plist_buffer.specs.EventTable.{event_at, plain_events, scalars_of}
 use Rattle.plist_binwrite.specs.declared.classes.Classes.TheVariants.{EqualScalars}
-use Rattle.plist_binwrite.specs.declared.event_table.EventTable.{EventTable}
-use Rattle.plist_binwrite.specs.inner.Columns.{scalar_named}
-use Rattle.plist_binwrite.specs.inner.Entries.{entry_at}
-use Rattle.plist_binwrite.specs.inner.Scalars.{identity_at, identity_of, shared, alone, AreDistinct, HaveClasses, AreIdentities, is_leaf}
-use Rattle.plist_binwrite.proofs.Columns.{named}
-use Rattle.plist_binwrite.proofs.EntryEvents.{no_scalar, scalar_stored, scalar_is_leaf}
+use Rattle.plist_buffer.specs.declared.event_table.EventTable.{EventTable}
+use Rattle.plist_buffer.specs.inner.Columns.{scalar_named}
+use Rattle.plist_buffer.specs.inner.Entries.{entry_at, AreDistinct, is_leaf}
+use Rattle.plist_binwrite.specs.inner.Scalars.{Identity, identity_at, identity_of, shared, alone, HaveClasses, AreIdentities}
+use Rattle.plist_buffer.proofs.Columns.{named}
+use Rattle.plist_buffer.proofs.EntryEvents.{no_scalar, scalar_stored, scalar_is_leaf}
+use Rattle.plist_buffer.proofs.SameScalars.{Tells, scalars_tell, tells_made}
+
+abbrev pub owner_eq : Identity → Identity → Bool
+owner_eq (shared a) (shared b) = scalar_eq a b
+owner_eq (alone p) (alone q) = eqb p q
+owner_eq a b = false
+
+-- `owner_eq` decides whether two events have one object
+pub owners_tell : (a b : Identity) → Tells owner_eq a b
+owners_tell (shared a) (shared b) =
+    tells_made scalar_eq owner_eq shared a b refl (λ e. cc) (scalars_tell a b)
+owners_tell (alone p) (alone q) = tells_made eqb owner_eq alone p q refl (λ e. cc) (eqb_tells p q)
+owners_tell a b = inr (refl, λ e. cc)
 
 module _ {es keys : List PlainEvent} {class : ℕ → ℕ} {top index : ℕ}
     (full : length es ≤ index) (have : HaveClasses es class keys top index) (apart : AreDistinct keys)

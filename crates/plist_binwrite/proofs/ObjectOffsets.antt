@@ -16,10 +16,10 @@ use Rattle.plist_binwrite.specs.inner.Layout.{IsOrder, laid_out, AreLaidOut}
 use Rattle.std.proofs.lemmas.List.Folds.{list_any_at}
 use Rattle.plist_base.specs.Events.{PlainEvent}
 use Rattle.plist_base.specs.Trees.{Tree, Leaf, Array, Dictionary}
-use Rattle.plist_binwrite.specs.EventTable.{Describes, HasItem, IsBracketed}
+use Rattle.plist_buffer.specs.EventTable.{HasItem, IsBracketed}
 use Rattle.plist_binwrite.specs.inner.Numbering.{IsPlanned, number_by}
-use Rattle.plist_binwrite.specs.Occurrences.{OccursAt}
-use Rattle.plist_binwrite.specs.Numberings.{object_of}
+use Rattle.plist_buffer.specs.Occurrences.{OccursAt}
+use Rattle.plist_binwrite.specs.Numberings.{object_of, Describes}
 use Rattle.plist_binwrite.specs.Sizes.{total, IsSizeOrNone, object_size}
 use Rattle.plist_binwrite.proofs.TreeObjects.{occurs_at}
 use Rattle.plist_binwrite.proofs.Reading.{length-keys_of, length-values_of}

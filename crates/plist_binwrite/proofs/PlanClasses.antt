@@ -11,19 +11,19 @@ use Rattle.plist_base.specs.Trees.{Tree}
 use Rattle.plist_format.specs.Object.{Object}
 use Rattle.plist_binwrite.specs.Classes.{same_class, representatives, count_by, objects_by}
 use Rattle.plist_binwrite.specs.Forms.{form}
-use Rattle.plist_binwrite.specs.EventTable.{Describes}
+use Rattle.plist_binwrite.specs.Numberings.{Describes}
 use Rattle.plist_binwrite.specs.inner.Numbering.{IsPlanned, number_by}
 use Rattle.plist_binwrite.specs.Sizes.{total, object_size}
-use Rattle.plist_binwrite.specs.Occurrences.{positions}
+use Rattle.plist_buffer.specs.Occurrences.{positions}
 use Rattle.plist_binwrite.specs.Written.{object_table}
 use Rattle.plist_binwrite.proofs.ClassObjects.{number_below, number_apart, number_same}
-use Rattle.plist_binwrite.proofs.TreePositions.{Stands, positions_stand, positions_all}
-use Rattle.plist_binwrite.proofs.SameScalars.{tells_both}
-use Rattle.plist_binwrite.proofs.TreeOccurrences.{occurs_whole}
+use Rattle.plist_buffer.proofs.TreePositions.{Stands, positions_stand, positions_all}
+use Rattle.plist_buffer.proofs.SameScalars.{tells_both}
+use Rattle.plist_buffer.proofs.TreeOccurrences.{occurs_whole}
 use Rattle.plist_binwrite.proofs.ObjectOffsets.{AllOnce, form_size, total_bodies}
 use Rattle.plist_binwrite.proofs.NumberingSteps.{known_number}
 use Rattle.plist_binwrite.proofs.Totals.{total_below, count_below, total_all, unique_member, unique_distinct, total-map, total_equal, total_one}
-use Rattle.plist_binwrite.proofs.Uniques.{all_from, all_unique, members_self, member_has, unique_seen}
+use Rattle.plist_buffer.proofs.Uniques.{all_from, all_unique, members_self, member_has, unique_seen}
 
 -- ---- a plan's numbers
 

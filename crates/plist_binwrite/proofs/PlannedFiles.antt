@@ -16,21 +16,21 @@ use Rattle.plist_format.proofs.Tables.{length-table_of}
 use Rattle.plist_binwrite.specs.Classes.{IsFileBy, count_by, objects_by, size_by, IsOversized, files_by}
 use Rattle.plist_binwrite.specs.ObjectCounts.{collections_in}
 use Rattle.plist_binwrite.specs.Forms.{form, table_form, AllFit}
-use Rattle.plist_binwrite.specs.EventTable.{Describes}
+use Rattle.plist_binwrite.specs.Numberings.{Describes}
 use Rattle.plist_binwrite.specs.EventClasses.{class_in, events_in}
 use Rattle.plist_binwrite.specs.inner.Layout.{laid_out, with_table_and_trailer, HasAll, file_of, IsFilePlan, SendsPlan, AreObjectsOf, ExceedsWith, FitsWith, IsLayout}
 use Rattle.plist_binwrite.specs.inner.Numbering.{IsPlanned, count_of, object_number, number_by}
-use Rattle.plist_binwrite.specs.Occurrences.{positions}
+use Rattle.plist_buffer.specs.Occurrences.{positions}
 use Rattle.plist_binwrite.specs.Widths.{reference_width, offset_width}
 use Rattle.plist_binwrite.specs.Written.{Laid, object_table, table_and_trailer}
 use Rattle.plist_binwrite.specs.declared.classes.Classed.{Classed}
 use Rattle.plist_binwrite.specs.declared.plan.FilePlan.{FilePlan}
 use Rattle.plist_binwrite.proofs.ClassObjects.{Numbered, numbered, number_apart, number_below}
 use Rattle.plist_binwrite.proofs.PlanClasses.{planned_count, planned_size}
-use Rattle.plist_binwrite.proofs.ObjectOffsets.{AllOnce, length-magic, found_place, object_there, any_at}
+use Rattle.plist_binwrite.proofs.ObjectOffsets.{AllOnce, length-magic, found_place, object_there}
 use Rattle.plist_binwrite.proofs.Reading.{form_read}
 use Rattle.plist_binwrite.proofs.ReadingNumbers.{drop_front, width_positive, last, length_closed, front_is, head_is}
-use Rattle.plist_binwrite.proofs.TreeOccurrences.{occurs_whole}
+use Rattle.plist_buffer.proofs.TreeOccurrences.{occurs_whole}
 use Rattle.plist_binwrite.proofs.Unfold.{Shows, unfolds_whole, no_fault}
 use Rattle.plist_binwrite.proofs.LeastWidths.{width_holds}
 use Rattle.plist_base.specs.Outcomes.{OnlyDevice}
@@ -44,7 +44,7 @@ use Rattle.plist_base.specs.Sinks.{PutsBytes, pending, written}
 use Rattle.plist_base.proofs.SinkSteps.{sent_part, sent_whole}
 use Rattle.plist_binwrite.specs.Sizes.{IsSizeOrNone, size_with}
 use Rattle.plist_binwrite.specs.SendingAs.{IsFileAs, SendsAs}
-use Rattle.plist_binwrite.proofs.Lengthless.{plain_lengthless}
+use Rattle.plist_buffer.proofs.Lengthless.{plain_lengthless}
 
 module _ {es : List PlainEvent} {class : ℕ → ℕ} {by_class firsts : List ℕ}
     (planned : IsPlanned es class by_class firsts) (t : Tree) (e : es ≡ lengthless t)

@@ -1,6 +1,6 @@
 -- What writing a file does.
 use Rattle.std.proofs.Common.{◌≡◌, inl, inr, ℕ, ◌^◌, ◌<◌, List, Option, Ok, Err, ◌∙◌, subst, refl}
-use Rattle.plist_binwrite.specs.declared.event_table.EventTable.{EventTable}
+use Rattle.plist_buffer.specs.declared.event_table.EventTable.{EventTable}
 use Rattle.plist_base.specs.Bracketing.{bracketing, lengthless, AreAlike, AreTreeEvents, AreComplete}
 use Rattle.plist_base.specs.Events.{PlainEvent}
 use Rattle.plist_base.specs.Faults.{FaultKind, Fault, Io, OutOfMemory, PlistTooLarge}
@@ -12,14 +12,14 @@ use Rattle.plist_binwrite.specs.EventClasses.{class_in, events_in}
 use Rattle.plist_binwrite.specs.declared.classes.Classed.{Classed}
 use Rattle.plist_binwrite.specs.inner.Layout.{IsPlanFault}
 use Rattle.plist_binwrite.specs.Files.{IsFileOf}
-use Rattle.plist_binwrite.specs.EventTable.{plain_events}
+use Rattle.plist_buffer.specs.EventTable.{plain_events}
 use Rattle.plist_binwrite.specs.Sending.{Sends, least_files}
 use Rattle.plist_binwrite.specs.SendingAs.{FileKind, IsFileAs, FailsAs, SendsAs}
 use Rattle.plist_binwrite.specs.inner.Scalars.{AreIdentities}
 use Rattle.plist_binwrite.proofs.Least.{least}
 use Rattle.plist_binwrite.proofs.WriterClasses.{owned_count, owned_size, entered_once}
-use Rattle.plist_binwrite.proofs.TreeOccurrences.{occurs_whole}
-use Rattle.plist_binwrite.proofs.Lengthless.{plain_lengthless}
+use Rattle.plist_buffer.proofs.TreeOccurrences.{occurs_whole}
+use Rattle.plist_buffer.proofs.Lengthless.{plain_lengthless}
 
 -- for events that are alike, a file of the first kind is one of the second kind, and has the same
 -- size

@@ -8,7 +8,7 @@ use Rattle.std.proofs.lemmas.List.Elements.{All-filter, All-from_recursion, recu
 use Rattle.std.proofs.lemmas.Map.Made.{is_member-filter}
 use Rattle.std.proofs.lemmas.Bool.Decides.{eqb_tells}
 use Rattle.plist_binwrite.specs.Sizes.{total}
-use Rattle.plist_binwrite.proofs.Uniques.{few_below}
+use Rattle.plist_buffer.proofs.Uniques.{few_below}
 
 -- the sum of the weights of the numbers below a count
 abbrev pub total_below : (ℕ → ℕ) → ℕ → ℕ

@@ -6,27 +6,27 @@ use Rattle.plist_base.specs.Events.{PlainEvent, ScalarEvent, shape_of}
 use Rattle.plist_base.specs.Trees.{number_of_trees, number_of_members, Scalar, Tree, Leaf, Array, Dictionary, Trees, NoTrees, TreeAnd, Members, NoMembers, MemberAnd}
 use Rattle.plist_base.specs.declared.event.EventShape.{EventShape}
 use Rattle.plist_base.specs.declared.event.EventShape.TheVariants as shape
-use Rattle.plist_binwrite.specs.Occurrences.{event_count, OccursAt, ItemsOccurAt, PairsOccurAt}
+use Rattle.plist_buffer.specs.Occurrences.{event_count, OccursAt, ItemsOccurAt, PairsOccurAt}
 use Rattle.plist_binwrite.specs.Numberings.{references, pairs, object_of}
 use Rattle.plist_binwrite.specs.Forms.{big_endian, length_form, units_of, is_ascii_text, text_form, scalar_form, form, key_numbers, value_numbers, IsWritable, IsWritableScalar, AllFit}
-use Rattle.plist_binwrite.specs.EventTable.{is_end, event_at, item_indices, key_indices, value_indices, IsBracketed}
+use Rattle.plist_buffer.specs.EventTable.{is_end, event_at, item_indices, key_indices, value_indices, IsBracketed}
 use Rattle.plist_binwrite.specs.Sizes.{IsSizeOrNone, dictionary_size, marked_size}
-use Rattle.plist_binwrite.specs.Children.{half_of}
-use Rattle.plist_binwrite.specs.declared.children.Half.TheVariants.{Values}
+use Rattle.plist_buffer.specs.Children.{half_of}
+use Rattle.plist_buffer.specs.declared.children.Half.TheVariants.{Values}
 use Rattle.plist_format.specs.declared.marker.CountedKind.TheVariants as counted
 use Rattle.plist_binwrite.specs.EventClasses.{events_in}
 use Rattle.plist_binwrite.specs.declared.classes.Classed.{Classed}
 use Rattle.plist_binwrite.specs.declared.plan.FilePlan.{FilePlan}
 use Rattle.plist_binwrite.specs.inner.Numbering.{object_number}
 use Rattle.plist_binwrite.specs.inner.Putting.{collection_form, tree_form}
-use Rattle.plist_binwrite.specs.inner.Entries.{is_leaf}
-use Rattle.plist_binwrite.proofs.TreeOccurrences.{occurs_whole, occurs_items, occurs_pairs, occurs_item, occurs_next, occurs_key, occurs_value, occurs_next_pair}
-use Rattle.plist_binwrite.proofs.TreeStarts.{stands_single, starts_array, starts_dictionary, no_start, begins, occurs_in}
-use Rattle.plist_binwrite.proofs.ChildIndices.{few_children, keys_are_in, values_are_in}
-use Rattle.plist_binwrite.proofs.TreePositions.{Stands, positions_stand, positions_all}
+use Rattle.plist_buffer.specs.inner.Entries.{is_leaf}
+use Rattle.plist_buffer.proofs.TreeOccurrences.{occurs_whole, occurs_items, occurs_pairs, occurs_item, occurs_next, occurs_key, occurs_value, occurs_next_pair}
+use Rattle.plist_buffer.proofs.TreeStarts.{stands_single, starts_array, starts_dictionary, no_start, begins, occurs_in}
+use Rattle.plist_buffer.proofs.ChildIndices.{few_children, keys_are_in, values_are_in}
+use Rattle.plist_buffer.proofs.TreePositions.{Stands, positions_stand, positions_all}
 use Rattle.plist_binwrite.proofs.NumberingSteps.{AllNumbered}
 use Rattle.plist_binwrite.proofs.ReadingNumbers.{length-table}
-use Rattle.plist_binwrite.proofs.Uniques.{all_from}
+use Rattle.plist_buffer.proofs.Uniques.{all_from}
 use Rattle.plist_binwrite.proofs.Unfold.{length-references, length-pairs}
 
 -- ---- the children of a tree

@@ -15,10 +15,10 @@ use Rattle.plist_format.specs.Object.{children_of}
 use Rattle.plist_format.specs.Unfolding.{TableEntry, items_of, until_fault, unfolding_of}
 use Rattle.plist_format.specs.Visits.{visits_within, visits_of}
 use Rattle.plist_binwrite.specs.ObjectCounts.{collection_of, collections_among}
-use Rattle.plist_binwrite.specs.Occurrences.{event_count, OccursAt, ItemsOccurAt, PairsOccurAt, positions, positions_in_items, positions_in_pairs}
+use Rattle.plist_buffer.specs.Occurrences.{event_count, OccursAt, ItemsOccurAt, PairsOccurAt, positions, positions_in_items, positions_in_pairs}
 use Rattle.plist_binwrite.specs.Numberings.{references, pairs, object_of}
-use Rattle.plist_binwrite.proofs.Uniques.{all_from}
-use Rattle.plist_binwrite.proofs.TreeOccurrences.{occurs_items, occurs_pairs, occurs_item, occurs_next, occurs_key, occurs_value, occurs_next_pair}
+use Rattle.plist_buffer.proofs.Uniques.{all_from}
+use Rattle.plist_buffer.proofs.TreeOccurrences.{occurs_items, occurs_pairs, occurs_item, occurs_next, occurs_key, occurs_value, occurs_next_pair}
 
 pub length-references : (num : ℕ → ℕ) (ts : Trees) (q : ℕ) → length (references num ts q)
     ≡ number_of_trees ts

@@ -14,14 +14,15 @@ use Rattle.plist_binwrite.specs.ObjectCounts.{collections_among, leaf_scalars, c
 use Rattle.plist_binwrite.specs.Numberings.{object_of}
 use Rattle.plist_binwrite.specs.inner.Scalars.{Identity, shared, alone, identity_of, identity_at, AreIdentities}
 use Rattle.plist_binwrite.specs.Sizes.{total, object_size, size_with, file_size}
-use Rattle.plist_binwrite.specs.Occurrences.{event_count, OccursAt, positions, positions_in_items, positions_in_pairs}
+use Rattle.plist_buffer.specs.Occurrences.{event_count, OccursAt, positions, positions_in_items, positions_in_pairs}
 use Rattle.plist_binwrite.specs.Widths.{reference_width}
-use Rattle.plist_binwrite.proofs.TreePositions.{Stands, one_tree, positions_stand}
-use Rattle.plist_binwrite.proofs.SameScalars.{owner_eq, owners_tell, tells_both}
-use Rattle.plist_binwrite.proofs.TreeOccurrences.{occurs_whole}
-use Rattle.plist_binwrite.proofs.TreeStarts.{stands_single, starts_array, starts_dictionary, occurs_in}
+use Rattle.plist_buffer.proofs.TreePositions.{Stands, one_tree, positions_stand}
+use Rattle.plist_binwrite.proofs.Identities.{owner_eq, owners_tell}
+use Rattle.plist_buffer.proofs.SameScalars.{tells_both}
+use Rattle.plist_buffer.proofs.TreeOccurrences.{occurs_whole}
+use Rattle.plist_buffer.proofs.TreeStarts.{stands_single, starts_array, starts_dictionary, occurs_in}
 use Rattle.plist_binwrite.proofs.Totals.{total_one}
-use Rattle.plist_binwrite.proofs.Uniques.{unique_seen}
+use Rattle.plist_buffer.proofs.Uniques.{unique_seen}
 
 -- ---- the owner of a tree: its scalar, or the index at which a collection begins
 

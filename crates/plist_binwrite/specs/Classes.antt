@@ -9,7 +9,7 @@ use Rattle.plist_binwrite.specs.ObjectCounts.{HasObjects, collections_in}
 use Rattle.plist_binwrite.specs.Numberings.{object_of}
 use Rattle.plist_binwrite.specs.SendingAs.{FileKind}
 use Rattle.plist_binwrite.specs.Sizes.{total, object_size, size_with}
-use Rattle.plist_binwrite.specs.Occurrences.{OccursAt, positions}
+use Rattle.plist_buffer.specs.Occurrences.{OccursAt, positions}
 use Rattle.plist_binwrite.specs.Widths.{reference_width}
 use Rattle.plist_binwrite.specs.Written.{IsWrittenAs}
 

@@ -2,13 +2,13 @@
 use Rattle.std.specs.Prelude.{◌≡◌, ℕ, ◌+◌, ◌<◌, List, length, Option, None, Some, ⊤}
 use Rattle.plist_base.specs.Events.{PlainEvent}
 use Rattle.plist_binwrite.specs.Classes.{AreClasses}
-use Rattle.plist_binwrite.specs.EventTable.{nth_number, plain_events, scalars_of}
+use Rattle.plist_buffer.specs.EventTable.{nth_number, plain_events, scalars_of}
 use Rattle.plist_binwrite.specs.declared.classes.Classed.{Classed}
 use Rattle.plist_binwrite.specs.declared.classes.Classes.{Classes}
 use Rattle.plist_binwrite.specs.declared.classes.Classes.TheVariants.{EqualScalars, Listed}
-use Rattle.plist_binwrite.specs.declared.event_table.EventTable.{EventTable}
-use Rattle.plist_binwrite.specs.inner.Columns.{scalar_named}
-use Rattle.plist_binwrite.specs.inner.Entries.{entry_at}
+use Rattle.plist_buffer.specs.declared.event_table.EventTable.{EventTable}
+use Rattle.plist_buffer.specs.inner.Columns.{scalar_named}
+use Rattle.plist_buffer.specs.inner.Entries.{entry_at}
 
 -- the index of a scalar if there is one, and otherwise `own`
 abbrev pub scalar_or_own : Option ℕ → (own : ℕ) → ℕ

@@ -9,7 +9,7 @@ use Rattle.plist_base.specs.Writing.{Answer, MatchKind}
 use Rattle.plist_binwrite.specs.declared.sharing.Sharing.{Ghosts as SharingGhosts}
 use Rattle.plist_binwrite.specs.declared.writer.FileWriter.{FileWriter}
 use Rattle.plist_binwrite.specs.SendingAs.{SendsFileAs, FailsAs}
-use Rattle.plist_binwrite.specs.EventBuffers.{buffered_events, misplaced_fault}
+use Rattle.plist_buffer.specs.EventBuffers.{buffered_events, misplaced_fault}
 
 -- the buffered events of the open property list, without the lengths of starts
 abbrev pub open_events : {W S : Type 0} {g : Ghosts W} {h : SharingGhosts S} → FileWriter W S g h

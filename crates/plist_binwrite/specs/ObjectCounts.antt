@@ -5,7 +5,7 @@ use Rattle.std.specs.Set.{distinct_count}
 use Rattle.plist_base.specs.Scalars.{scalar_eq}
 use Rattle.plist_base.specs.Trees.{Scalar, Tree, Leaf}
 use Rattle.plist_format.specs.Container.{Head, head_of}
-use Rattle.plist_binwrite.specs.Occurrences.{positions}
+use Rattle.plist_buffer.specs.Occurrences.{positions}
 
 -- an array or a dictionary with its index, and nothing for a scalar
 abbrev pub collection_of : ℕ × Tree → List (ℕ × Tree)

@@ -1,12 +1,6 @@
--- Definitions that are used by bodies and proofs. Of these, public clauses rely only on `Columns`,
--- `Entries` and `UnclosedStarts`.
-pub mod Columns
-pub mod Entries
-pub mod Expected
+-- Definitions that are used by bodies and proofs, but by no public clause.
 pub mod Laws
 pub mod Layout
 pub mod Numbering
-pub mod UnclosedStarts
 pub mod Putting
 pub mod Scalars
-pub mod StoredEquality

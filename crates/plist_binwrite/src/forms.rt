@@ -6,17 +6,17 @@
 
 ghost use Rattle.std.specs.Prelude.{◌≡◌, [], ◌≤◌, Ok, OnOk, true, false};
 ghost use Rattle.plist_binwrite.specs.Forms.{big_endian, integer_form, uid_form, length_form, boolean_form, data_form, date_form, real_form, scalar_form, table_form};
-ghost use Rattle.plist_binwrite.specs.StoredScalars.{scalar_of_ref};
+ghost use Rattle.plist_buffer.specs.StoredScalars.{scalar_of_ref};
 ghost use Rattle.plist_format.specs.Marker.{high_half};
 ghost use Rattle.plist_base.specs.Sinks.{Puts, PutsBytes, PutsNothing, room};
 ghost use Rattle.plist_binwrite.specs.Written.{table_and_trailer, trailer_of};
 
-use crate::compact_numbers::CompactNumbers;
 use crate::push::{push_boolean, push_date, push_integer, push_length, push_real, push_uid};
-use crate::stored_scalar::ScalarRef;
 pub use crate::text::put_text;
 use crate::widths::{offset_width, reference_width};
 use plist_base::{Date, Error, Integer, RealBits, Sink, Uid};
+use plist_buffer::compact_numbers::CompactNumbers;
+use plist_buffer::stored_scalar::ScalarRef;
 pub use plist_format::CountedKind;
 use std::io::Write;
 

@@ -5,29 +5,21 @@
 //! the same events are read. No other call writes a byte.
 #![tactic(auto)]
 
-pub mod children;
 pub mod classes;
-pub mod compact_numbers;
-mod entries;
-pub mod event_buffer;
-pub mod event_table;
 pub mod forms;
 mod numbering;
 mod objects;
 mod plan;
 mod push;
-pub mod repeated_keys;
 pub mod send_file;
 mod sharing;
-mod short;
 mod size;
-pub mod stored_scalar;
 mod text;
 pub mod widths;
 mod writer;
 
-pub use event_table::EventTable;
 pub use plist_base::send::send_and_flush;
+pub use plist_buffer::{EventTable, compact_numbers, stored_scalar};
 pub use send_file::{write_file, write_file_by_class};
 pub use sharing::{EqualScalars, Sharing};
 pub use writer::{BinaryWriter, FileWriter};

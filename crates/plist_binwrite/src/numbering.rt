@@ -1,13 +1,13 @@
 //! Assigns a number to the object of each class.
 
 ghost use Rattle.plist_binwrite.specs.EventClasses.{IsClassed, events_in};
-ghost use Rattle.plist_binwrite.specs.EventTable.{IsBracketed};
+ghost use Rattle.plist_buffer.specs.EventTable.{IsBracketed};
 ghost use Rattle.plist_binwrite.specs.inner.Numbering.{IsNumberingOfEvents};
 ghost use Rattle.std.specs.Prelude.{IfOk};
 
-use crate::children::{Children, Half, begins_collection};
 use crate::classes::Classed;
-use crate::compact_numbers::CompactNumbers;
+use plist_buffer::children::{Children, Half, begins_collection};
+use plist_buffer::compact_numbers::CompactNumbers;
 use std::alloc::{AllocError, Global};
 
 /// The number of each class's object, and the first event of each object.
@@ -23,7 +23,7 @@ pub struct Numbering {
 impl Numbering {
     ghost use Rattle.std.specs.Prelude.{◌≡◌, ◌<◌, [], length, replicate, IfOk, OnOk};
     ghost use Rattle.plist_binwrite.specs.EventClasses.{IsListed, class_in, events_in};
-    ghost use Rattle.plist_binwrite.specs.EventTable.{nth_number, HasItem, IsBracketed};
+    ghost use Rattle.plist_buffer.specs.EventTable.{nth_number, HasItem, IsBracketed};
     ghost use Rattle.plist_binwrite.specs.inner.Numbering.{AllHaveNumbers, IsNumberedSoFar, KeepsNumbers, NumbersChildren, NumbersHalf, NumbersItem, object_number, stored_number};
 
     // Creates a numbering in which no object has a number. The memory of `firsts` is reserved at

@@ -5,20 +5,20 @@ ghost use Rattle.plist_base.specs.Events.{ScalarEvent};
 ghost use Rattle.plist_base.specs.Sinks.{Puts, PutsBytes, PutsNothing};
 ghost use Rattle.plist_base.specs.Trees.{Scalar, Tree};
 ghost use Rattle.plist_binwrite.specs.EventClasses.{events_in};
-ghost use Rattle.plist_binwrite.specs.EventTable.{plain_events, table_event};
+ghost use Rattle.plist_buffer.specs.EventTable.{plain_events, table_event};
 ghost use Rattle.plist_binwrite.specs.Forms.{scalar_form};
-ghost use Rattle.plist_binwrite.specs.Occurrences.{OccursAt};
+ghost use Rattle.plist_buffer.specs.Occurrences.{OccursAt};
 ghost use Rattle.plist_binwrite.specs.inner.Layout.{IsFilePlan};
 ghost use Rattle.plist_binwrite.specs.inner.Putting.{PutsObjects, collection_form, references_of, tree_form};
 
-use crate::children::{Children, Half};
 use crate::classes::Classed;
-use crate::event_table::EventTable;
 use crate::forms::{CountedKind, put_length, put_number, put_scalar, try_put_number};
 use crate::plan::FilePlan;
 use crate::push::push_scalar;
 use crate::size::count_children;
 use plist_base::{Error, EventShape, Sink};
+use plist_buffer::children::{Children, Half};
+use plist_buffer::event_table::EventTable;
 use std::io::Write;
 
 // Puts the references to one half of the children of the collection that begins at an index.

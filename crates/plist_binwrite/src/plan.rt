@@ -4,16 +4,16 @@
 ghost use Rattle.std.specs.Prelude.{◌≡◌, ◌<◌, IfOk, IfSome};
 ghost use Rattle.plist_base.specs.Outcomes.{IfFault};
 ghost use Rattle.plist_binwrite.specs.EventClasses.{IsClassed, events_in};
-ghost use Rattle.plist_binwrite.specs.EventTable.{IsBracketed};
+ghost use Rattle.plist_buffer.specs.EventTable.{IsBracketed};
 ghost use Rattle.plist_binwrite.specs.inner.Layout.{IsFilePlan, IsPlanFault};
 
-use crate::children::{Children, Half};
 use crate::classes::Classed;
-use crate::compact_numbers::CompactNumbers;
 use crate::numbering::{Numbering, number_objects};
 use crate::size::{add, has_size, size_of_object};
 use crate::widths::reference_width;
 use plist_base::{Error, ErrorKind, EventShape};
+use plist_buffer::children::{Children, Half};
+use plist_buffer::compact_numbers::CompactNumbers;
 use std::alloc::{AllocError, Global};
 
 /// The plan of a file, as far as its objects are laid out.
@@ -44,7 +44,7 @@ fn place_or_greatest(place: Option<u64>) -> usize
 impl FilePlan {
     ghost use Rattle.std.specs.Prelude.{◌<◌, length, IfOk, IfSome, OnOk};
     ghost use Rattle.plist_binwrite.specs.EventClasses.{IsClassed, events_in};
-    ghost use Rattle.plist_binwrite.specs.EventTable.{HasItem, IsBracketed};
+    ghost use Rattle.plist_buffer.specs.EventTable.{HasItem, IsBracketed};
     ghost use Rattle.plist_binwrite.specs.inner.Layout.{HasAll, IsLayout, Places};
     ghost use Rattle.plist_binwrite.specs.inner.Numbering.{count_of};
 

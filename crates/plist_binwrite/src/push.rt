@@ -5,13 +5,13 @@
 ghost use Rattle.std.specs.Prelude.{◌≡◌, ◌+◌, ◌++◌, ◌∷◌, ◌≤◌, length, true, false};
 ghost use Rattle.plist_base.specs.Sinks.{buffered, room};
 ghost use Rattle.plist_binwrite.specs.Forms.{doublings, unsigned_form, integer_form, uid_form, length_form, boolean_form, data_form, date_form, real_form, scalar_form, text_form, marker_and_number};
-ghost use Rattle.plist_binwrite.specs.StoredScalars.{scalar_of_ref};
+ghost use Rattle.plist_buffer.specs.StoredScalars.{scalar_of_ref};
 ghost use Rattle.plist_format.specs.Marker.{byte_of, high_half};
 
-use crate::stored_scalar::ScalarRef;
 use crate::text::is_ascii_text;
 use crate::widths::least_width;
 use plist_base::{Date, FixedBuffer, Integer, RealBits, Uid};
+use plist_buffer::stored_scalar::ScalarRef;
 use plist_format::{CountedKind, LowHalf, Marker, UidWidth};
 
 // Returns the marker of a number of this width.

@@ -6,18 +6,18 @@ ghost use Rattle.plist_base.specs.Sinks.{IsSameSink, pending};
 ghost use Rattle.plist_base.specs.Writing.{answer_of};
 ghost use Rattle.plist_binwrite.specs.Classes.{files_by};
 ghost use Rattle.plist_binwrite.specs.EventClasses.{IsClassed, class_in, events_in};
-ghost use Rattle.plist_binwrite.specs.EventTable.{plain_events};
+ghost use Rattle.plist_buffer.specs.EventTable.{plain_events};
 ghost use Rattle.plist_binwrite.specs.Sending.{Sends};
 ghost use Rattle.plist_binwrite.specs.SendingAs.{SendsAs};
 ghost use Rattle.plist_binwrite.specs.inner.Layout.{IsFilePlan, SendsPlan};
 ghost use Rattle.plist_binwrite.specs.inner.Putting.{PutsFile};
 
 use crate::classes::{Classed, Classes};
-use crate::event_table::EventTable;
 use crate::forms::put_table_and_trailer;
 use crate::objects::put_objects;
 use crate::plan::{FilePlan, plan_file};
 use plist_base::{Error, FixedBuffer, Sink};
+use plist_buffer::event_table::EventTable;
 use std::alloc::Global;
 use std::io::Write;
 

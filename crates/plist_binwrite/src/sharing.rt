@@ -2,13 +2,13 @@
 
 ghost use Rattle.plist_base.specs.Bracketing.{AreTreeEvents};
 ghost use Rattle.plist_base.specs.Writing.{answer_of};
-ghost use Rattle.plist_binwrite.specs.EventTable.{plain_events};
+ghost use Rattle.plist_buffer.specs.EventTable.{plain_events};
 ghost use Rattle.plist_binwrite.specs.Sending.{least_files};
 ghost use Rattle.plist_binwrite.specs.SendingAs.{FileKind, SendsAs};
 
-use crate::event_table::EventTable;
 use crate::send_file;
 use plist_base::{Error, Sealed};
+use plist_buffer::event_table::EventTable;
 use std::alloc::Global;
 use std::io::Write;
 

@@ -4,20 +4,20 @@
 ghost use Rattle.std.specs.Prelude.{◌≡◌, ◌+◌, ◌*◌, ◌≤◌, ◌<◌, ◌^◌, ℕ, length, true, false, IfSome, None, Some};
 ghost use Rattle.plist_base.specs.Events.{ScalarEvent};
 ghost use Rattle.plist_base.specs.Trees.{Scalar, Tree};
-ghost use Rattle.plist_binwrite.specs.Children.{half_of};
-ghost use Rattle.plist_binwrite.specs.EventTable.{plain_events, table_event};
+ghost use Rattle.plist_buffer.specs.Children.{half_of};
+ghost use Rattle.plist_buffer.specs.EventTable.{plain_events, table_event};
 ghost use Rattle.plist_binwrite.specs.Forms.{IsDateBytes, IsInteger, IsReal, IsText, IsWritableScalar, unsigned_form, integer_form, uid_form, length_form, date_form, real_form, text_form};
-ghost use Rattle.plist_binwrite.specs.Occurrences.{OccursAt};
+ghost use Rattle.plist_buffer.specs.Occurrences.{OccursAt};
 ghost use Rattle.plist_binwrite.specs.Sizes.{IsSizeOrNone, marked_size, object_size, scalar_size, size_with};
-ghost use Rattle.plist_binwrite.specs.StoredScalars.{scalar_of_ref};
+ghost use Rattle.plist_buffer.specs.StoredScalars.{scalar_of_ref};
 ghost use Rattle.plist_binwrite.specs.inner.Layout.{ExceedsWith, FitsWith};
 
-use crate::children::{Children, Half};
-use crate::event_table::EventTable;
-use crate::stored_scalar::ScalarRef;
 use crate::text::{count_units, is_ascii_text};
 use crate::widths::{least_width, offset_width};
 use plist_base::{Date, EventShape, Integer, RealBits, Uid};
+use plist_buffer::children::{Children, Half};
+use plist_buffer::event_table::EventTable;
+use plist_buffer::stored_scalar::ScalarRef;
 use plist_format::LowHalf;
 
 /// Returns the sum of two lengths, or `None` if it is 2^64 or more, or if a length is `None`.

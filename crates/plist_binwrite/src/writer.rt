@@ -2,11 +2,11 @@
 
 ghost use Rattle.std.specs.Prelude.{◌≡◌, false};
 ghost use Rattle.std.proofs.Props.{props};
-ghost use Rattle.plist_binwrite.specs.EventBuffers.{is_whole};
+ghost use Rattle.plist_buffer.specs.EventBuffers.{is_whole};
 
-use crate::event_buffer::{EventBuffer, PushError};
 use crate::sharing::{EqualScalars, Sharing};
 use plist_base::{Error, ErrorKind, Event, Sealed, Writer};
+use plist_buffer::event_buffer::{EventBuffer, PushError};
 use std::alloc::Global;
 use std::io::Write;
 use std::marker::PhantomData;

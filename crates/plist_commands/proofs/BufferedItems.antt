@@ -10,8 +10,8 @@ use Rattle.plist_base.specs.Trees.{Tree, Leaf, Array, Dictionary}
 use Rattle.plist_base.proofs.Grammar.{alike_last, alike_with, complete_of_whole, continue_alike, whole_alike}
 use Rattle.plist_base.specs.Writing.{Answer}
 use Rattle.plist_format.specs.Unfolding.{items_of_file}
-use Rattle.plist_binwrite.specs.RepeatedKeys.{HasKeysOnce}
-use Rattle.plist_binwrite.specs.EventBuffers.{TestsWhole}
+use Rattle.plist_buffer.specs.RepeatedKeys.{HasKeysOnce}
+use Rattle.plist_buffer.specs.EventBuffers.{TestsWhole}
 use Rattle.plist_binwrite.specs.Sending.{Sends}
 use Rattle.plist_reader.specs.declared.format.Format.TheVariants as format
 use Rattle.plist_reader.specs.Formats.{format_of}

@@ -13,7 +13,7 @@ use Rattle.plist_base.specs.Sources.{ItemCountsIo}
 use Rattle.plist_base.specs.Visits.{Flow, PlainItem, Visits}
 use Rattle.plist_base.proofs.Refusals.{MatchFault-at}
 use Rattle.plist_base.proofs.Visits.{kept_all}
-use Rattle.plist_binwrite.specs.EventBuffers.{TestsWhole}
+use Rattle.plist_buffer.specs.EventBuffers.{TestsWhole}
 use Rattle.plist.specs.ValueOfItems.{IsReadIfKnown}
 use Rattle.plist_base.specs.declared.source.Source.{Ghosts}
 use Rattle.plist_binread.specs.BinaryReader.{binary_source}

@@ -8,7 +8,7 @@ use Rattle.plist_base.specs.declared.visitor.Visited.TheVariants.{Ended, Stopped
 use Rattle.plist_base.specs.Events.{PlainEvent}
 use Rattle.plist_base.specs.Faults.{OutOfMemory, fault_without_offset, fault_of}
 use Rattle.plist_base.specs.Visits.{Flow}
-use Rattle.plist_binwrite.specs.EventBuffers.{TestsWhole, buffered_events, is_whole}
+use Rattle.plist_buffer.specs.EventBuffers.{TestsWhole, buffered_events, is_whole}
 use Rattle.plist_commands.specs.declared.collector.Collector.{Collector}
 use Rattle.plist_commands.specs.declared.collector.StopReason.{StopReason}
 use Rattle.plist_commands.specs.declared.collector.StopReason.TheVariants.{Failed, Misplaced, Paused}

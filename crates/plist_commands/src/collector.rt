@@ -3,12 +3,12 @@
 ghost use Rattle.std.specs.Prelude.{◌≡◌, false, true};
 ghost use Rattle.plist_base.specs.Bracketing.{CanContinue};
 ghost use Rattle.plist_base.specs.Events.{event_of};
-ghost use Rattle.plist_binwrite.specs.EventBuffers.{TestsWhole, buffered_events, is_whole};
+ghost use Rattle.plist_buffer.specs.EventBuffers.{TestsWhole, buffered_events, is_whole};
 ghost use Rattle.plist_commands.specs.Converting.{IfOkIs};
 ghost use Rattle.plist_commands.specs.CollectorSteps.{HoldsMore};
 
 use plist_base::{Error, Event, EventVisitor, Visited};
-use plist_binwrite::event_buffer::{EventBuffer, PushError};
+use plist_buffer::event_buffer::{EventBuffer, PushError};
 use std::alloc::{AllocError, Global};
 use std::mem;
 use std::ops::ControlFlow;

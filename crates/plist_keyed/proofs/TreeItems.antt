@@ -12,7 +12,7 @@ use Rattle.plist_base.specs.Trees as trees
 use Rattle.plist_base.specs.Trees.{Tree, Leaf, Array, Dictionary, Trees, NoTrees, TreeAnd, Members, NoMembers, MemberAnd, number_of_trees, number_of_members}
 use Rattle.plist_base.specs.Bracketing.{bracketing, bracketing_of_items, bracketing_of_pairs, without_length, AreAlike}
 use Rattle.plist_base.proofs.Grammar.{alike_with}
-use Rattle.plist_binwrite.specs.RepeatedKeys.{HasKeysOnce, ItemsHaveKeysOnce, ValuesHaveKeysOnce, HasDistinctKeys, Lacks}
+use Rattle.plist_buffer.specs.RepeatedKeys.{HasKeysOnce, ItemsHaveKeysOnce, ValuesHaveKeysOnce, HasDistinctKeys, Lacks}
 use Rattle.plist_keyed.specs.Archives.{ArchiveFault, UidOutOfRange, RecursiveUid, and_then, replaced, replaced_items, replaced_pairs, tree_found, resolved}
 use Rattle.plist_keyed.specs.inner.Walks.{Given, Step, given_by, steps_of_event, steps_of_events, steps_found, steps_at}
 

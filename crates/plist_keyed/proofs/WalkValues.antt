@@ -7,7 +7,7 @@ use Rattle.plist_base.specs.Events.{PlainEvent, Item}
 use Rattle.plist_base.specs.Trees.{Tree}
 use Rattle.plist_base.specs.Bracketing.{bracketing, without_length}
 use Rattle.plist_base.proofs.OneTree.{one_tree}
-use Rattle.plist_binwrite.specs.RepeatedKeys.{HasKeysOnce}
+use Rattle.plist_buffer.specs.RepeatedKeys.{HasKeysOnce}
 use Rattle.plist.specs.declared.value.Value.{Value}
 use Rattle.plist.specs.ValueOfItems.{AreItemsOfTree, IsValueOf}
 use Rattle.plist.specs.LastWins.{last_wins}

@@ -10,18 +10,19 @@ use Rattle.plist_format.specs.Object as obj
 use Rattle.plist_format.specs.Object.{dictionary}
 use Rattle.plist_binwrite.specs.Classes.{AreClasses}
 use Rattle.plist_binwrite.specs.Forms.{key_numbers, value_numbers}
-use Rattle.plist_binwrite.specs.EventTable.{item_indices, key_indices, value_indices, keys_in, values_in, event_at, nth_number}
+use Rattle.plist_buffer.specs.EventTable.{item_indices, key_indices, value_indices, keys_in, values_in, event_at, nth_number}
 use Rattle.plist_binwrite.specs.Numberings.{pairs, object_of}
-use Rattle.plist_binwrite.specs.Occurrences.{OccursAt}
+use Rattle.plist_buffer.specs.Occurrences.{OccursAt}
 use Rattle.plist_base.specs.declared.event.EventShape.{EventShape}
 use Rattle.plist_base.specs.declared.event.EventShape.TheVariants as shape
-use Rattle.plist_binwrite.specs.inner.Scalars.{AreIdentities, AreDistinct}
-use Rattle.plist_binwrite.proofs.Changes.{at_set}
+use Rattle.plist_binwrite.specs.inner.Scalars.{AreIdentities}
+use Rattle.plist_buffer.specs.inner.Entries.{AreDistinct}
+use Rattle.plist_buffer.proofs.Changes.{at_set}
 use Rattle.plist_binwrite.proofs.ClassObjects.{sound, the_items, the_pairs}
 use Rattle.plist_binwrite.proofs.WriterClasses.{class_owner, owner_class}
 use Rattle.plist_binwrite.proofs.TreeObjects.{refs_are, keys_are, values_are}
 use Rattle.plist_binwrite.proofs.Reading.{dictionary_is, length-keys_of, length-values_of}
-use Rattle.plist_binwrite.proofs.TreeStarts.{stands_single, starts_array, starts_dictionary, occurs_in}
+use Rattle.plist_buffer.proofs.TreeStarts.{stands_single, starts_array, starts_dictionary, occurs_in}
 use Rattle.plist_share.proofs.EqualClasses.{complete}
 use Rattle.plist_share.specs.inner.Nodes.{Node, is_dictionary, node_at, node_by, IsIndexed, IsClass, HaveTreeClasses, Extends, SeparatesTrees}
 

@@ -7,10 +7,10 @@ use Rattle.plist_base.specs.Events.{PlainEvent}
 use Rattle.plist_base.specs.Trees.{Tree, Leaf, Array, Dictionary, Trees, NoTrees, TreeAnd, Members, NoMembers, MemberAnd, String}
 use Rattle.plist_binwrite.specs.Classes.{same_class, representatives, count_by, objects_by, size_by, IsFileBy}
 use Rattle.plist_binwrite.specs.Sizes.{total, size_with}
-use Rattle.plist_binwrite.specs.Occurrences.{OccursAt, positions, positions_in_items, positions_in_pairs}
+use Rattle.plist_buffer.specs.Occurrences.{OccursAt, positions, positions_in_items, positions_in_pairs}
 use Rattle.plist_binwrite.specs.Widths.{reference_width}
-use Rattle.plist_binwrite.proofs.TreePositions.{Stands, positions_stand}
-use Rattle.plist_binwrite.proofs.Uniques.{unique_seen}
+use Rattle.plist_buffer.proofs.TreePositions.{Stands, positions_stand}
+use Rattle.plist_buffer.proofs.Uniques.{unique_seen}
 use Rattle.plist_share.specs.Distinct.{tree_eq, subtrees, subtrees_of_items, subtrees_of_pairs, distinct_subtrees}
 use Rattle.plist_share.specs.inner.Nodes.{SeparatesTrees}
 use Rattle.plist_share.specs.SharedFiles.{IsSharedFileOf, shared_objects_size, shared_file_size}

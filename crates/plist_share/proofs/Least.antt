@@ -10,7 +10,7 @@ use Rattle.plist_format.specs.Container.{Head, head_of}
 use Rattle.plist_format.specs.Unfolding.{table_of, unfolding_of, items_with, items_of_file}
 use Rattle.plist_binwrite.proofs.Least.{no_fault, all_items}
 use Rattle.plist_binwrite.proofs.Totals.{unique_distinct, pigeons}
-use Rattle.plist_binwrite.proofs.Uniques.{all_unique}
+use Rattle.plist_buffer.proofs.Uniques.{all_unique}
 use Rattle.plist_share.specs.Distinct.{tree_eq, subtrees, distinct_subtrees, HasAtLeast, IsLeastOfAll}
 use Rattle.plist_share.proofs.Meaning.{Means, Numbered, one_tree, all_numbered}
 use Rattle.plist_share.proofs.Parsing.{unfolding_parses}

@@ -9,7 +9,7 @@ use Rattle.plist_format.specs.Object as obj
 use Rattle.plist_format.specs.Object.{Object}
 use Rattle.plist_format.specs.Unfolding.{TableEntry}
 use Rattle.plist_binwrite.proofs.ClassObjects.{the_scalar, the_text, the_items, the_pairs}
-use Rattle.plist_binwrite.proofs.Uniques.{all_both}
+use Rattle.plist_buffer.proofs.Uniques.{all_both}
 use Rattle.plist_share.specs.Distinct.{subtrees, subtrees_of_items, subtrees_of_pairs}
 
 module _ (table : List TableEntry) where

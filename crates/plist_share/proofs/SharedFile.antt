@@ -5,13 +5,13 @@ use Rattle.plist_base.specs.Faults.{Fault, OutOfMemory, fault_without_offset}
 use Rattle.plist_base.specs.Trees.{Tree}
 use Rattle.plist_base.specs.Writing.{Answer}
 use Rattle.plist_binwrite.specs.Classes.{files_by}
-use Rattle.plist_binwrite.specs.declared.event_table.EventTable.{EventTable}
-use Rattle.plist_binwrite.specs.EventTable.{plain_events}
-use Rattle.plist_binwrite.specs.Occurrences.{OccursAt}
+use Rattle.plist_buffer.specs.declared.event_table.EventTable.{EventTable}
+use Rattle.plist_buffer.specs.EventTable.{plain_events}
+use Rattle.plist_buffer.specs.Occurrences.{OccursAt}
 use Rattle.plist_binwrite.specs.SendingAs.{SendsAs}
 use Rattle.plist_binwrite.proofs.SendingFiles.{sends_as}
-use Rattle.plist_binwrite.proofs.TreeOccurrences.{occurs_whole}
-use Rattle.plist_binwrite.proofs.Lengthless.{plain_lengthless}
+use Rattle.plist_buffer.proofs.TreeOccurrences.{occurs_whole}
+use Rattle.plist_buffer.proofs.Lengthless.{plain_lengthless}
 use Rattle.plist_share.specs.inner.Nodes.{SeparatesTrees}
 use Rattle.plist_share.specs.SharedFiles.{shared_files}
 use Rattle.plist_share.proofs.DistinctSubtrees.{shared_file, size_is}

@@ -3,7 +3,7 @@ use Rattle.std.proofs.Common.{◌≡◌, inl, inr, Bool, true, false, ◌&&◌, 
 use Rattle.std.specs.Str.{bytes_eq}
 use Rattle.plist_base.specs.Trees.{Tree, Leaf, Array, Dictionary, Trees, NoTrees, TreeAnd, Members, NoMembers, MemberAnd}
 use Rattle.plist_base.specs.Scalars.{scalar_eq}
-use Rattle.plist_binwrite.proofs.SameScalars.{Tells, bytes_tell, scalars_tell, tells_made}
+use Rattle.plist_buffer.proofs.SameScalars.{Tells, bytes_tell, scalars_tell, tells_made}
 use Rattle.plist_share.specs.Distinct.{tree_eq, trees_eq, members_eq}
 
 -- if two tests decide the parts, both together decide what is made of the parts

@@ -3,18 +3,18 @@
 
 ghost use Rattle.std.specs.Prelude.{◌≡◌, ◌+◌, ◌<◌, ◌++◌, Some, length, map, slice_get, IfOk, OnOk};
 ghost use Rattle.plist_base.specs.Events.{shape_of};
-ghost use Rattle.plist_binwrite.specs.Children.{half_of};
-ghost use Rattle.plist_binwrite.specs.EventTable.{nth_number, plain_events, table_event};
-ghost use Rattle.plist_binwrite.specs.declared.children.Half.TheVariants.{Keys, Values};
-ghost use Rattle.plist_binwrite.specs.inner.Scalars.{AreDistinct};
+ghost use Rattle.plist_buffer.specs.Children.{half_of};
+ghost use Rattle.plist_buffer.specs.EventTable.{nth_number, plain_events, table_event};
+ghost use Rattle.plist_buffer.specs.declared.children.Half.TheVariants.{Keys, Values};
+ghost use Rattle.plist_buffer.specs.inner.Entries.{AreDistinct};
 ghost use Rattle.plist_share.specs.inner.Nodes.{AreEventClasses, SeparatesAll, Extends, node_of, nodes_seen, AreClassesFrom, IsClassAt, is_dictionary};
 
 use indexmap::IndexSet;
 use plist_base::EventShape;
 use plist_binwrite::EventTable;
-use plist_binwrite::children::{Children, Half};
 use plist_binwrite::classes::{Classed, Classes};
-use plist_binwrite::compact_numbers::CompactNumbers;
+use plist_buffer::children::{Children, Half};
+use plist_buffer::compact_numbers::CompactNumbers;
 use std::alloc::{AllocError, Global};
 
 /// The class of each event, and an exclusive upper bound of the classes.

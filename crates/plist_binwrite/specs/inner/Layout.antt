@@ -4,15 +4,12 @@ use Rattle.std.specs.List.{list_any, IsDistinct}
 use Rattle.plist_format.specs.Container.{magic}
 use Rattle.plist_format.specs.Object.{Object}
 use Rattle.plist_binwrite.specs.Written.{object_table, table_and_trailer, Laid}
-use Rattle.plist_base.specs.Events.{ScalarEvent}
-use Rattle.plist_base.specs.Trees.{Scalar, Tree}
-use Rattle.plist_binwrite.specs.Forms.{IsWritableScalar}
-use Rattle.plist_binwrite.specs.EventTable.{plain_events, table_event, Describes, HasItem}
+use Rattle.plist_base.specs.Trees.{Tree}
+use Rattle.plist_buffer.specs.EventTable.{HasItem}
+use Rattle.plist_binwrite.specs.Numberings.{Describes}
 use Rattle.plist_binwrite.specs.EventClasses.{events_in, class_in}
-use Rattle.plist_binwrite.specs.Sizes.{IsSizeOrNone, object_size, size_with}
-use Rattle.plist_binwrite.specs.Occurrences.{OccursAt}
+use Rattle.plist_binwrite.specs.Sizes.{IsSizeOrNone, size_with}
 use Rattle.plist_binwrite.specs.Widths.{reference_width}
-use Rattle.plist_binwrite.specs.declared.event_table.EventTable.{EventTable}
 use Rattle.plist_binwrite.specs.declared.plan.FilePlan.{FilePlan}
 use Rattle.plist_binwrite.specs.declared.classes.Classed.{Classed}
 use Rattle.plist_binwrite.specs.inner.Numbering.{IsNumberingOfEvents, count_of, object_number}

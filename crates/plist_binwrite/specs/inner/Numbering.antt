@@ -2,15 +2,15 @@
 -- has no number yet. `firsts` has the index of the first event of each object, by its number.
 use Rattle.std.specs.Prelude.{◌≡◌, ℕ, ◌+◌, ◌-◌, ◌^◌, ◌<◌, ◌≤◌, false, List, length, get_or}
 use Rattle.plist_base.specs.Events.{PlainEvent}
-use Rattle.plist_binwrite.specs.EventTable.{is_end, event_at, IsBracketed}
+use Rattle.plist_buffer.specs.EventTable.{is_end, event_at, IsBracketed}
 use Rattle.plist_binwrite.specs.Classes.{AreClasses}
 use Rattle.plist_binwrite.specs.EventClasses.{IsListed, class_in, events_in}
 use Rattle.plist_binwrite.specs.declared.classes.Classed.{Classed}
 use Rattle.plist_binwrite.specs.declared.numbering.Numbering.{Numbering}
 use Rattle.std.specs.List.{AllByRecursion}
-use Rattle.plist_binwrite.specs.Children.{half_of}
-use Rattle.plist_binwrite.specs.declared.children.Half.{Half}
-use Rattle.plist_binwrite.specs.declared.children.Half.TheVariants.{Keys, Values}
+use Rattle.plist_buffer.specs.Children.{half_of}
+use Rattle.plist_buffer.specs.declared.children.Half.{Half}
+use Rattle.plist_buffer.specs.declared.children.Half.TheVariants.{Keys, Values}
 
 -- 1 more than the number of an event's object, or 0 if that has no number yet
 abbrev pub stored_by : (class : ℕ → ℕ) (by_class : List ℕ) → (index : ℕ) → ℕ

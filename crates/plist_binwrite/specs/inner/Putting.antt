@@ -10,9 +10,9 @@ use Rattle.plist_format.specs.Object.{Object}
 use Rattle.plist_binwrite.specs.Forms.{form, length_form, table_form}
 use Rattle.plist_binwrite.specs.EventClasses.{events_in}
 use Rattle.plist_binwrite.specs.Numberings.{object_of}
-use Rattle.plist_binwrite.specs.Children.{half_of}
-use Rattle.plist_binwrite.specs.declared.children.Half.{Half}
-use Rattle.plist_binwrite.specs.declared.children.Half.TheVariants.{Keys, Values}
+use Rattle.plist_buffer.specs.Children.{half_of}
+use Rattle.plist_buffer.specs.declared.children.Half.{Half}
+use Rattle.plist_buffer.specs.declared.children.Half.TheVariants.{Keys, Values}
 use Rattle.plist_binwrite.specs.Written.{object_table}
 use Rattle.plist_binwrite.specs.declared.classes.Classed.{Classed}
 use Rattle.plist_binwrite.specs.declared.plan.FilePlan.{FilePlan}

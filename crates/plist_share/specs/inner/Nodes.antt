@@ -3,12 +3,12 @@ use Rattle.std.specs.Prelude.{◌≡◌, ◌↔◌, ℕ, ◌+◌, ◌<◌, ◌�
 use Rattle.plist_base.specs.Events.{PlainEvent, shape_of}
 use Rattle.plist_base.specs.Trees.{Tree, Leaf, Array, Dictionary}
 use Rattle.plist_binwrite.specs.Classes.{AreClasses}
-use Rattle.plist_binwrite.specs.EventTable.{AllBelow, table_event, keys_in, nth_number, plain_events, values_in}
-use Rattle.plist_binwrite.specs.declared.event_table.EventTable.{EventTable}
+use Rattle.plist_buffer.specs.EventTable.{AllBelow, table_event, keys_in, nth_number, plain_events, values_in}
+use Rattle.plist_buffer.specs.declared.event_table.EventTable.{EventTable}
 use Rattle.plist_base.specs.declared.event.EventShape.{EventShape}
 use Rattle.plist_base.specs.declared.event.EventShape.TheVariants as shape
 use Rattle.plist_binwrite.specs.inner.Scalars.{AreIdentities}
-use Rattle.plist_binwrite.specs.Occurrences.{OccursAt}
+use Rattle.plist_buffer.specs.Occurrences.{OccursAt}
 use Rattle.plist_share.specs.declared.classes.Collection.{Collection}
 use Rattle.plist_share.specs.declared.classes.TreeClasses.{TreeClasses}
 

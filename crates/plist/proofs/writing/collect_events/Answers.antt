@@ -1,6 +1,6 @@
 use Rattle.std.proofs.Common.{rules, map, ap, ◌∙◌, ◌++◌}
 use Rattle.plist_base.specs.Bracketing.{bracketing, without_length}
-use Rattle.plist_binwrite.specs.EventTable.{plain_events}
+use Rattle.plist_buffer.specs.EventTable.{plain_events}
 use Rattle.plist.specs.Events.{remaining_events}
 use Rattle.plist.specs.ValueTrees.{tree_of}
 use Rattle.plist.proofs.EventTables.{gathered_more, gathered_all}

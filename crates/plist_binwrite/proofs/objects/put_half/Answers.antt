@@ -1,12 +1,12 @@
 use Rattle.std.proofs.Common.{◌≡◌, ◌∷◌, ℕ, List, map, sym, ap, subst}
 use Rattle.std.specs.List.{AllByRecursion}
 use Rattle.plist_base.proofs.SinkSteps.{puts_after, puts_as, puts_none, puts_then, puts_refused}
-use Rattle.plist_binwrite.specs.Children.{half_of, indices_left}
-use Rattle.plist_binwrite.specs.EventTable.{HasItem}
+use Rattle.plist_buffer.specs.Children.{half_of, indices_left}
+use Rattle.plist_buffer.specs.EventTable.{HasItem}
 use Rattle.plist_binwrite.specs.Forms.{table_form}
 use Rattle.plist_binwrite.specs.inner.Numbering.{object_number}
 use Rattle.plist_binwrite.specs.EventClasses.{events_in}
-use Rattle.plist_binwrite.proofs.ChildIndices.{are_items}
+use Rattle.plist_buffer.proofs.ChildIndices.{are_items}
 use Rattle.plist_binwrite.proofs.objects.put_half.Goals as goal
 use Rattle.plist_binwrite.proofs.objects.put_half.Goals.{After-into_iter-child-iterator as Begun, In-Some as Next}
 

@@ -1,7 +1,7 @@
 use Rattle.std.proofs.Common.{map}
 use Rattle.std.specs.List.{AllByRecursion}
-use Rattle.plist_binwrite.specs.Children.{indices_left}
-use Rattle.plist_binwrite.specs.EventTable.{HasItem}
+use Rattle.plist_buffer.specs.Children.{indices_left}
+use Rattle.plist_buffer.specs.EventTable.{HasItem}
 use Rattle.plist_binwrite.specs.Forms.{table_form}
 use Rattle.plist_binwrite.specs.inner.Numbering.{object_number}
 use Rattle.plist_binwrite.specs.EventClasses.{events_in}

@@ -4,7 +4,7 @@ use Rattle.plist_base.specs.Writing.{answer_of}
 use Rattle.plist_binwrite.specs.Classes.{files_by}
 use Rattle.plist_binwrite.specs.EventClasses.{class_in, events_in}
 use Rattle.plist_binwrite.specs.SendingAs.{SendsAs}
-use Rattle.plist_binwrite.proofs.Lengthless.{whole_bracketed}
+use Rattle.plist_buffer.proofs.Lengthless.{whole_bracketed}
 use Rattle.plist_binwrite.proofs.PlannedFiles.{plan_sends}
 use Rattle.plist_binwrite.proofs.SendingFiles.{sends_nothing}
 use Rattle.plist_binwrite.proofs.send_file.write_file_by_class.Goals as goal

@@ -1,7 +1,7 @@
 use Rattle.std.proofs.Common.{inl, arith, ap, length}
-use Rattle.plist_binwrite.proofs.ChildIndices.{few_children}
-use Rattle.plist_binwrite.proofs.EntryEvents.{long_shown}
-use Rattle.plist_binwrite.specs.EventTable.{plain_events, scalars_of}
+use Rattle.plist_buffer.proofs.ChildIndices.{few_children}
+use Rattle.plist_buffer.proofs.EntryEvents.{long_shown}
+use Rattle.plist_buffer.specs.EventTable.{plain_events, scalars_of}
 use Rattle.plist_binwrite.proofs.size.count_children.Goals as goal
 
 pub count-requires-clause-fits : goal.count-requires-clause-fits

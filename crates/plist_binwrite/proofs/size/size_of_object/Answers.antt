@@ -1,8 +1,8 @@
 use Rattle.std.proofs.Common.{◌∙◌, arith}
-use Rattle.plist_binwrite.specs.EventTable.{plain_events, scalars_of}
-use Rattle.plist_binwrite.specs.declared.children.Half.TheVariants.{Values}
-use Rattle.plist_binwrite.proofs.ChildIndices.{few_children}
-use Rattle.plist_binwrite.proofs.EntryEvents.{long_shown}
+use Rattle.plist_buffer.specs.EventTable.{plain_events, scalars_of}
+use Rattle.plist_buffer.specs.declared.children.Half.TheVariants.{Values}
+use Rattle.plist_buffer.proofs.ChildIndices.{few_children}
+use Rattle.plist_buffer.proofs.EntryEvents.{long_shown}
 use Rattle.plist_binwrite.proofs.TreeObjects.{count_items, count_pairs, dictionary_told, of_array, of_dictionary}
 use Rattle.plist_binwrite.proofs.size.size_of_object.Goals as goal
 

@@ -1,7 +1,7 @@
 use Rattle.std.proofs.Common.{inr, Ok, Err, refl, subst, sym, ◌∙◌, true≢false}
 use Rattle.std.proofs.lemmas.Result.{err_from_is_err_and}
 use Rattle.plist_base.specs.Faults.{fault_of}
-use Rattle.plist_binwrite.specs.EventTable.{plain_events}
+use Rattle.plist_buffer.specs.EventTable.{plain_events}
 use Rattle.plist_binwrite.specs.Sending.{Sends}
 use Rattle.plist_commands.proofs.BufferedItems.{not_direct, sends_read}
 use Rattle.plist_commands.proofs.convert.send_events.Goals as goal

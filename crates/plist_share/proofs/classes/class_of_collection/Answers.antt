@@ -1,6 +1,6 @@
 use Rattle.std.proofs.Common.{rules, ◌≡◌, ◌+◌, ◌++◌, map, Some, ◌∙◌}
-use Rattle.plist_binwrite.specs.EventTable.{plain_events, nth_number}
-use Rattle.plist_binwrite.proofs.ChildIndices.{keys_are_in, values_are_in}
+use Rattle.plist_buffer.specs.EventTable.{plain_events, nth_number}
+use Rattle.plist_buffer.proofs.ChildIndices.{keys_are_in, values_are_in}
 use Rattle.plist_share.proofs.classes.class_of_collection.Goals as goal
 
 pub returns-clause-class : goal.returns-clause-class

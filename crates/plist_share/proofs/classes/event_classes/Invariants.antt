@@ -1,6 +1,6 @@
 use Rattle.std.proofs.Common.{◌≡◌, ◌<◌, ℕ, length}
 use Rattle.plist_binwrite.specs.EventClasses.{class_of}
-use Rattle.plist_binwrite.specs.EventTable.{nth_number}
+use Rattle.plist_buffer.specs.EventTable.{nth_number}
 use Rattle.plist_binwrite.specs.declared.classes.Classes.TheVariants.{EqualScalars}
 use Rattle.plist_share.proofs.classes.event_classes.Given as goal
 

@@ -1,5 +1,5 @@
 use Rattle.std.proofs.Common.{arith, sym, ◌∙◌, subst}
-use Rattle.plist_binwrite.proofs.TreeStarts.{no_start}
+use Rattle.plist_buffer.proofs.TreeStarts.{no_start}
 use Rattle.plist_share.specs.inner.Nodes.{AreClassesFrom}
 use Rattle.plist_share.proofs.ClassTrees.{collection_written, no_scalar, none_written}
 use Rattle.plist_share.proofs.classes.give_class.Goals as goal

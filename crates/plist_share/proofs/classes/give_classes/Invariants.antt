@@ -1,6 +1,6 @@
 use Rattle.std.proofs.Common.{◌≡◌, ◌≤◌, length}
-use Rattle.plist_binwrite.specs.EventTable.{plain_events}
-use Rattle.plist_binwrite.specs.inner.Scalars.{AreDistinct}
+use Rattle.plist_buffer.specs.EventTable.{plain_events}
+use Rattle.plist_buffer.specs.inner.Entries.{AreDistinct}
 use Rattle.plist_share.specs.inner.Nodes.{AreClassesFrom, nodes_seen}
 use Rattle.plist_share.proofs.classes.give_classes.Given as goal
 

@@ -1,6 +1,6 @@
 use Rattle.std.proofs.Common.{arith, refl}
-use Rattle.plist_binwrite.specs.EventTable.{nth_number}
-use Rattle.plist_binwrite.proofs.TreeStarts.{occurs_in}
+use Rattle.plist_buffer.specs.EventTable.{nth_number}
+use Rattle.plist_buffer.proofs.TreeStarts.{occurs_in}
 use Rattle.plist_share.proofs.classes.give_trees.Goals as goal
 
 pub give_classes-requires-clause-classes : goal.give_classes-requires-clause-classes

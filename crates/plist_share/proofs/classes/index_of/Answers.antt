@@ -1,4 +1,4 @@
-use Rattle.plist_binwrite.proofs.SetKeys.{key_at, keys_kept, keys_apart, keys_grow}
+use Rattle.plist_buffer.proofs.SetKeys.{key_at, keys_kept, keys_apart, keys_grow}
 use Rattle.plist_share.specs.inner.Nodes.{node_of}
 use Rattle.plist_share.proofs.EqualKeys.{same, same_key, key_same}
 use Rattle.plist_share.proofs.classes.index_of.Goals as goal

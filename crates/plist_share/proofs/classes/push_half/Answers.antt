@@ -1,8 +1,8 @@
 use Rattle.std.proofs.Common.{◌≡◌, ◌++◌, ◌∷◌, ap, map, sym, subst, refl, ◌∙◌, append-nil}
 use Rattle.std.specs.List.{AllByRecursion}
-use Rattle.plist_binwrite.specs.Children.{half_of, indices_left}
-use Rattle.plist_binwrite.specs.EventTable.{plain_events, HasItem, nth_number}
-use Rattle.plist_binwrite.proofs.ChildIndices.{are_items}
+use Rattle.plist_buffer.specs.Children.{half_of, indices_left}
+use Rattle.plist_buffer.specs.EventTable.{plain_events, HasItem, nth_number}
+use Rattle.plist_buffer.proofs.ChildIndices.{are_items}
 use Rattle.plist_share.proofs.classes.push_half.Goals as goal
 use Rattle.plist_share.proofs.classes.push_half.Goals.{After-into_iter-child-iterator as Begun, In-Some as Next}
 

@@ -1,7 +1,7 @@
 use Rattle.std.proofs.Common.{◌≡◌, ◌++◌, map}
 use Rattle.std.specs.List.{AllByRecursion}
-use Rattle.plist_binwrite.specs.Children.{indices_left}
-use Rattle.plist_binwrite.specs.EventTable.{plain_events, HasItem, nth_number}
+use Rattle.plist_buffer.specs.Children.{indices_left}
+use Rattle.plist_buffer.specs.EventTable.{plain_events, HasItem, nth_number}
 use Rattle.plist_share.proofs.classes.push_half.Given as goal
 
 abbrev pub invariant-loop-child : goal.invariant-loop-child

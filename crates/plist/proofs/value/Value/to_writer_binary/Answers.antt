@@ -1,7 +1,7 @@
 use Rattle.std.proofs.lemmas.Result.{err_from_is_err_and}
 use Rattle.plist_base.specs.Faults.{fault_of}
 use Rattle.plist_base.specs.Writing.{answer_of}
-use Rattle.plist_binwrite.specs.EventTable.{plain_events}
+use Rattle.plist_buffer.specs.EventTable.{plain_events}
 use Rattle.plist.specs.ValueTrees.{tree_of}
 use Rattle.plist.proofs.EventTables.{gathered_alike, whole_tree, sends_tree, wants_memory}
 use Rattle.plist.proofs.value.Value.to_writer_binary.Goals as goal

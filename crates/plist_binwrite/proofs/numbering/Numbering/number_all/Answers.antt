@@ -2,12 +2,12 @@ use Rattle.std.proofs.Common.{arith, below_more, subst}
 use Rattle.std.specs.List.{AllByRecursion}
 use Rattle.plist_binwrite.specs.EventClasses.{events_in}
 use Rattle.plist_binwrite.specs.inner.Numbering.{stored_number, IsNumbered}
-use Rattle.plist_binwrite.proofs.ChildIndices.{keys_are_in, values_are_in}
-use Rattle.plist_binwrite.proofs.TreePositions.{positions_all, positions_have}
-use Rattle.plist_binwrite.proofs.TreeOccurrences.{occurs_whole}
+use Rattle.plist_buffer.proofs.ChildIndices.{keys_are_in, values_are_in}
+use Rattle.plist_buffer.proofs.TreePositions.{positions_all, positions_have}
+use Rattle.plist_buffer.proofs.TreeOccurrences.{occurs_whole}
 use Rattle.plist_binwrite.proofs.NumberingSteps.{keeps_then, still_numbered}
-use Rattle.plist_binwrite.proofs.TreeStarts.{begins, occurs_in}
-use Rattle.plist_binwrite.proofs.Uniques.{all_from}
+use Rattle.plist_buffer.proofs.TreeStarts.{begins, occurs_in}
+use Rattle.plist_buffer.proofs.Uniques.{all_from}
 use Rattle.plist_binwrite.proofs.numbering.Numbering.number_all.Goals as goal
 
 pub number_one-requires-clause-item : goal.number_one-requires-clause-item

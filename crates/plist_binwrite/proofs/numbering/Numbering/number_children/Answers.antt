@@ -1,8 +1,8 @@
 use Rattle.std.proofs.Common.{refl, subst, sym}
 use Rattle.std.specs.List.{AllByRecursion}
-use Rattle.plist_binwrite.specs.declared.children.Half.TheVariants.{Keys, Values}
+use Rattle.plist_buffer.specs.declared.children.Half.TheVariants.{Keys, Values}
 use Rattle.plist_binwrite.proofs.NumberingSteps.{keeps_self, still_numbered}
-use Rattle.plist_binwrite.proofs.Uniques.{all_from}
+use Rattle.plist_buffer.proofs.Uniques.{all_from}
 use Rattle.plist_binwrite.proofs.numbering.Numbering.number_children.Goals as goal
 
 pub returns-then-not-begins_collection-clause-keeps

@@ -1,7 +1,7 @@
 use Rattle.std.specs.List.{AllByRecursion}
-use Rattle.plist_binwrite.specs.Children.{indices_left}
+use Rattle.plist_buffer.specs.Children.{indices_left}
 use Rattle.plist_binwrite.specs.EventClasses.{events_in}
-use Rattle.plist_binwrite.specs.EventTable.{HasItem}
+use Rattle.plist_buffer.specs.EventTable.{HasItem}
 use Rattle.plist_binwrite.specs.inner.Numbering.{IsNumberedSoFar, KeepsNumbers, stored_number}
 use Rattle.plist_binwrite.proofs.NumberingSteps.{NumbersRest}
 use Rattle.plist_binwrite.proofs.numbering.Numbering.number_half.Given as goal

@@ -1,8 +1,8 @@
 use Rattle.std.proofs.Common.{◌≡◌, ◌<◌, ℕ, get_or, ap, arith, sym, ◌∙◌}
-use Rattle.plist_binwrite.specs.EventTable.{scalars_of}
+use Rattle.plist_buffer.specs.EventTable.{scalars_of}
 use Rattle.plist_binwrite.specs.inner.Numbering.{count_of, object_number}
 use Rattle.plist_binwrite.proofs.ClassObjects.{numbered}
-use Rattle.plist_binwrite.proofs.EntryEvents.{long_shown}
+use Rattle.plist_buffer.proofs.EntryEvents.{long_shown}
 use Rattle.plist_binwrite.proofs.ObjectOffsets.{end_positive, keeps_more, laid_next, marked_more, not_in_order, order_more, sized}
 use Rattle.plist_binwrite.proofs.NumberingSteps.{numbers_below}
 use Rattle.plist_binwrite.proofs.TreeObjects.{object_fits}

@@ -1,10 +1,10 @@
 use Rattle.std.proofs.Common.{◌≡◌, sym, subst}
 use Rattle.std.specs.List.{AllByRecursion}
-use Rattle.plist_binwrite.specs.Children.{half_of, indices_left}
+use Rattle.plist_buffer.specs.Children.{half_of, indices_left}
 use Rattle.plist_binwrite.specs.EventClasses.{events_in}
-use Rattle.plist_binwrite.specs.EventTable.{HasItem}
-use Rattle.plist_binwrite.specs.declared.children.Half.TheVariants.{Keys}
-use Rattle.plist_binwrite.proofs.ChildIndices.{are_items}
+use Rattle.plist_buffer.specs.EventTable.{HasItem}
+use Rattle.plist_buffer.specs.declared.children.Half.TheVariants.{Keys}
+use Rattle.plist_buffer.proofs.ChildIndices.{are_items}
 use Rattle.plist_binwrite.proofs.plan.FilePlan.place_here.Goals as goal
 use Rattle.plist_binwrite.proofs.plan.FilePlan.place_here.Goals.{After-into_iter-key-iterator as Begun}
 

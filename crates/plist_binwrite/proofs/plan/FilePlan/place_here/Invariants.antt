@@ -1,8 +1,8 @@
 use Rattle.std.proofs.Common.{ℕ}
 use Rattle.std.specs.List.{AllByRecursion}
-use Rattle.plist_binwrite.specs.Children.{indices_left}
+use Rattle.plist_buffer.specs.Children.{indices_left}
 use Rattle.plist_binwrite.specs.EventClasses.{events_in}
-use Rattle.plist_binwrite.specs.EventTable.{HasItem}
+use Rattle.plist_buffer.specs.EventTable.{HasItem}
 use Rattle.plist_binwrite.specs.inner.Layout.{HasPlace, IsLayout}
 use Rattle.plist_binwrite.proofs.plan.FilePlan.place_here.Given as goal
 

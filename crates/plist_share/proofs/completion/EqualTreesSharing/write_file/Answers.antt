@@ -1,7 +1,7 @@
 use Rattle.std.proofs.Common.{rules}
 use Rattle.std.proofs.lemmas.Result.{err_from_is_err_and}
 use Rattle.plist_base.specs.Writing.{answer_of}
-use Rattle.plist_binwrite.specs.EventTable.{nth_number}
+use Rattle.plist_buffer.specs.EventTable.{nth_number}
 use Rattle.plist_share.proofs.SharedFile.{sends_shared, sends_nothing}
 use Rattle.plist_share.proofs.completion.EqualTreesSharing.write_file.Goals as goal
 

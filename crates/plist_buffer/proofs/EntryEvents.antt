@@ -1,0 +1,376 @@
+-- The events that the entries of a table represent, and how each call maintains their invariants.
+use Rattle.std.proofs.Common.{◌≡◌, eqb, ◌⊎◌, inl, inr, ℕ, zero, suc, ◌+◌, ◌^◌, ◌<◌, Bool, true, false, if◌then◌else◌, None, Some, Result, Ok, Err, OnOk, OnErr, List, [], ◌∷◌, ◌++◌, length, set, slice_get, reverse, refl, ap, sym, ◌∙◌, subst, arith}
+use Rattle.std.proofs.Math.ListN.{get_or-append}
+use Rattle.std.proofs.Math.Seq.{get_or-append_seam, map-set_same}
+use Rattle.std.proofs.lemmas.Bool.{eq-eqb, ne_eqb}
+use Rattle.std.proofs.lemmas.Bool.Decides.{eqb_tells, leb_tells}
+use Rattle.std.proofs.lemmas.List.{length-map, length-append, length-set, map-append, reverse-append, get_or-map, get_or_past}
+use Rattle.std.proofs.lemmas.List.Folds.{list_any-append, list_any_at}
+use Rattle.std.proofs.lemmas.Option.{get_or_from_slice_get, slice_get-get_or}
+use Rattle.std.specs.List.{list_any}
+use Rattle.std.specs.Prelude.{◌||◌}
+use Rattle.plist_base.specs.Bracketing.{without_length}
+use Rattle.plist_base.specs.Events.{PlainEvent, EndCollection, ScalarEvent}
+use Rattle.plist_base.specs.Trees.{Scalar}
+use Rattle.plist_buffer.specs.declared.entries.EventEntry.{EventEntry}
+use Rattle.plist_buffer.specs.declared.entries.EventEntry.TheVariants as entry
+use Rattle.plist_buffer.specs.EventTable.{event_at}
+use Rattle.plist_buffer.specs.inner.Columns.{scalar_named}
+use Rattle.plist_buffer.specs.inner.Entries.{AreDistinct, is_leaf, entry_at, event_of_entry, events_of_entries, is_sound, is_start, index_after_entry, index_after_at, closed_at, ended_at, names, AreEntriesOf, IsValidTable}
+use Rattle.plist_buffer.specs.inner.UnclosedStarts.{unclosed_after_event, unclosed_after, skip_after_event, skip_after, without_innermost}
+use Rattle.plist_buffer.proofs.Changes.{at_set, at_more}
+use Rattle.plist_buffer.proofs.Columns.{unnamed}
+use Rattle.plist_buffer.proofs.OpenStarts as opened
+use Rattle.plist_buffer.proofs.OpenStarts.{open_more, skip_more, skip_ends, skip_forward, innermost_starts}
+
+-- ---- the events of entries
+
+pub long_shown : (scalars : List PlainEvent) (es : List EventEntry)
+    → length (events_of_entries scalars es) ≡ length es
+long_shown scalars es = length-map es _
+
+shown_more : (scalars : List PlainEvent) (es : List EventEntry) (e : EventEntry)
+    → events_of_entries scalars (es ++ e ∷ []) ≡ events_of_entries scalars es ++ event_of_entry scalars e ∷ []
+shown_more scalars es e = map-append _ es _
+
+entry_before : (es : List EventEntry) (e : EventEntry) (p : ℕ) → p < length es
+    → entry_at (es ++ e ∷ []) p ≡ entry_at es p
+entry_before es e p lt = get_or-append es _ _ p lt
+
+entry_last : (es : List EventEntry) (e : EventEntry) → entry_at (es ++ e ∷ []) (length es) ≡ e
+entry_last es e = get_or-append_seam es e [] _
+
+-- if an entry refers to a scalar, one still does after another entry is appended
+named_more : (i : ℕ) (es : List EventEntry) (e : EventEntry) → list_any (names i) es ≡ true
+    → list_any (names i) (es ++ e ∷ []) ≡ true
+named_more i es e h =
+    cc (list_any-append (names i) es (e ∷ []))
+
+-- an index at which a test finds an event that passes is within the list
+pub below : (f : PlainEvent → Bool) (es : List PlainEvent) (i : ℕ) → f EndCollection ≡ false
+    → f (event_at es i) ≡ true → i < length es
+below f es i none h = elim (leb_tells (length es) i) [
+  | inl a ↦ cc (ap f (get_or_past es i EndCollection a.1))
+  | inr b ↦ b.1
+]
+
+leaf_is : (e : PlainEvent) → is_leaf e ≡ true → (x : Scalar) × (e ≡ ScalarEvent x)
+leaf_is (ScalarEvent x) h = (x, refl)
+leaf_is e h = cc
+
+-- a scalar at an index is in the list
+pub leaf_stored : (scalars : List PlainEvent) (i : ℕ) → is_leaf (event_at scalars i) ≡ true
+    → slice_get scalars i ≡ Some (event_at scalars i)
+leaf_stored scalars i leaf =
+    slice_get-get_or scalars i EndCollection (below is_leaf scalars i refl leaf)
+
+leaf_without_length : (e : PlainEvent) → is_leaf e ≡ true → without_length e ≡ e
+leaf_without_length e h = let f = leaf_is e h in rw f.1 refl
+
+-- more scalars change no event of the entries
+module _ (old more : List PlainEvent) where
+  one_kept : (e : EventEntry) → is_sound old e ≡ true → (is_sound (old ++ more) e ≡ true)
+      × (event_of_entry (old ++ more) e ≡ event_of_entry old e)
+  one_kept (entry.Scalar i) h =
+      let same
+      = get_or-append old _ _ i (below is_leaf old i refl h) in
+      (ap is_leaf same ∙ h, ap without_length same)
+  one_kept e h = (refl, refl)
+
+  shown_kept : (es : List EventEntry) → ((p : ℕ) → p < length es
+      → is_sound old (entry_at es p) ≡ true)
+      → events_of_entries (old ++ more) es ≡ events_of_entries old es
+  shown_kept [] sound = refl
+  shown_kept (e ∷ es) sound =
+      λ i. (one_kept e (sound 0 (omega arith))).1 i
+      ∷ shown_kept es (λ p lt. sound (suc p) (omega (arith, lt))) i
+
+-- ---- one more event
+
+module _ {scalars : List PlainEvent} {es : List EventEntry} {unclosed : List ℕ}
+    (t : AreEntriesOf scalars es unclosed) where
+  abbrev events : List PlainEvent
+  events = events_of_entries scalars es
+
+  long : length events ≡ length es
+  long = long_shown _ es
+
+  -- the event at an index is that of the entry
+  shown_at : (p : ℕ) → p < length es → event_at events p ≡ event_of_entry scalars (entry_at es p)
+  shown_at p lt = get_or-map _ es p _ _ lt
+
+  -- entries that meet these conditions represent the events and one more
+  entries_by : (now : List EventEntry) (after : List ℕ) (e : PlainEvent)
+      → events_of_entries scalars now ≡ events ++ e ∷ []
+      → ((p : ℕ) → p < length now → is_sound scalars (entry_at now p) ≡ true)
+      → reverse after ≡ unclosed_after_event e (length es) (unclosed_after events)
+      → ((p : ℕ) → p < length es
+      → index_after_at now p ≡ skip_after_event e (length es) (unclosed_after events) p (index_after_at es p))
+      → index_after_at now (length es) ≡ length es + 1 → AreEntriesOf scalars now after
+  entries_by now after e is sound starts before last =
+      let more : length now ≡ length es + 1 = omega (
+        arith,
+        long_shown scalars now,
+        ap length is,
+        length-append events (e ∷ []),
+        long,
+      ) in
+      record {
+        sound = sound;
+        starts = starts ∙ ap (λ n. unclosed_after_event e n (unclosed_after events)) (sym long)
+            ∙ sym (open_more events e) ∙ ap unclosed_after (sym is);
+        skips = λ p lt. elim (eqb_tells p (length es)) [
+          | inl d ↦
+              let f = skip_forward (events_of_entries scalars now) p
+              (omega (arith, lt, long_shown scalars now)) in
+              ap (index_after_at now) d.1 ∙ last ∙ omega (arith, f, d.1, more, long_shown scalars now)
+          | inr d ↦
+              let b : p < length es = omega (arith, lt, more, d.1) in
+              before p b
+              ∙ ap (skip_after_event e (length es) (unclosed_after events) p) (t.skips p b)
+              ∙ ap (λ n. skip_after_event e n (unclosed_after events) p (skip_after events p)) (sym long)
+              ∙ sym (skip_more events e p) ∙ ap (λ l. skip_after l p) (sym is)
+        ];
+      }
+
+  -- an entry is appended that closes no start
+  entries_more : (e : EventEntry) (after : List ℕ) → is_sound scalars e ≡ true
+      → index_after_entry (length es) e ≡ length es + 1
+      → reverse after ≡ unclosed_after_event (event_of_entry scalars e) (length es) (unclosed_after events)
+      → ((p k : ℕ) → skip_after_event (event_of_entry scalars e) (length es) (unclosed_after events) p k ≡ k)
+      → AreEntriesOf scalars (es ++ e ∷ []) after
+  entries_more e after one following starts same =
+      entries_by (es ++ e ∷ []) after (event_of_entry scalars e) (shown_more scalars es e)
+      (λ p lt. at_more es e entry.End p (λ d. is_sound scalars d ≡ true) lt (λ d. one) (t.sound p))
+      starts
+      (λ p lt. ap (index_after_entry p) (entry_before es e p lt) ∙ sym (same p (index_after_at es p)))
+      (ap (index_after_entry (length es)) (entry_last es e) ∙ following)
+
+  entries_scalar : (i : ℕ) → is_leaf (event_at scalars i) ≡ true
+      → AreEntriesOf scalars (es ++ entry.Scalar i ∷ []) unclosed
+  entries_scalar i leaf =
+      let f = leaf_is (event_at scalars i) leaf in
+      entries_more (entry.Scalar i) unclosed leaf refl (rw f.1 t.starts) (λ p k. rw f.1 refl)
+
+  entries_start : (e : EventEntry) → is_start e ≡ true → index_after_entry (length es) e ≡ length es + 1
+      → AreEntriesOf scalars (es ++ e ∷ []) (unclosed ++ length es ∷ [])
+  entries_start e starts following = by e starts following
+    where
+      opens : reverse (unclosed ++ length es ∷ []) ≡ length es ∷ unclosed_after events
+      opens = cc (reverse-append unclosed (length es ∷ []))
+
+      by : (e : EventEntry) → is_start e ≡ true → index_after_entry (length es) e ≡ length es + 1
+          → AreEntriesOf scalars (es ++ e ∷ []) (unclosed ++ length es ∷ [])
+      by (entry.Array k) s b = entries_more (entry.Array k) _ refl b opens (λ p k. refl)
+      by (entry.Dictionary k) s b = entries_more (entry.Dictionary k) _ refl b opens (λ p k. refl)
+      by e s b = cc
+
+  -- an end is appended while nothing is open
+  entries_stray : unclosed ≡ [] → AreEntriesOf scalars (es ++ entry.End ∷ []) []
+  entries_stray none =
+      let nothing : unclosed_after events ≡ [] = sym t.starts ∙ ap reverse none in
+      entries_more entry.End [] refl refl (sym (ap without_innermost nothing))
+      (λ p k. ap (λ b. skip_after_event EndCollection (length es) b p k) nothing)
+
+  -- an end is appended, which closes the innermost start
+  module _ (start : ℕ) (outer : List ℕ) (is : unclosed ≡ outer ++ start ∷ []) where
+    pub unclosed_is : unclosed_after events ≡ start ∷ reverse outer
+    unclosed_is = cc (reverse-append outer (start ∷ []))
+
+    pub was_start : opened.is_start (event_at events start) ≡ true
+    was_start = innermost_starts _ _ (reverse outer) unclosed_is
+
+    pub start_within : start < length es
+    start_within = omega (arith, below opened.is_start events start refl was_start, long)
+
+    abbrev ended : List EventEntry
+    ended = es ++ entry.End ∷ []
+
+    abbrev closing : EventEntry
+    closing = closed_at (entry_at ended start) (length es + 1)
+
+    within : start < length ended
+    within = omega (arith, start_within, length-append es (entry.End ∷ []))
+
+    -- closing a start changes nothing but the index after it
+    closing_same : {A : Type 0} (f : EventEntry → A)
+        → ((m n : ℕ) → f (entry.Array m) ≡ f (entry.Array n))
+        → ((m n : ℕ) → f (entry.Dictionary m) ≡ f (entry.Dictionary n))
+        → f closing ≡ f (entry_at ended start)
+    closing_same f array dictionary = by _ _
+      where
+        by : (e : EventEntry) (n : ℕ) → f (closed_at e n) ≡ f e
+        by (entry.Array following) n = array n following
+        by (entry.Dictionary following) n = dictionary n following
+        by e n = refl
+
+    same_named : (i : ℕ) (l : List EventEntry) (p : ℕ) (e : EventEntry) → p < length l
+        → names i e ≡ names i (entry_at l p)
+        → list_any (names i) (set l p e) ≡ list_any (names i) l
+    same_named i [] p e lt h = refl
+    same_named i (d ∷ l) zero e lt h = ap (λ b. b || list_any (names i) l) h
+    same_named i (d ∷ l) (suc p) e lt h =
+        ap (λ b. names i d || b) (same_named i l p e (omega arith) h)
+
+    closing_used : (i : ℕ) → list_any (names i) (ended_at es start) ≡ list_any (names i) ended
+    closing_used i = same_named i _ _ closing within
+        (closing_same (names i) (λ m n. refl) (λ m n. refl))
+
+    pub end_shown : events_of_entries scalars (ended_at es start) ≡ events ++ EndCollection ∷ []
+    end_shown =
+        map-set_same _ _ _ _ entry.End
+        (closing_same (event_of_entry _) (λ m n. refl) (λ m n. refl)) ∙ shown_more _ es _
+
+    sound_ended : (p : ℕ) → p < length ended → is_sound scalars (entry_at ended p) ≡ true
+    sound_ended p lt =
+        at_more es _ _ p (λ d. is_sound scalars d ≡ true) lt (λ d. refl) (t.sound p)
+
+    closing_behind : (e : EventEntry) (n : ℕ) → is_sound scalars e ≡ true
+        → opened.is_start (event_of_entry scalars e) ≡ true → index_after_entry start (closed_at e n) ≡ n
+    closing_behind (entry.Array following) n h s = refl
+    closing_behind (entry.Dictionary following) n h s = refl
+    closing_behind (entry.Scalar i) n h s =
+        let f = leaf_is _ h in
+        let never : opened.is_start (without_length (event_at scalars i))
+        ≡ false = rw f.1 refl in cc
+    closing_behind entry.End n h s = cc
+
+    start_of : (e : EventEntry) → is_sound scalars e ≡ true
+        → opened.is_start (event_of_entry scalars e) ≡ true → is_start e ≡ true
+    start_of (entry.Scalar i) h s =
+        let f = leaf_is _ h in
+        let never : opened.is_start (without_length (event_at scalars i))
+        ≡ false = rw f.1 refl in cc
+    start_of entry.End h s = cc
+    start_of e h s = refl
+
+    pub start_stored : is_start (entry_at es start) ≡ true
+    start_stored =
+        start_of (entry_at es start) (t.sound start start_within)
+        (ap opened.is_start (sym (shown_at start start_within)) ∙ was_start)
+
+    entries_end : AreEntriesOf scalars (ended_at es start) outer
+    entries_end =
+        entries_by (ended_at es start) outer EndCollection end_shown
+        (λ p lt. at_set ended start closing entry.End p (λ d. is_sound scalars d ≡ true) within
+        (λ d. closing_same (is_sound scalars) (λ m n. refl) (λ m n. refl)
+        ∙ sound_ended start within)
+        (λ d. sound_ended p (omega (arith, lt, length-set ended start closing))))
+        (sym (ap without_innermost unclosed_is))
+        (λ p lt. rw unclosed_is (at_set ended start closing entry.End p
+        (λ d. index_after_entry p d ≡ (if eqb p start then length es + 1 else index_after_at es p)) within
+        (λ d. ap (λ k. index_after_entry k closing) d
+        ∙ closing_behind (entry_at ended start) (length es + 1) (sound_ended start within)
+        (ap opened.is_start (ap (event_of_entry scalars) (entry_before es entry.End start start_within)
+        ∙ sym (shown_at start start_within)) ∙ was_start)
+        ∙ sym (ap (λ b. if b then length es + 1 else index_after_at es p) (eq-eqb p start d)))
+        (λ d. ap (index_after_entry p) (entry_before es entry.End p lt)
+        ∙ sym (ap (λ b. if b then length es + 1 else index_after_at es p) (ne_eqb p start d)))))
+        (at_set ended start closing entry.End (length es)
+        (λ d. index_after_entry (length es) d ≡ length es + 1)
+        within (λ d. absurd (omega (arith, d, start_within)))
+        (λ d. ap (index_after_entry (length es)) (entry_last es entry.End)))
+
+-- ---- the calls
+
+-- an entry was appended, or none was because an allocation failed
+pub either_few : {T E : Type 0} (r : Result T E) (es now : List EventEntry)
+    → OnOk r (length now < 2 ^ 63) → OnErr r (now ≡ es) → length es < 2 ^ 63 → length now < 2 ^ 63
+either_few (Ok x) es now small same few = small
+either_few (Err x) es now small same few = rw same few
+
+pub either : {T E : Type 0} (r : Result T E) {es more now : List EventEntry} (P : List EventEntry
+    → Type 0)
+    → OnOk r (now ≡ more) → OnErr r (now ≡ es) → P more → P es → P now
+either (Ok x) P is same new old = rw is new
+either (Err x) P is same new old = rw same old
+
+module _ {scalars : List PlainEvent} {es : List EventEntry} {unclosed : List ℕ}
+    (kept : IsValidTable scalars es unclosed) where
+  still_used : (e : EventEntry) (i : ℕ) → i < length scalars → list_any (names i) (es
+      ++ e ∷ []) ≡ true
+  still_used e i lt = named_more i es e (kept.used i lt)
+
+  pub kept_start : (e : EventEntry) → is_start e ≡ true → index_after_entry (length es) e ≡ length es + 1
+      → IsValidTable scalars (es ++ e ∷ []) (unclosed ++ length es ∷ [])
+  kept_start e starts following = record {
+    apart = kept.apart;
+    used = still_used e;
+    entries_are = entries_start kept.entries_are e starts following;
+  }
+
+  pub kept_stray : unclosed ≡ [] → IsValidTable scalars (es ++ entry.End ∷ []) []
+  kept_stray none =
+      record { apart = kept.apart; used = still_used entry.End; entries_are = entries_stray kept.entries_are none }
+
+  pub kept_end : (start : ℕ) (outer : List ℕ) → unclosed ≡ outer ++ start ∷ []
+      → IsValidTable scalars (ended_at es start) outer
+  kept_end start outer is = record {
+    apart = kept.apart;
+    used = λ i lt. closing_used kept.entries_are start outer is i ∙ still_used entry.End i lt;
+    entries_are = entries_end kept.entries_are start outer is;
+  }
+
+  -- a scalar is appended, after which there may be one more different scalar
+  module _ (more : List PlainEvent) {new : List PlainEvent} (grown : new ≡ scalars ++ more) where
+    grown_shown : events_of_entries new es ≡ events_of_entries scalars es
+    grown_shown = cc (shown_kept scalars more es kept.entries_are.sound)
+
+    module _ (i : ℕ) {e : PlainEvent} (leaf : is_leaf e ≡ true)
+        (stored : slice_get new i ≡ Some e) where
+      at : event_at new i ≡ e
+      at = get_or_from_slice_get new i e _ stored
+
+      pub scalar_shown : events_of_entries new (es ++ entry.Scalar i ∷ []) ≡ events_of_entries scalars es ++ e ∷ []
+      scalar_shown = shown_more new es (entry.Scalar i)
+          ∙ (λ j. grown_shown j ++ (ap without_length at ∙ leaf_without_length e leaf) j ∷ [])
+
+      -- each scalar was there and is referred to, or is the new one
+      pub kept_scalar : AreDistinct new
+          → ((j : ℕ) → j < length new → (j < length scalars) ⊎ (slice_get new j ≡ Some e))
+          → IsValidTable new (es ++ entry.Scalar i ∷ []) unclosed
+      kept_scalar apart came = record {
+        apart = apart;
+        used = λ j lt. elim (came j lt) [
+          | inl a ↦ still_used (entry.Scalar i) j a
+          | inr b ↦ subst (λ n. list_any (names n) (es ++ entry.Scalar i ∷ []) ≡ true)
+              (apart i j e stored b)
+              (list_any_at (names i) (es ++ entry.Scalar i ∷ []) (length es) entry.End
+              (omega (arith, length-append es (entry.Scalar i ∷ [])))
+              (ap (names i) (entry_last es (entry.Scalar i)) ∙ eq-eqb i i refl))
+        ];
+        entries_are = entries_scalar
+            (record {
+              sound = λ p lt. ap (λ l. is_sound l (entry_at es p)) grown
+                  ∙ (one_kept scalars more (entry_at es p) (kept.entries_are.sound p lt)).0;
+              starts = kept.entries_are.starts ∙ ap unclosed_after (sym grown_shown);
+              skips = λ p lt. kept.entries_are.skips p lt ∙ ap (λ l. skip_after l p) (sym grown_shown);
+            }) i (ap is_leaf at ∙ leaf);
+      }
+
+  -- ---- what is read of an entry
+
+  module _ {index : ℕ} (here : index < length (events_of_entries scalars es)) where
+    pub lt : index < length es
+    lt = omega (arith, long_shown scalars es)
+
+    there : event_at (events_of_entries scalars es) index ≡ event_of_entry scalars (entry_at es index)
+    there = shown_at kept.entries_are _ lt
+
+    pub no_scalar : scalar_named (entry_at es index) ≡ None
+        → is_leaf (event_at (events_of_entries scalars es) index) ≡ false
+    no_scalar none = ap is_leaf there ∙ unnamed scalars (entry_at es index) none
+
+    module _ {k : ℕ} (is : entry_at es index ≡ entry.Scalar k) where
+      leaf_here : is_leaf (event_at scalars k) ≡ true
+      leaf_here = cc (kept.entries_are.sound index lt)
+
+      stored : event_at (events_of_entries scalars es) index ≡ event_at scalars k
+      stored = there ∙ ap (event_of_entry scalars) is ∙ leaf_without_length _ leaf_here
+
+      pub scalar_stored : slice_get scalars k ≡ Some (event_at (events_of_entries scalars es) index)
+      scalar_stored = slice_get-get_or _ k EndCollection (below is_leaf scalars k refl leaf_here)
+          ∙ ap Some (sym stored)
+
+      pub scalar_is_leaf : is_leaf (event_at (events_of_entries scalars es) index) ≡ true
+      scalar_is_leaf = ap is_leaf stored ∙ leaf_here

@@ -1,0 +1,15 @@
+pub mod Columns
+pub mod Changes
+pub mod TreeOccurrences
+pub mod TreeStarts
+pub mod OpenStarts
+pub mod EntryEvents
+pub mod KeyStamps
+pub mod TreePositions
+pub mod Lengthless
+pub mod SameScalars
+pub mod Expectations
+pub mod Uniques
+pub mod SetKeys
+pub mod Innermost
+pub mod ChildIndices

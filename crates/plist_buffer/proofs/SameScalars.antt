@@ -1,0 +1,68 @@
+-- The tests of scalars decide whether two of them are equal.
+use Rattle.std.proofs.Common.{◌≡◌, ◌∙◌, ◌⊎◌, inl, inr, ℕ, Bool, true, false, List, ap, sym, subst}
+use Rattle.std.specs.Str.{bytes_eq}
+use Rattle.std.proofs.lemmas.Bool.{cases_Bool, both_ways as never_both}
+use Rattle.std.proofs.lemmas.Slice.Eq.{bytes_eq-Decides}
+use Rattle.plist_base.specs.Events.{ScalarEvent}
+use Rattle.plist_base.specs.Scalars.{scalar_eq, scalar_is, scalar_refl}
+use Rattle.plist_base.specs.Trees.{Scalar}
+use Rattle.plist_buffer.specs.StoredScalars.{scalar_of, event_of_scalar}
+use Rattle.plist_buffer.specs.declared.stored_scalar.StoredScalar.{StoredScalar}
+
+-- a test's result, which says whether the two are equal
+abbrev pub Answers : {K : Type 0} → Bool → K → K → Type 0
+Answers r a b = ((r ≡ true) × (a ≡ b)) ⊎ ((r ≡ false) × (a ≡ b → ⊥))
+
+abbrev pub Tells : {K : Type 0} → (K → K → Bool) → K → K → Type 0
+Tells eq a b = Answers (eq a b) a b
+
+pub bytes_tell : (a b : List ℕ) → Tells bytes_eq a b
+bytes_tell a b =
+    elim (cases_Bool _) [
+      | inl t ↦ inl (t, (bytes_eq-Decides a b).0 t)
+      | inr f ↦ inr
+          (f, λ e. never_both _ f ((bytes_eq-Decides a b).1 e))
+    ]
+
+-- a test that decides whether parts are equal decides it for what is made of them
+made : {A B : Type 0} {r : Bool} {a b : A} (make : A → B) → (make a ≡ make b → a ≡ b)
+    → Answers r a b → Answers r (make a) (make b)
+made make back (inl h) = inl (h.0, ap make h.1)
+made make back (inr h) = inr (h.0, λ e. h.1 (back e))
+
+pub tells_made : {A B : Type 0} (eq : A → A → Bool) (test : B → B → Bool) (make : A → B) (a b : A)
+    → test (make a) (make b) ≡ eq a b → (make a ≡ make b → a ≡ b) → Tells eq a b
+    → Tells test (make a) (make b)
+tells_made eq test make a b is back given = rw is (made make back given)
+
+-- two tests that decide the same have the same result
+pub tells_both : {A B : Type 0} (f : A → A → Bool) (g : B → B → Bool) (a b : A) (c d : B)
+    → Tells f a b → Tells g c d → (a ≡ b → c ≡ d) → (c ≡ d → a ≡ b) → f a b ≡ g c d
+tells_both f g a b c d (inl e) (inl k) to from = e.0 ∙ sym k.0
+tells_both f g a b c d (inl e) (inr k) to from = absurd (k.1 (to e.1))
+tells_both f g a b c d (inr e) (inl k) to from = absurd (e.1 (from k.1))
+tells_both f g a b c d (inr e) (inr k) to from = e.0 ∙ sym k.0
+
+pub scalars_tell : (a b : Scalar) → Tells scalar_eq a b
+scalars_tell a b =
+    elim (cases_Bool (scalar_eq a b)) [
+      | inl t ↦ inl (t, scalar_is a b t)
+      | inr f ↦ inr
+          (f, λ e. never_both _ f (subst (λ y. scalar_eq a y ≡ true) e (scalar_refl a)))
+    ]
+
+-- ---- stored scalars
+
+-- equality of stored scalars
+abbrev pub stored_eq : StoredScalar → StoredScalar → Bool
+stored_eq a b = scalar_eq (scalar_of a) (scalar_of b)
+
+-- equal stored scalars have the same event
+pub stored_same : (a b : StoredScalar) → stored_eq a b ≡ true → event_of_scalar a ≡ event_of_scalar b
+stored_same a b h = ap ScalarEvent (scalar_is (scalar_of a) (scalar_of b) h)
+
+-- stored scalars with the same event are equal
+pub same_stored : (a b : StoredScalar) → event_of_scalar a ≡ event_of_scalar b → stored_eq a b ≡ true
+same_stored a b h =
+    let e : scalar_of a ≡ scalar_of b = cc in
+    subst (λ x. scalar_eq (scalar_of a) x ≡ true) e (scalar_refl (scalar_of a))

@@ -1,0 +1,107 @@
+-- Keys of a set: equal keys have the same view.
+use Rattle.std.proofs.Common.{◌≡◌, ◌⊎◌, inl, inr, ℕ, zero, suc, ◌+◌, ◌<◌, ◌≤◌, Bool, true, false, if◌then◌else◌, List, [], ◌∷◌, ◌++◌, length, map, take, position, Some, refl, sym, ap, ◌∙◌, arith, append-nil}
+use Rattle.std.proofs.Math.Seq.{take-append_seam, take-length}
+use Rattle.std.proofs.lemmas.List.{length-append, map-append}
+use Rattle.std.proofs.lemmas.List.Quantifiers.{position-Some}
+use Rattle.std.specs.Prelude.{slice_get}
+use Rattle.std.specs.List.{AllByRecursion, IsDistinct}
+use Rattle.std.proofs.lemmas.Option.{slice_get-map, slice_get-get_or}
+use Rattle.plist_buffer.specs.inner.Entries.{AreDistinct}
+
+module _ {T P : Type 0} (same : T → T → Bool) (view : T → P) where
+  -- if an item at an index is the same as x, the key at that index is that of x
+  pub key_at : (cs : List T) (i : ℕ) (x y : T) → (same x y ≡ true → view x ≡ view y)
+      → slice_get cs i ≡ Some y → same x y ≡ true → slice_get (map view cs) i ≡ Some
+      (view x)
+  key_at cs i x y same_key h s =
+      cc (slice_get-map view cs i, same_key s)
+
+  -- after an insert there is at most one more key
+  grown : (b : Bool) (old new : List T) (x : T) → new ≡ (if b then old else old ++ x ∷ [])
+      → (map view new ≡ map view old) ⊎ (map view new ≡ map view old ++ view x ∷ [])
+  grown true old new x e = inl (ap (map _) e)
+  grown false old new x e = inr (cc (map-append view old (x ∷ [])))
+
+  module _ (b : Bool) (old new : List T) (x : T)
+      (e : new ≡ (if b then old else old ++ x ∷ [])) where
+    pub keys_more : (more : List P) × (map view new ≡ map view old ++ more)
+    keys_more = elim (grown b old new x e) [
+      | inl s ↦ ([], s ∙ sym (append-nil _))
+      | inr g ↦ (view x ∷ [], g)
+    ]
+
+    -- inserting a key changes no key before it
+    pub keys_kept : (i : ℕ) → i < length (map view old)
+        → slice_get (map view new) i ≡ slice_get (map view old) i
+    keys_kept i h =
+        let more = keys_more in cc (front (map view old) more.0 i h)
+      where
+        front : (xs ys : List P) (i : ℕ) → i < length xs → slice_get (xs ++ ys) i ≡ slice_get xs i
+        front [] ys i h = absurd (omega arith)
+        front (y ∷ xs) ys zero h = refl
+        front (y ∷ xs) ys (suc i) h = front xs ys i (omega arith)
+
+    pub keys_grow : (length (map view old) ≤ length (map view new))
+        × (length (map view new) ≤ length (map view old) + 1)
+    keys_grow =
+        let one = length-append (map view old) (view x ∷ []) in
+        elim (grown b old new x e) [
+          | inl s ↦ let n = ap length s in (omega (arith, n), omega (arith, n))
+          | inr g ↦ let n = ap length g in (omega (arith, n, one), omega (arith, n, one))
+        ]
+
+    -- a key is one of those before, or the one that was inserted
+    pub key_came : (i : ℕ) → i < length (map view new)
+        → (i < length (map view old)) ⊎ (slice_get (map view new) i ≡ Some (view x))
+    key_came i h = elim (grown b old new x e) [
+      | inl s ↦ inl (rw (← s) h)
+      | inr g ↦ rw g (last _ i (rw (← g) h))
+    ]
+      where
+        last : (xs : List P) (i : ℕ) → i < length (xs ++ view x ∷ [])
+            → (i < length xs) ⊎ (slice_get (xs ++ view x ∷ []) i ≡ Some (view x))
+        last [] zero h = inr refl
+        last [] (suc i) h = absurd (omega arith)
+        last (y ∷ xs) zero h = inl (omega arith)
+        last (y ∷ xs) (suc i) h = elim (last xs i (omega arith)) [
+          | inl l ↦ inl (omega arith)
+          | inr r ↦ inr r
+        ]
+
+  -- if only items with the key p pass a test, p is at the index that the test finds
+  pub key_found : (test : T → Bool) (p : P) → ((y : T) → test y ≡ true → p ≡ view y) → (cs : List T)
+      (i : ℕ) → position test cs ≡ Some i → slice_get (map view cs) i ≡ Some p
+  key_found test p same_key [] i h = cc
+  key_found test p same_key (d ∷ cs) i h =
+      let f = position-Some test (d ∷ cs) i d h in
+      cc (
+        slice_get-map view (d ∷ cs) i,
+        slice_get-get_or (d ∷ cs) i d f.0,
+        same_key _ f.1,
+      )
+
+  -- if the inserted key is removed, the keys are the old ones
+  pub keys_back : (b : Bool) (old new : List T) (x : T) → new ≡ (if b then old else old ++ x ∷ [])
+      → take (length old) new ≡ old
+  keys_back true old new x e = cc (take-length old)
+  keys_back false old new x e = cc (take-append_seam old (x ∷ []))
+
+  module _ (key_same : (x y : T) → view x ≡ view y → same x y ≡ true) where
+    no_key : (x : T) (cs : List T) (j : ℕ) → AllByRecursion (λ y. same x y ≡ false) cs
+        → slice_get (map view cs) j ≡ Some (view x) → ⊥
+    no_key x [] j a h = cc
+    no_key x (y ∷ cs) zero a h = let k : view y
+        ≡ view x = cc in never _ (key_same x y (sym k)) a.0
+      where
+        never : (b : Bool) → b ≡ true → b ≡ false → ⊥
+        never b p q = cc
+    no_key x (y ∷ cs) (suc j) a h = no_key x cs j a.1 h
+
+    -- different keys have different views
+    pub keys_apart : (cs : List T) → IsDistinct same cs → AreDistinct (map view cs)
+    unfolding IsDistinct
+    keys_apart [] d i j k p q = cc
+    keys_apart (x ∷ cs) d zero zero k p q = refl
+    keys_apart (x ∷ cs) d zero (suc j) k p q = absurd (no_key x cs j d.0 (cc))
+    keys_apart (x ∷ cs) d (suc i) zero k p q = absurd (no_key x cs i d.0 (cc))
+    keys_apart (x ∷ cs) d (suc i) (suc j) k p q = ap suc (keys_apart cs d.1 i j k p q)

@@ -1,0 +1,16 @@
+use Rattle.std.proofs.Common.{◌≡◌, ◌+◌, subst}
+use Rattle.plist_buffer.specs.EventTable.{scalars_of}
+use Rattle.plist_buffer.specs.inner.Entries.{index_after_entry}
+use Rattle.plist_buffer.proofs.EntryEvents.{long_shown, kept_start}
+use Rattle.plist_buffer.proofs.event_table.EventTable.start.Goals as goal
+
+pub invariant_of-self-in-Ok : goal.invariant_of-self-in-Ok
+invariant_of-self-in-Ok c =
+    let s = c.args.self.now in
+    record {
+      kept = rw (c.in_ok-push.ensures.pushed, c.len.ensures, c.in-Ok.ensures.pushed)
+          (kept_start s.kept c.args.entry c.requires.starts
+          (subst (λ n. index_after_entry n c.args.entry ≡ n + 1) (long_shown (scalars_of s) s.entries)
+          c.requires.after));
+      few = c.in-Ok.ensures.small;
+    }

@@ -1,0 +1,66 @@
+-- The buffered events of the open property list, as contracts describe them.
+use Rattle.std.specs.Prelude.{◌≡◌, Bool, List, [], ◌∷◌, ◌++◌, MatchBool}
+use Rattle.std.specs.Option.{is_none}
+use Rattle.plist_base.specs.declared.error.EventKind.{EventKind}
+use Rattle.plist_base.specs.declared.error.EventKind.TheVariants as event_kind
+use Rattle.plist_base.specs.Bracketing.{without_length, AreTreeEvents, AreComplete, CanContinue}
+use Rattle.plist_base.specs.Events.{PlainEvent, kind_of_event}
+use Rattle.plist_base.specs.Faults.{Fault, UnexpectedEventType, fault_without_offset}
+use Rattle.plist_buffer.specs.declared.event_buffer.EventBuffer.{EventBuffer}
+use Rattle.plist_buffer.specs.declared.event_buffer.PushError.{PushError}
+use Rattle.plist_buffer.specs.declared.event_buffer.PushError.TheVariants as push_error
+use Rattle.plist_buffer.specs.EventTable.{plain_events}
+
+-- the buffered events, without the lengths of starts
+abbrev pub buffered_events : EventBuffer → List PlainEvent
+buffered_events pending = plain_events pending.held
+
+-- are the buffered events those of a whole property list?
+abbrev pub is_whole : EventBuffer → Bool
+is_whole pending = is_none pending.expects
+
+-- the kind that the error of a rejected event names as expected: a value or a start if no event is
+-- buffered, and otherwise a key or an end
+abbrev pub expected_instead : List PlainEvent → EventKind
+expected_instead [] = event_kind.ValueOrStartCollection
+expected_instead (event ∷ events) = event_kind.DictionaryKeyOrEndCollection
+
+-- the fault of an event that can't follow the buffered ones
+abbrev pub misplaced_fault : List PlainEvent → PlainEvent → Fault
+misplaced_fault held event =
+    fault_without_offset (UnexpectedEventType (expected_instead held) (kind_of_event event))
+
+-- the error for an event of this kind that can't follow the buffered ones
+abbrev pub misplaced_error : List PlainEvent → (found : EventKind) → PushError
+misplaced_error held found = push_error.Misplaced (expected_instead held) found
+
+-- `answer` says whether the events are those of a tree
+abbrev pub TestsWhole : Bool → List PlainEvent → Type 0
+TestsWhole answer events = MatchBool answer (AreComplete events) (AreTreeEvents events → ⊥)
+
+-- the event was appended without its length, and `is_whole` says whether the events are a tree's
+abbrev pub BuffersNext : (before : EventBuffer) → PlainEvent → (after : EventBuffer) → Type 0
+BuffersNext before event after =
+    (buffered_events after ≡ buffered_events before ++ without_length event ∷ [])
+    × TestsWhole (is_whole after) (buffered_events before ++ event ∷ [])
+
+-- the event can't follow the buffered ones, and this is its fault
+abbrev pub IsMisplaced : (held : List PlainEvent) → PlainEvent → Fault → Type 0
+IsMisplaced held event fault = (CanContinue held event → ⊥) × (fault ≡ misplaced_fault held event)
+
+-- the event can follow the buffered ones
+abbrev pub CanTake : EventBuffer → PlainEvent → Type 0
+CanTake pending event = CanContinue (buffered_events pending) event
+
+-- the event can follow the buffered ones, and was buffered
+abbrev pub Accepts : (before : EventBuffer) → PlainEvent → (after : EventBuffer) → Type 0
+Accepts before event after = CanTake before event × BuffersNext before event after
+
+-- a misplaced event can't follow the buffered ones, and nothing has changed; `OutOfMemory` is
+-- returned only for an event that can follow them
+abbrev pub RejectsEvent : (before : EventBuffer) → PlainEvent → (after : EventBuffer) → PushError
+    → Type 0
+RejectsEvent before event after (push_error.Misplaced expected found) =
+    IsMisplaced (buffered_events before) event
+    (fault_without_offset (UnexpectedEventType expected found)) × (after ≡ before)
+RejectsEvent before event after push_error.OutOfMemory = CanTake before event

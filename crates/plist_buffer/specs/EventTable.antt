@@ -1,0 +1,95 @@
+-- The events of a table, and the indices of trees among them.
+use Rattle.std.specs.Prelude.{◌≡◌, ℕ, ◌+◌, ◌<◌, ◌≤◌, Bool, true, false, List, [], ◌∷◌, length, get_or, map, ◌++◌, ◌⊎◌, Some, slice_get}
+use Rattle.plist_base.specs.declared.event.Event.{Event}
+use Rattle.plist_base.specs.Events.{PlainEvent, event_of, EndCollection}
+use Rattle.plist_buffer.specs.declared.event_table.EventTable.{EventTable}
+use Rattle.plist_base.specs.Trees.{Tree, Leaf, Array, Dictionary, Trees, NoTrees, TreeAnd, Members, NoMembers, MemberAnd}
+use Rattle.plist_base.specs.Bracketing.{without_length, lengthless}
+use Rattle.plist_buffer.specs.StoredScalars.{event_of_scalar}
+use Rattle.plist_buffer.specs.Occurrences.{event_count}
+use Rattle.plist_buffer.specs.inner.Entries.{events_of_entries, event_of_entry}
+use Rattle.plist_buffer.specs.declared.entries.EventEntry.{EventEntry}
+
+-- the event as it is buffered, without the length of a start
+abbrev pub plain_event : Event → PlainEvent
+plain_event event = without_length (event_of event)
+
+-- the different scalars, in the order of their first occurrence
+abbrev pub scalars_of : EventTable → List PlainEvent
+scalars_of held = map event_of_scalar held.scalars.keys
+
+-- the events of a table, without the lengths of starts
+abbrev pub plain_events : EventTable → List PlainEvent
+plain_events held = events_of_entries (scalars_of held) held.entries
+
+-- the event of an entry
+abbrev pub entry_event : EventTable → EventEntry → PlainEvent
+entry_event held entry = event_of_entry (scalars_of held) entry
+
+-- is the event an end?
+abbrev pub is_end : PlainEvent → Bool
+is_end EndCollection = true
+is_end event = false
+
+-- the event at an index, or an end if there is none
+abbrev pub event_at : List PlainEvent → ℕ → PlainEvent
+event_at es p = get_or es p EndCollection
+
+-- a tree begins at an index
+abbrev pub HasItem : List PlainEvent → (index : ℕ) → Type 0
+HasItem es p = (p < length es) × (is_end (event_at es p) ≡ false)
+
+-- an end, or no event, is at an index
+abbrev pub LacksItem : List PlainEvent → (index : ℕ) → Type 0
+LacksItem es p = (is_end (event_at es p) ≡ true) ⊎ (length es ≤ p)
+
+-- the event at an index is the scalar with the index `scalar` among the different scalars
+abbrev pub IsScalarAt : EventTable → (index scalar : ℕ) → Type 0
+IsScalarAt held p scalar =
+    slice_get (scalars_of held) scalar ≡ Some (event_at (plain_events held) p)
+
+-- an event was appended
+abbrev pub GrowsBy : (before : EventTable) → PlainEvent → (after : EventTable) → Type 0
+GrowsBy before event after = plain_events after ≡ plain_events before ++ event ∷ []
+
+-- the buffered event at an index
+abbrev pub table_event : EventTable → (index : ℕ) → PlainEvent
+table_event held p = event_at (plain_events held) p
+
+-- the events are those of a tree
+abbrev pub IsBracketed : List PlainEvent → Type 0
+IsBracketed es = (t : Tree) × (es ≡ lengthless t)
+
+-- the indices of items, the first of which begins at index q
+abbrev pub item_indices : Trees → ℕ → List ℕ
+item_indices NoTrees q = []
+item_indices (TreeAnd t ts) q = q ∷ item_indices ts (q + event_count t)
+
+-- the indices of the keys of pairs, the first of which begins at index q
+abbrev pub key_indices : Members → ℕ → List ℕ
+key_indices NoMembers q = []
+key_indices (MemberAnd k t ms) q = q ∷ key_indices ms (q + 1 + event_count t)
+
+-- the indices of the values of pairs, the first of which begins at index q
+abbrev pub value_indices : Members → ℕ → List ℕ
+value_indices NoMembers q = []
+value_indices (MemberAnd k t ms) q = (q + 1) ∷ value_indices ms (q + 1 + event_count t)
+
+-- the indices of the keys of a tree that begins at index p
+abbrev pub keys_in : Tree → ℕ → List ℕ
+keys_in (Dictionary ms) p = key_indices ms (p + 1)
+keys_in tree p = []
+
+-- the indices of the items or values of a tree that begins at index p
+abbrev pub values_in : Tree → ℕ → List ℕ
+values_in (Leaf x) p = []
+values_in (Array ts) p = item_indices ts (p + 1)
+values_in (Dictionary ms) p = value_indices ms (p + 1)
+
+-- each number of a list is below n
+abbrev pub AllBelow : ℕ → List ℕ → Type 0
+AllBelow n ps = (i : ℕ) → i < length ps → get_or ps i 0 < n
+
+-- the number at an index, or 0 if there is none
+abbrev pub nth_number : List ℕ → ℕ → ℕ
+nth_number numbers p = get_or numbers p 0

@@ -1,0 +1,7 @@
+-- Definitions that are used by bodies and proofs. Of these, public clauses rely only on `Columns`,
+-- `Entries` and `UnclosedStarts`.
+pub mod Columns
+pub mod Entries
+pub mod Expected
+pub mod UnclosedStarts
+pub mod StoredEquality

@@ -1,0 +1,98 @@
+-- The entries in which events are buffered: the events that they represent, and their invariants.
+use Rattle.std.specs.Prelude.{◌≡◌, ℕ, ◌+◌, ◌<◌, ◌==◌, Bool, true, false, List, [], ◌∷◌, ◌++◌, length, get_or, set, map, reverse, None, Some, slice_get}
+use Rattle.std.specs.List.{list_any}
+use Rattle.plist_base.specs.Bracketing.{without_length}
+use Rattle.plist_base.specs.Events.{PlainEvent, StartArray, StartDictionary, EndCollection, ScalarEvent}
+use Rattle.plist_buffer.specs.StoredScalars.{event_of_scalar}
+use Rattle.plist_buffer.specs.declared.stored_scalar.StoredScalar.{StoredScalar}
+use Rattle.plist_buffer.specs.inner.UnclosedStarts.{unclosed_after, skip_after}
+use Rattle.plist_buffer.specs.declared.entries.EventEntry.{EventEntry}
+use Rattle.plist_buffer.specs.declared.entries.EventEntry.TheVariants as entry
+
+-- no key occurs twice
+abbrev pub AreDistinct : {K : Type 0} → List K → Type 0
+AreDistinct {K} keys = (i j : ℕ) (k : K) → slice_get keys i ≡ Some k → slice_get keys j ≡ Some k
+    → i ≡ j
+
+-- is the event a scalar?
+abbrev pub is_leaf : PlainEvent → Bool
+is_leaf (ScalarEvent x) = true
+is_leaf event = false
+
+-- the entry at an index, or an end if there is none
+abbrev pub entry_at : List EventEntry → ℕ → EventEntry
+entry_at entries index = get_or entries index entry.End
+
+-- the event of an entry, given the different scalars
+abbrev pub event_of_entry : (scalars : List PlainEvent) → EventEntry → PlainEvent
+event_of_entry scalars (entry.Array following) = StartArray None
+event_of_entry scalars (entry.Dictionary following) = StartDictionary None
+event_of_entry scalars (entry.Scalar index) = without_length (get_or scalars index EndCollection)
+event_of_entry scalars entry.End = EndCollection
+
+-- the events of entries, given the different scalars
+abbrev pub events_of_entries : (scalars : List PlainEvent) → List EventEntry → List PlainEvent
+events_of_entries scalars entries = map (event_of_entry scalars) entries
+
+-- if the entry is a scalar's, does its index belong to one of the scalars?
+abbrev pub is_sound : (scalars : List PlainEvent) → EventEntry → Bool
+is_sound scalars (entry.Scalar index) = is_leaf (get_or scalars index EndCollection)
+is_sound scalars other = true
+
+-- does the entry refer to the scalar with this number?
+abbrev pub names : (scalar : ℕ) → EventEntry → Bool
+names scalar (entry.Scalar index) = index == scalar
+names scalar other = false
+
+-- is the entry a start?
+abbrev pub is_start : EventEntry → Bool
+is_start (entry.Array following) = true
+is_start (entry.Dictionary following) = true
+is_start other = false
+
+-- the index after the tree that begins with the entry at this index
+abbrev pub index_after_entry : (index : ℕ) → EventEntry → ℕ
+index_after_entry index (entry.Array following) = following
+index_after_entry index (entry.Dictionary following) = following
+index_after_entry index other = index + 1
+
+-- the index after the tree that begins at an index
+abbrev pub index_after_at : List EventEntry → (index : ℕ) → ℕ
+index_after_at entries index = index_after_entry index (entry_at entries index)
+
+-- the index after the entry's tree is the one after the entry itself, as it is while a start is
+-- open
+abbrev pub IsUnclosed : (index : ℕ) → EventEntry → Type 0
+IsUnclosed index entry = index_after_entry index entry ≡ index + 1
+
+-- the entry with `following` as the index after its end, if it is a start
+abbrev pub closed_at : EventEntry → ℕ → EventEntry
+closed_at (entry.Array old) following = entry.Array following
+closed_at (entry.Dictionary old) following = entry.Dictionary following
+closed_at other following = other
+
+-- the entries with an end appended, which closes the start at this index
+abbrev pub ended_at : List EventEntry → (start : ℕ) → List EventEntry
+ended_at entries start =
+    set (entries ++ entry.End ∷ []) start
+    (closed_at (entry_at (entries ++ entry.End ∷ []) start) (length entries + 1))
+
+-- each entry of a scalar refers to a scalar, `unclosed` has the open starts with the innermost
+-- last, and the index after each tree is that of `skip_after`
+pub record AreEntriesOf (scalars : List PlainEvent) (entries : List EventEntry)
+    (unclosed : List ℕ) : Type 0 where
+  pub sound : (p : ℕ) → p < length entries → is_sound scalars (entry_at entries p) ≡ true
+  pub starts : reverse unclosed ≡ unclosed_after (events_of_entries scalars entries)
+  pub skips : (p : ℕ) → p < length entries
+      → index_after_at entries p ≡ skip_after (events_of_entries scalars entries) p
+
+-- the invariant of a table: no two scalars are equal, and an entry refers to each of them
+pub record IsValidTable (scalars : List PlainEvent) (entries : List EventEntry)
+    (unclosed : List ℕ) : Type 0 where
+  pub apart : AreDistinct scalars
+  pub used : (i : ℕ) → i < length scalars → list_any (names i) entries ≡ true
+  pub entries_are : AreEntriesOf scalars entries unclosed
+
+-- the invariant of a table with these different scalars
+abbrev pub AreValidEntries : List StoredScalar → List EventEntry → (unclosed : List ℕ) → Type 0
+AreValidEntries scalars entries unclosed = IsValidTable (map event_of_scalar scalars) entries unclosed

@@ -1,0 +1,183 @@
+//! The buffer of the open property list's events, and what is expected next.
+
+ghost use Rattle.std.proofs.Props.{props};
+ghost use Rattle.std.specs.Prelude.{◌≡◌};
+ghost use Rattle.plist_base.specs.Events.{event_of};
+ghost use Rattle.plist_buffer.specs.EventTable.{plain_events};
+ghost use Rattle.plist_buffer.specs.inner.Expected.{ExpectsNext, change_on, expected_inside, innermost, next_expected};
+
+use crate::event_table::EventTable;
+use plist_base::{Event, EventKind, Expect, Transition};
+use std::alloc::{AllocError, Global};
+
+/// The reason why an event wasn't buffered. The type is small because the memory of a result is
+/// zeroed on every call, and an `Error` has 120 bytes.
+#[derive(Clone, Copy)]
+pub enum PushError {
+    /// The event can't follow the buffered ones.
+    Misplaced {
+        /// What the error names as expected: a value if no event is buffered, and otherwise a key
+        /// or the end of a dictionary, even after a key, where a value is expected.
+        expected: EventKind,
+        /// The kind of the event.
+        found: EventKind,
+    },
+    /// An allocation failed.
+    OutOfMemory,
+}
+
+impl From<AllocError> for PushError {
+    ghost use Rattle.plist_buffer.specs.declared.event_buffer.PushError.TheVariants.{OutOfMemory};
+
+    ghost from_gives = { λ _ error. error ≡ OutOfMemory };
+
+    fn from(_error: AllocError) -> PushError {
+        PushError::OutOfMemory
+    }
+}
+
+/// The buffered events of the open property list. Once they are those of a whole property list, no
+/// event can be added until they are cleared.
+#[derive(Drop)]
+pub struct EventBuffer {
+    held: EventTable<'static>,
+    // What is expected next, or `None` if the events are those of a whole property list.
+    expects: Option<Expect>,
+    ghost wanted: { ExpectsNext (plain_events held) expects } by { Prim.hlevel props },
+}
+
+// Returns how an event changes what is expected next.
+fn change_on(expects: Option<Expect>, event: &Event<'_>) -> Transition
+    ensures { result ≡ change_on expects (event_of event.now) }
+{
+    match expects {
+        Some(expect) => expect.change_by(event),
+        None => Transition::Refused,
+    }
+}
+
+// Returns what is expected next. The event that made this change is already in `held`.
+fn next_expected(
+    change: Transition,
+    expects: Option<Expect>,
+    held: &EventTable<'static>,
+) -> Option<Expect>
+    ensures { result ≡ next_expected change expects
+        (innermost (expected_inside (plain_events held.now))) }
+{
+    match change {
+        Transition::Refused | Transition::Kept => expects,
+        Transition::Closed => held.innermost_expect(),
+        Transition::Pushed(expect) | Transition::Replaced(expect) => Some(expect),
+    }
+}
+
+impl EventBuffer {
+    ghost use Rattle.std.specs.Prelude.{◌≡◌, [], false, OnOk, IfErr};
+    ghost use Rattle.plist_base.specs.Events.{event_of};
+    ghost use Rattle.plist_buffer.specs.EventBuffers.{buffered_events, is_whole, misplaced_error, Accepts, BuffersNext, CanTake, RejectsEvent};
+    ghost use Rattle.plist_buffer.specs.inner.Expected.{change_on};
+
+    /// Creates a buffer without events. It allocates no memory.
+    pub fn new(alloc: Global) -> EventBuffer
+        ensures events { buffered_events result ≡ [] }
+        ensures whole { is_whole result ≡ false }
+    {
+        EventBuffer {
+            held: EventTable::new(alloc),
+            expects: Some(Expect::OneValue),
+        }
+    }
+
+    /// Sets the expected number of different scalars. This is only a hint, with which the table of
+    /// scalars grows in larger steps: the actual number may be greater or smaller. The call
+    /// allocates no memory.
+    pub fn expect_scalars(&mut self, count: usize)
+        ensures events { buffered_events self.new ≡ buffered_events self.old }
+        ensures whole { is_whole self.new ≡ is_whole self.old }
+    {
+        self.held.expect_scalars(count);
+    }
+
+    // Returns the error for an event of this kind that can't follow the buffered ones.
+    fn error_of_kind(&self, found: EventKind) -> PushError
+        ensures { result ≡ misplaced_error (buffered_events self.now) found }
+    {
+        let expected = if self.held.len() == 0 {
+            EventKind::ValueOrStartCollection
+        } else {
+            EventKind::DictionaryKeyOrEndCollection
+        };
+        PushError::Misplaced { expected, found }
+    }
+
+    // Buffers an event that can follow the buffered ones, given how it changes what is expected
+    // next.
+    #[inline(always)]
+    fn hold(
+        &mut self,
+        alloc: Global,
+        event: Event<'_>,
+        change: Transition,
+    ) -> Result<(), AllocError>
+        requires still { is_whole self.old ≡ false }
+        requires accepted { CanTake self.old (event_of event) }
+        requires change { change ≡ change_on self.old.expects (event_of event) }
+        ensures taken { OnOk result (BuffersNext self.old (event_of event.entry) self.new) }
+    {
+        self.held.make_room();
+        self.held.push_copy(alloc, event)?;
+        self.expects = next_expected(change, self.expects, &self.held);
+        Ok(())
+    }
+
+    /// Buffers an event if it can follow the buffered ones, which must not be those of a whole
+    /// property list.
+    ///
+    /// # Errors
+    ///
+    /// `Misplaced` if the event can't follow the buffered ones; nothing changes then. `OutOfMemory`
+    /// if the event can follow them, but an allocation fails; the buffered events are unspecified
+    /// then.
+    #[inline(always)]
+    pub fn try_push(&mut self, alloc: Global, event: Event<'_>) -> Result<(), PushError>
+        requires still { is_whole self.old ≡ false }
+        ensures taken { OnOk result (Accepts self.old (event_of event.entry) self.new) }
+        ensures refused { IfErr result (RejectsEvent self.old (event_of event.entry) self.new) }
+    {
+        let change = change_on(self.expects, &event);
+        match change {
+            Transition::Refused => Err(self.error_of_kind(EventKind::of_event(&event))),
+            Transition::Closed
+            | Transition::Kept
+            | Transition::Pushed(_)
+            | Transition::Replaced(_) => {
+                self.hold(alloc, event, change)?;
+                Ok(())
+            }
+        }
+    }
+
+    /// Returns whether the events are those of a whole property list.
+    pub fn is_whole(&self) -> bool
+        ensures { result ≡ is_whole self.now }
+    {
+        self.expects.is_none()
+    }
+
+    /// Returns the events.
+    pub fn events(&self) -> &EventTable<'static>
+        ensures { plain_events result.now ≡ buffered_events self.now }
+    {
+        &self.held
+    }
+
+    /// Removes all events. The allocated memory is kept.
+    pub fn clear(&mut self)
+        ensures events { buffered_events self.new ≡ [] }
+        ensures whole { is_whole self.new ≡ false }
+    {
+        self.held.clear();
+        self.expects = Some(Expect::OneValue);
+    }
+}

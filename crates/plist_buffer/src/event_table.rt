@@ -1,0 +1,366 @@
+//! The table of a property list's events, which stores each different scalar once.
+
+ghost use Rattle.std.specs.Prelude.{◌≡◌, ◌^◌, ◌<◌, true, length, OnOk, OnErr, ◌-◌};
+ghost use Rattle.std.proofs.Props.{props};
+ghost use Rattle.plist_base.specs.Events.{EndCollection, ScalarEvent, shape_of};
+ghost use Rattle.plist_base.specs.Outcomes.{OnlyMemory};
+ghost use Rattle.plist_buffer.specs.inner.Entries.{is_leaf, AreValidEntries};
+
+use crate::compact_numbers::CompactNumbers;
+use crate::entries::{Entries, EventEntry};
+use crate::stored_scalar::{ScalarRef, StoredScalar};
+use indexmap::IndexSet;
+use plist_base::{Error, Event, EventShape, Expect};
+use std::alloc::{AllocError, Global};
+use std::borrow::{CowSlice, CowStr};
+
+/// The events of a property list. Each different scalar is stored once. The lengths of starts
+/// aren't stored.
+///
+/// The table doesn't check whether the events can follow one another. An index that a call takes
+/// must be less than [`EventTable::len`], except in [`EventTable::has_item`].
+#[derive(Drop)]
+pub struct EventTable<'e> {
+    scalars: IndexSet<StoredScalar<'e>>,
+    entries: Entries,
+    // The indices of the open starts, the innermost last.
+    unclosed: CompactNumbers,
+    // The expected number of different scalars.
+    expected: usize,
+    // The number of different scalars at which `make_room` next checks whether their table is full.
+    full_at: usize,
+    ghost kept: { AreValidEntries scalars.keys entries unclosed } by { Prim.hlevel props },
+    ghost few: { length entries < 2 ^ 63 },
+}
+
+impl<'e> EventTable<'e> {
+    ghost use Rattle.plist_buffer.specs.StoredScalars.{event_of_scalar, scalar_of_ref};
+    ghost use Rattle.std.specs.Prelude.{[], None, Some, false, slice_get, IfSome, ◌+◌};
+    ghost use Rattle.plist_buffer.specs.EventTable.{plain_event, plain_events, scalars_of, event_at, GrowsBy, HasItem, IsScalarAt, LacksItem, table_event, entry_event};
+    ghost use Rattle.plist_buffer.specs.inner.Columns.{scalar_named};
+    ghost use Rattle.plist_buffer.specs.inner.Entries.{entry_at, is_start, IsUnclosed};
+    ghost use Rattle.plist_buffer.specs.inner.Expected.{expected_inside, innermost};
+    ghost use Rattle.plist_buffer.specs.inner.UnclosedStarts.{skip_after};
+
+    /// Creates an empty table. It allocates no memory.
+    pub fn new(alloc: Global) -> EventTable<'e>
+        ensures events { plain_events result ≡ [] }
+    {
+        EventTable {
+            scalars: IndexSet::new(alloc),
+            entries: Entries::new(alloc),
+            unclosed: CompactNumbers::new(alloc),
+            expected: 0,
+            full_at: 0,
+        }
+    }
+
+    /// Sets the expected number of different scalars. This is only a hint, with which the table of
+    /// scalars grows in larger steps: the actual number may be greater or smaller. The call
+    /// allocates no memory.
+    pub fn expect_scalars(&mut self, count: usize)
+        ensures events { plain_events self.new ≡ plain_events self.old }
+    {
+        self.expected = count;
+        self.full_at = 0;
+    }
+
+    // If the table of different scalars is full, reserves memory for the expected ones, but for no
+    // more than 16 n + 1000, where n is the number of scalars in the table. This limits the cost of
+    // a wrong hint. If the allocation fails, the table grows when scalars are added.
+    #[cold]
+    #[inline(never)]
+    fn reserve_scalars(&mut self)
+        ensures events { plain_events self.new ≡ plain_events self.old }
+    {
+        let held = self.scalars.len();
+        if held >= self.scalars.capacity() && held < self.expected {
+            let more = held.saturating_mul(15).saturating_add(1000);
+            let _ = self.scalars.reserve(more.min(self.expected - held));
+        }
+        self.full_at = self.scalars.capacity();
+    }
+
+    // Reserves memory for the expected scalars once the table of different scalars is full.
+    #[inline(always)]
+    pub(crate) fn make_room(&mut self)
+        ensures events { plain_events self.new ≡ plain_events self.old }
+    {
+        if self.scalars.len() >= self.full_at {
+            self.reserve_scalars();
+        }
+    }
+
+    /// Returns the number of events.
+    pub fn len(&self) -> usize
+        ensures { result ≡ length (plain_events self.now) }
+    {
+        self.entries.len()
+    }
+
+    /// Returns the number of different scalars.
+    pub fn count_scalars(&self) -> usize
+        ensures count { result ≡ length (scalars_of self.now) }
+        ensures small { result < 2 ^ 63 }
+    {
+        self.scalars.len()
+    }
+
+    /// Returns the kind of the event at an index.
+    pub fn kind_at(&self, index: usize) -> EventShape
+        requires { index < length (plain_events self.now) }
+        ensures { result ≡ shape_of (table_event self.now index) }
+    {
+        self.entries.kind_at(index)
+    }
+
+    /// Returns whether a tree begins at this index. This is `false` if the event is an end, and if
+    /// the index is past the last event.
+    pub fn has_item(&self, index: usize) -> bool
+        ensures yes { result ≡ true → HasItem (plain_events self.now) index }
+        ensures no { result ≡ false → LacksItem (plain_events self.now) index }
+    {
+        if index >= self.len() {
+            return false;
+        }
+        match self.kind_at(index) {
+            EventShape::EndCollection => false,
+            EventShape::StartArray | EventShape::StartDictionary | EventShape::Scalar => true,
+        }
+    }
+
+    /// Returns the index after the tree that begins at this index. For an end, and for a collection
+    /// that is still open, this is the next index.
+    pub fn index_after(&self, index: usize) -> usize
+        requires { index < length (plain_events self.now) }
+        ensures { result ≡ skip_after (plain_events self.now) index }
+    {
+        self.entries.following(index)
+    }
+
+    /// If the event at this index is a scalar, returns its index among the different scalars, which
+    /// are in the order of their first occurrence. Otherwise returns `None`.
+    pub fn scalar_index(&self, index: usize) -> Option<usize>
+        requires { index < length (plain_events self.now) }
+        ensures some { IfSome result (IsScalarAt self.now index) }
+        ensures leaf { IfSome result (λ _. is_leaf (table_event self.now index) ≡ true) }
+        ensures named { result ≡ scalar_named (entry_at self.now.entries index) }
+        ensures none { result ≡ None → is_leaf (table_event self.now index) ≡ false }
+    {
+        self.entries.scalar(index)
+    }
+
+    /// Returns the scalar at this index, or `None` if the event isn't a scalar. The function is
+    /// inlined, so that no scalar is copied only to be matched on.
+    #[inline(always)]
+    pub fn scalar_at(&self, index: usize) -> Option<ScalarRef<'_>>
+        requires { index < length (plain_events self.now) }
+        ensures some { IfSome result (λ scalar. table_event self.now index
+            ≡ ScalarEvent (scalar_of_ref scalar)) }
+        ensures none { result ≡ None → is_leaf (table_event self.now index) ≡ false }
+    {
+        let scalar = self.scalar_index(index)?;
+        let stored = self.scalars.get_index(scalar)?;
+        Some(stored.get())
+    }
+
+    // Returns what is expected in the innermost open collection, or `None` if none is open.
+    pub(crate) fn innermost_expect(&self) -> Option<Expect>
+        ensures { result ≡ innermost (expected_inside (plain_events self.now)) }
+    {
+        match self.unclosed.last() {
+            Some(start) => match self.kind_at(start) {
+                EventShape::StartArray => Some(Expect::Items),
+                EventShape::StartDictionary => Some(Expect::Pairs),
+                EventShape::Scalar | EventShape::EndCollection => None,
+            },
+            None => None,
+        }
+    }
+
+    // Appends a start. Its entry stores the index after itself until the collection is closed.
+    fn start(&mut self, entry: EventEntry) -> Result<(), AllocError>
+        requires starts { is_start entry ≡ true }
+        requires after { IsUnclosed (length (plain_events self.old)) entry }
+        ensures events { OnOk result (GrowsBy self.old (entry_event self.old entry) self.new) }
+        ensures unchanged { OnErr result (plain_events self.new ≡ plain_events self.old) }
+    {
+        self.unclosed.push(self.entries.len())?;
+        match self.entries.push(entry) {
+            Ok(()) => Ok(()),
+            Err(error) => {
+                self.unclosed.pop();
+                Err(error)
+            }
+        }
+    }
+
+    // Appends an end, which closes the innermost open collection, if one is open.
+    fn end(&mut self) -> Result<(), AllocError>
+        ensures events { OnOk result (GrowsBy self.old EndCollection self.new) }
+        ensures unchanged { OnErr result (plain_events self.new ≡ plain_events self.old) }
+    {
+        match self.unclosed.last() {
+            Some(start) => {
+                self.entries.close(start)?;
+                self.unclosed.pop();
+                Ok(())
+            }
+            None => {
+                self.entries.push(EventEntry::End)?;
+                Ok(())
+            }
+        }
+    }
+
+    // Returns the index of a scalar among the different ones, or `None` if no equal one is stored.
+    #[inline(always)]
+    fn find(&self, scalar: &StoredScalar<'_>) -> Option<usize>
+        ensures { IfSome result (λ index. slice_get (scalars_of self.now) index
+            ≡ Some (event_of_scalar scalar.now)) }
+    {
+        self.scalars.get_index_of(scalar)
+    }
+
+    // Appends a scalar that is already stored, given its index among the different ones.
+    #[inline(always)]
+    fn repeat(&mut self, index: usize) -> Result<(), AllocError>
+        requires { is_leaf (event_at (scalars_of self.old) index) ≡ true }
+        ensures events { OnOk result (GrowsBy self.old (event_at (scalars_of self.old) index)
+            self.new) }
+        ensures unchanged { OnErr result (plain_events self.new ≡ plain_events self.old) }
+    {
+        self.entries.push(EventEntry::Scalar(index))?;
+        Ok(())
+    }
+
+    // Appends a scalar, and stores it unless an equal one is stored already. If the allocation for
+    // its entry fails, a scalar that was stored by this call is removed again.
+    fn scalar(&mut self, scalar: StoredScalar<'e>) -> Result<(), AllocError>
+        ensures events { OnOk result (GrowsBy self.old (event_of_scalar scalar.entry) self.new) }
+        ensures unchanged { OnErr result (plain_events self.new ≡ plain_events self.old) }
+    {
+        let before = self.scalars.len();
+        match self.scalars.insert_full(scalar) {
+            Ok((index, _)) => {
+                match self.entries.push(EventEntry::Scalar(index)) {
+                    Ok(()) => return Ok(()),
+                    Err(error) => {
+                        self.scalars.truncate(before);
+                        return Err(error);
+                    }
+                }
+            }
+            Err(_) => return Err(AllocError),
+        }
+    }
+
+    // Appends an event. It returns an `AllocError` because the 120 bytes of an `Error` would be
+    // zeroed on every call.
+    fn take(&mut self, event: Event<'e>) -> Result<(), AllocError>
+        ensures events { OnOk result (GrowsBy self.old (plain_event event.entry) self.new) }
+        ensures unchanged { OnErr result (plain_events self.new ≡ plain_events self.old) }
+    {
+        let following = self.entries.len() + 1;
+        match event {
+            Event::StartArray(_) => self.start(EventEntry::Array(following)),
+            Event::StartDictionary(_) => self.start(EventEntry::Dictionary(following)),
+            Event::EndCollection => self.end(),
+            Event::Boolean(value) => self.scalar(StoredScalar::Boolean(value)),
+            Event::Data(bytes) => self.scalar(StoredScalar::of_data(bytes)),
+            Event::Date(date) => self.scalar(StoredScalar::Date(date)),
+            Event::Integer(value) => self.scalar(StoredScalar::Integer(value)),
+            Event::Real(bits) => self.scalar(StoredScalar::Real(bits)),
+            Event::String(text) => self.scalar(StoredScalar::of_text(text)),
+            Event::Uid(uid) => self.scalar(StoredScalar::Uid(uid)),
+        }
+    }
+
+    /// Appends an event. If it is a scalar that is equal to a stored one, it is dropped, and only
+    /// the index of the stored one is added.
+    ///
+    /// # Errors
+    ///
+    /// `OutOfMemory`, without an offset, if an allocation fails. The events are unchanged then.
+    #[inline(always)]
+    pub fn push(&mut self, event: Event<'e>) -> Result<(), Error>
+        ensures events { OnOk result (GrowsBy self.old (plain_event event.entry) self.new) }
+        ensures memory { OnlyMemory result }
+        ensures unchanged { OnErr result (plain_events self.new ≡ plain_events self.old) }
+    {
+        self.take(event)?;
+        Ok(())
+    }
+
+    /// Removes all events. The allocated memory is kept.
+    pub fn clear(&mut self)
+        ensures events { plain_events self.new ≡ [] }
+    {
+        self.scalars.clear();
+        self.entries.clear();
+        self.unclosed.clear();
+    }
+}
+
+impl EventTable<'static> {
+    ghost use Rattle.std.specs.Cow.{cow_slice_items, cow_str_bytes};
+    ghost use Rattle.plist_base.specs.Trees.{Data as DataScalar, String as StringScalar};
+    ghost use Rattle.plist_buffer.specs.EventTable.{plain_event, plain_events, GrowsBy};
+
+    // Appends a string, which is copied unless an equal one is stored.
+    fn copy_text(&mut self, alloc: Global, text: CowStr<'_>) -> Result<(), AllocError>
+        ensures events { OnOk result (GrowsBy self.old
+            (ScalarEvent (StringScalar (cow_str_bytes text.entry))) self.new) }
+        ensures unchanged { OnErr result (plain_events self.new ≡ plain_events self.old) }
+    {
+        if let Some(index) = self.find(&StoredScalar::BorrowedString(text.as_str())) {
+            return self.repeat(index);
+        }
+        match StoredScalar::copy_of_text(alloc, text) {
+            Ok(copy) => self.scalar(copy),
+            Err(error) => Err(error),
+        }
+    }
+
+    // Appends data, which is copied unless equal data is stored.
+    fn copy_data(&mut self, alloc: Global, bytes: CowSlice<'_, u8>) -> Result<(), AllocError>
+        ensures events { OnOk result (GrowsBy self.old
+            (ScalarEvent (DataScalar (cow_slice_items bytes.entry))) self.new) }
+        ensures unchanged { OnErr result (plain_events self.new ≡ plain_events self.old) }
+    {
+        if let Some(index) = self.find(&StoredScalar::BorrowedData(bytes.as_slice())) {
+            return self.repeat(index);
+        }
+        match StoredScalar::copy_of_data(alloc, bytes) {
+            Ok(copy) => self.scalar(copy),
+            Err(error) => Err(error),
+        }
+    }
+
+    /// Appends a copy of an event. A string or data that is equal to a stored one isn't copied.
+    ///
+    /// The function is inlined because most callers pass an event whose kind they know.
+    ///
+    /// # Errors
+    ///
+    /// `AllocError` if an allocation fails. The events are unchanged then.
+    #[inline(always)]
+    pub(crate) fn push_copy(&mut self, alloc: Global, event: Event<'_>) -> Result<(), AllocError>
+        ensures events { OnOk result (GrowsBy self.old (plain_event event.entry) self.new) }
+        ensures unchanged { OnErr result (plain_events self.new ≡ plain_events self.old) }
+    {
+        let following = self.entries.len() + 1;
+        match event {
+            Event::StartArray(_) => self.start(EventEntry::Array(following)),
+            Event::StartDictionary(_) => self.start(EventEntry::Dictionary(following)),
+            Event::EndCollection => self.end(),
+            Event::Boolean(value) => self.scalar(StoredScalar::Boolean(value)),
+            Event::Data(bytes) => self.copy_data(alloc, bytes),
+            Event::Date(date) => self.scalar(StoredScalar::Date(date)),
+            Event::Integer(value) => self.scalar(StoredScalar::Integer(value)),
+            Event::Real(bits) => self.scalar(StoredScalar::Real(bits)),
+            Event::String(text) => self.copy_text(alloc, text),
+            Event::Uid(uid) => self.scalar(StoredScalar::Uid(uid)),
+        }
+    }
+}

@@ -1,0 +1,18 @@
+//! The events of a property list in a table: each event in five bytes, and each different scalar
+//! once.
+//!
+//! The main contracts are those of [`EventTable::push`], after which the table has one event more,
+//! and of [`EventBuffer::try_push`](event_buffer::EventBuffer::try_push), which buffers an event if
+//! it can follow the buffered ones.
+#![tactic(auto)]
+
+pub mod children;
+pub mod compact_numbers;
+mod entries;
+pub mod event_buffer;
+pub mod event_table;
+pub mod repeated_keys;
+mod short;
+pub mod stored_scalar;
+
+pub use event_table::EventTable;
