@@ -21,5 +21,6 @@ pub mod WalkSteps
 pub mod ReaderCalls
 pub mod InnermostChild
 pub mod ReaderLimits
+pub mod LimitedSteps
 pub mod VisitorLimits
 pub mod ObjectEntry
