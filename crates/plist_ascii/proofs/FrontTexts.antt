@@ -12,7 +12,7 @@ use Rattle.plist_ascii.specs.declared.stop.Stop.TheVariants as stop
 use Rattle.plist_ascii.specs.Ascii.{is_blank, lead_of, token_by}
 use Rattle.plist_ascii.specs.declared.input.Input.{Input}
 use Rattle.plist_ascii.specs.declared.reader.AsciiReader.{AsciiReader}
-use Rattle.plist_ascii.specs.AsciiReader.{BeginsWithItem, GivesAscii, bytes_to_come}
+use Rattle.plist_ascii.specs.AsciiReader.{GivesAscii, bytes_to_come}
 use Rattle.plist_ascii.specs.Kinds.{IfBracket, IsAsciiEvent}
 use Rattle.plist_ascii.specs.TokenPrefixes.{Taken, past_one, run, taken}
 use Rattle.plist_ascii.specs.Quoted.{ends_run, quoted, quoted_outcome, run_end}
@@ -20,7 +20,7 @@ use Rattle.plist_ascii.specs.Texts.{bare_event, number_or_text, quoted_event}
 use Rattle.plist_ascii.specs.Unread.{IfKnown, stops, unread}
 use Rattle.plist_ascii.specs.inner.Inputs.{hand_of}
 use Rattle.plist_ascii.specs.inner.FrontTexts.{BeginWithText, IsBareFront, IsQuotedFront, LeadsToText}
-use Rattle.plist_ascii.proofs.Items.{going_start, going_blanks, going_event}
+use Rattle.plist_ascii.proofs.Items.{IsFirst, going_start, going_blanks, going_event}
 use Rattle.plist_ascii.proofs.UnreadBytes.{ended_hand}
 use Rattle.std.proofs.lemmas.Bool.{eq-eqb}
 use Rattle.plist_ascii.proofs.Quotes.{part_ends, quoted_opens}
@@ -154,15 +154,15 @@ front_leads ends bytes hand rest xs (c ∷ cs) blanks n count text same all blan
 -- the string is the first item, and the others remain after it
 pub borrowed_item : (stops : ℕ → Bool) (xs : List ℕ) (p q count : ℕ) (text : List ℕ)
     → LeadsToText stops xs count text → q ≡ p + count
-    → BeginsWithItem stops xs p (Ok (ScalarEvent (String text))) (drop count xs) q
+    → IsFirst stops xs p (Ok (ScalarEvent (String text))) (drop count xs) q
 borrowed_item stops xs p q count text ahead place =
     let ends = ahead.ends in
     let end : q ≡ p + run (λ c. not (is_blank c)) xs + 1
     + (token_by stops (lead_of ahead.byte) ahead.byte ahead.rest).bytes = omega arith in
     let first = going_event (going_blanks (going_start stops xs p)) ahead.next refl end ahead.means in
     let many : q - p ≡ count = omega arith in
-    subst (λ left. BeginsWithItem stops xs p (Ok (ScalarEvent (String text))) left q)
-    (first.rest ∙ ap (λ n. drop n xs) many) first
+    subst (λ left. IsFirst stops xs p (Ok (ScalarEvent (String text))) left q)
+    (first.1.rest ∙ ap (λ n. drop n xs) many) first
 
 -- a string that was borrowed is what `next` would have yielded
 pub borrowed_gives : {R : Type 0} (known : R → Option (List ℕ)) (failed : R → Option ℕ)
@@ -180,7 +180,7 @@ borrowed_gives known failed old new count text event is ahead going bytes place 
       items = λ xs e. (
         drop count xs,
         bytes xs e,
-        subst (λ (x : Item). BeginsWithItem (stops (stop.Bare old.dialect)) xs old.input.taken x
+        subst (λ (x : Item). IsFirst (stops (stop.Bare old.dialect)) xs old.input.taken x
             (drop count xs) new.taken) (ap Ok (sym is))
             (borrowed_item _ xs _ _ count text (ahead xs e) place),
       );

@@ -2,7 +2,7 @@
 use Rattle.std.proofs.Common.{◌≡◌, ℕ, zero, suc, ◌+◌, ◌-◌, ◌≤◌, Bool, true, false, List, [], ◌∷◌, length, drop, map, Option, None, Some, Result, Ok, Err, refl, sym, ap, subst, ◌∙◌, arith, rules, length-drop}
 use Rattle.std.proofs.lemmas.List.{drop-drop}
 use Rattle.plist_base.specs.Faults.{FaultKind, Fault, MatchFault, fault_at}
-use Rattle.std.specs.Prelude.{IfSome, MatchOption, not}
+use Rattle.std.specs.Prelude.{IfSome, MatchOption, not, ⊤}
 use Rattle.std.specs.Option.{option_map}
 use Rattle.plist_ascii.specs.declared.fault.TokenFault.{TokenFault}
 use Rattle.plist_ascii.specs.declared.fault.TokenFault.TheVariants as broken
@@ -66,11 +66,17 @@ going_start stops xs p =
           ≡ p - p = omega arith in ap (λ n. drop n xs) none;
     }
 
+-- the item is the first, the others remain after it, and it ends at offset `q`
+abbrev pub IsFirst : (stops : ℕ → Bool) (xs : List ℕ) (p : ℕ) (x : Item) (ys : List ℕ) (q : ℕ)
+    → Type 0
+IsFirst stops xs p x ys q =
+    (items_of_ascii stops xs p ≡ x ∷ items_of_ascii stops ys q) × BeginsWithItem stops xs p x ys q
+
 begins : (stops : ℕ → Bool) (xs : List ℕ) (p : ℕ) (l : Lead) (x : Item) (ys : List ℕ) (q : ℕ)
     → placed_items stops xs p ≡ placed l q x ∷ placed_items stops ys q → ys ≡ drop (q - p) xs
-    → BeginsWithItem stops xs p x ys q
+    → IsFirst stops xs p x ys q
 begins stops xs p l x ys q e d =
-    record { items = ap (map (λ i. i.item)) e; lead = l; ends = e; rest = d }
+    (ap (map (λ i. i.item)) e, record { lead = l; ends = e; rest = d })
 
 blank_leads : (l : Lead) → begins_nothing l ≡ true → l ≡ lead.Blank
 blank_leads l e = search rules
@@ -123,11 +129,11 @@ module _ {stops : ℕ → Bool} {xs : List ℕ} {p : ℕ} {ys : List ℕ} {m c :
     }
 
     pub going_event : {x : PlainEvent} → token_here.gives ≡ Ok (Some x)
-        → BeginsWithItem stops xs p (Ok x) (drop token_here.bytes cs) q
+        → IsFirst stops xs p (Ok x) (drop token_here.bytes cs) q
     going_event g = begins stops xs p _ _ _ q (going_by _ g) going_rest
 
     pub going_fault : {k : FaultKind} {f : Fault} → f ≡ fault_at k q
-        → token_here.gives ≡ Err k → BeginsWithItem stops xs p (Err f) (drop token_here.bytes cs) q
+        → token_here.gives ≡ Err k → IsFirst stops xs p (Err f) (drop token_here.bytes cs) q
     going_fault i g = begins stops xs p _ _ _ q
         (going_by _ g ∙ ap (λ f. placed (lead_of c) q (Err f) ∷ following q) (sym i)) going_rest
 
@@ -136,6 +142,13 @@ module _ {stops : ℕ → Bool} {xs : List ℕ} {p : ℕ} {ys : List ℕ} {m c :
         → FirstIsQuoted (placed_items stops xs p) → lead_of c ≡ lead.Quote
     going_quoted g first = subst FirstIsQuoted (going_by _ g) first
 
+  -- the fault is that of the first item, or memory ran out for it, or a read failed
+  abbrev IsError : Fault → (rest : List ℕ) → (r : ℕ) → Type 0
+  IsError fault rest r =
+      MatchFault fault.kind ⊤ ⊤ (items_of_ascii stops xs p ≡ Err fault ∷ items_of_ascii stops rest r)
+      × MatchFault fault.kind (rest ≡ []) ((rest ≡ []) × BeginsWithText (items_of_ascii stops xs p))
+      (BeginsWithItem stops xs p (Err fault) rest r)
+
   -- an error ends the reader, or is the first item
   pub going_error : (n q r : ℕ) → r ≡ q → n ≡ m + 1 → (f : TokenFault) (fault : Fault) (E : Type 0)
       (mid new : Option (List ℕ)) → fault ≡ fault_after f q
@@ -143,12 +156,11 @@ module _ {stops : ℕ → Bool} {xs : List ℕ} {p : ℕ} {ys : List ℕ} {m c :
       (λ g. TakesFront token_here g mid n q cs)
       → (f ≡ broken.OutOfMemory → IsTextToken token_here.gives)
       → MatchOption (kind_in_bytes f) (E × (new ≡ Some [])) (λ _. new ≡ mid)
-      → (rest : List ℕ) × (new ≡ Some rest) × MatchFault fault.kind (rest ≡ [])
-      ((rest ≡ []) × BeginsWithText (items_of_ascii stops xs p))
-      (BeginsWithItem stops xs p (Err fault) rest r)
-  going_error n q r same t broken.Io fault E mid new i g w ends = ([], ends.1, rw (same, i) refl)
+      → (rest : List ℕ) × (new ≡ Some rest) × IsError fault rest r
+  going_error n q r same t broken.Io fault E mid new i g w ends =
+      ([], ends.1, (rw i tt, rw (same, i) refl))
   going_error n q r same t broken.OutOfMemory fault E mid new i g w ends =
-      ([], ends.1, rw (same, i) (refl, going_text (w refl)))
+      ([], ends.1, (rw i tt, rw (same, i) (refl, going_text (w refl))))
   going_error n q r same t broken.UnclosedString fault E mid new i g w ends =
       (_, ends ∙ g.1, rw (same, i) (going_fault t g.2 refl g.0))
   going_error n q r same t broken.IncompleteComment fault E mid new i g w ends =

@@ -5,12 +5,13 @@ use Rattle.plist_base.specs.declared.error.Error.{Error}
 use Rattle.plist_base.specs.declared.event.Event.{Event}
 use Rattle.plist_base.specs.Faults.{MatchFault, fault_of}
 use Rattle.plist_base.specs.Events.{Item, event_of}
+use Rattle.plist_base.specs.FirstItems.{GivesFirst, MatchItem}
 use Rattle.plist_ascii.specs.declared.reader.AsciiReader.{AsciiReader}
 use Rattle.plist_ascii.specs.declared.dialect.Dialect.{Dialect}
 use Rattle.plist_ascii.specs.Texts.{ends_bare}
 use Rattle.plist_ascii.specs.declared.token.Lead.{Lead}
 use Rattle.plist_ascii.specs.Ascii.{PlacedItem, placed, placed_items, items_of_ascii, BeginsWithText, FirstIsQuoted}
-use Rattle.plist_ascii.specs.Kinds.{IsAsciiItem, IsFaultOfBytes, IfBracketItem, MatchItem}
+use Rattle.plist_ascii.specs.Kinds.{IsAsciiItem, IsFaultOfBytes, IfBracketItem}
 use Rattle.plist_ascii.specs.Incoming.{ItemCountsIoIfCounted}
 use Rattle.plist_ascii.specs.Unread.{readable_with, unread, IfKnown}
 
@@ -52,25 +53,25 @@ abbrev pub HoldsLeft : {R : Type 0} → AsciiReader R → (R → Option (List �
 HoldsLeft reader known inner = IfSome (known inner) (λ bytes.
     untaken_bytes known reader ≡ Some (readable_with (peeked_byte reader) (place_of reader) bytes))
 
--- the items of the bytes from offset p on begin with this one, which ends at offset q; the other
--- items are those of the bytes from q on
+-- the first item of the bytes from offset p on is this one, which ends at offset q; the other items
+-- are those of the bytes from q on
 pub record BeginsWithItem (stops : ℕ → Bool) (bytes : List ℕ) (p : ℕ) (item : Item) (left : List ℕ)
     (q : ℕ) : Type 0 where
-  pub items : items_of_ascii stops bytes p ≡ item ∷ items_of_ascii stops left q
   pub lead : Lead
   pub ends : placed_items stops bytes p ≡ placed lead q item ∷ placed_items stops left q
   pub rest : left ≡ drop (q - p) bytes
 
--- the first item is returned and the other items remain, or `None` is returned and no item remains;
--- after `Io` and `OutOfMemory` no bytes remain, and `OutOfMemory` is returned only in place of a
--- string, an integer or a string's fault
+-- The first item is yielded, and the bytes after it remain. After `None`, `Io` and `OutOfMemory` no
+-- bytes remain, and `OutOfMemory` is yielded only in place of a string, an integer or a string's
+-- fault.
 abbrev pub GivesAsciiItem : (stops : ℕ → Bool) → List ℕ → (p : ℕ) → Option (Result Event Error)
     → (rest : List ℕ) → (q : ℕ) → Type 0
 GivesAsciiItem stops bytes p item rest q =
     let items = items_of_ascii stops bytes p in
-    MatchItem item ((items ≡ []) × (rest ≡ []))
-    (λ event. BeginsWithItem stops bytes p (Ok (event_of event)) rest q) (rest ≡ [])
-    ((rest ≡ []) × BeginsWithText items) (λ fault. BeginsWithItem stops bytes p (Err fault) rest q)
+    GivesFirst event_of items item (items_of_ascii stops rest q)
+    × MatchItem item (rest ≡ []) (λ event. BeginsWithItem stops bytes p (Ok (event_of event)) rest q)
+    (rest ≡ []) ((rest ≡ []) × BeginsWithText items)
+    (λ fault. BeginsWithItem stops bytes p (Err fault) rest q)
 
 -- at least one byte is taken for an event or a fault in the bytes, and no byte is put back
 abbrev pub TakesBytes : Option (Result Event Error) → (p q : ℕ) → Type 0

@@ -2,8 +2,8 @@
 use Rattle.std.specs.Prelude.{◌≡◌, ℕ, List, [], ◌∷◌, ◌++◌, Option, None, Some, Result, IfSome, MatchResult, ⊤}
 use Rattle.std.specs.Io.KnownBytes.{Consumes, IsAtEnd}
 use Rattle.plist_base.specs.declared.error.Error.{Error}
+use Rattle.plist_base.specs.FirstItems.{MatchItem}
 use Rattle.plist_base.specs.Sources.{Rises}
-use Rattle.plist_ascii.specs.Kinds.{MatchItem}
 
 -- the byte that was returned is removed from the known bytes; `None` is returned only at their end
 abbrev pub GivesByte : Option (List ℕ) → Option ℕ → Option (List ℕ) → Type 0

@@ -1,17 +1,11 @@
 -- Which events and faults the reader can yield.
-use Rattle.std.specs.Prelude.{Option, None, Result, IfOk, IfSome, MatchOption, MatchResult, ⊤}
+use Rattle.std.specs.Prelude.{Option, None, Result, IfOk, IfSome, ⊤}
 use Rattle.plist_base.specs.declared.error.Error.{Error}
 use Rattle.plist_base.specs.declared.event.Event.{Event}
 use Rattle.plist_base.specs.Events.{PlainEvent, StartArray, StartDictionary, EndCollection, ScalarEvent, event_of}
+use Rattle.plist_base.specs.FirstItems.{MatchItem}
 use Rattle.plist_base.specs.Trees.{Integer, String}
-use Rattle.plist_base.specs.Faults.{Fault, FaultKind, UnclosedString, IncompleteComment, InvalidUtf8AsciiStream, InvalidOctalString, InvalidUtf16String, MatchFault, kind_of, error_kind_of, fault_of}
-
--- a fact for each kind of item: none, an event, `Io`, `OutOfMemory` and a fault in the bytes
-abbrev pub MatchItem : {E : Type 0} → Option (Result E Error) → (none : Type 0)
-    → (event : E → Type 0) → (io memory : Type 0) → (fault : Fault → Type 0) → Type 0
-MatchItem item none event io memory fault =
-    MatchOption item none (λ answer. MatchResult answer event
-    (λ error. MatchFault (kind_of (error_kind_of error)) io memory (fault (fault_of error))))
+use Rattle.plist_base.specs.Faults.{FaultKind, UnclosedString, IncompleteComment, InvalidUtf8AsciiStream, InvalidOctalString, InvalidUtf16String}
 
 -- a fault of a string
 abbrev pub IsTextFault : FaultKind → Type 0

@@ -87,11 +87,6 @@ abbrev pub limited_by_any : Option LimitCounter → List Item → List Item
 limited_by_any None items = items
 limited_by_any (Some limiter) items = limited_by limiter items
 
--- the event is admitted, by a counter or without one
-abbrev pub AdmitsAny : (old : Option LimitCounter) → PlainEvent → (new : Option LimitCounter) → Type 0
-AdmitsAny old event new =
-    (items : List Item) → limited_by_any old (Ok event ∷ items) ≡ Ok event ∷ limited_by_any new items
-
 -- there is a counter, which replaces the event by this fault
 abbrev pub RefusesAny : Option LimitCounter → PlainEvent → Fault → Type 0
 RefusesAny None event fault = ⊥

@@ -10,5 +10,6 @@ pub mod WalkSteps
 pub mod ReaderCalls
 pub mod InnermostChild
 pub mod ReaderLimits
+pub mod LimitedSteps
 pub mod VisitorLimits
 pub mod ObjectEntry

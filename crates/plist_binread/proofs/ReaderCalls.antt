@@ -1,8 +1,11 @@
 -- What is true of a reader after each call.
-use Rattle.std.proofs.Common.{◌≡◌, ℕ, ◌≤◌, arith, false, List, [], length, Option, None, Some, IfSome, MatchOption, refl, sym}
+use Rattle.std.proofs.Common.{◌≡◌, ℕ, ◌≤◌, arith, Bool, false, List, [], ◌∷◌, length, Option, None, Some, Err, IfSome, MatchBool, MatchOption, refl, sym}
 use Rattle.std.proofs.lemmas.List.{length-reverse}
 use Rattle.plist_base.specs.declared.source.Source.{Ghosts}
-use Rattle.plist_base.specs.Events.{PlainEvent}
+use Rattle.plist_base.specs.declared.error.Error.{Error}
+use Rattle.plist_base.specs.Events.{PlainEvent, Item}
+use Rattle.plist_base.specs.Faults.{MatchFault, error_kind_of, fault_of, kind_of}
+use Rattle.plist_base.proofs.Refusals.{MatchFault-weaker}
 use Rattle.plist_binread.specs.declared.frames.Frame.{Frame}
 use Rattle.plist_decode.specs.declared.counter.DecodeCounter.{Ghosts as CounterGhosts}
 use Rattle.plist_binread.specs.declared.reader.BinaryReader.{BinaryReader}
@@ -11,7 +14,7 @@ use Rattle.plist_binread.specs.declared.walk.Walk.{Walk}
 use Rattle.plist_format.specs.Container.{head_of}
 use Rattle.plist_binread.specs.FirstStep.{IsBounded, IsKnownWalk}
 use Rattle.plist_binread.specs.BinaryReader.{AreListsWithin, GivesAs, KeepsInvariant}
-use Rattle.plist_binread.specs.Remaining.{AreBoundsOf, places_of}
+use Rattle.plist_binread.specs.Remaining.{AllocatesFirst, AreBoundsOf, SomeRemain, places_of}
 use Rattle.plist_binread.specs.Walking.{cached_in, walk_objects}
 use Rattle.plist_binread.proofs.OpenObjects.{IsOpen-length}
 use Rattle.plist_decode.proofs.UnknownBytes.{IfSome-all}
@@ -45,6 +48,17 @@ left_behind {g = g} old new counted bounded =
     let within = lists_within (g.known old.source) walk.tags.items walk.contents.items walk.frames few
     walk.same bounded in
     record { nested = within.0; marked = walk.path; counted = counted; lists = within.1 }
+
+-- an error in place of the first item is yielded, and no item remains
+pub yields_error : {A : Type 0} (shown : A → PlainEvent) (new : Bool) (before : List Item)
+    (error : Error) → MatchFault (kind_of (error_kind_of error)) (SomeRemain before)
+    (MatchBool new (SomeRemain before) (AllocatesFirst before)) (before ≡ Err (fault_of error) ∷ [])
+    → GivesAs shown new before (Some (Err error)) []
+yields_error shown new before error h = (
+  MatchFault-weaker (kind_of (error_kind_of error)) (λ _. tt) (λ _. tt) (λ only. only) h,
+  MatchFault-weaker (kind_of (error_kind_of error)) (λ some. (refl, some)) (λ some. (refl, some))
+      (λ _. refl) h,
+)
 
 -- a reader that has ended yields nothing
 pub nothing_ended : (known : Option (List ℕ))

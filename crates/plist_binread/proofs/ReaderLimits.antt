@@ -62,6 +62,6 @@ module _ (new : Bool) (current : PlainEvent) (known : Option (List ℕ)) (old no
       → Gave (Some (Ok current)) → GivesUnder (Some (Err error)) (λ bytes. [])
   limit-current error r h = IfSome_then known h (λ bytes h.
       let by = by-limit old current (fault_of error) r in (
-        none-under now,
-        limit-fault (fault_of error) by.1 _ _ _ by.2 (cc (by.3 (after bytes))),
+        limit-fault (fault_of error) by.1 _ _ _ by.2 (cc (h.0, by.3 (after bytes), none-under now)),
+        limit-fault (fault_of error) by.1 _ _ _ by.2 (none-under now),
       ))

@@ -1,11 +1,11 @@
 -- One step of a reader, without regard to limits.
-use Rattle.std.proofs.Common.{◌≡◌, ℕ, ◌^◌, ◌<◌, true, List, Option, None, Some, Result, Ok, Err, IfSome, refl, ap, sym, arith}
+use Rattle.std.proofs.Common.{◌≡◌, ℕ, ◌^◌, ◌<◌, true, false, List, Option, None, Some, Result, Ok, Err, IfSome, refl, ap, sym, arith}
 use Rattle.std.specs.Option.{is_some}
 use Rattle.std.specs.Prelude.{OnOk}
 use Rattle.plist_base.specs.declared.error.Error.{Error}
 use Rattle.plist_base.specs.declared.source.Source.{Ghosts}
 use Rattle.plist_base.specs.Faults.{error_kind_of, kind_of}
-use Rattle.plist_format.specs.Unfolding.{until_fault}
+use Rattle.plist_format.specs.Unfolding.{items_of_file, until_fault}
 use Rattle.plist_decode.specs.declared.counter.DecodeCounter.{Ghosts as CounterGhosts}
 use Rattle.plist_binread.specs.declared.reader.BinaryReader.{BinaryReader}
 use Rattle.plist_binread.specs.declared.reader.WalkState.{WalkState}
@@ -26,7 +26,7 @@ use Rattle.plist_base.proofs.Refusals.{MatchFault-all}
 use Rattle.plist_decode.proofs.FaultOffsets.{from_within}
 use Rattle.plist_decode.proofs.UnknownBytes.{IfSome-all, IfSome-never}
 use Rattle.plist_binread.proofs.WalkSteps.{steps_up}
-use Rattle.plist_binread.proofs.ReaderCalls.{holds_head, left_behind}
+use Rattle.plist_binread.proofs.ReaderCalls.{holds_head, left_behind, yields_error}
 use Rattle.std.proofs.lemmas.Option.{IfSome_then}
 
 -- ---- the state
@@ -73,7 +73,7 @@ module _ {R C : Type 0} {g : Ghosts R} {h : CounterGhosts C} (old new : BinaryRe
   first_walks (Ok value) event fresh is yields within bounded objects held kept falls failures = record {
     gives = record {
       unchanged = same;
-      items = simp (fresh, is) yields;
+      items = simp (fresh, is) (IfSome_then (g.known old.source) yields (λ bytes first. (first, tt)));
       failures = failures;
       ended = λ e. absurd (cc);
       ends = tt;
@@ -93,7 +93,8 @@ module _ {R C : Type 0} {g : Ghosts R} {h : CounterGhosts C} (old new : BinaryRe
   first_walks (Err r) event fresh is yields within bounded objects held kept falls failures = record {
     gives = record {
       unchanged = same;
-      items = simp (fresh, is) (IfSome_then (g.known old.source) yields (λ bytes h. (refl, h)));
+      items = simp (fresh, is) (IfSome_then (g.known old.source) yields
+          (λ bytes. yields_error (λ event. event) true (items_of_file bytes) new.decoder.slot.fault));
       failures = failures;
       ended = λ e. absurd (cc);
       ends = is;
@@ -141,7 +142,7 @@ module _ {R C : Type 0} {g : Ghosts R} {h : CounterGhosts C} (old new : BinaryRe
   item_walks_at (Some (Ok x)) event walking is yields within size bounded held kept falls failures = record {
     gives = record {
       unchanged = same;
-      items = simp (walking, is) yields;
+      items = simp (walking, is) (IfSome_then (g.known old.source) yields (λ bytes next. (next, tt)));
       failures = failures;
       ended = λ e. absurd (cc);
       ends = tt;
@@ -158,10 +159,9 @@ module _ {R C : Type 0} {g : Ghosts R} {h : CounterGhosts C} (old new : BinaryRe
   item_walks_at (Some (Err r)) event walking is yields within size bounded held kept falls failures = record {
     gives = record {
       unchanged = same;
-      items = simp (walking, is) (IfSome_then (g.known old.source) yields (λ bytes next. (
-        refl,
-        next,
-      )));
+      items = simp (walking, is) (IfSome_then (g.known old.source) yields
+          (λ bytes. yields_error (λ event. event) false
+          (until_fault (remaining_in bytes old.decoder.bounds old.walk)) new.decoder.slot.fault));
       failures = failures;
       ended = λ e. absurd (cc);
       ends = is;

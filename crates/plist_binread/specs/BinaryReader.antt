@@ -1,10 +1,10 @@
 -- What contracts say about a reader: its remaining items, its open collections and its cache.
-use Rattle.std.specs.Prelude.{◌≡◌, ℕ, ◌^◌, ◌≤◌, Bool, true, false, List, [], ◌∷◌, length, reverse, Option, None, Result, Ok, Err, MatchBool, MatchOption, MatchResult, OnErr, IfSome, ⊤}
+use Rattle.std.specs.Prelude.{◌≡◌, ℕ, ◌^◌, ◌≤◌, Bool, true, false, List, [], length, reverse, Option, None, Result, MatchBool, MatchOption, OnErr, IfSome, ⊤}
 use Rattle.plist_base.specs.declared.error.Error.{Error}
 use Rattle.plist_base.specs.declared.event.Event.{Event}
 use Rattle.plist_base.specs.declared.source.Source.{Ghosts}
-use Rattle.plist_base.specs.Faults.{MatchFault, kind_of, error_kind_of, fault_of}
 use Rattle.plist_base.specs.Events.{PlainEvent, Item, event_of}
+use Rattle.plist_base.specs.FirstItems.{GivesFirst, MatchItem}
 use Rattle.plist_base.specs.Sources.{ItemCountsIo}
 use Rattle.plist_format.specs.Container.{head_of}
 use Rattle.std.specs.Option.{is_some}
@@ -24,19 +24,15 @@ use Rattle.plist_binread.specs.NextChild.{upcoming_number, IsCachedIfSmall, is_f
 abbrev pub objects_in_head : List ℕ → ℕ
 objects_in_head bytes = length (places_of bytes)
 
--- the item is the first that remained, or `Io` or `OutOfMemory` in its place; `after` remains
+-- The item is the first that remained, and the others remain; after `None` and any error no item
+-- remains. `Io` is yielded only if an item remained, and `OutOfMemory` only if the reader is new or
+-- the first item needs memory.
 abbrev pub GivesAs : {A : Type 0} → (shown : A → PlainEvent) → (new : Bool) (before : List Item)
     → Option (Result A Error) → (after : List Item) → Type 0
 GivesAs shown new before item after =
-    MatchOption item ((before ≡ []) × (after ≡ [])) (λ answer. MatchResult answer
-    (λ event. before ≡ Ok (shown event) ∷ after)
-    (λ error. (after ≡ []) × MatchFault (kind_of (error_kind_of error)) (SomeRemain before)
-    (MatchBool new (SomeRemain before) (AllocatesFirst before)) (before ≡ Err (fault_of error) ∷ [])))
-
--- like `GivesAs`, for owned events
-abbrev pub GivesBinaryItem : (new : Bool) (before : List Item) → Option (Result Event Error)
-    → (after : List Item) → Type 0
-GivesBinaryItem new before item after = GivesAs event_of new before item after
+    GivesFirst shown before item after × MatchItem item (after ≡ []) (λ _. ⊤)
+    ((after ≡ []) × SomeRemain before)
+    ((after ≡ []) × MatchBool new (SomeRemain before) (AllocatesFirst before)) (λ _. after ≡ [])
 
 -- each of these lists has at most `count` elements
 abbrev pub AreListsWithin : (count : ℕ) → (tags contents : List ℕ) → List Frame → Type 0

@@ -16,7 +16,10 @@ use Rattle.plist_base.specs.Faults.{FaultKind, Fault, Io, OutOfMemory, InvalidUt
 use Rattle.plist_base.specs.Sequential.{from_place}
 use Rattle.plist_reader.specs.Streams.{stream_bytes_left, stream_source, buffered_bytes}
 use Rattle.plist_base.specs.Sources.{ItemCountsIo}
+use Rattle.plist_base.specs.FirstItems.{GivesFirstIfKnown, MatchItem}
+use Rattle.plist_base.proofs.FirstItems.{first_allowed_if_known, none_allowed}
 use Rattle.plist_base.proofs.Refusals.{MatchFault-weaker}
+use Rattle.plist_binread.proofs.LimitedSteps.{limits_remain}
 use Rattle.plist_decode.specs.FaultOffsets.{HasOffset}
 use Rattle.plist_binread.specs.Remaining.{SomeRemain}
 use Rattle.plist_ascii.specs.Ascii.{items_of_ascii, items_in, BeginsWithText}
@@ -27,7 +30,7 @@ use Rattle.plist_ascii.specs.declared.dialect.Dialect.{Dialect}
 use Rattle.plist_ascii.specs.Texts.{ends_bare}
 use Rattle.plist_reader.specs.declared.reader.State.{State}
 use Rattle.plist_reader.specs.declared.reader.State.TheVariants as state
-use Rattle.plist_reader.specs.Reader.{MatchText, AsciiReaderOf, AsciiGives, state_items, input_within, items_in_format, items_of_dialect, ascii_items_to_come, GivesItem, GivesIfKnown, EndsAfter, IsReaderFault, IfItemFault, StateGives, FaultHasOffset, MatchOffset}
+use Rattle.plist_reader.specs.Reader.{MatchText, AsciiReaderOf, AsciiGives, state_items, input_within, items_in_format, items_of_dialect, ascii_items_to_come, StopsIfKnown, EndsAfter, IsReaderFault, IfItemFault, StateGives, FaultHasOffset, MatchOffset}
 use Rattle.plist_reader.specs.declared.format.Format.TheVariants as format
 use Rattle.plist_reader.specs.Formats.{format_of, input_front}
 use Rattle.plist_reader.proofs.ReaderItems.{Given, chosen-gives, one-remain, text-or-all}
@@ -45,29 +48,35 @@ none-left : (stops : ℕ → Bool) (bytes : List ℕ) (q : ℕ) → bytes ≡ []
 unfolding items_in
 none-left stops bytes q e = ap (λ l. items_of_ascii stops l q) e
 
-ascii-item : (stops : ℕ → Bool) (bytes rest : List ℕ) (p q : ℕ) (item : Given)
-    → ascii.GivesAsciiItem stops bytes p item rest q
-    → GivesItem (items_of_ascii stops bytes p) item (items_of_ascii stops rest q)
-ascii-item stops bytes rest p q None h = (h.0, none-left stops rest q h.1)
-ascii-item stops bytes rest p q (Some (Ok event)) h = h.items
-ascii-item stops bytes rest p q (Some (Err error)) h =
-    MatchFault-weaker (kind_of (error_kind_of error)) (λ e. none-left stops rest q e)
-    (λ m. (none-left stops rest q m.0, text-remain (items_of_ascii stops bytes p) m.1))
-    (λ b. b.items) h
-
 pub ascii-goes : (stops : ℕ → Bool) (k l : Option (List ℕ)) (p q : ℕ) (item : Given)
     → ((bytes : List ℕ) → k ≡ Some bytes → (rest : List ℕ) × (l ≡ Some rest)
     × ascii.GivesAsciiItem stops bytes p item rest q)
-    → GivesIfKnown (option_map (λ bytes. items_of_ascii stops bytes p) k) item
+    → GivesFirstIfKnown event_of (option_map (λ bytes. items_of_ascii stops bytes p) k) item
     (option_map (λ bytes. items_of_ascii stops bytes q) l)
 ascii-goes stops None l p q item h = tt
 ascii-goes stops (Some bytes) l p q item h =
-    let r = h _ refl in (
-      items_of_ascii _ r.0 q,
-      ap
-          (option_map (λ b. items_of_ascii _ b q)) r.1,
-      ascii-item _ _ r.0 p q _ r.2,
-    )
+    let (rest, is, gives) = h bytes refl in
+    (items_of_ascii stops rest q, ap (option_map (λ b. items_of_ascii stops b q)) is, gives.0)
+
+ascii-stops : (stops now : ℕ → Bool) (k l : Option (List ℕ)) (p q : ℕ) (item : Given)
+    → ((bytes : List ℕ) → k ≡ Some bytes → (rest : List ℕ) × (l ≡ Some rest)
+    × ascii.GivesAsciiItem stops bytes p item rest q)
+    → StopsIfKnown (option_map (λ bytes. items_of_ascii stops bytes p) k) item
+    (option_map (λ bytes. items_of_ascii now bytes q) l)
+ascii-stops stops now None l p q item h = tt
+ascii-stops stops now (Some bytes) l p q item h =
+    let (rest, is, gives) = h bytes refl in
+    by item (λ none. ap (option_map (λ b. items_of_ascii now b q)) is ∙ ap Some (none-left now rest q none)) gives.1
+  where
+    by : (item : Given) {rest : List ℕ} {over : Type 0} → (rest ≡ [] → over)
+        → MatchItem item (rest ≡ []) (λ event. ascii.BeginsWithItem stops bytes p (Ok (event_of event)) rest q)
+        (rest ≡ []) ((rest ≡ []) × BeginsWithText (items_of_ascii stops bytes p))
+        (λ fault. ascii.BeginsWithItem stops bytes p (Err fault) rest q)
+        → MatchItem item over (λ _. ⊤) over (over × SomeRemain (items_of_ascii stops bytes p)) (λ _. ⊤)
+    by None ends h = ends h
+    by (Some (Ok event)) ends h = tt
+    by (Some (Err error)) ends h = MatchFault-weaker (kind_of (error_kind_of error)) ends
+        (λ m. (ends m.0, text-remain (items_of_ascii stops bytes p) m.1)) (λ _. tt) h
 
 ascii-ends : (E : Type 0) (item : Given) → ascii.EndsAfterIoOrMemory item E → IsAsciiItem item
     → EndsAfter item E
@@ -161,44 +170,19 @@ limit-other : (kind : FaultKind) (limit : Limit) (X Y Z : Type 0) → kind ≡ L
     → MatchFault kind X Y Z
 limit-other kind limit X Y Z is z = rw is z
 
-reached-remain : (reached : Option Limit) (event : PlainEvent) (following : List Item)
-    → SomeRemain (event_or_limit reached event following)
-reached-remain None event following = one-remain {A = Item} (Ok event) following
-reached-remain (Some limit) event following =
-    one-remain {A = Item} (Err (fault_without_offset (LimitReached limit))) []
-
-limits-remain : (limiter : LimitCounter) (items : List Item) → SomeRemain items
-    → SomeRemain (limited_by limiter items)
-limits-remain limiter [] h = h
-limits-remain limiter (Ok event ∷ items) h = reached-remain _ _ _
-limits-remain limiter (Err fault ∷ items) h = one-remain {A = Item} (Err fault) []
-
-limited-item : (was now : Bool) (old new : LimitCounter) (before after : List Item) (asked item : Given)
-    → was ≡ false → GivesItem before asked after → PassesNext old asked item new now
-    → GivesItem (come was old before) item (come now new after)
-limited-item was now old new before after None item w g p =
-    rw (p.0, w, g.0, p.2) (refl, refl)
-limited-item was now old new before after (Some (Ok asked)) None w g p = absurd p
-limited-item was now old new before after (Some (Ok asked)) (Some (Ok passed)) w g p =
-    rw (w, p.2) (ap (limited_by old) g ∙ p.1 after
-    ∙ ap (λ v. Ok (event_of v) ∷ limited_by new after) (sym p.0))
-limited-item was now old new before after (Some (Ok asked)) (Some (Err error)) w g p =
-    rw (w, p.1) (limit-other (fault_of error).kind p.0.0.0 _ _ _ (ap (λ (f : Fault). f.kind) p.0.0.1)
-    (ap (limited_by old) g ∙ p.0.1 after))
-limited-item was now old new before after (Some (Err fault)) None w g p = absurd p
-limited-item was now old new before after (Some (Err fault)) (Some given) w g p =
-    rw (p.0, w, p.1) (MatchFault-weaker (kind_of (error_kind_of fault)) (λ _. refl)
-    (λ m. (refl, limits-remain old before m.1)) (λ b. ap (limited_by old) b) g)
-
-limited-goes : (was now : Bool) (old new : LimitCounter) (k l : Option (List Item)) (asked item : Given)
-    → was ≡ false → GivesIfKnown k asked l → PassesNext old asked item new now
-    → GivesIfKnown (option_map (come was old) k) item (option_map (come now new) l)
-limited-goes was now old new None l asked item w g p = tt
-limited-goes was now old new (Some all) l asked item w g p = (
-  come now new g.0,
-  ap (option_map (come now new)) g.1,
-  limited-item was now old new all g.0 asked item w g.2 p,
-)
+limited-stops : (was now : Bool) (old new : LimitCounter) (k l : Option (List Item)) (asked item : Given)
+    → was ≡ false → StopsIfKnown k asked l → PassesNext old asked item new now
+    → StopsIfKnown (option_map (come was old) k) item (option_map (come now new) l)
+limited-stops was now old new None l asked item w h p = tt
+limited-stops was now old new (Some all) l None item w h p = rw (p.0, p.2, h) refl
+limited-stops was now old new (Some all) l (Some (Ok asked)) None w h p = absurd p
+limited-stops was now old new (Some all) l (Some (Ok asked)) (Some (Ok passed)) w h p = tt
+limited-stops was now old new (Some all) l (Some (Ok asked)) (Some (Err error)) w h p =
+    limit-other (fault_of error).kind p.0.0.0 _ _ _ (ap (λ (f : Fault). f.kind) p.0.0.1) tt
+limited-stops was now old new (Some all) l (Some (Err fault)) None w h p = absurd p
+limited-stops was now old new (Some all) l (Some (Err fault)) (Some given) w h p =
+    rw p.0 (MatchFault-weaker (kind_of (error_kind_of fault)) (λ e. rw (p.1, e) refl)
+    (λ m. (rw (p.1, m.0) refl, rw w (limits_remain old all m.1))) (λ _. tt) h)
 
 module _ (now : Bool) (old new : LimitCounter) where
   passes-count : (asked item : Given) (a b : ℕ) → ItemCountsIo asked a b
@@ -270,14 +254,18 @@ module _ {R : Type 0} {g : Ghosts R} (known : R → Option (List ℕ)) (failed :
       → AsciiGives known failed old item new
       → StateGives {R = R} {g = g} known failed (state.Ascii old) item (state.Ascii new)
   ascii-gives old new item h = record {
-    items = subst (λ d. GivesIfKnown ((let before : State R g = state.Ascii old in state_items known
-        before))
+    items = subst (λ d. GivesFirstIfKnown event_of ((let before : State R g = state.Ascii old in
+        state_items known before))
         item (option_map (λ bytes. items_of_ascii (ends_bare d) bytes (ascii.place_of new))
         (ascii.untaken_bytes (stream_bytes_left known) new))) (sym h.dialect)
         (ascii-goes (ascii.stops_of old) (ascii.untaken_bytes (stream_bytes_left known) old)
         (ascii.untaken_bytes (stream_bytes_left known) new) (ascii.place_of old)
         (ascii.place_of new) item
         h.items);
+    stops = ascii-stops (ascii.stops_of old) (ascii.stops_of new)
+        (ascii.untaken_bytes (stream_bytes_left known) old)
+        (ascii.untaken_bytes (stream_bytes_left known) new) (ascii.place_of old)
+        (ascii.place_of new) item h.items;
     failures = counted-failures (failed (stream_source (ascii.device_of old)))
         (failed (stream_source (ascii.device_of new))) item h.failures;
     offset = ascii-placed (ascii.place_of new) item h.offset;
@@ -292,7 +280,9 @@ module _ {R : Type 0} {g : Ghosts R} (known : R → Option (List ℕ)) (failed :
   over-gives : (old : LimitedItems (AsciiReaderOf R) LimitCounter) → old.ended ≡ true
       → StateGives {R = R} {g = g} known failed (state.Limited old) None (state.Limited old)
   over-gives old over = record {
-    items = stays (ascii_items_to_come known (iterator_of old));
+    items = none_allowed event_of (items_admitted old) (ascii_items_to_come known (iterator_of old))
+        (λ items. rw over refl);
+    stops = stays (ascii_items_to_come known (iterator_of old));
     failures = refl;
     offset = tt;
     ended = λ _. refl;
@@ -303,9 +293,9 @@ module _ {R : Type 0} {g : Ghosts R} (known : R → Option (List ℕ)) (failed :
   }
     where
       stays : (k : Option (List Item))
-          → GivesIfKnown (option_map (items_admitted old) k) None (option_map (items_admitted old) k)
+          → StopsIfKnown (option_map (items_admitted old) k) None (option_map (items_admitted old) k)
       stays None = tt
-      stays (Some all) = (items_admitted old all, refl, rw over (refl, refl))
+      stays (Some all) = ap Some (let none : items_admitted old all ≡ [] = rw over refl in none)
 
   pub limited-gives : (old new : LimitedItems (AsciiReaderOf R) LimitCounter) (item : Given)
       → GivesLimited (AsciiGives known failed) old item new
@@ -320,9 +310,13 @@ module _ {R : Type 0} {g : Ghosts R} (known : R → Option (List ℕ)) (failed :
       by false going (asked, gave, passes) =
           let inner = ascii-gives old.inner new.inner asked gave in
           record {
-            items = limited-goes old.ended new.ended old.limiter new.limiter
+            items = first_allowed_if_known limited_by IsLimitReached (λ limiter. refl)
+                (λ limiter fault items. refl) old.limiter new.limiter old.ended new.ended
                 (ascii_items_to_come known old.inner) (ascii_items_to_come known new.inner) asked
                 item going inner.items passes;
+            stops = limited-stops old.ended new.ended old.limiter new.limiter
+                (ascii_items_to_come known old.inner) (ascii_items_to_come known new.inner) asked
+                item going inner.stops passes;
             failures = passes-count new.ended old.limiter new.limiter asked item
                 (failed (stream_source (ascii.device_of old.inner)))
                 (failed (stream_source (ascii.device_of new.inner))) inner.failures passes;

@@ -2,7 +2,9 @@
 use Rattle.std.proofs.Common.{◌≡◌, ℕ, ◌^◌, Bool, true, false, List, [], ◌∷◌, Option, None, Some, Ok, Err, IfSome, OnErr, MatchBool, MatchOption, refl, ap, sym, ◌∙◌, subst}
 use Rattle.std.specs.Option.{is_some, option_map}
 use Rattle.plist_base.specs.declared.source.Source.{Ghosts}
-use Rattle.plist_base.specs.Events.{Item}
+use Rattle.plist_base.specs.Events.{Item, event_of}
+use Rattle.plist_base.proofs.FirstItems.{first_of_known}
+use Rattle.std.proofs.lemmas.Option.{IfSome_then}
 use Rattle.plist_base.specs.declared.limits.Limits.{Limits}
 use Rattle.plist_base.specs.Limits.{limited_items}
 use Rattle.plist_base.specs.Faults.{FaultKind, Io, UnexpectedEof, OutOfMemory, InvalidMagic, InvalidTrailerObjectOffsetSize, InvalidTrailerObjectReferenceSize, ObjectOffsetTooLarge, ObjectReferenceTooLarge, RecursiveObject, NullObjectUnimplemented, FillObjectUnimplemented, UnknownObjectType, IntegerOutOfRange, OverflowOrNanDate, InvalidUtf8String, InvalidUtf16String, LimitReached, kind_of, error_kind_of, fault_of}
@@ -13,7 +15,7 @@ use Rattle.plist_decode.specs.FaultOffsets.{HasOffset, MatchGiven, ItemGivenWith
 use Rattle.plist_binread.specs.Remaining.{SomeRemain, AllocatesFirst}
 use Rattle.plist_ascii.specs.declared.dialect.Dialect.{Dialect}
 use Rattle.plist_reader.specs.declared.reader.State.TheVariants as state
-use Rattle.plist_reader.specs.Reader.{BinaryReaderOf, items_of_input, file_within, input_within, items_in_format, GivesItem, GivesIfKnown, EndsAfter, IsReaderFault, IfItemFault, StateGives, MatchOffset, FaultHasOffset}
+use Rattle.plist_reader.specs.Reader.{BinaryReaderOf, items_of_input, file_within, input_within, items_in_format, StopsIfKnown, EndsAfter, IsReaderFault, IfItemFault, StateGives, MatchOffset, FaultHasOffset}
 use Rattle.plist_reader.specs.declared.format.Format.TheVariants as format
 use Rattle.plist_reader.specs.Formats.{format_of}
 use Rattle.plist_reader.proofs.Fronts.{within-placed}
@@ -35,21 +37,15 @@ either-remain false before h = wants-remain _ h
 
 -- ---- one call
 
-binary-item : (new : Bool) (before after : List Item) (item : Given)
-    → binary.GivesBinaryItem new before item after → GivesItem before item after
-binary-item new before after None h = h
-binary-item new before after (Some (Ok event)) h = h
-binary-item new before after (Some (Err error)) h =
-    MatchFault-weaker (kind_of (error_kind_of error)) (λ _. h.0)
-    (λ m. (h.0, either-remain new before m))
-    (λ e. e ∙ ap (λ l. Err (fault_of error) ∷ l) (sym h.0)) h.1
-
-binary-goes : (k l : Option (List ℕ)) (f g : List ℕ → List Item) (new : Bool) (item : Given) → l ≡ k
-    → IfSome k (λ bytes. binary.GivesBinaryItem new (f bytes) item (g bytes))
-    → GivesIfKnown (option_map f k) item (option_map g l)
-binary-goes None l f g new item e h = tt
-binary-goes (Some bytes) l f g new item e h =
-    (g _, ap (option_map g) e, binary-item _ _ _ _ h)
+binary-stops : (k l : Option (List ℕ)) (f g : List ℕ → List Item) (new : Bool) (item : Given)
+    → l ≡ k → IfSome k (λ bytes. binary.GivesAs event_of new (f bytes) item (g bytes))
+    → StopsIfKnown (option_map f k) item (option_map g l)
+binary-stops None l f g new item e h = tt
+binary-stops (Some bytes) l f g new None e h = ap (option_map g) e ∙ ap Some h.1
+binary-stops (Some bytes) l f g new (Some (Ok event)) e h = tt
+binary-stops (Some bytes) l f g new (Some (Err error)) e h =
+    MatchFault-weaker (kind_of (error_kind_of error)) (λ m. ap (option_map g) e ∙ ap Some m.0)
+    (λ m. (ap (option_map g) e ∙ ap Some m.0, either-remain new (f bytes) m.1)) (λ _. tt) h.1
 
 -- after an error the reader has ended
 over-ends : (E : Type 0) (item : Given) → MatchOption item E (λ answer. OnErr answer E)
@@ -134,10 +130,13 @@ module _ {R : Type 0} {g : Ghosts R} where
   pub binary-gives : (old new : BinaryReaderOf R g) (item : Given) → binary.GivesBinary old item new
       → StateGives g.known g.failures (state.Binary old) item (state.Binary new)
   binary-gives old new item h = record {
-    items = binary-goes (g.known (binary.binary_source old)) (g.known (binary.binary_source new))
-        (λ bytes. binary.items_to_come bytes old) (λ bytes. binary.items_to_come bytes new)
-        (binary.is_new old)
-        item h.unchanged h.items;
+    items = first_of_known event_of (g.known (binary.binary_source old))
+        (g.known (binary.binary_source new)) (λ bytes. binary.items_to_come bytes old)
+        (λ bytes. binary.items_to_come bytes new) item h.unchanged
+        (IfSome_then (g.known (binary.binary_source old)) h.items (λ bytes gives. gives.0));
+    stops = binary-stops (g.known (binary.binary_source old))
+        (g.known (binary.binary_source new)) (λ bytes. binary.items_to_come bytes old)
+        (λ bytes. binary.items_to_come bytes new) (binary.is_new old) item h.unchanged h.items;
     failures = h.failures;
     offset = binary-placed (binary.has_limits old) item h.faults;
     ended = h.ended;

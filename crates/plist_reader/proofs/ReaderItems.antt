@@ -5,7 +5,9 @@ use Rattle.std.specs.Prelude.{Result, ⊤}
 use Rattle.plist_base.specs.declared.error.Error.{Error}
 use Rattle.plist_base.specs.declared.event.Event.{Event}
 use Rattle.plist_base.specs.declared.source.Source.{Ghosts}
-use Rattle.plist_base.specs.Events.{Item}
+use Rattle.plist_base.specs.Events.{Item, event_of}
+use Rattle.plist_base.specs.FirstItems.{GivesFirst, GivesFirstIfKnown}
+use Rattle.plist_binread.specs.Remaining.{SomeRemain}
 use Rattle.plist_base.specs.declared.limits.Limits.{Limits}
 use Rattle.plist_base.specs.Limits.{limited_items}
 use Rattle.plist_base.specs.Faults.{FaultKind, Fault, Io, InvalidUtf16String, UnclosedString, IncompleteComment, InvalidUtf8AsciiStream, InvalidOctalString, MatchFault, XmlUnsupported, IsIo, fault_at, kind_of, error_kind_of, fault_of}
@@ -15,7 +17,7 @@ use Rattle.plist_decode.specs.FaultOffsets.{HasOffset}
 use Rattle.plist_ascii.specs.declared.dialect.Dialect.{Dialect}
 use Rattle.plist_reader.specs.declared.reader.State.{State}
 use Rattle.plist_reader.specs.declared.reader.State.TheVariants as state
-use Rattle.plist_reader.specs.Reader.{BeginsInside, MatchText, state_items, input_within, is_limited_in, items_in_format, GivesItem, GivesIfKnown, IsReaderFault, IfItemFault, IsRefusedKind, StateGives, HoldsSource, FaultHasOffset, MatchOffset, source_in}
+use Rattle.plist_reader.specs.Reader.{BeginsInside, MatchText, state_items, input_within, is_limited_in, items_in_format, StopsIfKnown, IsReaderFault, IfItemFault, IsRefusedKind, StateGives, HoldsSource, FaultHasOffset, MatchOffset, source_in}
 use Rattle.plist_reader.specs.declared.format.Format.TheVariants as format
 use Rattle.plist_reader.specs.Formats.{format_of}
 
@@ -45,6 +47,18 @@ refused-kind limited XmlUnsupported h = tt
 refused-kind limited Io h = tt
 refused-kind limited kind h = absurd h
 
+-- after the choice failed, no item remains
+refused-stops : (before : Option (List Item)) (error : Error)
+    → IsRefusedKind (kind_of (error_kind_of error)) → StopsIfKnown before (Some (Err error)) (Some [])
+refused-stops None error h = tt
+refused-stops (Some all) error h = by (kind_of (error_kind_of error)) h
+  where
+    by : (kind : FaultKind) → IsRefusedKind kind → MatchFault kind (◌≡◌ {A = Option (List Item)} (Some []) (Some []))
+        (◌≡◌ {A = Option (List Item)} (Some []) (Some []) × SomeRemain all) ⊤
+    by XmlUnsupported h = tt
+    by Io h = refl
+    by kind h = absurd h
+
 xml-other : (kind : FaultKind) (X Y Z : Type 0) → kind ≡ XmlUnsupported → Z → MatchFault kind X Y Z
 xml-other kind X Y Z is z = rw is z
 
@@ -52,7 +66,7 @@ xml-other kind X Y Z is z = rw is z
 pub xml-items : (k : Option (List ℕ)) (limits : Option Limits) (dialect : Dialect) (place : ℕ) (error : Error)
     → fault_of error ≡ fault_at XmlUnsupported place
     → IfSome k (λ bytes. format.Xml place ≡ format_of bytes)
-    → IfSome k (λ bytes. GivesItem (input_within dialect limits bytes) (Some (Err error)) [])
+    → IfSome k (λ bytes. GivesFirst event_of (input_within dialect limits bytes) (Some (Err error)) [])
 xml-items None limits dialect place error is h = tt
 xml-items (Some bytes) limits dialect place error is h =
     xml-other _ _ _ _ (ap (λ (f : Fault). f.kind) is)
@@ -79,10 +93,10 @@ xml-place place error is = subst FaultHasOffset (sym is) tt
 -- a read failed
 pub io-items : (k : Option (List ℕ)) (limits : Option Limits) (dialect : Dialect) (error : Error)
     → IsIo (kind_of (error_kind_of error))
-    → IfSome k (λ bytes. GivesItem (input_within dialect limits bytes) (Some (Err error)) [])
+    → IfSome k (λ bytes. GivesFirst event_of (input_within dialect limits bytes) (Some (Err error)) [])
 io-items None limits dialect error io = tt
 io-items (Some bytes) limits dialect error io =
-    MatchFault-weaker (kind_of (error_kind_of error)) (λ _. refl) (λ none. absurd none)
+    MatchFault-weaker (kind_of (error_kind_of error)) (λ _. tt) (λ none. absurd none)
     (λ none. absurd none) io
 
 pub io-kind : (error : Error) → IsIo (kind_of (error_kind_of error))
@@ -111,7 +125,8 @@ module _ {R : Type 0} {g : Ghosts R} (known : R → Option (List ℕ)) (failed :
       → BeginsInside known failed limits dialect item new → StateGives known failed old item new
       → StateGives known failed (state.Unread source limits dialect) item new
   chosen-gives source limits dialect old new item same limited count inside h = record {
-    items = subst (λ o. GivesIfKnown o item (state_items known new)) same h.items;
+    items = subst (λ o. GivesFirstIfKnown event_of o item (state_items known new)) same h.items;
+    stops = subst (λ o. StopsIfKnown o item (state_items known new)) same h.stops;
     failures = count;
     offset = h.offset;
     ended = λ e. absurd e;
@@ -137,7 +152,7 @@ module _ {R : Type 0} {g : Ghosts R} (known : R → Option (List ℕ)) (failed :
 
   -- if the choice fails, its error is yielded
   pub refused-gives : (source other : R) (limits : Option Limits) (dialect : Dialect) (error : Error)
-      → IfSome (known source) (λ bytes. GivesItem (input_within dialect limits bytes) (Some (Err error)) [])
+      → IfSome (known source) (λ bytes. GivesFirst event_of (input_within dialect limits bytes) (Some (Err error)) [])
       → IsRefusedKind (kind_of (error_kind_of error))
       → ItemCountsIo {A = Event} (Some (Err error)) (failed source) (failed other)
       → IfItemFault (Some (Err error)) FaultHasOffset
@@ -145,6 +160,7 @@ module _ {R : Type 0} {g : Ghosts R} (known : R → Option (List ℕ)) (failed :
       (state.Refused other)
   refused-gives source other limits dialect error items kind count place = record {
     items = empty (known source) items;
+    stops = refused-stops (option_map (input_within dialect limits) (known source)) error kind;
     failures = count;
     offset = place;
     ended = λ e. absurd e;
@@ -155,7 +171,7 @@ module _ {R : Type 0} {g : Ghosts R} (known : R → Option (List ℕ)) (failed :
   }
     where
       empty : (k : Option (List ℕ))
-          → IfSome k (λ bytes. GivesItem (input_within dialect limits bytes) (Some (Err error)) [])
-          → GivesIfKnown (option_map (input_within dialect limits) k) (Some (Err error)) (Some [])
+          → IfSome k (λ bytes. GivesFirst event_of (input_within dialect limits bytes) (Some (Err error)) [])
+          → GivesFirstIfKnown event_of (option_map (input_within dialect limits) k) (Some (Err error)) (Some [])
       empty None h = tt
       empty (Some bytes) h = ([], refl, h)

@@ -11,6 +11,7 @@ use Rattle.plist_base.specs.Allowances.{HasEndedLimited, iterator_of}
 use Rattle.plist_base.specs.Limits.{GivesLimited, items_admitted, limited_items}
 use Rattle.plist_base.specs.Faults.{Fault, FaultKind, Io, IncompleteComment, InvalidOctalString, InvalidUtf16String, InvalidUtf8AsciiStream, LimitReached, OutOfMemory, UnclosedString, XmlUnsupported, kind_of, error_kind_of, fault_of, fault_at}
 use Rattle.plist_base.specs.Events.{Item, event_of}
+use Rattle.plist_base.specs.FirstItems.{GivesFirstIfKnown, MatchItem}
 use Rattle.plist_base.specs.Sources.{ItemCountsIo}
 use Rattle.plist_binread.specs.BinaryReader as binary
 use Rattle.plist_binread.specs.declared.reader.BinaryReader.{BinaryReader}
@@ -20,7 +21,6 @@ use Rattle.plist_decode.specs.FaultOffsets.{HasOffset, MatchGiven}
 use Rattle.plist_binread.specs.Remaining.{SomeRemain, walk_steps}
 use Rattle.plist_format.specs.Unfolding.{items_of_file}
 use Rattle.plist_ascii.specs.Ascii.{items_of_ascii}
-use Rattle.plist_ascii.specs.Kinds.{MatchItem}
 use Rattle.plist_ascii.specs.AsciiReader as ascii
 use Rattle.plist_ascii.specs.declared.reader.AsciiReader.{AsciiReader}
 use Rattle.plist_reader.specs.declared.bytes.BufferedSource.{BufferedSource}
@@ -138,19 +138,13 @@ is_limited_in other = false
 abbrev pub reader_is_limited : {R : Type 0} {g : Ghosts R} → Reader R g → Bool
 reader_is_limited reader = is_limited_in reader.state
 
--- the first remaining item is yielded, or `None` if no item remains; `Io` is always possible, and
--- `OutOfMemory` if an item remains; after either of these two errors no item remains
-abbrev pub GivesItem : (before : List Item) → Option (Result Event Error) → (after : List Item)
-    → Type 0
-GivesItem before item after =
-    MatchItem item ((before ≡ []) × (after ≡ [])) (λ event. before ≡ Ok (event_of event) ∷ after)
-    (after ≡ []) ((after ≡ []) × SomeRemain before) (λ fault. before ≡ Err fault ∷ after)
-
--- `GivesItem` is true of the remaining items if these are known
-abbrev pub GivesIfKnown : (before : Option (List Item)) → Option (Result Event Error)
+-- if the remaining items are known, no item remains after `None`, `Io` and `OutOfMemory`, and
+-- `OutOfMemory` is yielded only if an item remained
+abbrev pub StopsIfKnown : (before : Option (List Item)) → Option (Result Event Error)
     → (after : Option (List Item)) → Type 0
-GivesIfKnown before item after =
-    IfSome before (λ all. (left : List Item) × (after ≡ Some left) × GivesItem all item left)
+StopsIfKnown before item after = IfSome before (λ all.
+    let over = after ≡ Some [] in
+    MatchItem item over (λ _. ⊤) over (over × SomeRemain all) (λ _. ⊤))
 
 -- a fact for a fault that ASCII can have, and one for every other fault
 abbrev pub MatchText : FaultKind → (text other : Type 0) → Type 0
@@ -238,7 +232,8 @@ module _ {R : Type 0} {g : Ghosts R} (known : R → Option (List ℕ)) (failed :
 -- one call of `next`, as it changes the state
 pub record StateGives {R : Type 0} {g : Ghosts R} (known : R → Option (List ℕ)) (failed : R → ℕ)
     (old : State R g) (item : Option (Result Event Error)) (new : State R g) : Type 0 where
-  pub items : GivesIfKnown (state_items known old) item (state_items known new)
+  pub items : GivesFirstIfKnown event_of (state_items known old) item (state_items known new)
+  pub stops : StopsIfKnown (state_items known old) item (state_items known new)
   pub failures : HoldsSource failed (source_in old) item (source_in new)
   pub offset : IfItemFault item FaultHasOffset
   pub ended : HasEndedState old → item ≡ None

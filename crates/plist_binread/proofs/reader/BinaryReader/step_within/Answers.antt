@@ -4,6 +4,7 @@ use Rattle.plist_base.specs.Faults.{fault_of}
 use Rattle.plist_base.specs.Limits.{RefusesAny}
 use Rattle.plist_binread.specs.ReaderSteps.{Walks, item_with}
 use Rattle.plist_binread.specs.BinaryReader.{is_new, binary_source, unlimited_items}
+use Rattle.plist_binread.proofs.LimitedSteps.{turns_within}
 use Rattle.plist_decode.specs.Slot.{item_in}
 use Rattle.plist_binread.proofs.ReaderLimits.{limit-current, refused-given, refused-other}
 use Rattle.plist_decode.proofs.UnknownBytes.{IfSome-all, IfSome-never}
@@ -54,3 +55,10 @@ returns-in-Err g c =
       },
       (let untaken = l.untaken in search rules),
     )
+
+pub returns-in-Ok : goal.returns-in-Ok
+returns-in-Ok g c =
+    turns_within c.args.self.now c.step-item.new.self _ c.args.limits _ c.requires refl refl refl refl
+    refl g.V.EventVisitor.step c.new-within.result c.step-item.new.visitor _ _
+    c.step-item.new.self.decoder.slot c.step-item.result c.new-within.ensures.limits (search rules)
+    (search rules) (search rules) (search rules) c.step-item.ensures.walks

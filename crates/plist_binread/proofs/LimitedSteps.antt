@@ -1,0 +1,164 @@
+-- One step of a reader with limits that admit its event.
+use Rattle.std.proofs.Common.{◌≡◌, ℕ, ◌^◌, inl, inr, Bool, true, false, List, [], ◌∷◌, Option, None, Some, Result, Ok, Err, IfSome, MatchBool, arith, refl, ap, subst, sym, rules, ◌∙◌}
+use Rattle.std.specs.Prelude.{IfOk, ⊤}
+use Rattle.std.proofs.lemmas.Option.{IfSome_then}
+use Rattle.plist_base.specs.declared.source.Source.{Ghosts}
+use Rattle.plist_base.specs.declared.limits.Limit.{Limit}
+use Rattle.plist_base.specs.declared.limits.LimitCounter.{LimitCounter}
+use Rattle.plist_base.specs.Events.{Item, PlainEvent}
+use Rattle.plist_base.specs.Faults.{Fault, FaultKind, Io, LimitReached, MatchFault, OutOfMemory, error_kind_of, fault_of, kind_of}
+use Rattle.plist_base.specs.Limits.{Admits, event_or_limit, limited_by}
+use Rattle.plist_base.specs.Visits.{Flow, PlainItem, TakesTurn}
+use Rattle.plist_binread.specs.BinaryReader.{GivesAs, has_limits, is_new, unlimited_items}
+use Rattle.plist_decode.specs.FaultOffsets.{ItemGivenWithin, MatchGiven}
+use Rattle.plist_binread.specs.Handovers.{HandsItem}
+use Rattle.plist_binread.specs.ReaderSteps.{Steps, TakesWithin, Walks, item_with}
+use Rattle.plist_binread.specs.Remaining.{AllocatesFirst, SomeRemain, cached_count}
+use Rattle.plist_decode.specs.Slot.{item_in}
+use Rattle.plist_decode.specs.declared.counter.DecodeCounter.{Ghosts as CounterGhosts}
+use Rattle.plist_decode.specs.declared.fault_slot.FaultSlot.{FaultSlot}
+use Rattle.plist_decode.specs.declared.fault_slot.StepError.{StepError}
+use Rattle.plist_binread.specs.declared.reader.BinaryReader.{BinaryReader}
+use Rattle.plist_binread.specs.declared.visitors.Within.{Within}
+
+-- ---- the remaining items
+
+reached_remain : (reached : Option Limit) (event : PlainEvent) (following : List Item)
+    → SomeRemain (event_or_limit reached event following)
+reached_remain None event following = omega arith
+reached_remain (Some limit) event following = omega arith
+
+-- if some items remain, some remain under limits
+pub limits_remain : (limiter : LimitCounter) (items : List Item) → SomeRemain items
+    → SomeRemain (limited_by limiter items)
+limits_remain limiter [] h = h
+limits_remain limiter (Ok event ∷ items) h = reached_remain _ _ _
+limits_remain limiter (Err fault ∷ items) h = omega arith
+
+-- whether the first item needs memory doesn't depend on the others
+wants_alike : (event : PlainEvent) (left right : List Item) → AllocatesFirst (Ok event ∷ left)
+    → AllocatesFirst (Ok event ∷ right)
+wants_alike event left right h = search rules
+
+reached_wants : (reached : Option Limit) (event : PlainEvent) (items following : List Item)
+    → AllocatesFirst (Ok event ∷ items) → AllocatesFirst (event_or_limit reached event following)
+reached_wants None event items following h = wants_alike event items following h
+reached_wants (Some limit) event items following h = tt
+
+limits_want : (limiter : LimitCounter) (items : List Item) → AllocatesFirst items
+    → AllocatesFirst (limited_by limiter items)
+limits_want limiter [] h = h
+limits_want limiter (Ok event ∷ items) h = reached_wants _ event items _ h
+limits_want limiter (Err fault ∷ items) h = h
+
+memory_within : (limiter : LimitCounter) (new : Bool) (items : List Item)
+    → MatchBool new (SomeRemain items) (AllocatesFirst items)
+    → MatchBool new (SomeRemain (limited_by limiter items))
+    (AllocatesFirst (limited_by limiter items))
+memory_within limiter true items h = limits_remain limiter items h
+memory_within limiter false items h = limits_want limiter items h
+
+-- if the item is an event, the limits admit it
+abbrev AdmitsItem : LimitCounter → PlainItem → LimitCounter → Type 0
+AdmitsItem limits item next =
+    IfSome item (λ answer. IfOk answer (λ event. Admits limits event next))
+
+first_within : (limits next : LimitCounter) (new : Bool) (before after : List Item) (item : PlainItem)
+    → AdmitsItem limits item next → GivesAs (λ event. event) new before item after
+    → GivesAs (λ event. event) new (limited_by limits before) item (limited_by next after)
+first_within limits next new before after None admits (none, left) = rw (none, left) (refl, refl)
+first_within limits next new before after (Some (Ok event)) admits (is, _) =
+    (ap (limited_by limits) is ∙ admits after, tt)
+first_within limits next new before after (Some (Err error)) admits (is, left) =
+    by (kind_of (error_kind_of error)) (fault_of error) is left
+  where
+    by : (kind : FaultKind) (fault : Fault) → MatchFault kind ⊤ ⊤ (before ≡ Err fault ∷ after)
+        → MatchFault kind ((after ≡ []) × SomeRemain before)
+        ((after ≡ []) × MatchBool new (SomeRemain before) (AllocatesFirst before)) (after ≡ [])
+        → MatchFault kind ⊤ ⊤ (limited_by limits before ≡ Err fault ∷ limited_by next after)
+        × MatchFault kind ((limited_by next after ≡ []) × SomeRemain (limited_by limits before))
+        ((limited_by next after ≡ []) × MatchBool new (SomeRemain (limited_by limits before))
+        (AllocatesFirst (limited_by limits before))) (limited_by next after ≡ [])
+    by Io fault is (none, some) = (tt, (rw none refl, limits_remain limits before some))
+    by OutOfMemory fault is (none, some) =
+        (tt, (rw none refl, memory_within limits new before some))
+    by kind fault is none = (rw none (ap (limited_by limits) is), rw none refl)
+
+-- ---- the errors
+
+given_within : (limited : Bool) (item : PlainItem) (start end : ℕ)
+    → ItemGivenWithin start end false item → ItemGivenWithin start end limited item
+given_within limited None start end h = tt
+given_within limited (Some (Ok event)) start end h = tt
+given_within limited (Some (Err error)) start end h =
+    record { placed = by (kind_of (error_kind_of error)) _ _ _ _ h.placed }
+  where
+    by : (kind : FaultKind) (A B C D : Type 0) → MatchGiven kind A B C ((false ≡ true) × D)
+        → MatchGiven kind A B C ((limited ≡ true) × D)
+    by (LimitReached limit) A B C D p = absurd (cc p.0)
+    by kind A B C D p = p
+
+-- ---- the whole step
+
+module _ {R C : Type 0} {g : Ghosts R} {h : CounterGhosts C} (old mid new : BinaryReader R C g h)
+    (limits next : LimitCounter) (was : old.limiter ≡ Some limits) (now : new.limiter ≡ Some next)
+    (source : new.source ≡ mid.source) (state : new.state ≡ mid.state)
+    (decoder : new.decoder ≡ mid.decoder) (walk : new.walk ≡ mid.walk) where
+  steps_within : (item : PlainItem) → AdmitsItem limits item next → Walks old item mid
+      → Steps old item new
+  steps_within item admits walks =
+      let w = walks.gives in
+      record {
+        gives = record {
+          unchanged = rw source w.unchanged;
+          items = rw (was, now, state, decoder, walk) (IfSome_then (g.known old.source) w.items
+              (λ bytes. first_within limits next (is_new old) (unlimited_items bytes old)
+              (unlimited_items bytes mid) item admits));
+          failures = rw source w.failures;
+          ended = w.ended;
+          ends = rw state w.ends;
+          begun = rw state w.begun;
+          faults = given_within (has_limits old) item 0 (2 ^ 64) w.faults;
+          head = rw (state, decoder, walk) w.head;
+          cached = rw walk w.cached;
+          leaves = record {
+            nested = rw walk w.leaves.nested;
+            marked = rw walk w.leaves.marked;
+            counted = λ counts. ap (λ d. h.count d.counter) decoder ∙ w.leaves.counted counts
+                ∙ ap (λ v. cached_count v.tags.items) (sym walk);
+            lists = rw walk w.leaves.lists;
+          };
+          objects = rw walk w.objects;
+          kept = (rw (was, now) refl, rw walk w.kept.1);
+        };
+        falls = rw (state, walk) walks.falls;
+      }
+
+  -- the visitor takes what the walk yields, if it takes it within the limits
+  pub turns_within : {V : Type 0} (step : V → PlainEvent → Flow → V → Type 0)
+      (before after : Within V) (visitor visited : V) (slot : FaultSlot)
+      (item : Option (Result Flow StepError)) → before.limiter.now ≡ limits
+      → after.limiter.now ≡ next → after.reached.now ≡ Ok tt → before.visitor.now ≡ visitor
+      → visited ≡ after.visitor.now → HandsItem (TakesWithin step) before after item
+      (λ event. Walks old (item_with (item_in item slot) event) mid)
+      → TakesTurn Steps step (old, visitor) (item_in item slot) (new, visited)
+  turns_within step before after visitor visited slot None first last unreached from to hands =
+      (steps_within None tt hands.is, to ∙ ap (λ w. w.visitor.now) hands.taken ∙ from)
+  turns_within step before after visitor visited slot (Some (Err refused)) first last unreached
+      from to hands = (
+        steps_within (Some (Err slot.fault)) tt hands.is,
+        to ∙ ap (λ w. w.visitor.now) hands.taken ∙ from,
+      )
+  turns_within step before after visitor visited slot (Some (Ok flow)) first last unreached from to
+      hands = elim hands.taken.takes [
+        | inl admitted ↦ (
+          hands.event,
+          record {
+            given = steps_within (Some (Ok hands.event))
+                (subst (λ l. Admits l hands.event next) first
+                (subst (λ n. Admits before.limiter.now hands.event n) last admitted.admitted)) hands.is;
+            taken = rw (sym from, to) admitted.taken;
+          },
+        )
+        | inr limit ↦ absurd (cc (limit.reached, unreached))
+      ]
