@@ -6,7 +6,7 @@ use Rattle.plist_base.specs.Visits.{Flow}
 use Rattle.plist_base.specs.Events.{PlainEvent}
 use Rattle.plist_base.specs.Faults.{IsIo, kind_of, error_kind_of}
 use Rattle.plist_base.proofs.Refusals.{MatchFault-weaker}
-use Rattle.plist_binread.specs.FirstStep.{IsKnownWalk}
+use Rattle.plist_binread.specs.Walking.{IsKnownWalk, IsWalkOf, open_in, remaining_entering, remaining_in}
 use Rattle.plist_binread.specs.Step.{YieldsResult, WalkTakesNextChild, stored_references}
 use Rattle.plist_binread.specs.declared.frames.NextChild.{NextChild}
 use Rattle.plist_binread.specs.declared.frames.NextChild.TheVariants.{Child}
@@ -19,7 +19,6 @@ use Rattle.plist_decode.specs.Reading.{object_at}
 use Rattle.plist_binread.specs.References.{AreReferencesOf, ReadsChildAt}
 use Rattle.plist_binread.specs.Remaining.{place_at, children_at, entries_of, next_number, Explains}
 use Rattle.plist_binread.specs.NextChild.{IsCurrentCached, ParentIsOpen, TakesNextChild}
-use Rattle.plist_binread.specs.Walking.{IsWalkOf, open_in, remaining_entering, remaining_in}
 use Rattle.plist_binread.proofs.WalkInvariant.{as_many, entry_there, held_place}
 use Rattle.std.proofs.lemmas.Option.{IfSome_then}
 use Rattle.plist_decode.proofs.UnknownBytes.{IfSome-both}
@@ -37,7 +36,7 @@ known_child_taken known bounds old new child k takes =
     IfSome_then known k (λ bytes k. takes bytes bounds k)
 
 -- the number of the child of an object
-abbrev pub child_of : (bytes : List ℕ) → Bounds → (object index : ℕ) → ℕ
+abbrev child_of : (bytes : List ℕ) → Bounds → (object index : ℕ) → ℕ
 child_of bytes bounds object index =
     get_or (children_at (slice_get (entries_of bytes bounds) object)) index 0
 

@@ -45,11 +45,6 @@ known_suffix known p k n place found above is within short lies = IfSome_then kn
 
 -- ---- the reference to a child
 
--- a number that lies before the trailer is the same in the bytes before the trailer
-pub number_at-take : (xs : List ℕ) (q w t : ℕ) → q + w ≤ t
-    → number_at (take t xs) q w ≡ number_at xs q w
-number_at-take xs q w t h = ap number_of (take-drop-take q w t xs h)
-
 module _ (known : Option (List ℕ)) (bounds : Bounds) (references : References) (index at : ℕ)
     (answer : Result ℕ Error) (asks : AreReferencesOf known bounds references)
     (exact : reference_place references index bounds.reference_width < 2 ^ 64
@@ -75,7 +70,7 @@ module _ (known : Option (List ℕ)) (bounds : Bounds) (references : References)
       let same : at ≡ p + q = exact (omega arith) ∙ omega arith in (
         omega arith,
         ap (λ place. number_at bytes place w) same
-            ∙ sym (number_at-take bytes (p + q) w bounds.trailer whole)
+            ∙ sym (ap number_of (take-drop-take (p + q) w bounds.trailer bytes whole))
             ∙ ap (λ ys. number_of (take w ys)) (sym (drop-drop q p (take bounds.trailer bytes)))
             ∙ slot.1,
       ))

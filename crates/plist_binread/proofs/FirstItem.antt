@@ -102,7 +102,7 @@ module _ (bytes : List ℕ) (head : code.Head) (bounds : Bounds)
           rw (zeros, get_or-zeros n number, there, is) refl
 
 -- the result of the first step
-abbrev pub Begins : List ℕ → Result Flow Error → PlainEvent → List Item → Type 0
+abbrev Begins : List ℕ → Result Flow Error → PlainEvent → List Item → Type 0
 Begins bytes answer current after = MatchResult answer
     (λ _. items_of_file bytes ≡ Ok current ∷ until_fault after) (RefusesFirst bytes)
 

@@ -13,13 +13,12 @@ use Rattle.plist_decode.specs.Slot.{result_in}
 use Rattle.std.specs.Prelude.{OnOk}
 use Rattle.plist_decode.specs.declared.head.Bounds.{Bounds}
 use Rattle.plist_binread.specs.declared.walk.Walk.{Walk}
-use Rattle.plist_binread.specs.FirstStep.{IsKnownWalk}
+use Rattle.plist_binread.specs.Walking.{IsKnownWalk, IsWalkOf, open_in, remaining_entering, remaining_in, walk_objects}
 use Rattle.plist_binread.specs.Remaining.{Explains, entries_of}
 use Rattle.plist_decode.specs.Decoded.{DecodesAt, IsDecodedThere, RefusesObjectAt}
 use Rattle.plist_binread.specs.ObjectEvents.{SetsDecoded, SetsEvent, event_of_object, is_refused}
 use Rattle.plist_decode.specs.Decoding.{IsRefusedAs}
 use Rattle.plist_binread.specs.Step.{YieldsResult, YieldsCurrent, OpensObject}
-use Rattle.plist_binread.specs.Walking.{IsWalkOf, open_in, remaining_entering, remaining_in, walk_objects}
 use Rattle.plist_format.specs.Unfolding.{until_fault}
 use Rattle.plist_decode.specs.Packed.{is_marked, unmarked, cached, scalar_event}
 use Rattle.plist_binread.proofs.ObjectEvents.{named-long}

@@ -12,7 +12,7 @@ use Rattle.plist_binread.proofs.Tags.{kind_of_tag-some, kept_everywhere}
 use Rattle.plist_binread.specs.Remaining.{path_of, MarksOpenPath, cached_count}
 use Rattle.std.proofs.lemmas.List.{nil_from_length}
 
-pub length-path_of : (fs : List Frame) → length (path_of fs) ≡ length fs
+length-path_of : (fs : List Frame) → length (path_of fs) ≡ length fs
 length-path_of [] = refl
 length-path_of (f ∷ fs) = ap suc (length-path_of fs)
 

@@ -12,10 +12,10 @@ use Rattle.plist_binread.specs.declared.reader.BinaryReader.{BinaryReader}
 use Rattle.plist_decode.specs.declared.head.Bounds.{Bounds}
 use Rattle.plist_binread.specs.declared.walk.Walk.{Walk}
 use Rattle.plist_format.specs.Container.{head_of}
-use Rattle.plist_binread.specs.FirstStep.{IsBounded, IsKnownWalk}
+use Rattle.plist_binread.specs.FirstStep.{IsBounded}
+use Rattle.plist_binread.specs.Walking.{IsKnownWalk, cached_in, walk_objects}
 use Rattle.plist_binread.specs.BinaryReader.{AreListsWithin, GivesAs, KeepsInvariant}
 use Rattle.plist_binread.specs.Remaining.{AllocatesFirst, AreBoundsOf, SomeRemain, places_of}
-use Rattle.plist_binread.specs.Walking.{cached_in, walk_objects}
 use Rattle.plist_binread.proofs.OpenObjects.{IsOpen-length}
 use Rattle.plist_decode.proofs.UnknownBytes.{IfSome-all}
 use Rattle.std.proofs.lemmas.Option.{IfSome_then}

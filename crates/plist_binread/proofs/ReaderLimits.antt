@@ -33,7 +33,7 @@ pub refused-other : (limiter : Option LimitCounter) (event : PlainEvent) (fault 
 refused-other limiter event fault X Y Z r z =
     let by = by-limit limiter event fault r in limit-fault fault by.1 X Y Z by.2 z
 
-pub limit-given : (start end : ℕ) (limited : Bool) (fault : Fault) (limit : Limit) → limited ≡ true
+limit-given : (start end : ℕ) (limited : Bool) (fault : Fault) (limit : Limit) → limited ≡ true
     → fault ≡ fault_without_offset (LimitReached limit) → IsGivenWithin start end limited fault
 limit-given start end limited fault limit e is = rw is (record { placed = (e, refl) })
 

@@ -10,7 +10,8 @@ use Rattle.plist_decode.specs.declared.counter.DecodeCounter.{Ghosts as CounterG
 use Rattle.plist_binread.specs.declared.reader.BinaryReader.{BinaryReader}
 use Rattle.plist_binread.specs.declared.reader.WalkState.{WalkState}
 use Rattle.plist_binread.specs.declared.reader.WalkState.TheVariants.{Fresh, Walking}
-use Rattle.plist_binread.specs.FirstStep.{CountsRoot, GivesRoot, IsBounded, IsKnownWalk, CachesRoot}
+use Rattle.plist_binread.specs.FirstStep.{CountsRoot, GivesRoot, IsBounded, CachesRoot}
+use Rattle.plist_binread.specs.Walking.{IsKnownWalk, cached_in, remaining_in, walk_objects, weight_in}
 use Rattle.plist_binread.specs.BinaryReader.{objects_in_head}
 use Rattle.plist_binread.specs.Remaining.{CountsObjects, walk_steps}
 use Rattle.plist_decode.specs.FaultOffsets.{ErrWithin, ItemWithin}
@@ -21,7 +22,6 @@ use Rattle.plist_binread.specs.ReaderSteps.{Walks, item_with}
 use Rattle.plist_decode.specs.declared.fault_slot.StepError.{StepError}
 use Rattle.plist_decode.specs.Slot.{SlotCountsIo, ItemSlotCountsIo, result_in, item_in}
 use Rattle.plist_binread.specs.NextChild.{is_fresh, is_walking, state_after}
-use Rattle.plist_binread.specs.Walking.{cached_in, remaining_in, walk_objects, weight_in}
 use Rattle.plist_base.proofs.Refusals.{MatchFault-all}
 use Rattle.plist_decode.proofs.FaultOffsets.{from_within}
 use Rattle.plist_decode.proofs.UnknownBytes.{IfSome-all, IfSome-never}

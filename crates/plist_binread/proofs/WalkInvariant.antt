@@ -259,10 +259,6 @@ pub first : (known : Option (List ℕ)) (P Q : List ℕ → Type 0)
     → IfSome known (λ bytes. P bytes × Q bytes) → IfSome known P
 first known P Q h = IfSome_then known h (λ bytes h. h.0)
 
-pub second : (known : Option (List ℕ)) (P Q : List ℕ → Type 0)
-    → IfSome known (λ bytes. P bytes × Q bytes) → IfSome known Q
-second known P Q h = IfSome_then known h (λ bytes h. h.1)
-
 -- the object isn't cached, and lies at this offset
 abbrev pub IsPlaceIn : Walk → (number place : ℕ) → Type 0
 IsPlaceIn walk number place = (unmarked (get_or walk.tags.items number 0) ≡ 0)

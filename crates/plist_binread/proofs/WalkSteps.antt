@@ -62,7 +62,7 @@ wanted_at (Faulty InvalidUtf16String) place child more h = tt
 wanted_at (Faulty kind) place child more h = absurd h
 
 -- a collection needs memory
-pub grows_at-collection : (object : Object) (start : PlainEvent) (count : ℕ)
+grows_at-collection : (object : Object) (start : PlainEvent) (count : ℕ)
     → IsCollection object start count → Allocates object
 grows_at-collection (Array items) start count h = tt
 grows_at-collection (Dictionary pairs) start count h = tt

@@ -1,5 +1,5 @@
 -- What the first step of a reader does over known bytes.
-use Rattle.std.specs.Prelude.{◌≡◌, ℕ, ◌≤◌, List, [], ◌∷◌, length, Option, Some, Result, Ok, Err, IfSome, MatchResult}
+use Rattle.std.specs.Prelude.{◌≡◌, ℕ, ◌≤◌, List, [], ◌∷◌, length, Some, Result, Ok, Err, MatchResult}
 use Rattle.plist_base.specs.declared.error.Error.{Error}
 use Rattle.plist_base.specs.Faults.{MatchFault, kind_of, error_kind_of, fault_of}
 use Rattle.plist_format.specs.Container.{head_of}
@@ -9,7 +9,7 @@ use Rattle.plist_base.specs.Events.{PlainEvent}
 use Rattle.plist_decode.specs.Slot.{result_in}
 use Rattle.plist_binread.specs.NextChild.{IsCurrentCached, root_with}
 use Rattle.plist_format.specs.Unfolding.{until_fault, items_of_file}
-use Rattle.plist_binread.specs.Walking.{IsWalkOf, walk_objects, remaining_in}
+use Rattle.plist_binread.specs.Walking.{walk_objects, remaining_in}
 use Rattle.plist_decode.specs.declared.head.Bounds.{Bounds}
 use Rattle.plist_decode.specs.declared.fault_slot.FaultSlot.{FaultSlot}
 use Rattle.plist_binread.specs.declared.walk.Walk.{Walk}
@@ -17,10 +17,6 @@ use Rattle.plist_binread.specs.declared.walk.Walk.{Walk}
 -- the walk has no more objects than the file
 abbrev pub IsBounded : Walk → List ℕ → Type 0
 IsBounded walk bytes = walk_objects walk ≤ length (places_of bytes)
-
--- if the bytes are known, this is a walk over their file
-abbrev pub IsKnownWalk : (known : Option (List ℕ)) → Bounds → Walk → Type 0
-IsKnownWalk known bounds walk = IfSome known (λ bytes. IsWalkOf bytes bounds walk)
 
 -- the root is cached if it is small
 abbrev pub CachesRoot : {A : Type 0} → Result A Error → (event : PlainEvent) → Walk → List ℕ → Type 0

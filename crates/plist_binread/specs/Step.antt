@@ -1,8 +1,8 @@
 -- What a step does to the walk, to the current event and to the remaining items.
-use Rattle.std.specs.Prelude.{◌≡◌, ℕ, ◌<◌, List, false, get_or, Option, Some, Result, IfSome, OnOk, ⊤, [], ◌∷◌, Ok, MatchOption, MatchResult}
+use Rattle.std.specs.Prelude.{◌≡◌, ℕ, ◌+◌, ◌<◌, List, false, get_or, Option, Some, Result, IfSome, OnOk, ⊤, [], ◌∷◌, Ok, MatchOption, MatchResult}
 use Rattle.std.specs.List.{slice_get}
 use Rattle.plist_base.specs.Events.{PlainEvent, EndCollection, Item}
-use Rattle.plist_binread.specs.Remaining.{Explains, entries_of, next_number, walk_weight}
+use Rattle.plist_binread.specs.Remaining.{Explains, entries_of, next_number, walk_steps, walk_weight}
 use Rattle.plist_decode.specs.Reading.{bytes_at}
 use Rattle.plist_decode.specs.Decoded.{IsDecodedAs, small_count}
 use Rattle.plist_binread.specs.ObjectEvents.{event_of_object, is_refused}
@@ -15,7 +15,7 @@ use Rattle.plist_base.specs.declared.error.Error.{Error}
 use Rattle.plist_binread.specs.declared.enter.Known.{Known}
 use Rattle.plist_binread.specs.NextChild.{IsFound, IsCurrentCached, WeightFalls, TakesNextChild}
 use Rattle.plist_format.specs.Unfolding.{TableEntry, until_fault}
-use Rattle.plist_binread.specs.Walking.{IsWalkOf, walk_objects, open_in, remaining_entering, remaining_in, weight_entering, weight_in}
+use Rattle.plist_binread.specs.Walking.{IsWalkOf, walk_objects, open_in, fuel_in, remaining_entering, remaining_in, weight_in}
 use Rattle.plist_decode.specs.declared.decoded.Decoded.{Decoded}
 use Rattle.plist_decode.specs.declared.head.Bounds.{Bounds}
 use Rattle.plist_decode.specs.declared.fault_slot.FaultSlot.{FaultSlot}
@@ -53,17 +53,15 @@ IsCurrentEnd item current =
 
 -- fewer steps remain than when the object was about to be entered
 abbrev pub IsLighterEntered : (old new : Walk) → Type 0
-IsLighterEntered old new = walk_weight (walk_objects old) (open_in new) < weight_entering old
-
--- fewer steps remain than before the step
-abbrev pub IsLighter : (old new : Walk) → Type 0
-IsLighter old new = walk_weight (walk_objects old) (open_in new) < weight_in old
+IsLighterEntered old new =
+    walk_weight (walk_objects old) (open_in new) < weight_in old + walk_steps (fuel_in old)
 
 -- an item is yielded only if some steps remained, and fewer steps remain after an event
 abbrev pub LightensNext : {A : Type 0} → (old : Walk) → Option (Result A StepError) → (new : Walk)
     → Type 0
 LightensNext old item new =
-    IfSome item (λ answer. (0 < weight_in old) × OnOk answer (IsLighter old new))
+    IfSome item (λ answer. (0 < weight_in old) × OnOk answer
+    (walk_weight (walk_objects old) (open_in new) < weight_in old))
 
 -- the walk is unchanged
 abbrev pub IsUnchanged : (old new : Walk) → Type 0

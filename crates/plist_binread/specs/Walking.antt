@@ -1,10 +1,10 @@
 -- What contracts say about a walk over a file's objects: what it stores, and what remains of it.
-use Rattle.std.specs.Prelude.{◌≡◌, ℕ, ◌+◌, ◌-◌, List, ◌++◌, length, reverse}
+use Rattle.std.specs.Prelude.{◌≡◌, ℕ, ◌-◌, List, ◌++◌, length, reverse, Option, IfSome}
 use Rattle.plist_base.specs.Events.{Item}
 use Rattle.plist_decode.specs.declared.head.Bounds.{Bounds}
 use Rattle.plist_binread.specs.declared.frames.Frame.{Frame}
 use Rattle.plist_binread.specs.declared.walk.Walk.{Walk}
-use Rattle.plist_binread.specs.Remaining.{MatchesFile, cached_count, entries_of, remaining_items, path_of, walk_steps, walk_weight}
+use Rattle.plist_binread.specs.Remaining.{MatchesFile, cached_count, entries_of, remaining_items, path_of, walk_weight}
 use Rattle.plist_format.specs.Unfolding.{unfolding_of}
 
 -- the number of objects
@@ -27,6 +27,10 @@ fuel_in walk = length walk.tags.items - length (open_in walk)
 abbrev pub IsWalkOf : (bytes : List ℕ) → Bounds → Walk → Type 0
 IsWalkOf bytes bounds walk = MatchesFile bytes bounds walk.tags.items walk.contents.items (open_in walk)
 
+-- if the bytes are known, this is a walk over their file
+abbrev pub IsKnownWalk : (known : Option (List ℕ)) → Bounds → Walk → Type 0
+IsKnownWalk known bounds walk = IfSome known (λ bytes. IsWalkOf bytes bounds walk)
+
 -- the items that remain of the open collections
 abbrev pub remaining_in : (bytes : List ℕ) → Bounds → Walk → List Item
 remaining_in bytes bounds walk = remaining_items (entries_of bytes bounds) (open_in walk)
@@ -41,10 +45,6 @@ remaining_entering bytes bounds walk at number =
 -- an upper bound on the steps that remain
 abbrev pub weight_in : Walk → ℕ
 weight_in walk = walk_weight (walk_objects walk) (open_in walk)
-
--- an upper bound on the steps that remain when an object is about to be entered
-abbrev pub weight_entering : Walk → ℕ
-weight_entering walk = walk_weight (walk_objects walk) (open_in walk) + walk_steps (fuel_in walk)
 
 -- the walk has no objects, and no collection is open
 abbrev pub IsEmptyWalk : Walk → Type 0

@@ -6,8 +6,8 @@ ghost use Rattle.plist_binread.specs.Remaining.{walk_steps};
 ghost use Rattle.plist_decode.specs.FaultOffsets.{ErrWithin, ItemWithin};
 ghost use Rattle.plist_binread.specs.Handovers.{Hands, HandsItem};
 ghost use Rattle.plist_decode.specs.Slot.{SlotCountsIo, result_in, ItemSlotCountsIo, item_in};
-ghost use Rattle.plist_binread.specs.Walking.{IsEmptyWalk, cached_in, walk_objects, weight_in, IsWalkOf, open_in};
-ghost use Rattle.plist_binread.specs.FirstStep.{CountsRoot, GivesRoot, IsBounded, IsKnownWalk, CachesRoot};
+ghost use Rattle.plist_binread.specs.Walking.{IsEmptyWalk, cached_in, walk_objects, weight_in, IsKnownWalk, open_in};
+ghost use Rattle.plist_binread.specs.FirstStep.{CountsRoot, GivesRoot, IsBounded, CachesRoot};
 ghost use Rattle.plist_binread.specs.NextChild.{closes};
 ghost use Rattle.plist_binread.specs.Step.{IsCurrentEnd, CachesNext, LightensNext, YieldsItem};
 ghost use Rattle.plist_binread.specs.Runs.{AreRunsOf};
@@ -94,8 +94,7 @@ pub fn advance<S: Source, C: DecodeCounter, V: EventVisitor>(
     references: &mut ReferenceReader,
     visitor: &mut V,
 ) -> Option<Result<ControlFlow<()>, StepError>>
-    requires known { IfSome (S.known source.old) (λ bytes.
-        IsWalkOf bytes decoder.old.bounds walk.old) }
+    requires known { IsKnownWalk (S.known source.old) decoder.old.bounds walk.old }
     requires counted { C.counts → C.count decoder.old.counter ≡ cached_in walk.old }
     requires references { AreRunsOf (S.known source.old) references.old }
     // Result.
@@ -109,8 +108,7 @@ pub fn advance<S: Source, C: DecodeCounter, V: EventVisitor>(
     ensures fault { ItemWithin 0 decoder.old.bounds.trailer (item_in result decoder.new.slot) }
     // State afterwards.
     ensures size { walk_objects walk.new ≡ walk_objects walk.old }
-    ensures known { IfSome (S.known source.old) (λ bytes.
-        IsWalkOf bytes decoder.old.bounds walk.new) }
+    ensures known { IsKnownWalk (S.known source.old) decoder.old.bounds walk.new }
     ensures bounds { decoder.new.bounds ≡ decoder.old.bounds }
     ensures counted { C.counts → C.count decoder.new.counter ≡ cached_in walk.new }
     ensures references { AreRunsOf (S.known source.old) references.new }

@@ -21,7 +21,7 @@ use Rattle.plist_decode.proofs.NumberRuns.{numbers_of-reads}
 
 -- ---- numbers that lie one after the other
 
-pub length-numbers : (xs : List ℕ) (p w n : ℕ) → 0 < w → p + n * w ≤ length xs
+length-numbers : (xs : List ℕ) (p w n : ℕ) → 0 < w → p + n * w ≤ length xs
     → length (numbers_spelled w (take (n * w) (drop p xs))) ≡ n
 length-numbers xs p w n some fits =
     cc (
@@ -30,7 +30,7 @@ length-numbers xs p w n some fits =
           (λ k. number_at xs (p + k * w) w) 0 n,
     )
 
-pub get_or-numbers : (xs : List ℕ) (p w n i : ℕ) → 0 < w → p + n * w ≤ length xs → i < n
+get_or-numbers : (xs : List ℕ) (p w n i : ℕ) → 0 < w → p + n * w ≤ length xs → i < n
     → get_or (numbers_spelled w (take (n * w) (drop p xs))) i 0 ≡ number_at xs (p + i * w) w
 get_or-numbers xs p w n i some fits h =
     cc (
@@ -149,7 +149,7 @@ made_dictionary count references len =
 
 -- a collection begins with its start, has as many children as its length says, and the references
 -- to these follow the length
-pub collection_front : (kind : CollectionKind) (w low count start : ℕ) (bytes xs : List ℕ) → 0 < w
+collection_front : (kind : CollectionKind) (w low count start : ℕ) (bytes xs : List ℕ) → 0 < w
     → length_in low xs ≡ Some (count, drop start bytes)
     → count * child_count kind w ≤ length (drop start bytes) → start ≤ length bytes
     → IsFront kind w count start bytes (object_counted w (counted_kind kind) low xs)

@@ -116,14 +116,14 @@ text-not_utf8 bytes h = by (is_utf8 bytes) refl
     by false is = rw is refl
 
 -- each string may need memory
-pub grows_text : (content : List ℕ) → Allocates (text content)
+grows_text : (content : List ℕ) → Allocates (text content)
 grows_text content = by _
   where
     by : (b : Bool) → Allocates (if b then Scalar (String content) else Faulty InvalidUtf8String)
     by true = tt
     by false = tt
 
-pub grows_units : (units : List ℕ) → Allocates (text_of_units units)
+grows_units : (units : List ℕ) → Allocates (text_of_units units)
 grows_units units = by _
   where
     by : (b : Bool) → Allocates (if b then Faulty InvalidUtf16String else Scalar
@@ -133,7 +133,7 @@ grows_units units = by _
 
 -- ---- a content that was read
 
-pub grows_content : (kind : ContentKind) (content : List ℕ) → Allocates (content_means kind content)
+grows_content : (kind : ContentKind) (content : List ℕ) → Allocates (content_means kind content)
 grows_content kind.Data content = tt
 grows_content kind.Text content = grows_text content
 grows_content kind.WideText content = grows_units _

@@ -185,7 +185,7 @@ decoded_fits trailer place width all object (decoded.Collection kind start count
 decoded_fits trailer place width all object (decoded.Faulty fault) h is = tt
 
 -- some bytes before the trailer decode to this result
-pub seen_as : (bounds : Bounds) (place : ℕ) (seen : List ℕ) (answer : Decoded)
+seen_as : (bounds : Bounds) (place : ℕ) (seen : List ℕ) (answer : Decoded)
     → place + length seen ≤ bounds.trailer
     → DecodesSeen (bounds.trailer - place) bounds.reference_width seen answer
     → (all : List ℕ) × (place + length all ≤ bounds.trailer)

@@ -22,7 +22,7 @@ trailer_read known slot trailer t is len read = IfSome_then known read (λ bytes
     is ∙ ap trailer_in (read ∙ take_all (length slot) (drop trailer bytes) (omega arith)))
 
 -- the error is that of the head, or a read or an allocation failed
-abbrev pub HeadRefused : Option (List ℕ) → Error → Type 0
+abbrev HeadRefused : Option (List ℕ) → Error → Type 0
 HeadRefused known e =
     IfSome known (λ bytes. MatchFault (kind_of (error_kind_of e)) ⊤ ⊤
     (head_of bytes ≡ Err (fault_of e)))
@@ -89,7 +89,7 @@ module _ (known now : Option (List ℕ)) (size : ℕ) (same : now ≡ known)
 -- ---- the head that a trailer determines
 
 -- if the bytes end with a trailer at this offset, `t` is that trailer
-abbrev pub TellsTrailer : Option (List ℕ) → (trailer : ℕ) → Trailer → Type 0
+abbrev TellsTrailer : Option (List ℕ) → (trailer : ℕ) → Trailer → Type 0
 TellsTrailer known trailer t =
     IfSome known (λ bytes. length bytes ≡ trailer + 32 → t ≡ trailer_in (drop trailer bytes))
 

@@ -10,7 +10,7 @@ use Rattle.std.proofs.lemmas.Bool.Decides.{nat_tests}
 -- ---- the length
 
 -- a length for which the marker has no room follows the marker
-pub length_beyond : (m : ℕ) (xs : List ℕ) → 15 ≤ m % 16 → length_in m xs ≡ length_that_follows xs
+length_beyond : (m : ℕ) (xs : List ℕ) → 15 ≤ m % 16 → length_in m xs ≡ length_that_follows xs
 length_beyond m xs h = let beyond : nat_lt (m % 16) 15 ≡ false = grind (arith, nat_tests) in
     rw beyond refl
 

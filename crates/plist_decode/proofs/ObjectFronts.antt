@@ -13,7 +13,7 @@ unfolding object_in
 object_front w m xs ys is = rw is refl
 
 -- the bytes before the trailer begin with those that were read
-pub front_lies : (bytes outcome : List ℕ) (t p w : ℕ) → p + w ≤ t
+front_lies : (bytes outcome : List ℕ) (t p w : ℕ) → p + w ≤ t
     → outcome ≡ take (length outcome) (drop p bytes) → w ≤ length outcome
     → drop p (take t bytes) ≡ take w outcome ++ drop w (drop p (take t bytes))
 front_lies bytes outcome t p w buffered is h =

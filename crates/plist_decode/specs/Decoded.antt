@@ -117,10 +117,6 @@ abbrev pub CountsSmallRead : {C E : Type 0} → (counts : Type 0) → (count : C
 CountsSmallRead counts count old new answer = MatchResult answer
     (CountsSmall counts count old new) (λ _. new ≡ old)
 
--- the string is decoded, or there is no result because it has more than eight bytes
-abbrev pub DecodesIfShort : Object → Option Decoded → Type 0
-DecodesIfShort object answer = IfSome answer (MeansDecoded object)
-
 -- ---- at an offset
 
 -- the object at this offset was decoded as this

@@ -7,7 +7,7 @@ ghost use Rattle.std.specs.Prelude.{◌≡◌, ◌+◌, ◌-◌, ◌*◌, ◌%�
 ghost use Rattle.plist_base.specs.Trees.{String};
 ghost use Rattle.plist_format.specs.Object.{Scalar, text, wide_text};
 ghost use Rattle.plist_decode.specs.CountedContent.{AreUnits, EndsBefore, IsCount, IsLength, IsLengthCut, LiesAfter, RefusesCounted, counted_with};
-ghost use Rattle.plist_decode.specs.Decoded.{DecodesAfter, DecodesIfShort, DecodesScalar, MeansDecoded};
+ghost use Rattle.plist_decode.specs.Decoded.{DecodesAfter, DecodesScalar, MeansDecoded};
 ghost use Rattle.plist_decode.specs.Front.{ShowsContent};
 ghost use Rattle.plist_decode.specs.Reading.{counted_kind, object_counted};
 ghost use Rattle.plist_decode.specs.declared.decoded.ContentKind.TheVariants.{Data as KindData, Text as KindText, WideText as KindWideText};
@@ -149,7 +149,7 @@ pub fn decode_text(low: LowHalf, rest: &[u8], to_trailer: u64) -> Decoded
 fn short_wide_text(alloc: Global, bytes: &[u8]) -> Option<Decoded>
     requires few { length bytes.now ≤ 16 }
     requires units { AreUnits 2 bytes.now }
-    ensures { DecodesIfShort (wide_text bytes.now) result }
+    ensures { IfSome result (MeansDecoded (wide_text bytes.now)) }
 {
     let mut all = [0; 8];
     let units = &mut all[..bytes.len() / 2];
