@@ -8,7 +8,7 @@ use Rattle.plist_base.specs.Events.{Item}
 use Rattle.plist_base.specs.Faults.{Fault, OutOfMemory, error_kind_of, kind_of}
 use Rattle.plist_base.specs.Sources.{ItemCountsIo}
 use Rattle.plist_base.specs.Visits.{YieldsPlain, PlainItem, plain_item}
-use Rattle.plist_base.proofs.Refusals.{MatchFault-at, MatchFault-weaker}
+use Rattle.plist_base.proofs.Refusals.{MatchFault-at}
 use Rattle.plist_reader.specs.Reader.{HoldsSource, reader_items, reader_source}
 use Rattle.plist_reader.specs.declared.reader.Reader.{Reader}
 use Rattle.plist.specs.Events.{GivesEvent, remaining_events}
