@@ -6,10 +6,11 @@ use Rattle.plist_base.specs.declared.event.Event.{Event}
 use Rattle.plist_base.specs.declared.limited_items.LimitedItems.{LimitedItems}
 use Rattle.plist_base.specs.Allowances.{GivesAllowed, PassesNext, items_allowed, iterator_of}
 use Rattle.plist_base.specs.Events.{Item, PlainEvent, event_of}
-use Rattle.plist_base.specs.Faults.{Fault, kind_of, error_kind_of}
+use Rattle.plist_base.specs.Faults.{Fault}
 use Rattle.plist.specs.Collecting.{item_by}
-use Rattle.plist.specs.ValueOfItems.{BeginsWith, BeginsWithIfKnown, PredictsItems}
-use Rattle.plist_base.proofs.Refusals.{MatchFault-all, MatchFault-weaker}
+use Rattle.plist.specs.ValueOfItems.{PredictsItems}
+use Rattle.plist_base.specs.FirstItems.{GivesFirstIfKnown}
+use Rattle.plist_base.proofs.FirstItems.{first_allowed_if_known, none_allowed}
 
 abbrev pub Given : Type 0
 Given = Option (Result Event Error)
@@ -28,50 +29,15 @@ module _ {A : Type 0} (lets : A → List Item → List Item) (may_reach : Fault 
 
   -- ---- the items that are predicted
 
-  begins : (was : Bool) (old new : A) (now : Bool) (asked item : Given) (all left : List Item)
-      → was ≡ false → BeginsWith all (option_map (item_by event_of) asked) left
-      → PassesNext lets may_reach old asked item (new, now)
-      → BeginsWith (come was old all) (option_map (item_by event_of) item) (come now new left)
-  begins was old new now None item all left w b p = rw (p.0, w, b) (ends old)
-  begins was old new now (Some (Ok asked)) None all left w b p = absurd p
-  begins was old new now (Some (Ok asked)) (Some (Ok passed)) all left w b p =
-      rw (w, p.2) (ap (lets old) b ∙ p.1 left ∙ ap (λ v. Ok (event_of v) ∷ lets new left) (sym p.0))
-  begins was old new now (Some (Ok asked)) (Some (Err error)) all left w b p =
-      MatchFault-all (kind_of (error_kind_of error)) tt tt
-      (rw (w, p.1) (ap (lets old) b ∙ p.0.1 left))
-  begins was old new now (Some (Err fault)) None all left w b p = absurd p
-  begins was old new now (Some (Err fault)) (Some given) all left w b p =
-      rw p.0 (MatchFault-weaker (kind_of (error_kind_of fault)) (λ _. tt) (λ _. tt)
-      (λ c. rw (w, p.1) (ap (lets old) c ∙ stops old _ left)) b)
-
-  goes : (was : Bool) (old new : A) (now : Bool) (k l : Option (List Item)) (asked item : Given)
-      → was ≡ false → BeginsWithIfKnown k (option_map (item_by event_of) asked) l
-      → PassesNext lets may_reach old asked item (new, now)
-      → BeginsWithIfKnown (option_map (come was old) k) (option_map (item_by event_of) item)
-      (option_map (come now new) l)
-  goes was old new now None l asked item w g p = tt
-  goes was old new now (Some all) l asked item w g p = (
-    come now new g.0,
-    ap (option_map (come now new)) g.1,
-    begins was old new now asked item all g.0
-        w g.2 p,
-  )
-
   module _ {I : Type 0} (inner_gives : I → Given → I → Type 0) where
     -- the iterator has ended
     over : (coming : I → Option (List Item)) (old new : LimitedItems I A) (item : Given)
         → old.ended ≡ true → item ≡ None → new ≡ old
-        → BeginsWithIfKnown (option_map (items_allowed lets old) (coming (iterator_of old)))
-        (option_map (item_by event_of) item)
-        (option_map (items_allowed lets new) (coming (iterator_of new)))
+        → GivesFirstIfKnown event_of (option_map (items_allowed lets old) (coming (iterator_of old)))
+        item (option_map (items_allowed lets new) (coming (iterator_of new)))
     over coming old new item e none same =
-        rw (same, none) (stays _)
-      where
-        stays : (k : Option (List Item))
-            → BeginsWithIfKnown (option_map (items_allowed lets old) k) None
-            (option_map (items_allowed lets old) k)
-        stays None = tt
-        stays (Some all) = (items_allowed lets old all, refl, rw e refl)
+        rw (same, none) (none_allowed event_of (items_allowed lets old) (coming (iterator_of old))
+        (λ items. rw e refl))
 
     -- if the items of the inner iterator are predicted, so are those that are allowed
     pub allowed-shows : (coming : I → Option (List Item))
@@ -84,13 +50,14 @@ module _ {A : Type 0} (lets : A → List Item → List Item) (may_reach : Fault 
             → MatchBool b ((item ≡ None) × (new ≡ old))
             ((asked : Given) × inner_gives old.inner asked new.inner
             × PassesNext lets may_reach old.limiter asked item (new.limiter, new.ended))
-            → BeginsWithIfKnown (option_map (items_allowed lets old) (coming (iterator_of old)))
-            (option_map (item_by event_of) item)
+            → GivesFirstIfKnown event_of
+            (option_map (items_allowed lets old) (coming (iterator_of old))) item
             (option_map (items_allowed lets new) (coming (iterator_of new)))
         by true e (none, same) = over coming old new item e none same
         by false e (asked, gave, passes) =
-            goes old.ended old.limiter new.limiter new.ended (coming old.inner) (coming new.inner)
-            asked item e (shows old.inner asked new.inner gave) passes
+            first_allowed_if_known lets may_reach ends stops old.limiter new.limiter old.ended
+            new.ended (coming old.inner) (coming new.inner) asked item e
+            (shows old.inner asked new.inner gave) passes
 
   -- ---- the events that were yielded
 

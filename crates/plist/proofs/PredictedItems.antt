@@ -1,18 +1,19 @@
 -- The value to which predicted items are collected.
-use Rattle.std.proofs.Common.{◌≡◌, List, [], ◌∷◌, ◌++◌, Option, Some, None, Result, Ok, Err, inl, inr, map, option_map, refl, sym, ap, ◌∙◌, subst, append_assoc, append-nil}
+use Rattle.std.proofs.Common.{◌≡◌, List, [], ◌∷◌, ◌++◌, Option, Some, None, Result, Ok, Err, inl, inr, map, refl, sym, ap, ◌∙◌, subst, append_assoc, append-nil}
 use Rattle.std.specs.Prelude.{⊤}
 use Rattle.std.specs.Iterator.{Yields}
 use Rattle.std.proofs.lemmas.List.{map_push}
 use Rattle.std.proofs.lemmas.Option.{none-some}
 use Rattle.plist_base.specs.declared.error.Error.{Error}
 use Rattle.plist_base.specs.Events.{PlainEvent, Item}
-use Rattle.plist_base.specs.Faults.{FaultKind, Fault, MatchFault}
+use Rattle.plist_base.specs.Faults.{FaultKind, Fault, MatchFault, fault_of}
 use Rattle.plist_base.specs.Trees.{Tree}
 use Rattle.plist_base.specs.Bracketing.{bracketing, without_length, AreAlike}
 use Rattle.plist.specs.Building.{Unfinished, events_so_far, refusal_at, IsNested}
 use Rattle.plist.specs.Collecting.{Collects, IsRefusal, RefusesOne, item_by}
 use Rattle.plist.proofs.Following.{refused-ends}
-use Rattle.plist.specs.ValueOfItems.{AreItemsOfTree, IsValueOf, IsReadIfKnown, BeginsWith, BeginsWithIfKnown, IsReadBack, PredictsItems}
+use Rattle.plist.specs.ValueOfItems.{AreItemsOfTree, IsValueOf, IsReadIfKnown, IsReadBack, PredictsItems}
+use Rattle.plist_base.specs.FirstItems.{GivesFirst, GivesFirstIfKnown}
 use Rattle.plist.specs.LastWins.{last_wins}
 use Rattle.plist_base.proofs.OneTree.{one_tree}
 use Rattle.plist_base.proofs.Grammar.{alike_with}
@@ -78,14 +79,19 @@ no-tree-end all events is none tree (others, same, like) =
 -- ---- an event is rejected
 
 -- the item after these events isn't taken
-pub stops-there : (all left after : List Item) (events : List PlainEvent) (unfinished : Unfinished)
-    (item : Item) (fault : Fault) → IsNested unfinished → AreAlike (events_so_far unfinished) events
-    → all ≡ map Ok events ++ left → BeginsWith left (Some item) after → RefusesOne unfinished item fault
-    → IsValueOf all (Err fault)
-stops-there all left after events unfinished (Ok e) fault ok alike is b r = by (refusal_at unfinished e) refl r
+pub stops-there : {E : Type 0} (plain : E → PlainEvent) (all left after : List Item)
+    (events : List PlainEvent) (unfinished : Unfinished) (item : Result E Error) (fault : Fault)
+    → IsNested unfinished → AreAlike (events_so_far unfinished) events
+    → all ≡ map Ok events ++ left → GivesFirst plain left (Some item) after
+    → RefusesOne unfinished (item_by plain item) fault → IsValueOf all (Err fault)
+stops-there plain all left after events unfinished (Ok event) fault ok alike is b r =
+    by (refusal_at unfinished e) refl r
   where
+    e : PlainEvent
+    e = plain event
+
     here : all ≡ map Ok events ++ Ok e ∷ after
-    here = cc
+    here = is ∙ ap (λ l. map Ok events ++ l) b
 
     by : (o : Option FaultKind) → refusal_at unfinished e ≡ o → IsRefusal o fault
         → IsValueOf all (Err fault)
@@ -96,15 +102,15 @@ stops-there all left after events unfinished (Ok e) fault ok alike is b r = by (
           (events, Ok e ∷ after, unfinished, here, ok, alike, r),
           no-tree-event all events unfinished e kind after here ok alike q,
         )
-stops-there all left after events unfinished (Err error) fault ok alike is b r =
+stops-there plain all left after events unfinished (Err error) fault ok alike is b r =
+    let why = fault_of error in
     MatchFault-weaker fault.kind (λ _. tt) (λ _. tt)
-    (λ b. let here : all ≡ map Ok events ++ Err error ∷ after = is
+    (λ b. let here : all ≡ map Ok events ++ Err why ∷ after = is
     ∙ ap (λ l. map Ok events ++ l) b in (
-      (events, Err error ∷ after, unfinished, here, ok, alike, r),
-      no-tree-error all events error after here,
+      (events, Err why ∷ after, unfinished, here, ok, alike, r),
+      no-tree-error all events why after here,
     ))
-    (subst (λ k. MatchFault k ⊤ ⊤ (left ≡ Err error ∷ after)) (ap (λ (f : Fault). f.kind) (sym r))
-    b)
+    (subst (λ k. MatchFault k ⊤ ⊤ (left ≡ Err why ∷ after)) (ap (λ (f : Fault). f.kind) (sym r)) b)
 
 -- ---- what was collected is the value of the items
 
@@ -113,16 +119,15 @@ module _ {E I : Type 0} (plain : E → PlainEvent)
     (shows : PredictsItems plain gives coming) where
   asked : (old : I) (item : Option (Result E Error)) (new : I) (all : List Item)
       → coming old ≡ Some all → gives old item new → (left : List Item)
-      × (coming new ≡ Some left) × BeginsWith all (option_map (item_by plain) item) left
+      × (coming new ≡ Some left) × GivesFirst plain all item left
   asked old item new all c g =
-      subst (λ o. BeginsWithIfKnown o (option_map (item_by plain) item) (coming new)) c
-      (shows old item new g)
+      subst (λ o. GivesFirstIfKnown plain o item (coming new)) c (shows old item new g)
 
   first : (x : Result E Error) (d : PlainEvent) (taken : List (Result E Error))
       (more all left : List Item) → map (item_by plain) (x ∷ taken) ≡ Ok d ∷ more
-      → BeginsWith all (Some (item_by plain x)) left → all ≡ Ok d ∷ left
-  first x d taken more all left e b =
-      let is : item_by plain x ≡ Ok d = cc in subst (λ i. BeginsWith all (Some i) left) is b
+      → GivesFirst plain all (Some x) left → all ≡ Ok d ∷ left
+  first (Ok event) d taken more all left e b = cc (e, b)
+  first (Err error) d taken more all left e b = cc e
 
   -- these events were yielded, and then nothing
   drained : (events : List PlainEvent) (taken : List (Result E Error)) (iter t u : I)
@@ -140,20 +145,22 @@ module _ {E I : Type 0} (plain : E → PlainEvent)
   following : (events : List PlainEvent) (taken : List (Result E Error)) (iter t : I) (item : Item)
       (all : List Item) → coming iter ≡ Some all → Yields gives iter taken t
       → map (item_by plain) taken ≡ map Ok events ++ item ∷ []
-      → (left after : List Item) × (all ≡ map Ok events ++ left) × BeginsWith left (Some item) after
+      → (x : Result E Error) × (item_by plain x ≡ item) × (left after : List Item)
+      × (all ≡ map Ok events ++ left) × GivesFirst plain left (Some x) after
   following [] [] iter t item all c y e = absurd (cc e)
   following [] (x ∷ taken) iter t item all c (mid, s, y) e =
       let g = asked iter (Some x) mid all c s in
-      let is : item_by plain x ≡ item = cc in
-      (all, g.0, refl, subst (λ i. BeginsWith all (Some i) g.0) is g.2)
+      (x, cc e, all, g.0, refl, g.2)
   following (d ∷ events) [] iter t item all c y e = absurd (cc e)
   following (d ∷ events) (x ∷ taken) iter t item all c (mid, s, y) e =
       let g = asked iter (Some x) mid all c s in
-      let r = following events taken mid t item g.0 g.1 y (cc e) in (
-        r.0,
-        r.1,
-        first x d taken (map Ok events ++ item ∷ []) all g.0 e g.2 ∙ ap (λ l. Ok d ∷ l) r.2,
-        r.3,
+      let (last, same, left, after, split, gives) = following events taken mid t item g.0 g.1 y (cc e) in (
+        last,
+        same,
+        left,
+        after,
+        first x d taken (map Ok events ++ item ∷ []) all g.0 e g.2 ∙ ap (λ l. Ok d ∷ l) split,
+        gives,
       )
 
   read : (iter : I) (all : List Item) → coming iter ≡ Some all → (answer : Result Tree Fault)
@@ -161,12 +168,14 @@ module _ {E I : Type 0} (plain : E → PlainEvent)
   read iter all c (Ok tree) (u, (taken, t, y, (events, whole, is, end, alike, last))) =
       (whole, (events, drained events taken iter t u all c y end is, alike), last)
   read iter all c (Err fault) (u, (taken, t, y, (events, unfinished, ok, alike, inl (is, stop)))) =
-      let b = following events taken iter t (Err fault) all c y is in
-      stops-there all b.0 b.1 events unfinished (Err fault) fault ok alike b.2 b.3 refl
+      let (x, same, left, after, split, gives) = following events taken iter t (Err fault) all c y is in
+      stops-there plain all left after events unfinished x fault ok alike split gives
+      (subst (λ i. RefusesOne unfinished i fault) (sym same) refl)
   read iter all c (Err fault)
       (u, (taken, t, y, (events, unfinished, ok, alike, inr (inl (event, is, stop, r))))) =
-      let b = following events taken iter t (Ok event) all c y is in
-      stops-there all b.0 b.1 events unfinished (Ok event) fault ok alike b.2 b.3 r
+      let (x, same, left, after, split, gives) = following events taken iter t (Ok event) all c y is in
+      stops-there plain all left after events unfinished x fault ok alike split gives
+      (subst (λ i. RefusesOne unfinished i fault) (sym same) r)
   read iter all c (Err fault)
       (u, (taken, t, y, (events, unfinished, ok, alike, inr (inr (is, end, why, none))))) =
       let e = drained events taken iter t u all c y end is in

@@ -1,9 +1,9 @@
 -- How the readers, and the events of a value, predict the items that remain.
-use Rattle.std.proofs.Common.{◌≡◌, ℕ, Bool, List, [], ◌∷◌, Option, Some, None, Result, Ok, Err, IfSome, map, refl, ap, ◌∙◌, subst, option_map, ◌++◌}
+use Rattle.std.proofs.Common.{◌≡◌, ℕ, List, Option, Some, None, Result, Ok, Err, IfSome, map, refl, ap, ◌∙◌, subst, option_map, ◌++◌}
 use Rattle.plist_base.specs.declared.error.Error.{Error}
 use Rattle.plist_base.specs.declared.event.Event.{Event}
 use Rattle.plist_base.specs.Events.{Item, event_of}
-use Rattle.plist_base.specs.Faults.{Fault, fault_of, kind_of, error_kind_of}
+use Rattle.plist_base.specs.Faults.{Fault, fault_of}
 use Rattle.plist_base.specs.Trees.{Tree}
 use Rattle.plist_ascii.specs.declared.reader.AsciiReader.{AsciiReader}
 use Rattle.plist_ascii.specs.Ascii.{items_of_ascii}
@@ -17,10 +17,12 @@ use Rattle.plist_reader.specs.Reader.{items_of_dialect}
 use Rattle.plist_reader.specs.Formats.{input_front, format_of}
 use Rattle.plist_reader.proofs.AsciiItems.{ascii-goes}
 use Rattle.plist.specs.declared.stream.events.Events.{Events}
-use Rattle.plist.specs.Collecting.{item_by}
-use Rattle.plist.specs.ValueOfItems.{IsValueOf, IsReadIfKnown, BeginsWith, BeginsWithIfKnown}
+use Rattle.plist.specs.ValueOfItems.{IsValueOf, IsReadIfKnown}
+use Rattle.plist_base.specs.FirstItems.{GivesFirst, GivesFirstIfKnown}
+use Rattle.plist_base.proofs.FirstItems.{first_of_known}
+use Rattle.std.proofs.lemmas.Option.{IfSome_then}
 use Rattle.plist.specs.Events.{GivesEvent, remaining_events}
-use Rattle.plist_base.proofs.Refusals.{MatchFault-weaker, MatchFault-at}
+use Rattle.plist_base.proofs.Refusals.{MatchFault-at}
 use Rattle.plist_decode.specs.declared.counter.DecodeCounter.{Ghosts as CounterGhosts}
 use Rattle.plist_base.specs.Bracketing.{bracketing}
 use Rattle.plist_format.specs.Container.{magic}
@@ -31,26 +33,12 @@ use Rattle.plist.proofs.PredictedItems.{back}
 use Rattle.plist.proofs.ValueLastWins.{itself}
 use Rattle.plist_ascii.specs.AsciiReader as ascii
 use Rattle.plist_binread.specs.BinaryReader as binary
-use Rattle.plist_reader.specs.Reader as reader
 use Rattle.plist_reader.specs.declared.format.Format.TheVariants as format
 
 abbrev Given : Type 0
 Given = Option (Result Event Error)
 
--- ---- a reader of either format
-
-reader-item : (before after : List Item) (item : Given) → reader.GivesItem before item after
-    → BeginsWith before (option_map (item_by event_of) item) after
-reader-item before after None h = h.0
-reader-item before after (Some (Ok event)) h = h
-reader-item before after (Some (Err error)) h =
-    MatchFault-weaker (kind_of (error_kind_of error)) (λ _. tt) (λ _. tt) (λ b. b) h
-
-pub reader-shows : (before after : Option (List Item)) (item : Given)
-    → reader.GivesIfKnown before item after → BeginsWithIfKnown before
-    (option_map (item_by event_of) item) after
-reader-shows None after item h = tt
-reader-shows (Some all) after item h = (h.0, h.1, reader-item all h.0 _ h.2)
+-- ---- known bytes
 
 pub joined : {A B C : Type 0} (f : B → C) (g : A → B) (k : Option A)
     → option_map f (option_map g k) ≡ option_map (λ x. f (g x)) k
@@ -75,11 +63,9 @@ ascii_coming known reader =
 pub ascii-shows : (now then : Dialect) (k l : Option (List ℕ)) (p q : ℕ) (item : Given) → then ≡ now
     → IfKnown k (λ bytes. (rest : List ℕ) × (l ≡ Some rest)
     × ascii.GivesAsciiItem (ends_bare now) bytes p item rest q)
-    → BeginsWithIfKnown (option_map (λ bytes. items_of_ascii (ends_bare now) bytes p) k)
-    (option_map (item_by event_of) item)
-    (option_map (λ bytes. items_of_ascii (ends_bare then) bytes q) l)
-ascii-shows now then k l p q item same h =
-    rw same (reader-shows _ _ item (ascii-goes (ends_bare now) k l p q item h))
+    → GivesFirstIfKnown event_of (option_map (λ bytes. items_of_ascii (ends_bare now) bytes p) k)
+    item (option_map (λ bytes. items_of_ascii (ends_bare then) bytes q) l)
+ascii-shows now then k l p q item same h = rw same (ascii-goes (ends_bare now) k l p q item h)
 
 pub ascii-start : (now given : Dialect) (k left : Option (List ℕ)) (place : ℕ) → now ≡ given
     → left ≡ option_map input_front k → place ≡ 0
@@ -97,39 +83,17 @@ abbrev pub binary_coming : {R C : Type 0} {g : Ghosts R} {h : CounterGhosts C}
 binary_coming known reader =
     option_map (λ bytes. binary.items_to_come bytes reader) (known (binary.binary_source reader))
 
-one-item : (before after : List Item) (fault : Fault) → after ≡ [] → before ≡ Err fault ∷ []
-    → before ≡ Err fault ∷ after
-one-item before after fault none is = cc
-
-binary-item : (new : Bool) (before after : List Item) (item : Given)
-    → binary.GivesBinaryItem new before item after
-    → BeginsWith before (option_map (item_by event_of) item) after
-binary-item new before after None h = h.0
-binary-item new before after (Some (Ok event)) h = h
-binary-item new before after (Some (Err error)) h =
-    MatchFault-weaker _ (λ _. tt) (λ _. tt)
-    (λ b. one-item before after (fault_of error) h.0 b) h.1
-
-binary-goes : (new : Bool) (k l : Option (List ℕ)) (f h : List ℕ → List Item) (item : Given) → l ≡ k
-    → IfSome k (λ bytes. binary.GivesBinaryItem new (f bytes) item (h bytes))
-    → BeginsWithIfKnown (option_map f k) (option_map (item_by event_of) item) (option_map h l)
-binary-goes new None l f h item e x = tt
-binary-goes new (Some bytes) l f h item e x =
-    (h bytes, ap (option_map h) e, binary-item new (f bytes) (h bytes) item x)
-
 pub binary-shows : {R C : Type 0} {g : Ghosts R} {h : CounterGhosts C} (known : R → Option (List ℕ))
     (old new : BinaryReader R C g h) (item : Given)
     → known (binary.binary_source new) ≡ known (binary.binary_source old)
     → IfSome (known (binary.binary_source old))
-    (λ bytes. binary.GivesBinaryItem (binary.is_new old) (binary.items_to_come bytes old) item
+    (λ bytes. binary.GivesAs event_of (binary.is_new old) (binary.items_to_come bytes old) item
     (binary.items_to_come bytes new))
-    → BeginsWithIfKnown (binary_coming known old) (option_map (item_by event_of) item)
-    (binary_coming known new)
+    → GivesFirstIfKnown event_of (binary_coming known old) item (binary_coming known new)
 binary-shows known old new item same gives =
-    binary-goes (binary.is_new old) (known (binary.binary_source old)) (known
-    (binary.binary_source new))
+    first_of_known event_of (known (binary.binary_source old)) (known (binary.binary_source new))
     (λ bytes. binary.items_to_come bytes old) (λ bytes. binary.items_to_come bytes new) item same
-    gives
+    (IfSome_then (known (binary.binary_source old)) gives (λ bytes gives. gives.0))
 
 file-items : (k : Option (List ℕ)) (coming : List ℕ → List Item)
     → IfSome k (λ bytes. coming bytes ≡ items_of_file bytes)
@@ -152,7 +116,7 @@ of-binary known source iter new answer is holds items seen =
 -- ---- the events of a value
 
 event-item : (before after : Events) (item : Given) → GivesEvent before item after
-    → BeginsWith (map Ok (remaining_events before)) (option_map (item_by event_of) item)
+    → GivesFirst event_of (map Ok (remaining_events before)) item
     (map Ok (remaining_events after))
 event-item before after None h = ap (map Ok) h.0
 event-item before after (Some (Ok event)) h = ap (map Ok) h.0
@@ -164,8 +128,7 @@ abbrev pub events_coming : Events → Option (List Item)
 events_coming events = Some (map Ok (remaining_events events))
 
 pub events-show : (before after : Events) (item : Given) → GivesEvent before item after
-    → BeginsWithIfKnown (events_coming before) (option_map (item_by event_of) item)
-    (events_coming after)
+    → GivesFirstIfKnown event_of (events_coming before) item (events_coming after)
 events-show before after item h =
     (map Ok (remaining_events after), refl, event-item before after item h)
 

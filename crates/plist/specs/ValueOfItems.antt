@@ -1,12 +1,13 @@
 -- The value of a list of items, and of an iterator if the items that it will yield are known.
-use Rattle.std.specs.Prelude.{◌≡◌, ℕ, List, [], ◌∷◌, ◌++◌, Option, None, Some, Result, Ok, Err, IfSome, map, ⊤, option_map}
+use Rattle.std.specs.Prelude.{◌≡◌, ℕ, List, [], ◌∷◌, ◌++◌, Option, Result, Ok, Err, IfSome, map, ⊤}
 use Rattle.plist_base.specs.declared.error.Error.{Error}
 use Rattle.plist_base.specs.Events.{PlainEvent, Item}
+use Rattle.plist_base.specs.FirstItems.{GivesFirstIfKnown}
 use Rattle.plist_base.specs.Faults.{Fault, fault_without_offset, UnexpectedEndOfEventStream, MatchFault, IsIoOrMemory}
 use Rattle.plist_base.specs.Trees.{Tree}
 use Rattle.plist_base.specs.Bracketing.{bracketing, AreAlike}
 use Rattle.plist.specs.Building.{Unfinished, IsNested, events_so_far, refusal_at}
-use Rattle.plist.specs.Collecting.{Collects, IsRefusal, built_tree, item_by}
+use Rattle.plist.specs.Collecting.{Collects, IsRefusal, built_tree}
 use Rattle.plist.specs.declared.value.Value.{Value}
 use Rattle.plist.specs.LastWins.{last_wins}
 
@@ -50,27 +51,12 @@ abbrev pub ReadsItems : (List ℕ → List Item) → (known : Option (List ℕ))
 ReadsItems items_of known answer =
     IfSome known (λ bytes. IsValueOf (items_of bytes) (built_tree answer))
 
--- The item is the first of those that remained, and there is none only if none remained. `Io` and
--- `OutOfMemory` are always possible.
-abbrev pub BeginsWith : (before : List Item) → Option Item → (after : List Item) → Type 0
-BeginsWith before None after = before ≡ []
-BeginsWith before (Some (Ok event)) after = before ≡ Ok event ∷ after
-BeginsWith before (Some (Err fault)) after = MatchFault fault.kind ⊤ ⊤ (before ≡ Err fault ∷ after)
-
--- if the remaining items are known, this one is the first of them, and the others remain and are
--- known
-abbrev pub BeginsWithIfKnown : (before : Option (List Item)) → Option Item
-    → (after : Option (List Item))
-    → Type 0
-BeginsWithIfKnown before item after =
-    IfSome before (λ all. (left : List Item) × (after ≡ Some left) × BeginsWith all item left)
-
 -- `coming` predicts the items of an iterator: each call returns the first item of its list
 abbrev pub PredictsItems : {E I : Type 0} → (plain : E → PlainEvent)
     → (I → Option (Result E Error) → I → Type 0) → (coming : I → Option (List Item)) → Type 0
 PredictsItems {E} {I} plain next_gives coming =
     (old : I) (item : Option (Result E Error)) (new : I) → next_gives old item new
-    → BeginsWithIfKnown (coming old) (option_map (item_by plain) item) (coming new)
+    → GivesFirstIfKnown plain (coming old) item (coming new)
 
 -- if any function predicts the iterator's items, the result is their value
 abbrev pub AnswersAsPredicted : {E I : Type 0} → (plain : E → PlainEvent)

@@ -64,4 +64,4 @@ pub no_string_first : (stops : ℕ → Bool) (bytes rest : List ℕ) (p q : ℕ)
     → stops ≡ lax_stops → bytes ≡ take (2 ^ 64 - 1) comment_and_array → p ≡ 0
     → GivesAsciiItem stops bytes p item rest q → ⊥
 no_string_first stops bytes rest p q item text is lax known start gives =
-    let first = rw is at gives in cc (first.items, of_comment_and_array)
+    let first = rw is at gives in cc (first.0, of_comment_and_array)

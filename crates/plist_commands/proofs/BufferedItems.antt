@@ -1,11 +1,12 @@
 -- What is buffered of the items that a reader has yielded.
-use Rattle.std.specs.Prelude.{⊤}
 use Rattle.std.proofs.Common.{◌≡◌, ◌↔◌, ℕ, Bool, true, false, List, [], ◌∷◌, ◌++◌, Option, Some, None, Ok, Err, IfSome, map, refl, sym, ap, ◌∙◌, append-nil}
 use Rattle.std.specs.Option.{option_map}
 use Rattle.plist_base.specs.Bracketing.{bracketing, without_length, AreAlike, AreTreeEvents, CanContinue}
 use Rattle.plist_base.specs.Events.{PlainEvent, Item}
+use Rattle.plist_base.specs.FirstItems.{GivesFirst, GivesFirstIfKnown}
 use Rattle.plist_base.specs.Visits.{PlainItem}
-use Rattle.plist_base.specs.Faults.{Fault, MatchFault}
+use Rattle.plist_base.specs.declared.error.Error.{Error}
+use Rattle.plist_base.specs.Faults.{fault_of}
 use Rattle.plist_base.specs.Trees.{Tree, Leaf, Array, Dictionary}
 use Rattle.plist_base.proofs.Grammar.{alike_last, alike_with, complete_of_whole, continue_alike, whole_alike}
 use Rattle.plist_base.specs.Writing.{Answer}
@@ -26,7 +27,6 @@ use Rattle.plist.proofs.PredictedItems.{all-events, event-more, no-events, stops
 use Rattle.plist.proofs.KeysOnce.{keys-once}
 use Rattle.plist_keyed.proofs.WalkValues.{same_of}
 use Rattle.plist_commands.specs.Converting.{HoldsTree, AreNoTree, BytesHaveKeysOnce, SendsRead, items_of_known}
-use Rattle.plist_print.proofs.SourceItems.{ComesIfKnown, GivesNext}
 
 -- the items are some events, which are equal to the buffered ones up to lengths, and then those
 -- that remain
@@ -51,10 +51,11 @@ abbrev pub Came : (items now : Option (List Item)) (held : List PlainEvent) (ite
     → Type 0
 Came items now held item = IfSome items (λ all.
     (left : List Item) × (next : List Item) × TookOf all left held × (now ≡ Some next)
-    × GivesNext left item next)
+    × GivesFirst (λ event. event) left item next)
 
 pub came_next : (items before now : Option (List Item)) (held : List PlainEvent)
-    (item : PlainItem) → HasTaken items before held → ComesIfKnown before item now
+    (item : PlainItem) → HasTaken items before held
+    → GivesFirstIfKnown (λ event. event) before item now
     → Came items now held item
 came_next None before now held item taken_before comes = tt
 came_next (Some all) before now held item (left, is, took) comes =
@@ -103,11 +104,13 @@ module _ (all before : List Item) (held : List PlainEvent) (took : TookOf all be
       )
 
   -- the reader yielded an error
-  pub took_fault : (after : List Item) (fault : Fault)
-      → MatchFault fault.kind ⊤ ⊤ (before ≡ Err fault ∷ after) → IsValueOf all (Err fault)
-  took_fault after fault b =
+  pub took_fault : (after : List Item) (error : Error)
+      → GivesFirst (λ event. event) before (Some (Err error)) after
+      → IsValueOf all (Err (fault_of error))
+  took_fault after error b =
       let (events, u, is, ok, alike, like) = took in
-      stops-there all before after events u (Err fault) fault ok alike is b refl
+      stops-there (λ event. event) all before after events u (Err error) (fault_of error) ok alike
+      is b refl
 
   first_of : (e : PlainEvent) (more : List Item) (es : List PlainEvent) → Ok e ∷ more ≡ map Ok es
       → (rest : List PlainEvent) × (es ≡ e ∷ rest)

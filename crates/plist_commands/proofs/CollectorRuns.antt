@@ -24,7 +24,7 @@ use Rattle.plist_commands.specs.declared.collector.Collector.{Collector}
 use Rattle.plist_commands.specs.declared.collector.StopReason.{StopReason}
 use Rattle.plist_commands.specs.declared.collector.StopReason.TheVariants.{Failed, Misplaced, Paused}
 use Rattle.plist_commands.specs.CollectorSteps.{AnswersVisit, HasPaused, HoldsMore, IsEmpty, MatchStop, MayPause, CollectsEvent, collected, is_complete}
-use Rattle.plist_print.proofs.SourceItems.{ComesIfKnown}
+use Rattle.plist_base.specs.FirstItems.{GivesFirstIfKnown}
 use Rattle.plist_print.specs.Printing.{CountsReads}
 use Rattle.plist_binread.specs.ReaderSteps.{Steps}
 use Rattle.plist_commands.specs.BufferRuns.{BuffersRun}
@@ -51,7 +51,7 @@ module _ {I : Type 0} (gives : I → PlainItem → I → Type 0) (coming : I →
 
 module _ {I : Type 0} (gives : I → PlainItem → I → Type 0) (coming : I → Option (List Item))
     (comes : (old : I) (item : PlainItem) (new : I) → gives old item new
-    → ComesIfKnown (coming old) item (coming new)) (failures : I → ℕ) (is_open : I → Type 0)
+    → GivesFirstIfKnown (λ event. event) (coming old) item (coming new)) (failures : I → ℕ) (is_open : I → Type 0)
     (counts : (old : I) (item : PlainItem) (new : I) → is_open old → gives old item new
     → ItemCountsIo item (failures old) (failures new) × is_open new) where
   -- the events that were yielded so far are buffered
@@ -214,7 +214,7 @@ module _ {I : Type 0} (gives : I → PlainItem → I → Type 0) (coming : I →
           (came_next (coming first) (coming left.0) (coming new.0) (collected left.1)
           (Some (Err error)) held.so_far (comes left.0 (Some (Err error)) new.0 last))
           (λ all (before, next, took, to, is).
-          took_fault all before _ took next (fault_of error) is);
+          took_fault all before _ took next error is);
     };
     ran = held_faulted gives first left.0 new.0 (collected left.1) (collected new.1) error held.ran
         last;

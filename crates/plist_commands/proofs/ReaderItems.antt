@@ -8,33 +8,23 @@ use Rattle.plist_base.specs.Events.{Item}
 use Rattle.plist_base.specs.Faults.{Fault, OutOfMemory, error_kind_of, kind_of}
 use Rattle.plist_base.specs.Sources.{ItemCountsIo}
 use Rattle.plist_base.specs.Visits.{YieldsPlain, PlainItem, plain_item}
-use Rattle.plist_base.proofs.Refusals.{MatchFault-at, MatchFault-weaker}
-use Rattle.plist_reader.specs.Reader.{GivesIfKnown, HoldsSource, reader_items, reader_source}
+use Rattle.plist_base.proofs.Refusals.{MatchFault-at}
+use Rattle.plist_reader.specs.Reader.{HoldsSource, reader_items, reader_source}
 use Rattle.plist_reader.specs.declared.reader.Reader.{Reader}
 use Rattle.plist.specs.Events.{GivesEvent, remaining_events}
 use Rattle.plist.specs.declared.stream.events.Events.{Events}
-use Rattle.plist_print.proofs.SourceItems.{ComesIfKnown, GivesNext}
+use Rattle.plist_base.specs.FirstItems.{GivesFirst, GivesFirstIfKnown}
+use Rattle.plist_base.proofs.FirstItems.{plain_first}
 use Rattle.plist_commands.specs.BufferRuns.{failures_if_held, failures_in}
 use Rattle.plist_commands.specs.BufferRuns.{StepsReader}
 
 -- ---- a reader of either format
 
-plain_comes : (before after : Option (List Item)) (given : Option (Result Event Error))
-    → GivesIfKnown before given after → ComesIfKnown before (plain_item given) after
-plain_comes None after given h = tt
-plain_comes (Some all) after None (left, is, none) = (left, is, none.0)
-plain_comes (Some all) after (Some (Ok event)) h = h
-plain_comes (Some all) after (Some (Err error)) (left, is, yields) = (
-  left,
-  is,
-  MatchFault-weaker (kind_of (error_kind_of error)) (λ _. tt) (λ _. tt) (λ same. same) yields,
-)
-
 pub reader_comes : {S : Type 0} {g : Ghosts S} (known : S → Option (List ℕ)) (failed : S → ℕ)
     (old : Reader S g) (item : PlainItem) (new : Reader S g) → StepsReader known failed old item new
-    → ComesIfKnown (reader_items known old) item (reader_items known new)
+    → GivesFirstIfKnown (λ event. event) (reader_items known old) item (reader_items known new)
 reader_comes known failed old item new (given, yields, is) =
-    rw is (plain_comes (reader_items known old) (reader_items known new) given yields.items)
+    rw is (plain_first (reader_items known old) (reader_items known new) given yields.items)
 
 -- the reader has a source
 abbrev pub IsOpen : {S : Type 0} {g : Ghosts S} → Reader S g → Type 0
@@ -65,7 +55,8 @@ items_of_events events = Some (map Ok (remaining_events events))
 
 events_given : (old : Events) (given : Option (Result Event Error)) (new : Events)
     → GivesEvent old given new
-    → GivesNext (map Ok (remaining_events old)) (plain_item given) (map Ok (remaining_events new))
+    → GivesFirst (λ event. event) (map Ok (remaining_events old)) (plain_item given)
+    (map Ok (remaining_events new))
 events_given old None new h = ap (map Ok) h.0
 events_given old (Some (Ok event)) new h = ap (map Ok) h.0
 events_given old (Some (Err error)) new h =
@@ -74,6 +65,6 @@ events_given old (Some (Err error)) new h =
 
 pub events_come : (old : Events) (item : PlainItem) (new : Events)
     → YieldsPlain GivesEvent old item new
-    → ComesIfKnown (items_of_events old) item (items_of_events new)
+    → GivesFirstIfKnown (λ event. event) (items_of_events old) item (items_of_events new)
 events_come old item new (given, yields, is) =
     (map Ok (remaining_events new), refl, rw is (events_given old given new yields))

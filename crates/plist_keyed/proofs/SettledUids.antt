@@ -77,11 +77,6 @@ pub named-append : (before after : List PlainEvent) (uids : List ℕ) → NameOn
 named-append [] after uids h g = g
 named-append (e ∷ before) after uids h g = (h.0, named-append before after uids h.1 g)
 
-pub named-after : (before after : List PlainEvent) (uids : List ℕ) → NameOnly (before ++ after) uids
-    → NameOnly after uids
-named-after [] after uids h = h
-named-after (e ∷ before) after uids h = named-after before after uids h.1
-
 same-found : (f g : ℕ → List Step) (found : Option ℕ) (other : List Step) (uids : List ℕ)
     → ((uid : ℕ) → found ≡ Some uid → IsIn uid uids) → ((uid : ℕ) → IsIn uid uids → f uid ≡ g uid)
     → option_map_or f found other ≡ option_map_or g found other

@@ -1,17 +1,18 @@
 -- The items of a source, which are yielded one by one.
-use Rattle.std.proofs.Common.{MatchOption, MatchResult, ◌≡◌, inl, inr, ℕ, Bool, List, [], ◌∷◌, ◌++◌, Option, None, Some, IfErr, IfSome, OnOk, Result, Ok, Err, map, option_map, refl, sym, ap, ◌∙◌, subst, append-nil, append_assoc}
-use Rattle.std.specs.Prelude.{⊤}
+use Rattle.std.proofs.Common.{◌≡◌, inl, inr, ℕ, List, [], ◌∷◌, ◌++◌, Option, None, Some, IfErr, IfSome, OnOk, Result, Ok, Err, map, refl, sym, ap, ◌∙◌, subst, append-nil, append_assoc}
 use Rattle.std.proofs.lemmas.Option.{IfSome_then}
 use Rattle.plist_base.specs.declared.error.Error.{Error}
 use Rattle.plist_base.specs.declared.source.Source.{Ghosts}
 use Rattle.plist_base.specs.Events.{PlainEvent, Item}
-use Rattle.plist_base.specs.Faults.{MatchFault, Io, error_kind_of, fault_without_offset, fault_of, kind_of}
+use Rattle.plist_base.specs.Faults.{Io, error_kind_of, fault_without_offset, fault_of, kind_of}
 use Rattle.plist_base.specs.Prefixes.{AppendsPrefix}
 use Rattle.plist_base.specs.Sources.{ItemCountsIo}
 use Rattle.plist_base.specs.Visits.{YieldsAll, PlainItem}
 use Rattle.plist_base.proofs.WriterBytes.{Appends-at}
 use Rattle.plist_base.proofs.Refusals.{MatchFault-weaker}
-use Rattle.plist_binread.specs.BinaryReader.{GivesAs, binary_source, is_new, items_to_come}
+use Rattle.plist_base.specs.FirstItems.{GivesFirst, GivesFirstIfKnown}
+use Rattle.plist_base.proofs.FirstItems.{first_of_known}
+use Rattle.plist_binread.specs.BinaryReader.{binary_source, items_to_come}
 use Rattle.plist_reader.specs.Reader.{BinaryReaderOf}
 use Rattle.plist_print.specs.Printing.{items_left}
 use Rattle.plist_print.specs.EscapedLines.{first_fault, lines_of, lines_of_events}
@@ -21,46 +22,15 @@ use Rattle.plist_print.specs.PrintRuns.{IsAskedOnce, PrintsRun, StopsPrinting}
 use Rattle.plist_base.proofs.SinkSteps.{prefix_more}
 use Rattle.plist_print.proofs.PendingBytes.{device_own, fault_counts, memory_own, own_counts, own_ends}
 
--- ---- one item
-
--- The item is the first of those that remained, and the others remain. There is no item only if
--- none remained. `Io` and `OutOfMemory` are always possible.
-abbrev pub GivesNext : (before : List Item) → PlainItem → (after : List Item) → Type 0
-GivesNext before item after = MatchOption item (before ≡ []) (λ answer. MatchResult answer
-    (λ event. before ≡ Ok event ∷ after)
-    (λ error. MatchFault (kind_of (error_kind_of error)) ⊤ ⊤ (before ≡ Err (fault_of error) ∷ after)))
-
--- if the remaining items are known, this one is the first of them, and the others remain
-abbrev pub ComesIfKnown : (before : Option (List Item)) → PlainItem → (after : Option (List Item))
-    → Type 0
-ComesIfKnown before item after =
-    IfSome before (λ all. (left : List Item) × (after ≡ Some left) × GivesNext all item left)
-
--- ---- a binary reader
-
-given_next : (fresh : Bool) (before after : List Item) (item : PlainItem)
-    → GivesAs (λ event. event) fresh before item after → GivesNext before item after
-given_next fresh before after None h = h.0
-given_next fresh before after (Some (Ok event)) h = h
-given_next fresh before after (Some (Err error)) h =
-    MatchFault-weaker (kind_of (error_kind_of error)) (λ _. tt) (λ _. tt)
-    (λ w. w ∙ ap (λ l. Err (fault_of error) ∷ l) (sym h.0)) h.1
-
-given_comes : (k l : Option (List ℕ)) (before after : List ℕ → List Item) (fresh : Bool)
-    (item : PlainItem) → l ≡ k
-    → IfSome k (λ bytes. GivesAs (λ event. event) fresh (before bytes) item (after bytes))
-    → ComesIfKnown (option_map before k) item (option_map after l)
-given_comes None l before after fresh item e h = tt
-given_comes (Some bytes) l before after fresh item e h =
-    (after bytes, ap (option_map after) e, given_next fresh (before bytes) (after bytes) item h)
-
+-- the first of a binary reader's remaining items is yielded
 pub binary_comes : {S : Type 0} {g : Ghosts S} (old : BinaryReaderOf S g) (item : PlainItem)
     (new : BinaryReaderOf S g) → Steps old item new
-    → ComesIfKnown (items_left g.known old) item (items_left g.known new)
+    → GivesFirstIfKnown (λ event. event) (items_left g.known old) item (items_left g.known new)
 binary_comes {g = g} old item new step =
-    given_comes (g.known (binary_source old)) (g.known (binary_source new))
-    (λ bytes. items_to_come bytes old) (λ bytes. items_to_come bytes new) (is_new old) item
-    step.gives.unchanged step.gives.items
+    first_of_known (λ event. event) (g.known (binary_source old)) (g.known (binary_source new))
+    (λ bytes. items_to_come bytes old) (λ bytes. items_to_come bytes new) item
+    step.gives.unchanged
+    (IfSome_then (g.known (binary_source old)) step.gives.items (λ bytes gives. gives.0))
 
 -- ---- all items
 
@@ -104,7 +74,7 @@ prints_all (Some all) answer before after printed refused prefix =
 
 module _ {I : Type 0} (yields : I → PlainItem → I → Type 0) (coming : I → Option (List Item))
     (comes : (old : I) (item : PlainItem) (new : I) → yields old item new
-    → ComesIfKnown (coming old) item (coming new)) where
+    → GivesFirstIfKnown (λ event. event) (coming old) item (coming new)) where
   pub all_came : (old new : I) (events : List PlainEvent) → YieldsAll yields old events new
       → IfSome (coming old) (λ all. (left : List Item) × (coming new ≡ Some left)
       × (all ≡ map Ok events ++ left))
@@ -118,7 +88,7 @@ module _ {I : Type 0} (yields : I → PlainItem → I → Type 0) (coming : I �
   came_last : (old left new : I) (events : List PlainEvent) (item : PlainItem)
       → YieldsAll yields old events left → yields left item new
       → IfSome (coming old) (λ all. (rest : List Item) × (more : List Item)
-      × (all ≡ map Ok events ++ rest) × GivesNext rest item more)
+      × (all ≡ map Ok events ++ rest) × GivesFirst (λ event. event) rest item more)
   came_last old left new events item through last =
       IfSome_then (coming old) (all_came old left events through) (λ all (rest, to, is).
       let (more, after, next) = rw to at (comes left item new last) in (rest, more, is, next))

@@ -4,15 +4,15 @@ use Rattle.std.specs.Option.{option_map}
 use Rattle.std.proofs.lemmas.List.{take-take}
 use Rattle.plist_base.specs.declared.source.Source.{Ghosts}
 use Rattle.plist_reader.specs.declared.bytes.BufferedSource.{BufferedSource}
-use Rattle.plist_base.specs.Events.{Item, PlainEvent, event_of}
+use Rattle.plist_base.specs.Events.{Item, event_of}
 use Rattle.std.specs.Prelude.{⊤}
 use Rattle.plist_base.specs.declared.limited_items.LimitedItems.{LimitedItems}
 use Rattle.plist_base.specs.declared.limits.Limit.{Limit}
 use Rattle.plist_base.specs.declared.limits.Limits.{Limits}
 use Rattle.plist_base.specs.declared.limits.LimitCounter.{LimitCounter}
 use Rattle.plist_base.specs.Allowances.{PassesNext as PassesAllowed, iterator_of}
-use Rattle.plist_base.specs.Limits.{GivesLimited, IsLimitReached, items_admitted, event_or_limit, limited_items, limited_by}
-use Rattle.plist_base.specs.Faults.{FaultKind, Fault, Io, OutOfMemory, InvalidUtf16String, UnclosedString, IncompleteComment, InvalidUtf8AsciiStream, InvalidOctalString, LimitReached, MatchFault, fault_without_offset, kind_of, error_kind_of, fault_of}
+use Rattle.plist_base.specs.Limits.{GivesLimited, IsLimitReached, items_admitted, limited_items, limited_by}
+use Rattle.plist_base.specs.Faults.{FaultKind, Fault, Io, OutOfMemory, InvalidUtf16String, UnclosedString, IncompleteComment, InvalidUtf8AsciiStream, InvalidOctalString, LimitReached, MatchFault, kind_of, error_kind_of, fault_of}
 use Rattle.plist_base.specs.Sequential.{from_place}
 use Rattle.plist_reader.specs.Streams.{stream_bytes_left, stream_source, buffered_bytes}
 use Rattle.plist_base.specs.Sources.{ItemCountsIo}
@@ -174,15 +174,17 @@ limited-stops : (was now : Bool) (old new : LimitCounter) (k l : Option (List It
     → was ≡ false → StopsIfKnown k asked l → PassesNext old asked item new now
     → StopsIfKnown (option_map (come was old) k) item (option_map (come now new) l)
 limited-stops was now old new None l asked item w h p = tt
-limited-stops was now old new (Some all) l None item w h p = rw (p.0, p.2, h) refl
+limited-stops was now old new (Some all) l None item w h p =
+    rw (p.0, p.2) (ap (option_map (come true new)) h)
 limited-stops was now old new (Some all) l (Some (Ok asked)) None w h p = absurd p
 limited-stops was now old new (Some all) l (Some (Ok asked)) (Some (Ok passed)) w h p = tt
 limited-stops was now old new (Some all) l (Some (Ok asked)) (Some (Err error)) w h p =
     limit-other (fault_of error).kind p.0.0.0 _ _ _ (ap (λ (f : Fault). f.kind) p.0.0.1) tt
 limited-stops was now old new (Some all) l (Some (Err fault)) None w h p = absurd p
 limited-stops was now old new (Some all) l (Some (Err fault)) (Some given) w h p =
-    rw p.0 (MatchFault-weaker (kind_of (error_kind_of fault)) (λ e. rw (p.1, e) refl)
-    (λ m. (rw (p.1, m.0) refl, rw w (limits_remain old all m.1))) (λ _. tt) h)
+    rw (p.0, p.1) (MatchFault-weaker (kind_of (error_kind_of fault))
+    (λ e. ap (option_map (come true new)) e)
+    (λ m. (ap (option_map (come true new)) m.0, rw w (limits_remain old all m.1))) (λ _. tt) h)
 
 module _ (now : Bool) (old new : LimitCounter) where
   passes-count : (asked item : Given) (a b : ℕ) → ItemCountsIo asked a b

@@ -1,5 +1,5 @@
 -- What contracts see of a reader of either format: the items that it hasn't yielded yet.
-use Rattle.std.specs.Prelude.{◌≡◌, ℕ, ◌+◌, ◌^◌, Bool, true, false, List, [], ◌∷◌, Option, None, Some, Result, Ok, Err, MatchOption, MatchResult, IfErr, IfSome, ⊤}
+use Rattle.std.specs.Prelude.{◌≡◌, ℕ, ◌+◌, ◌^◌, Bool, true, false, List, [], ◌∷◌, Option, None, Some, Result, Err, MatchOption, MatchResult, IfErr, IfSome, ⊤}
 use Rattle.std.specs.Option.{is_some, option_map}
 use Rattle.plist_base.specs.declared.error.Error.{Error}
 use Rattle.plist_base.specs.declared.event.Event.{Event}

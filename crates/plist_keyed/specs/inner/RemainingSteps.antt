@@ -1,13 +1,11 @@
 -- The remaining steps of the walk over settled Uids. In lists of levels the innermost one is first.
 use Rattle.std.specs.Prelude.{◌≡◌, ℕ, ◌<◌, List, [], ◌∷◌, ◌++◌, length, map, Option, None, Result, Ok, Err, reverse, ⊤}
-use Rattle.std.specs.Option.{option_map}
 use Rattle.plist_base.specs.declared.error.Error.{Error}
 use Rattle.plist_base.specs.declared.event.Event.{Event}
 use Rattle.plist_base.specs.Events.{PlainEvent, Item, event_of}
 use Rattle.plist_base.specs.Faults.{fault_of, fault_without_offset, OutOfMemory}
 use Rattle.plist.specs.declared.stream.events.Events.{Events}
-use Rattle.plist.specs.Collecting.{item_by}
-use Rattle.plist.specs.ValueOfItems.{BeginsWith}
+use Rattle.plist_base.specs.FirstItems.{GivesFirst}
 use Rattle.plist.specs.Events.{remaining_events}
 use Rattle.plist_keyed.specs.declared.walk.WalkStep.{WalkStep}
 use Rattle.plist_keyed.specs.declared.walk.WalkStep.TheVariants as walk_step
@@ -67,5 +65,5 @@ items_of_steps steps = map Ok (events_given (given_by steps))
 -- the remaining items begin with this one
 abbrev pub GivesItemOfUid : Walk → Option (Result Event Error) → Walk → Type 0
 GivesItemOfUid old item new =
-    BeginsWith (items_of_steps (remaining_steps old)) (option_map (item_by event_of) item)
+    GivesFirst event_of (items_of_steps (remaining_steps old)) item
     (items_of_steps (remaining_steps new))

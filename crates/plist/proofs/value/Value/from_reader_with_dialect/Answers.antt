@@ -1,14 +1,14 @@
 use Rattle.plist_reader.specs.Reader.{items_of_dialect, reader_items}
 use Rattle.plist.specs.Collecting.{built_tree}
 use Rattle.plist.proofs.ReadFaults.{reader-tells}
-use Rattle.plist.proofs.RemainingItems.{of-items, reader-shows, reads-back}
+use Rattle.plist.proofs.RemainingItems.{of-items, reads-back}
 use Rattle.plist.proofs.value.Value.from_reader_with_dialect.Goals as goal
 
 pub returns-clause-value : goal.returns-clause-value
 returns-clause-value g c =
     of-items (items_of_dialect c.args.dialect) _ _ (built_tree c.collect.result) c.with_dialect-reader.ensures.items
     (c.collect.ensures.shown (reader_items g.R.Source.known)
-    (λ old item new gives. reader-shows _ _ item gives.items))
+    (λ old item new gives. gives.items))
 
 pub returns-clause-reads_back : goal.returns-clause-reads_back
 returns-clause-reads_back g c =

@@ -3,7 +3,8 @@ use Rattle.std.specs.Option.{option_copied}
 use Rattle.std.proofs.lemmas.Option.{same_Some}
 use Rattle.plist_keyed.specs.inner.Checking.{objects_seen}
 use Rattle.plist_keyed.specs.inner.Settled.{settled_in}
-use Rattle.plist_keyed.proofs.CheckSteps.{no-member, seen_at}
+use Rattle.plist_keyed.proofs.CheckStates.{no-member}
+use Rattle.plist_keyed.proofs.CheckSteps.{seen_at}
 use Rattle.plist_keyed.proofs.SettledUids.{named-member}
 use Rattle.plist_keyed.proofs.check.Check.end_of.Goals as goal
 

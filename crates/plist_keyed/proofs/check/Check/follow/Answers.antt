@@ -5,7 +5,8 @@ use Rattle.plist_base.specs.Bracketing.{bracketing}
 use Rattle.plist.specs.ValueTrees.{tree_of}
 use Rattle.plist_keyed.specs.inner.Settled.{settled_in}
 use Rattle.plist_keyed.specs.inner.Checking.{open_uids, unchecked_steps, objects_seen}
-use Rattle.plist_keyed.proofs.CheckSteps.{any_reversed, fault-missing, fault-open, member, no-member, opened-checks, opened-passes, passes-settled, seen_at, settled-check}
+use Rattle.plist_keyed.proofs.CheckStates.{member, no-member, opened-checks, opened-passes}
+use Rattle.plist_keyed.proofs.CheckSteps.{any_reversed, fault-missing, fault-open, passes-settled, seen_at, settled-check}
 use Rattle.plist_keyed.proofs.check.Check.follow.Goals as goal
 
 pub returns-then-contains_key-clause-passed : goal.returns-then-contains_key-clause-passed

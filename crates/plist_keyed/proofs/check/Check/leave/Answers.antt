@@ -3,7 +3,8 @@ use Rattle.std.proofs.lemmas.Bool.{eq-eqb, or_left}
 use Rattle.indexmap.specs.IndexMap.{get}
 use Rattle.plist_keyed.specs.inner.Checking.{open_uids}
 use Rattle.plist_keyed.specs.inner.Settled.{IsIn, settled_in}
-use Rattle.plist_keyed.proofs.CheckSteps.{left-check, left-leads, reverse-snoc, settles}
+use Rattle.plist_keyed.proofs.CheckStates.{settles}
+use Rattle.plist_keyed.proofs.CheckSteps.{left-check, left-leads, reverse-snoc}
 use Rattle.plist_keyed.proofs.check.Check.leave.Goals as goal
 
 opens : (c : goal.In_ok-insert)

@@ -3,7 +3,8 @@ use Rattle.std.proofs.lemmas.Result.{err_from_is_err_and}
 use Rattle.plist_keyed.specs.inner.Checking.{objects_seen, unchecked_steps}
 use Rattle.plist_keyed.specs.inner.Settled.{IsSettledIn}
 use Rattle.plist_keyed.specs.inner.Walks.{IsFirstFaultOf, PassesEvents, given_by, steps_from}
-use Rattle.plist_keyed.proofs.CheckSteps.{begins-checked, begins-with, fault-on, nothing-open, passes-on, steps-with, with-left}
+use Rattle.plist_keyed.proofs.CheckStates.{begins-checked, begins-with, nothing-open, steps-with, with-left}
+use Rattle.plist_keyed.proofs.CheckSteps.{fault-on, passes-on}
 use Rattle.plist_keyed.proofs.check.Check.run.Goals as goal
 
 pub follow-requires : goal.follow-requires

@@ -1,4 +1,4 @@
-use Rattle.plist_keyed.proofs.CheckSteps.{left-passes}
+use Rattle.plist_keyed.proofs.CheckStates.{left-passes}
 use Rattle.plist_keyed.proofs.check.Check.step.Goals as goal
 
 pub returns-in-None-clause-passed : goal.returns-in-None-clause-passed
