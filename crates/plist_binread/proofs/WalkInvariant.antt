@@ -19,14 +19,14 @@ use Rattle.plist_binread.specs.Walking.{IsWalkOf, open_in, walk_objects}
 use Rattle.plist_binread.specs.declared.walk.Walk.{Walk}
 use Rattle.plist_decode.specs.declared.head.Bounds.{Bounds}
 use Rattle.plist_format.specs.Object.{Object, object_in}
-use Rattle.plist_decode.specs.Packed.{is_marked, kind_of_tag, open_tag, packed_kind, scalar_of_kind, unmarked, unpacked, cached, scalar_event, IsTextOrData, MayAllocate, KeepsOtherTags}
+use Rattle.plist_decode.specs.Packed.{is_marked, kind_of_tag, open_tag, packed_kind, scalar_of_kind, unmarked, unpacked, cached, KeepsOtherTags}
 use Rattle.plist_decode.specs.declared.decoded.CollectionKind.{CollectionKind}
 use Rattle.plist_binread.proofs.Tags.{cached_closed, open_tag-kind, open_tag-marked, open_tag-start, open_uncached, kind_of_tag-some}
 use Rattle.plist_decode.specs.declared.packed.PackedKind.{PackedKind}
 use Rattle.plist_format.specs.Unfolding.{TableEntry, unfolding_of, until_fault}
 use Rattle.plist_binread.specs.Remaining.{children_at, place_at, scalar_at, path_of, MarksOpenPath, HoldsPlaceOr, IsHeld, LocatesReferences, MatchesFile, places_of, entries_of, remaining_items, Explains}
 use Rattle.plist_decode.specs.Decoding.{AreReferencesAt, IsCollection, IsRefusedAs, children_in, scalar_event_in, scalar_in}
-use Rattle.plist_binread.proofs.WalkSteps.{collection_count, items_beyond, items_open, yields_refused, yields_scalar, refused_cached, refused_memory}
+use Rattle.plist_binread.proofs.WalkSteps.{collection_count, items_beyond, items_open, yields_refused, yields_scalar, refused_memory}
 use Rattle.plist_format.proofs.Tables.{slice_get-within, slice_get-beyond, length-table_of}
 use Rattle.std.proofs.lemmas.Option.{IfSome_then}
 use Rattle.std.proofs.lemmas.Bool.{eqb-false, false≢true}
@@ -34,31 +34,19 @@ use Rattle.std.proofs.lemmas.Bool.{eqb-false, false≢true}
 not_zero : (t : ℕ) → 0 < t → nat_eq t 0 ≡ false
 not_zero t h = grind (arith, nat_tests)
 
--- a content that isn't an offset stores this scalar, and if the scalar may need memory it is a
--- string or data
+-- a content that isn't an offset stores this scalar
 held_as : (b : Bool) (scalar : Option Scalar) (content : ℕ) (entry : Option TableEntry) → b ≡ false
-    → HoldsPlaceOr b scalar content entry
-    → (scalar_at entry ≡ scalar) × (MayAllocate scalar → IsTextOrData scalar)
+    → HoldsPlaceOr b scalar content entry → scalar_at entry ≡ scalar
 held_as true scalar content entry b h = absurd (cc)
 held_as false None content entry b h = absurd h
-held_as false (Some s) content entry b h = (h, λ wanted. wanted)
+held_as false (Some s) content entry b h = h
 
--- the scalar of an event, if the event is a scalar
-abbrev unsingle : Option PlainEvent → Option Scalar
-unsingle (Some (ScalarEvent scalar)) = Some scalar
-unsingle event = None
-
-unsingle-single : (scalar : Option Scalar) → unsingle (scalar_event scalar) ≡ scalar
-unsingle-single None = refl
-unsingle-single (Some scalar) = refl
-
-from_scalar : (b : Bool) (scalar : Option Scalar) (content : ℕ) (entry : Option TableEntry)
-    (event : PlainEvent) → b ≡ false → scalar_event scalar ≡ Some event
-    → scalar_event (scalar_at entry) ≡ Some event → HoldsPlaceOr b scalar content entry
-from_scalar true scalar content entry event b is h = absurd (cc)
-from_scalar false None content entry event b is h = absurd (cc)
-from_scalar false (Some s) content entry event b is h =
-    sym (unsingle-single _) ∙ ap unsingle (h ∙ sym is)
+from_scalar : (b : Bool) (found : Option Scalar) (content : ℕ) (entry : Option TableEntry)
+    (scalar : Scalar) → b ≡ false → found ≡ Some scalar → scalar_at entry ≡ Some scalar
+    → HoldsPlaceOr b found content entry
+from_scalar true found content entry scalar b is h = absurd (cc)
+from_scalar false None content entry scalar b is h = absurd (cc)
+from_scalar false (Some s) content entry scalar b is h = h ∙ sym is
 
 module _ (bytes : List ℕ) (bounds : Bounds) where
   abbrev table : List TableEntry
@@ -106,7 +94,7 @@ module _ (bytes : List ℕ) (bounds : Bounds) where
           ≡ cached (get_or tags number 0) (get_or contents number 0)
       held_scalar number h some =
           sym (ap scalar_at (entry_there number h))
-          ∙ (held_as _ _ _ _ (not_zero _ some) (k.held number h)).0
+          ∙ held_as _ _ _ _ (not_zero _ some) (k.held number h)
 
       -- a walk with other tags, contents and open collections is a walk over the file, if these
       -- are right
@@ -174,12 +162,11 @@ module _ (bytes : List ℕ) (bounds : Bounds) where
 
       -- after one more object was cached, the walk is still one over the file
       pub known_cached : (number : ℕ) (kind : PackedKind) (content : ℕ) (new : List ℕ)
-          (event : PlainEvent) → number < length tags → length contents ≡ length tags
+          → number < length tags → length contents ≡ length tags
           → KeepsOtherTags number tags new → packed_kind (get_or new number 0) ≡ Some kind
-          → scalar_event (unpacked kind content) ≡ Some event
-          → scalar_event (scalar_at (slice_get table number)) ≡ Some event
+          → scalar_at (slice_get table number) ≡ Some (unpacked kind content)
           → MatchesFile bytes bounds new (slice_set contents number content) fs
-      known_cached number kind content new event h same m here packs is =
+      known_cached number kind content new h same m here is =
           let some = kind_of_tag-some _ kind here in
           known_with new (slice_set contents number content) fs m.size
           (kept_others number new (slice_set contents number content) m
@@ -241,17 +228,6 @@ module _ (bytes : List ℕ) (bounds : Bounds) where
               → Explains (until_fault before) e
           found_refused = yields_refused table tags as_many fs at number (entry_of number) o h
               (entry_there number h) (sym (o.marks number h) ∙ free)
-
-          -- an allocation for a cached scalar failed
-          pub unfound_memory : (e : Error) → 0 < unmarked (get_or tags number 0)
-              → fault_of e ≡ fault_without_offset OutOfMemory
-              → MayAllocate (cached (get_or tags number 0) (get_or contents number 0))
-              → Explains (until_fault before) e
-          unfound_memory e some memory wanted = found_refused e
-              (refused_cached (entry_of number).object (entry_of number).place e _ memory
-              (held_scalar number h some)
-              ((held_as _ _ _ (slice_get table number) (not_zero _ some) (k.held number h)).1
-              wanted))
 
 -- ---- over bytes that may be unknown
 

@@ -14,7 +14,6 @@ use Rattle.plist_format.specs.Object.{Object, Scalar, Array, Dictionary, Faulty}
 use Rattle.plist_format.specs.Unfolding.{TableEntry, items_of, unfolding_of, until_fault}
 use Rattle.plist_binread.specs.Remaining.{path_of, MarksOpenPath, remaining_items, SomeRemain, AllocatesFirst, Explains, walk_steps, walk_weight}
 use Rattle.plist_decode.specs.Decoding.{IsCollection, children_in, scalar_in, scalar_event_in, Allocates, IsRefusedAs}
-use Rattle.plist_decode.specs.Packed.{IsTextOrData}
 use Rattle.plist_binread.proofs.OpenObjects.{admits_more}
 
 -- ---- the first item of an object
@@ -187,15 +186,3 @@ refused_memory object place e start count memory collection =
     MatchFault-at _ _ _ _ _ (ap (λ (f : Fault). f.kind) memory)
     (grows_at-collection _ start count collection)
 
--- `OutOfMemory` is possible for a string or data that is cached
-pub refused_cached : (object : Object) (place : ℕ) (e : Error) (scalar : Option trees.Scalar)
-    → fault_of e ≡ fault_without_offset OutOfMemory → scalar_in object ≡ scalar → IsTextOrData scalar
-    → IsRefusedAs object place e
-refused_cached object place e scalar memory is wanted =
-    MatchFault-at _ _ _ _ _ (ap (λ (f : Fault). f.kind) memory)
-    (grows _ (rw (← is) at wanted))
-  where
-    grows : (object : Object) → IsTextOrData (scalar_in object) → Allocates object
-    grows (Scalar (String text)) h = tt
-    grows (Scalar (Data bytes)) h = tt
-    grows object h = absurd h

@@ -1,16 +1,14 @@
 -- What is handed over to a visitor.
-use Rattle.std.specs.Prelude.{◌≡◌, Option, None, Some, Result, Ok, Err, MatchOption, MatchResult}
+use Rattle.std.specs.Prelude.{◌≡◌, Option, None, Some, Result, Ok, Err, MatchResult}
 use Rattle.plist_base.specs.declared.error.Error.{Error}
 use Rattle.plist_base.specs.declared.event.Event.{Event}
 use Rattle.plist_base.specs.Events.{PlainEvent, event_of, IsTextOrDataEvent}
 use Rattle.plist_base.specs.Visits.{Flow}
-use Rattle.plist_decode.specs.Packed.{MayAllocate, scalar_event}
 use Rattle.plist_decode.specs.declared.fault_slot.StepError.{StepError}
 use Rattle.plist_binread.specs.declared.visitors.Relay.{Relay}
 use Rattle.std.specs.declared.ops.ControlFlow.TheVariants.{Break}
 use Rattle.plist_base.specs.Faults.{OutOfMemory, fault_without_offset, fault_of}
 use Rattle.plist_binread.specs.declared.visitors.FirstEvent.{FirstEvent}
-use Rattle.plist_base.specs.Trees as trees
 
 -- the event is the one that was read, or the result is the error of the read
 abbrev pub HandsRead : {A : Type 0} → Result Event Error → (answer : Result A Error) → PlainEvent
@@ -52,8 +50,3 @@ module _ {V : Type 0} (step : V → PlainEvent → Flow → V → Type 0) (old n
     pub event : PlainEvent
     pub is : P event
     pub taken : TakesIfAny item event
-
-  -- the visitor took the scalar's event, unless there is no scalar, or the scalar needs memory
-  abbrev pub HandsSmall : Option trees.Scalar → Option Flow → Type 0
-  HandsSmall scalar answer = MatchOption answer (MayAllocate scalar × (new ≡ old))
-      (λ flow. (event : PlainEvent) × (scalar_event scalar ≡ Some event) × step old event flow new)

@@ -9,7 +9,7 @@ use Rattle.plist_binread.specs.declared.frames.NextChild.{NextChild}
 use Rattle.plist_binread.specs.declared.frames.NextChild.TheVariants as child
 use Rattle.plist_decode.specs.declared.head.Bounds.{Bounds}
 use Rattle.plist_format.specs.Container.{Head, head_of}
-use Rattle.plist_decode.specs.Packed.{is_marked, is_small_event, unmarked, cached, unpacked}
+use Rattle.plist_decode.specs.Packed.{is_marked, is_packed, is_small_event, unmarked, cached, unpacked}
 use Rattle.plist_binread.specs.declared.enter.Known.{Known}
 use Rattle.plist_binread.specs.declared.enter.Known.TheVariants as looked
 use Rattle.plist_binread.specs.declared.reader.WalkState.{WalkState}
@@ -74,7 +74,8 @@ IsEnd _ = ⊥
 -- the tag and the content encode this: the object's offset, or a small scalar that is cached
 abbrev pub IsFound : (tag content : ℕ) → Known → Type 0
 IsFound tag content (looked.Small kind packed) =
-    (0 < unmarked tag) × (cached tag content ≡ unpacked kind packed)
+    (0 < unmarked tag) × (cached tag content ≡ Some (unpacked kind packed))
+    × (is_packed kind packed ≡ true)
 IsFound tag content (looked.At place) = (unmarked tag ≡ 0) × (place ≡ content)
 
 -- the collection that contains the next child is open, and it has this child

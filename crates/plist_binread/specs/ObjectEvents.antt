@@ -6,7 +6,7 @@ use Rattle.plist_format.specs.Object.{Object, Scalar, Array, Dictionary, Faulty}
 use Rattle.plist_decode.specs.CountedContent.{content_means}
 use Rattle.plist_decode.specs.Decoded.{IsDecodedThere, content_size, small_count}
 use Rattle.plist_decode.specs.Decoding.{IsRefusedAs, child_count}
-use Rattle.plist_decode.specs.Packed.{FitsContent, is_small_event}
+use Rattle.plist_decode.specs.Packed.{is_packed, is_small_event}
 use Rattle.plist_decode.specs.Reading.{object_at}
 use Rattle.plist_decode.specs.declared.decoded.Content.{Content}
 use Rattle.plist_decode.specs.declared.decoded.Decoded.{Decoded}
@@ -18,9 +18,10 @@ abbrev pub is_refused : Decoded → Bool
 is_refused (decoded.Faulty fault) = true
 is_refused other = false
 
--- the walk can store what was decoded: the tag and the number of children aren't too large
+-- the walk can store what was decoded: the kind can have the content, or the number of children isn't
+-- too large
 abbrev pub FitsWalk : Decoded → Type 0
-FitsWalk (decoded.Small kind content) = FitsContent kind
+FitsWalk (decoded.Small kind content) = is_packed kind content ≡ true
 FitsWalk (decoded.Collection kind start count) = (child_count kind count < 2 ^ 64) × (start < 16)
 FitsWalk other = ⊤
 

@@ -9,7 +9,7 @@ use Rattle.plist_base.specs.Trees.{Data, String}
 use Rattle.plist_binread.specs.declared.frames.Frame.{Frame}
 use Rattle.plist_decode.specs.declared.head.Bounds.{Bounds}
 use Rattle.plist_format.specs.Container.{Head, head_of}
-use Rattle.plist_decode.specs.Packed.{is_marked, unmarked, cached, open_kind, open_start}
+use Rattle.plist_decode.specs.Packed.{is_marked, is_packed_if_any, packed_kind, unmarked, cached, open_kind, open_start}
 use Rattle.plist_binread.specs.declared.reader.WalkState.{WalkState}
 use Rattle.plist_binread.specs.declared.reader.WalkState.TheVariants.{Fresh, Walking, Ended}
 use Rattle.plist_format.specs.Unfolding.{TableEntry, table_of, unfolding_of, until_fault, items_of_file}
@@ -29,6 +29,11 @@ pub record MarksOpenPath (tags : List ℕ) (frames : List Frame) : Type 0 where
   pub below : (number : ℕ) → list_any (nat_eq number) (path_of frames) ≡ true → number < length tags
   pub marks : (number : ℕ) → number < length tags
       → is_marked (get_or tags number 0) ≡ list_any (nat_eq number) (path_of frames)
+
+-- each content is one that the kind in its tag can have
+abbrev pub ArePacked : (tags contents : List ℕ) → Type 0
+ArePacked tags contents = (number : ℕ) → number < length tags
+    → is_packed_if_any (packed_kind (get_or tags number 0)) (get_or contents number 0) ≡ true
 
 -- the number of cached objects
 abbrev pub cached_count : (tags : List ℕ) → ℕ

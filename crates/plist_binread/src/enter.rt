@@ -176,10 +176,7 @@ pub fn enter<S: Source, C: DecodeCounter, V: EventVisitor>(
     match look_up(walk, &mut decoder.slot, reference.at, reference.number)? {
         Known::Small(kind, content) => {
             let mut relay = Relay::new(visitor);
-            match hand_small(kind, content, &mut relay) {
-                Some(flow) => Ok(flow),
-                None => Err(decoder.slot.refuse_memory()),
-            }
+            Ok(hand_small(kind, content, &mut relay))
         }
         Known::At(place) => {
             let decoded = match buffered_front(source, &decoder.bounds, place) {

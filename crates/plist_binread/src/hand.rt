@@ -1,6 +1,6 @@
 //! Hands decoded objects to a visitor.
 
-ghost use Rattle.std.specs.Prelude.{◌≡◌, ◌≤◌, ℕ, false, take, OnOk};
+ghost use Rattle.std.specs.Prelude.{◌≡◌, ℕ, false, true, OnOk};
 ghost use Rattle.plist_base.specs.Sources.{ResultCountsIo};
 ghost use Rattle.plist_format.specs.Object.{date, text, wide_text};
 ghost use Rattle.plist_decode.specs.CountedContent.{AreUnits, content_means, unit_size};
@@ -8,8 +8,9 @@ ghost use Rattle.plist_decode.specs.Decoded.{EndsIn64Bits, FailsInContent, FitsB
 ghost use Rattle.plist_binread.specs.ObjectEvents.{SetsAsSmall, SetsContentAt, SetsDecoded, SetsEvent, is_refused};
 ghost use Rattle.plist_decode.specs.Decoding.{start_event};
 ghost use Rattle.plist_decode.specs.FaultOffsets.{ErrWithin};
-ghost use Rattle.plist_binread.specs.Handovers.{Hands, HandsRead, HandsSmall};
-ghost use Rattle.plist_decode.specs.Packed.{content_bytes, is_small_event, text_if_any, unpacked};
+ghost use Rattle.plist_base.specs.Events.{ScalarEvent};
+ghost use Rattle.plist_binread.specs.Handovers.{Hands, HandsRead};
+ghost use Rattle.plist_decode.specs.Packed.{content_bytes, is_packed, is_small_event, unpacked};
 ghost use Rattle.plist_decode.specs.Slot.{SlotCountsIo, result_in};
 ghost use Rattle.plist_decode.specs.declared.decoded.ContentKind.TheVariants.{Text as KindText};
 
@@ -20,58 +21,38 @@ use plist_decode::decoder::Decoder;
 use plist_decode::fault_slot::{FaultSlot, StepError};
 use plist_decode::long_content::{read_long, wide_text_event};
 use plist_decode::packed::PackedKind;
-use plist_decode::utf8::{short_text_in, text_in};
+use plist_decode::utf8::text_in;
 use std::borrow::{CowSlice, CowStr};
 use std::ops::ControlFlow;
 
-// Hands over the string in the first `size` of eight bytes. Returns `None` if they aren't UTF-8.
-#[inline(always)]
-fn hand_short_text<V: EventVisitor>(
-    bytes: &[u8; 8],
-    size: usize,
-    visitor: &mut V,
-) -> Option<ControlFlow<()>>
-    requires { size ≤ 8 }
-    ensures { HandsSmall V.step visitor.old visitor.new (text_if_any (take size bytes.now)) result }
-{
-    match short_text_in(bytes, size) {
-        Some(text) => Some(visitor.string(CowStr::Borrowed(text))),
-        None => None,
-    }
-}
-
-/// Hands over the scalar that a kind and a content encode. Returns `None` if they encode none.
+/// Hands over the scalar that a kind and a content encode.
 #[inline(always)]
 pub fn hand_small<V: EventVisitor>(
     kind: PackedKind,
     content: u64,
     visitor: &mut V,
-) -> Option<ControlFlow<()>>
-    ensures { HandsSmall V.step visitor.old visitor.new (unpacked kind content) result }
+) -> ControlFlow<()>
+    requires { is_packed kind content ≡ true }
+    ensures { V.step visitor.old (ScalarEvent (unpacked kind content)) result visitor.new }
 {
     let bytes = content.to_be_bytes();
     match kind {
-        PackedKind::Boolean(value) => Some(visitor.boolean(value)),
-        PackedKind::Unsigned => Some(visitor.integer(Integer::from(content))),
-        PackedKind::Negative => Some(visitor.integer(Integer::from(content.cast_signed()))),
-        PackedKind::Real => Some(visitor.real(RealBits::Eight(bytes))),
+        PackedKind::Boolean(value) => visitor.boolean(value),
+        PackedKind::Unsigned => visitor.integer(Integer::from(content)),
+        PackedKind::Negative => visitor.integer(Integer::from(content.cast_signed())),
+        PackedKind::Real => visitor.real(RealBits::Eight(bytes)),
         PackedKind::ShortReal => {
             let mut four = [0; 4];
             four.copy_from_slice(&bytes[..4]);
-            Some(visitor.real(RealBits::Four(four)))
+            visitor.real(RealBits::Four(four))
         }
-        PackedKind::Uid => Some(visitor.uid(Uid::new(content))),
+        PackedKind::Uid => visitor.uid(Uid::new(content)),
         PackedKind::Data(size) => {
-            if size > 8 {
-                return None;
-            }
-            Some(visitor.data(CowSlice::Borrowed(&bytes[..usize::from(size)])))
+            visitor.data(CowSlice::Borrowed(&bytes[..usize::from(size)]))
         }
         PackedKind::Text(size) => {
-            if size > 8 {
-                return None;
-            }
-            hand_short_text(&bytes, usize::from(size), visitor)
+            let text = unsafe { str::from_utf8_unchecked(&bytes[..usize::from(size)]) };
+            visitor.string(CowStr::Borrowed(text))
         }
     }
 }
@@ -243,10 +224,7 @@ pub fn hand_decoded<S: Source, C: DecodeCounter, V: EventVisitor>(
     ensures failures { SlotCountsIo S.failures result decoder.new.slot source.old source.new }
 {
     match decoded {
-        Decoded::Small(kind, content) => match hand_small(kind, content, visitor) {
-            Some(flow) => Ok(flow),
-            None => Err(decoder.slot.refuse_memory()),
-        },
+        Decoded::Small(kind, content) => Ok(hand_small(kind, content, visitor)),
         Decoded::Date(content) => hand_date(content, place, &mut decoder.slot, visitor),
         Decoded::Long(kind, start, count) => {
             let content = Content { kind, start, count };

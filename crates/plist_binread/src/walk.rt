@@ -2,7 +2,7 @@
 
 ghost use Rattle.std.specs.Prelude.{◌≡◌, ◌<◌, length, reverse, true};
 ghost use Rattle.std.proofs.Props.{props};
-ghost use Rattle.plist_binread.specs.Remaining.{MarksOpenPath};
+ghost use Rattle.plist_binread.specs.Remaining.{ArePacked, MarksOpenPath};
 ghost use Rattle.plist_binread.specs.NextChild.{IsEnd, ParentIsOpen, closes};
 
 use crate::frames::{Frame, Frames, NextChild};
@@ -22,6 +22,7 @@ pub struct Walk {
     pub frames: Frames,
     ghost same: { length contents.items ≡ length tags.items } by { Prim.hlevel props },
     ghost path: { MarksOpenPath tags.items (reverse frames) } by { Prim.hlevel props },
+    ghost packed: { ArePacked tags.items contents.items } by { Prim.hlevel props },
 }
 
 impl Walk {

@@ -100,11 +100,10 @@ pub small_data : (low count content first : ℕ) (rest following bytes more : Li
 small_data low count content first rest following bytes more is seen small cut packed width =
     let one : count * 1 ≡ count = omega arith in
     let n : length bytes ≡ count = ap length cut ∙ length-take-le count following seen in (
-      trees.Data bytes,
       content_seen low 1 count rest following more is (rw one seen) data_of_content
-          ∙ ap (λ xs. Scalar (trees.Data xs)) (ap (λ k. take k following) one ∙ sym cut),
-      ap (λ xs. Some (trees.Data xs)) (rw n at packed),
-      small,
+          ∙ ap (λ xs. Scalar (trees.Data xs))
+          (ap (λ k. take k following) one ∙ sym cut ∙ sym (rw n at packed)),
+      le-leb count 8 small,
     )
 
 -- if the content is among the bytes that were read, the object means what the content means
@@ -176,7 +175,7 @@ seen_decodes known bounds place seen answer front means =
 -- what was decoded ends before the trailer, whatever the bytes are
 decoded_fits : (trailer place width : ℕ) (all : List ℕ) (object : Object) (d : Decoded)
     → place + length all ≤ trailer → IsDecodedAs width all object d → FitsBefore trailer place d
-decoded_fits trailer place width all object (decoded.Small kind content) h is = is.3
+decoded_fits trailer place width all object (decoded.Small kind content) h is = is.1
 decoded_fits trailer place width all object (decoded.Date content) h is = tt
 decoded_fits trailer place width all object (decoded.Long kind start count) h is =
     (omega (arith, h, is.0), is.2)

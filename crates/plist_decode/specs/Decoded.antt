@@ -1,5 +1,5 @@
 -- What is decoded from the bytes at an object's front, whatever follows them.
-use Rattle.std.specs.Prelude.{◌≡◌, ℕ, ◌+◌, ◌*◌, ◌^◌, ◌<◌, ◌≤◌, List, ◌∷◌, ◌++◌, length, take, drop, Option, Some, Result, IfSome, MatchResult, ⊤}
+use Rattle.std.specs.Prelude.{◌≡◌, ℕ, ◌+◌, ◌*◌, ◌^◌, ◌<◌, ◌≤◌, List, ◌∷◌, ◌++◌, length, take, drop, true, Option, Some, Result, IfSome, MatchResult, ⊤}
 use Rattle.plist_base.specs.declared.error.Error.{Error}
 use Rattle.plist_base.specs.Faults.{FaultKind, ObjectOffsetTooLarge, NullObjectUnimplemented, FillObjectUnimplemented, UnknownObjectType, IntegerOutOfRange, OverflowOrNanDate, InvalidUtf8String, InvalidUtf16String, OutOfMemory}
 use Rattle.plist_base.specs.Trees as trees
@@ -8,7 +8,7 @@ use Rattle.plist_decode.specs.CountedContent.{content_means, unit_size}
 use Rattle.plist_base.specs.declared.event.Event.{Event}
 use Rattle.plist_decode.specs.Decoding.{Allocates, AreReferencesAt, Decodes, IsCollection, IsRefusedAs, child_count, children_in, start_event}
 use Rattle.plist_decode.specs.Reading.{bytes_at, object_at}
-use Rattle.plist_decode.specs.Packed.{FitsContent, content_bytes, unpacked}
+use Rattle.plist_decode.specs.Packed.{content_bytes, is_packed, unpacked}
 use Rattle.plist_decode.specs.FaultOffsets.{ErrWithin}
 use Rattle.plist_decode.specs.declared.decoded.Content.{Content}
 use Rattle.plist_decode.specs.declared.decoded.ContentKind.{ContentKind}
@@ -61,8 +61,7 @@ IsLongBytes kind bytes = IsLongCount kind (length bytes)
 -- the object, whose bytes up to the trailer are these, was decoded as this
 abbrev pub IsDecodedAs : (width : ℕ) (bytes : List ℕ) → Object → Decoded → Type 0
 IsDecodedAs width bytes object (decoded.Small kind content) =
-    (scalar : trees.Scalar) × (object ≡ Scalar scalar) × (unpacked kind content ≡ Some scalar)
-    × FitsContent kind
+    (object ≡ Scalar (unpacked kind content)) × (is_packed kind content ≡ true)
 IsDecodedAs width bytes object (decoded.Date content) = object ≡ date (content_bytes content)
 IsDecodedAs width bytes object (decoded.Long kind start count) =
     (start + count * unit_size kind ≤ length bytes) × (object
@@ -136,7 +135,7 @@ RefusesObjectAt known bounds place error = IfSome known (λ bytes. bounds.traile
 
 -- what was decoded at an offset ends before the trailer and has sizes in range
 abbrev pub FitsBefore : (trailer place : ℕ) → Decoded → Type 0
-FitsBefore trailer place (decoded.Small kind content) = FitsContent kind
+FitsBefore trailer place (decoded.Small kind content) = is_packed kind content ≡ true
 FitsBefore trailer place (decoded.Date content) = ⊤
 FitsBefore trailer place (decoded.Long kind start count) =
     (place + start + count * unit_size kind ≤ trailer) × IsLongCount kind count

@@ -33,15 +33,19 @@ is_small_event (ScalarEvent scalar) = is_small scalar
 abbrev pub content_bytes : ℕ → List ℕ
 content_bytes content = to_be_bytes w64 content
 
--- the string in these bytes, or `None` if they aren't UTF-8
-abbrev pub text_if_any : List ℕ → Option Scalar
-text_if_any text = if is_utf8 text then Some (String text) else None
-
 -- data or a string of this kind has at most eight bytes
 abbrev pub FitsContent : PackedKind → Type 0
 FitsContent (kind.Data size) = size ≤ 8
 FitsContent (kind.Text size) = size ≤ 8
 FitsContent kind = ⊤
+
+-- whether a scalar of this kind can have this content: data or a string has at most eight bytes, and
+-- a string is UTF-8
+abbrev pub is_packed : PackedKind → (content : ℕ) → Bool
+is_packed (kind.Data size) content = nat_le size 8
+is_packed (kind.Text size) content =
+    if nat_le size 8 then is_utf8 (take size (content_bytes content)) else false
+is_packed kind content = true
 
 -- the kind that a tag below 128 encodes, or `None` if the content is the object's offset
 abbrev pub kind_of_tag : ℕ → Option PackedKind
@@ -57,17 +61,16 @@ kind_of_tag tag =
     else (if nat_le tag 16 then Some (kind.Data (tag - 8))
     else Some (kind.Text (tag - 17))))))))))
 
--- the scalar that a kind and a content encode, or `None` if they encode none
-abbrev pub unpacked : PackedKind → (content : ℕ) → Option Scalar
-unpacked (kind.Boolean value) content = Some (Boolean value)
-unpacked kind.Unsigned content = Some (Integer (pos content))
-unpacked kind.Negative content = Some (Integer (cast_signed w64 content))
-unpacked kind.Real content = Some (Real (Eight (content_bytes content)))
-unpacked kind.ShortReal content = Some (Real (Four (take 4 (content_bytes content))))
-unpacked kind.Uid content = Some (Uid content)
-unpacked (kind.Data size) content = Some (Data (take size (content_bytes content)))
-unpacked (kind.Text size) content =
-    if nat_le size 8 then text_if_any (take size (content_bytes content)) else None
+-- the scalar that a kind and a content encode
+abbrev pub unpacked : PackedKind → (content : ℕ) → Scalar
+unpacked (kind.Boolean value) content = Boolean value
+unpacked kind.Unsigned content = Integer (pos content)
+unpacked kind.Negative content = Integer (cast_signed w64 content)
+unpacked kind.Real content = Real (Eight (content_bytes content))
+unpacked kind.ShortReal content = Real (Four (take 4 (content_bytes content)))
+unpacked kind.Uid content = Uid content
+unpacked (kind.Data size) content = Data (take size (content_bytes content))
+unpacked (kind.Text size) content = String (take size (content_bytes content))
 
 -- whether the high bit of a tag is set, which marks an open object
 abbrev pub is_marked : ℕ → Bool
@@ -97,7 +100,12 @@ packed_kind tag = kind_of_tag (unmarked tag)
 -- the scalar that a kind and a content encode, or `None` without a kind
 abbrev pub scalar_of_kind : Option PackedKind → (content : ℕ) → Option Scalar
 scalar_of_kind None content = None
-scalar_of_kind (Some kind) content = unpacked kind content
+scalar_of_kind (Some kind) content = Some (unpacked kind content)
+
+-- whether a scalar of this kind can have this content, or there is no kind
+abbrev pub is_packed_if_any : Option PackedKind → (content : ℕ) → Bool
+is_packed_if_any None content = true
+is_packed_if_any (Some kind) content = is_packed kind content
 
 -- the scalar that a tag and a content encode, or `None` if the object isn't cached
 abbrev pub cached : (tag content : ℕ) → Option Scalar
@@ -106,17 +114,6 @@ cached tag content = scalar_of_kind (packed_kind tag) content
 -- the event of this scalar, or `None` without a scalar
 abbrev pub scalar_event : Option Scalar → Option PlainEvent
 scalar_event scalar = option_map ScalarEvent scalar
-
--- the scalar is a string or data, for which memory is needed
-abbrev pub IsTextOrData : Option Scalar → Type 0
-IsTextOrData (Some (String text)) = ⊤
-IsTextOrData (Some (Data bytes)) = ⊤
-IsTextOrData scalar = ⊥
-
--- the scalar is a string or data, or there is none
-abbrev pub MayAllocate : Option Scalar → Type 0
-MayAllocate None = ⊤
-MayAllocate (Some scalar) = IsTextOrData (Some scalar)
 
 -- all tags except that of this object are unchanged
 pub record KeepsOtherTags (number : ℕ) (old new : List ℕ) : Type 0 where

@@ -1,8 +1,8 @@
 //! Packs a small scalar into the tag byte and the content of its object, which is a `u64`, and the
 //! layout of an open collection into the tag byte.
 
-ghost use Rattle.std.specs.Prelude.{◌≡◌, ◌<◌, ◌≤◌, Some, get_or, length, slice_set, take};
-ghost use Rattle.plist_decode.specs.Packed.{FitsContent, KeepsOtherTags, content_bytes, is_marked, open_kind, open_start, open_tag, packed_kind};
+ghost use Rattle.std.specs.Prelude.{◌≡◌, ◌<◌, ◌≤◌, Some, get_or, length, slice_set, take, true};
+ghost use Rattle.plist_decode.specs.Packed.{KeepsOtherTags, content_bytes, is_marked, is_packed, open_kind, open_start, open_tag, packed_kind};
 
 use crate::decoded::CollectionKind;
 
@@ -144,7 +144,7 @@ pub fn cache(
     kind: PackedKind,
     content: u64,
 )
-    requires within { FitsContent kind }
+    requires packed { is_packed kind content ≡ true }
     requires number { number < length tags.old.items }
     requires same { length tags.old.items ≡ length contents.old.items }
     ensures tag { packed_kind (get_or tags.new.items number 0) ≡ Some kind }

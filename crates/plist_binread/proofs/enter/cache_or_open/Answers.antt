@@ -1,8 +1,7 @@
 use Rattle.std.proofs.Common.{arith, ap, sym, ◌∙◌}
 use Rattle.std.proofs.lemmas.Bool.{false≢true}
-use Rattle.plist_base.specs.Events.{ScalarEvent}
-use Rattle.plist_decode.specs.Decoding.{scalar_event_in}
-use Rattle.plist_decode.specs.Packed.{content_bytes, unmarked, scalar_event}
+use Rattle.plist_decode.specs.Decoding.{scalar_in}
+use Rattle.plist_decode.specs.Packed.{content_bytes, unmarked, unpacked}
 use Rattle.plist_binread.specs.Remaining.{scalar_at}
 use Rattle.plist_binread.proofs.WalkSteps.{yields_scalar, steps_positive}
 use Rattle.plist_binread.proofs.OpenObjects.{not_open, cached_count-more}
@@ -29,11 +28,10 @@ returns-in-Small-clause-yields c = λ _ bytes bounds entry k is found.
       (λ at event _ named. yields_scalar _ _ (as_many bytes bounds _ _ _ k) _ at _ entry
           c.args.walk.now.path c.requires.below is
           (not_open c.args.walk.now.path c.requires.below c.requires.new) event
-          (named-scalar entry.object d.0 event d.1 named)),
+          (named-scalar entry.object (unpacked c.in-Small.kind c.in-Small.content) event d.0 named)),
       rw c.cache.ensures.contents (known_cached bytes bounds _ _ _ k _ c.in-Small.kind
-          c.in-Small.content _ (ScalarEvent d.0) c.requires.below c.args.walk.now.same
-          c.cache.ensures.tags c.cache.ensures.tag (ap scalar_event d.2)
-          (ap (λ found. scalar_event (scalar_at found)) is ∙ ap scalar_event_in d.1)),
+          c.in-Small.content _ c.requires.below c.args.walk.now.same c.cache.ensures.tags
+          c.cache.ensures.tag (ap scalar_at is ∙ ap scalar_in d.0)),
     )
 
 pub returns-in-Date-clause-falls : goal.returns-in-Date-clause-falls

@@ -1,5 +1,5 @@
 use Rattle.std.proofs.Common.{◌≡◌, ℕ, ◌<◌, true, arith, get_or, length, List, Ok, Option, IfSome, ap, refl, rules, subst, sym, ◌∙◌}
-use Rattle.plist_base.specs.Events.{EndCollection}
+use Rattle.plist_base.specs.Events.{EndCollection, ScalarEvent}
 use Rattle.plist_decode.proofs.Decoding.{long_bytes, seen_decodes, seen_fits}
 use Rattle.plist_binread.proofs.ObjectEvents.{borrowed_sets, cached_if, fits_walk, large_unlike, long_sets}
 use Rattle.plist_decode.proofs.FaultOffsets.{err_within, passed}
@@ -7,7 +7,7 @@ use Rattle.plist_binread.proofs.ObjectEntry.{IsDecodedAt, always_ok, known_decod
 use Rattle.std.proofs.lemmas.List.{length-drop, length-take-le}
 use Rattle.std.proofs.lemmas.Option.{IfSome_then}
 use Rattle.plist_binread.proofs.VisitorLimits.{passed_on}
-use Rattle.plist_binread.proofs.WalkInvariant.{known_full, unfound_memory}
+use Rattle.plist_binread.proofs.WalkInvariant.{known_full}
 use Rattle.plist_decode.proofs.UnknownBytes.{IfSome-all}
 use Rattle.plist_binread.proofs.WalkSteps.{steps_positive}
 use Rattle.plist_decode.specs.Decoded.{DecodesAt, FitsBefore}
@@ -16,56 +16,43 @@ use Rattle.plist_decode.specs.declared.decoded.Content.{Content}
 use Rattle.plist_decode.specs.declared.decoded.Decoded.{Decoded}
 use Rattle.plist_decode.specs.declared.head.Bounds.{Bounds}
 use Rattle.plist_decode.specs.declared.decoded.Decoded.TheVariants as decoded
-use Rattle.plist_decode.specs.Packed.{is_small_event, scalar_event, unmarked}
+use Rattle.plist_decode.specs.Packed.{is_small_event, scalar_event, unmarked, unpacked}
 use Rattle.plist_decode.specs.Slot.{result_in}
 use Rattle.plist_binread.proofs.enter.enter.Goals as goal
-use Rattle.plist_binread.proofs.enter.enter.Goals.{After-cache_or_open, In-Long, in-Some-buffered_front+in-Long+else-lies_in, in-Some-buffered_front+in_default, in-None-buffered_front+in_ok-decoded-in-None-buffered_front}
+use Rattle.plist_binread.proofs.enter.enter.Goals.{After-cache_or_open, In-Long, in-Some+in-Long+else-lies_in, in-Some+in_default, in-None+in_ok-decoded-in-None}
 
-pub returns-in-Some-clause-falls : goal.returns-in-Some-clause-falls
-returns-in-Some-clause-falls g c = omega (arith, steps_positive)
+pub hand_small-requires : goal.hand_small-requires
+hand_small-requires g c = (rw c.in-Small.is at c.in_ok-kind.ensures.found).2
 
-pub returns-in-Some-clause-handed : goal.returns-in-Some-clause-handed
-returns-in-Some-clause-handed g c =
+pub returns-in-Small-clause-falls : goal.returns-in-Small-clause-falls
+returns-in-Small-clause-falls g c = omega (arith, steps_positive)
+
+pub returns-in-Small-clause-handed : goal.returns-in-Small-clause-handed
+returns-in-Small-clause-handed g c =
     let found = rw c.in-Small.is at c.in_ok-kind.ensures.found in
-    let h = c.in-Some.ensures in
+    let event = ScalarEvent (unpacked c.in-Small.kind c.in-Small.content) in
     record {
-      event = h.0;
+      event = event;
       is = (
         known_unpacked _ _ c.args.walk.now c.args.reference.number c.requires.known
-            c.in_ok-kind.ensures.below c.args.reference.at h.0 c.in_ok-kind.ensures.new found.0
-            (ap scalar_event found.1 ∙ h.1),
+            c.in_ok-kind.ensures.below c.args.reference.at event c.in_ok-kind.ensures.new found.0
+            (ap scalar_event found.1),
         IfSome-all (g.S.Source.known c.args.source.now)
-            {P = λ _. is_small_event h.0 ≡ true → 0 < unmarked
+            {P = λ _. is_small_event event ≡ true → 0 < unmarked
             (get_or c.args.walk.now.tags.items c.args.reference.number 0)} (λ _ _. found.0),
       );
-      taken = passed_on g.V.EventVisitor.step c.new-relay.result c.hand_small.new.visitor _ _ (Ok _) h.0
-          (search rules) (search rules) h.2;
+      taken = passed_on g.V.EventVisitor.step c.new-relay.result c.hand_small.new.visitor _ _ (Ok _) event
+          (search rules) (search rules) c.hand_small.ensures;
     }
 
-pub returns-in-None-clause-handed : goal.returns-in-None-clause-handed
-returns-in-None-clause-handed g c =
-    let found = rw c.in-Small.is at c.in_ok-kind.ensures.found in
-    record {
-      event = EndCollection;
-      is = (
-        IfSome_then (g.S.Source.known c.args.source.now) c.requires.known (λ bytes k.
-            unfound_memory bytes c.args.decoder.now.bounds _ _ _ k c.args.walk.now.path c.args.reference.at
-            c.args.reference.number c.in_ok-kind.ensures.below c.in_ok-kind.ensures.new
-            c.refuse_memory.new.self.fault found.0 c.refuse_memory.ensures.fault
-            (rw found.1 c.in-None.ensures.0)),
-        IfSome-all _ (λ _. tt),
-      );
-      taken = (let same = c.in-None.ensures.1 in search rules);
-    }
-
-pub returns-in_err-decoded-in-None-buffered_front-clause-handed : goal.returns-in_err-decoded-in-None-buffered_front-clause-handed
-returns-in_err-decoded-in-None-buffered_front-clause-handed g c =
-    rw (passed _ c.from_residual-in_err-decoded-in-None-buffered_front.ensures.1) (record {
+pub returns-in_err-decoded-in-None-clause-handed : goal.returns-in_err-decoded-in-None-clause-handed
+returns-in_err-decoded-in-None-clause-handed g c =
+    rw (passed _ c.from_residual-in_err-decoded-in-None.ensures.1) (record {
       event = EndCollection;
       is = (
         known_refused _ _ c.args.walk.now c.args.reference.number c.requires.known
             c.in_ok-kind.ensures.below c.args.reference.at c.in-At.place _ c.in_ok-kind.ensures.new
-            (rw c.in-At.is at c.in_ok-kind.ensures.found) c.in_err-decoded-in-None-buffered_front.ensures.refused,
+            (rw c.in-At.is at c.in_ok-kind.ensures.found) c.in_err-decoded-in-None.ensures.refused,
         IfSome-all _ (λ _. tt),
       );
       taken = refl;
@@ -76,7 +63,7 @@ long_fits : (g : _) (c : In-Long g) → FitsBefore c.args.decoder.now.bounds.tra
     (decoded.Long c.in-Long.kind c.in-Long.start c.in-Long.count)
 long_fits g c =
     subst (FitsBefore c.args.decoder.now.bounds.trailer c.in-At.place) c.in-Long.is
-    (seen_fits c.args.decoder.now.bounds c.in-At.place c.in-Some-buffered_front.seen.now
+    (seen_fits c.args.decoder.now.bounds c.in-At.place c.in-Some.seen.now
     c.decode_front-decoded.result (search rules) c.decode_front-decoded.ensures.decoded)
 
 pub lies_in-requires : goal.lies_in-requires
@@ -89,7 +76,7 @@ pub hand_bytes-requires-clause-long : goal.hand_bytes-requires-clause-long
 hand_bytes-requires-clause-long g c =
     let fits = long_fits g (goal.at.hand_bytes-requires-clause-long g c).In-Long in
     let within = c.lies_in.ensures c.if-lies_in.true in
-    let rest = length-drop c.in-Long.start c.in-Some-buffered_front.seen.now in
+    let rest = length-drop c.in-Long.start c.in-Some.seen.now in
     long_bytes c.in-Long.kind c.in-Long.count c.bytes_in-bytes.result.now
     (ap length c.bytes_in-bytes.ensures ∙ length-take-le _ _ (omega (arith, within, rest))) fits.1
 
@@ -104,8 +91,8 @@ returns-then-lies_in-clause-falls g c =
 
 -- the first bytes of the object are buffered
 seen_front : (g : _) (c : In-Long g) → IsFrontAt (g.S.Source.known c.args.source.now)
-    c.args.decoder.now.bounds c.in-At.place c.in-Some-buffered_front.seen.now
-seen_front g c = c.in-Some-buffered_front.ensures
+    c.args.decoder.now.bounds c.in-At.place c.in-Some.seen.now
+seen_front g c = c.in-Some.ensures
 
 pub returns-then-lies_in-clause-handed : goal.returns-then-lies_in-clause-handed
 returns-then-lies_in-clause-handed g c =
@@ -123,7 +110,7 @@ returns-then-lies_in-clause-handed g c =
     (seen_decodes _ bounds c.in-At.place _ c.decode_front-decoded.result front
     c.decode_front-decoded.ensures.decoded)) in
     let sets = long_sets _ bounds c.in-At.place content answer h.event (long_fits g at).0
-    (borrowed_sets _ c.in-At.place content c.in-Some-buffered_front.seen.now answer h.event front.lies
+    (borrowed_sets _ c.in-At.place content c.in-Some.seen.now answer h.event front.lies
     (c.lies_in.ensures c.if-lies_in.true) (rw c.bytes_in-bytes.ensures at h.is.0)) in
     record {
       event = h.event;
@@ -144,16 +131,16 @@ pub cache_or_open-requires-clause-fits : goal.cache_or_open-requires-clause-fits
 cache_or_open-requires-clause-fits g c =
     let bounds = c.args.decoder.now.bounds in
     fits_walk bounds c.in-At.place _ (elim c.match-buffered_front.branch [
-      | in-None-buffered_front+in_ok-decoded-in-None-buffered_front w ↦
+      | in-None+in_ok-decoded-in-None w ↦
           subst (FitsBefore bounds.trailer c.in-At.place) (sym w.decoded-is)
-          w.in_ok-decoded-in-None-buffered_front.ensures.fits
-      | in-Some-buffered_front+in-Long+else-lies_in w ↦
+          w.in_ok-decoded-in-None.ensures.fits
+      | in-Some+in-Long+else-lies_in w ↦
           subst (FitsBefore bounds.trailer c.in-At.place) (w.in-Long.is ∙ sym w.decoded-is) (seen_fits bounds
-          c.in-At.place w.in-Some-buffered_front.seen.now w.decode_front-decoded.result (search rules)
+          c.in-At.place w.in-Some.seen.now w.decode_front-decoded.result (search rules)
           w.decode_front-decoded.ensures.decoded)
-      | in-Some-buffered_front+in_default w ↦
+      | in-Some+in_default w ↦
           subst (FitsBefore bounds.trailer c.in-At.place) (sym w.decoded-is) (seen_fits bounds
-          c.in-At.place w.in-Some-buffered_front.seen.now w.decode_front-decoded.result (search rules)
+          c.in-At.place w.in-Some.seen.now w.decode_front-decoded.result (search rules)
           w.decode_front-decoded.ensures.decoded)
     ])
 
@@ -172,30 +159,30 @@ fetched g c =
     let known = g.S.Source.known c.args.source.now in
     let bounds = c.args.decoder.now.bounds in
     elim c.match-buffered_front.branch [
-      | in-None-buffered_front+in_ok-decoded-in-None-buffered_front w ↦ record {
+      | in-None+in_ok-decoded-in-None w ↦ record {
         decodes = subst (DecodesAt known bounds c.in-At.place) (sym w.decoded-is)
-            w.in_ok-decoded-in-None-buffered_front.ensures.decoded;
+            w.in_ok-decoded-in-None.ensures.decoded;
         fits = subst (FitsBefore bounds.trailer c.in-At.place) (sym w.decoded-is)
-            w.in_ok-decoded-in-None-buffered_front.ensures.fits;
-        unchanged = rw w.source-is w.in_ok-decoded-in-None-buffered_front.ensures.unchanged;
-        same = rw w.decoder-is w.in_ok-decoded-in-None-buffered_front.ensures.bounds;
+            w.in_ok-decoded-in-None.ensures.fits;
+        unchanged = rw w.source-is w.in_ok-decoded-in-None.ensures.unchanged;
+        same = rw w.decoder-is w.in_ok-decoded-in-None.ensures.bounds;
       }
-      | in-Some-buffered_front+in-Long+else-lies_in w ↦ record {
+      | in-Some+in-Long+else-lies_in w ↦ record {
         decodes = subst (DecodesAt known bounds c.in-At.place) (w.in-Long.is ∙ sym w.decoded-is) (seen_decodes known
-            bounds c.in-At.place w.in-Some-buffered_front.seen.now w.decode_front-decoded.result
-            w.in-Some-buffered_front.ensures w.decode_front-decoded.ensures.decoded);
+            bounds c.in-At.place w.in-Some.seen.now w.decode_front-decoded.result
+            w.in-Some.ensures w.decode_front-decoded.ensures.decoded);
         fits = subst (FitsBefore bounds.trailer c.in-At.place) (w.in-Long.is ∙ sym w.decoded-is) (seen_fits bounds
-            c.in-At.place w.in-Some-buffered_front.seen.now w.decode_front-decoded.result (search rules)
+            c.in-At.place w.in-Some.seen.now w.decode_front-decoded.result (search rules)
             w.decode_front-decoded.ensures.decoded);
         unchanged = rw w.source-is refl;
         same = rw w.decoder-is w.decode_front-decoded.ensures.bounds;
       }
-      | in-Some-buffered_front+in_default w ↦ record {
+      | in-Some+in_default w ↦ record {
         decodes = subst (DecodesAt known bounds c.in-At.place) (sym w.decoded-is) (seen_decodes known
-            bounds c.in-At.place w.in-Some-buffered_front.seen.now w.decode_front-decoded.result
-            w.in-Some-buffered_front.ensures w.decode_front-decoded.ensures.decoded);
+            bounds c.in-At.place w.in-Some.seen.now w.decode_front-decoded.result
+            w.in-Some.ensures w.decode_front-decoded.ensures.decoded);
         fits = subst (FitsBefore bounds.trailer c.in-At.place) (sym w.decoded-is) (seen_fits bounds
-            c.in-At.place w.in-Some-buffered_front.seen.now w.decode_front-decoded.result (search rules)
+            c.in-At.place w.in-Some.seen.now w.decode_front-decoded.result (search rules)
             w.decode_front-decoded.ensures.decoded);
         unchanged = rw w.source-is refl;
         same = rw w.decoder-is w.decode_front-decoded.ensures.bounds;
@@ -231,7 +218,7 @@ returns-else-cache_or_open-clause-handed g c =
             c.in_ok-kind.ensures.below c.args.reference.at c.in-At.place _ c.in_ok-kind.ensures.new
             (rw c.in-At.is at c.in_ok-kind.ensures.found)
             (known_full _ c.args.decoder.now.bounds c.in-At.place c.match-buffered_front.decoded
-            c.refuse_memory-in-At.new.self.fault c.refuse_memory-in-At.ensures.fault
+            c.refuse_memory.new.self.fault c.refuse_memory.ensures.fault
             (c.cache_or_open.ensures.wanted c.if-cache_or_open.false) f.decodes),
         IfSome-all _ (λ _. tt),
       );

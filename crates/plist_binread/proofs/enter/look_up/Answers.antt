@@ -2,12 +2,21 @@ use Rattle.std.proofs.Common.{arith, ◌<◌, length, ap, sym, ◌∙◌}
 use Rattle.std.proofs.lemmas.List.{get_or_read}
 use Rattle.plist_decode.specs.Packed.{is_marked}
 use Rattle.plist_binread.proofs.WalkInvariant.{unfound_beyond, unfound_open}
+use Rattle.plist_binread.proofs.Tags.{found_small}
 use Rattle.plist_binread.proofs.enter.look_up.Goals as goal
 
 pub returns-then-number-len-clause-refused : goal.returns-then-number-len-clause-refused
 returns-then-number-len-clause-refused c = λ bytes bounds k.
     unfound_beyond bytes bounds _ _ _ k c.args.walk.now.path _ _
     c.refuse_number.new.slot.fault (omega arith) c.refuse_number.ensures
+
+pub returns-clause-found : goal.returns-clause-found
+returns-clause-found c =
+    let below : c.args.number < length c.args.walk.now.tags.items = omega arith in
+    let tag = get_or_read _ _ _ below c.index-tag.ensures 0 in
+    let content = get_or_read c.args.walk.now.contents.items _ _ (rw c.args.walk.now.same below) c.index-content.ensures 0 in
+    found_small _ _ c.args.number _ _ c.of_tag.result below c.args.walk.now.packed tag content c.of_tag.ensures
+    (sym c.if-is_open.ensures)
 
 pub returns-then-is_open-clause-refused : goal.returns-then-is_open-clause-refused
 returns-then-is_open-clause-refused c = λ bytes bounds k.

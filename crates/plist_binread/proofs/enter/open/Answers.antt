@@ -4,7 +4,7 @@ use Rattle.plist_decode.specs.Decoding.{start_event}
 use Rattle.plist_binread.proofs.ObjectEvents.{collection-named}
 use Rattle.plist_binread.proofs.WalkSteps.{yields_collection, reverse-push, start_falls}
 use Rattle.plist_binread.proofs.OpenObjects.{IsOpen-push, not_open, admits_more, cached_count-kept}
-use Rattle.plist_binread.proofs.Tags.{open_tag-marked, open_uncached}
+use Rattle.plist_binread.proofs.Tags.{open_tag-marked, open_uncached, uncached_packed}
 use Rattle.plist_binread.proofs.WalkInvariant.{as_many, known_opened}
 use Rattle.plist_binread.proofs.enter.open.Goals as goal
 
@@ -15,6 +15,8 @@ invariant_of-walk c = record {
       (IsOpen-push _ _ _ _ c.args.walk.now.path c.requires.below
       (not_open c.args.walk.now.path c.requires.below c.requires.new) c.mark_open.ensures.tags
       (ap is_marked c.mark_open.ensures.tag ∙ open_tag-marked c.args.kind c.args.start));
+  packed = uncached_packed _ _ _ _ c.args.walk.now.packed c.mark_open.ensures.tags
+      (open_uncached _ (ap is_marked c.mark_open.ensures.tag ∙ open_tag-marked c.args.kind c.args.start));
 }
 
 pub returns-in-Ok-clause-counted : goal.returns-in-Ok-clause-counted

@@ -1,4 +1,4 @@
-use Rattle.std.proofs.Common.{◌≡◌, arith, ◌∙◌, sym, ap, refl, rules, length, replicate}
+use Rattle.std.proofs.Common.{◌≡◌, arith, ◌∙◌, sym, subst, ap, refl, rules, length, replicate}
 use Rattle.std.proofs.Math.ListN.{length-replicate}
 use Rattle.plist_decode.proofs.FaultOffsets.{passed}
 use Rattle.plist_decode.specs.declared.head.Bounds.{Bounds}
@@ -7,7 +7,9 @@ use Rattle.plist_decode.specs.Slot.{result_in}
 use Rattle.plist_decode.proofs.UnknownBytes.{IfSome-all}
 use Rattle.plist_binread.proofs.OpenObjects.{IsOpen-none, cached_count-none, cached_count-empty}
 use Rattle.plist_binread.proofs.FirstItem.{known_unread, known_wanted, known_opens, known_begun, known_cached, known_counted, known_hidden, known_uncounted}
+use Rattle.plist_binread.proofs.Tags.{zeros_packed}
 use Rattle.plist_binread.proofs.VisitorLimits.{passed_on}
+use Rattle.plist_binread.specs.Remaining.{ArePacked}
 use Rattle.plist_binread.proofs.steps.begin.Goals as goal
 use Rattle.plist_binread.proofs.steps.begin.Goals.{In_ok-none}
 
@@ -73,6 +75,8 @@ invariant_of-walk g c =
     record {
       same = sym (count g there);
       path = IsOpen-none _ _ _ (none g there) c.requires.empty.1;
+      packed = subst (λ tags. ArePacked tags c.in_ok-head.head.places.items) (sym (none g there))
+          (zeros_packed c.len.result _);
     }
 
 pub enter-requires-clause-known : goal.enter-requires-clause-known

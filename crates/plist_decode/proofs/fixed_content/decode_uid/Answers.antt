@@ -5,8 +5,6 @@ use Rattle.plist_decode.proofs.fixed_content.decode_uid.Goals as goal
 
 pub returns-in-Some : goal.returns-in-Some
 returns-in-Some c = rw (← c.get.ensures.value) (λ width first more whole. (
-  Uid c.in-Some.number,
   c.in-Some.ensures.value _ (λ n. Scalar (Uid n)),
   refl,
-  tt,
 ))

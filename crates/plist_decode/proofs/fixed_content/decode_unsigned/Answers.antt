@@ -5,8 +5,6 @@ use Rattle.plist_decode.proofs.fixed_content.decode_unsigned.Goals as goal
 
 pub returns-in-Some : goal.returns-in-Some
 returns-in-Some c = λ width first more whole. (
-  Integer (pos c.in-Some.number),
   c.in-Some.ensures.value _ (λ n. Scalar (Integer (pos n))),
   refl,
-  tt,
 )

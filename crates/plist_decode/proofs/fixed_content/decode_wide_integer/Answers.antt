@@ -22,4 +22,4 @@ returns c = λ width first more whole.
       c.if-high-ne0.false,
     )
     (wide_low c.number_from-low.result (omega arith)) in
-    (Integer (pos c.number_from-low.result), is, refl, tt)
+    (is, refl)

@@ -1,22 +1,18 @@
-use Rattle.std.proofs.Common.{◌^◌, refl, ap, Some, arith}
+use Rattle.std.proofs.Common.{◌^◌, refl, ap, sym, arith}
 use Rattle.std.proofs.lemmas.Bool.{lt-ltb}
 use Rattle.plist_base.specs.Trees.{Integer}
-use Rattle.plist_format.specs.Object.{signed}
+use Rattle.plist_format.specs.Object.{Scalar}
 use Rattle.plist_decode.proofs.Contents.{negative_bits}
 use Rattle.plist_decode.proofs.fixed_content.signed_number.Goals as goal
 
 pub returns-then-bits : goal.returns-then-bits
 returns-then-bits c = λ width all. (
-  Integer (signed 64 c.args.bits),
-  refl,
   (let t = lt-ltb c.args.bits (2 ^ 63) c.if-bits.true in rw t refl),
-  tt,
+  refl,
 )
 
 pub returns-else-bits : goal.returns-else-bits
 returns-else-bits c = λ width all. (
-  Integer (signed 64 c.args.bits),
+  ap (λ z. Scalar (Integer z)) (sym (negative_bits c.args.bits c.if-bits.false (omega arith))),
   refl,
-  ap (λ z. Some (Integer z)) (negative_bits c.args.bits c.if-bits.false (omega arith)),
-  tt,
 )

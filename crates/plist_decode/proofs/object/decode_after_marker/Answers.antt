@@ -7,10 +7,8 @@ use Rattle.plist_decode.proofs.object.decode_after_marker.Goals as goal
 pub returns-in-Boolean : goal.returns-in-Boolean
 returns-in-Boolean c = rw (c.in-Boolean.ensures.layout _)
     (λ first more whole. (
-      Boolean c.in-Boolean.value,
       rw (le-leb 0 (length (c.args.rest.now ++ more)) (omega arith)) refl,
       refl,
-      tt,
     ))
 
 pub returns-in-Integer1 : goal.returns-in-Integer1

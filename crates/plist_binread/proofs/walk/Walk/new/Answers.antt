@@ -1,4 +1,4 @@
-use Rattle.std.proofs.Common.{ap, length, sym, ◌∙◌}
+use Rattle.std.proofs.Common.{ap, arith, length, sym, ◌∙◌}
 use Rattle.plist_binread.proofs.OpenObjects.{IsOpen-empty}
 use Rattle.plist_binread.proofs.walk.Walk.new.Goals as goal
 
@@ -6,4 +6,5 @@ pub invariant_of-result : goal.invariant_of-result
 invariant_of-result c = record {
   same = ap length c.new-2.ensures.items ∙ sym (ap length c.new.ensures.items);
   path = IsOpen-empty _ _ (ap length c.new.ensures.items) (ap length c.new-3.ensures);
+  packed = λ number below. absurd (omega (arith, below, ap length c.new.ensures.items));
 }

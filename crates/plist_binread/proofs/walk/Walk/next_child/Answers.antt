@@ -5,7 +5,7 @@ use Rattle.plist_binread.specs.NextChild.{closes}
 use Rattle.plist_binread.proofs.InnermostChild.{next_path, child_remaining, closed_remaining, child_weight, closed_weight}
 use Rattle.plist_decode.specs.Packed.{unmarked}
 use Rattle.plist_binread.proofs.OpenObjects.{IsOpen-pop, first_below, first_open, cached_count-kept}
-use Rattle.plist_binread.proofs.Tags.{open_uncached}
+use Rattle.plist_binread.proofs.Tags.{open_uncached, uncached_packed}
 use Rattle.plist_binread.proofs.walk.Walk.next_child.Goals as goal
 
 pub returns-in-Nothing-clause-closes : goal.returns-in-Nothing-clause-closes
@@ -29,6 +29,8 @@ invariant_of-self-in-End c =
       same = c.args.self.now.same ∙ sym c.unmark_open.ensures.tags.size;
       path = IsOpen-pop c.args.self.now.tags.items _ _ _ (rw is.2 at c.args.self.now.path)
           c.unmark_open.ensures.tags c.unmark_open.ensures.tag;
+      packed = uncached_packed _ _ _ _ c.args.self.now.packed c.unmark_open.ensures.tags
+          (ap unmarked c.unmark_open.ensures.tag);
     }
 
 pub returns-in-End-clause-counted : goal.returns-in-End-clause-counted
@@ -55,6 +57,7 @@ invariant_of-self-in-Child-1 c =
       same = c.args.self.now.same;
       path = rw is.2 (next_path c.args.self.now.tags.items c.in-Child.frame _
           (rw is.1 at c.args.self.now.path));
+      packed = c.args.self.now.packed;
     }
 
 pub returns-in-Child-clause-within : goal.returns-in-Child-clause-within
