@@ -1,8 +1,9 @@
 -- How many digits a number has, and where they are written.
-use Rattle.std.proofs.Common.{◌≡◌, ℕ, zero, suc, ◌+◌, ◌/◌, ◌^◌, ◌≤◌, ◌<◌, length, ◌++◌, List, take, drop, ap, ◌∙◌, arith, length-append}
+use Rattle.std.proofs.Common.{◌≡◌, ℕ, zero, suc, ◌+◌, ◌/◌, ◌^◌, ◌≤◌, ◌<◌, length, ◌++◌, List, take, drop, sym, ap, ◌∙◌, arith, length-append}
 use Rattle.std.specs.Fmt.{decimal}
 use Rattle.std.proofs.lemmas.Fmt.{decimal_digit, decimal_step, length-decimal-le}
-use Rattle.std.proofs.Math.Seq.{take-add, take-append_seam}
+use Rattle.std.proofs.lemmas.List.{take-take}
+use Rattle.std.proofs.Math.Seq.{take-add, take-append_seam, take-append-add}
 
 has_digits : (k n : ℕ) → n < 2 ^ 64 → 10 ^ k ≤ n → n < 10 ^ suc k → length (decimal n) ≡ suc k
 has_digits zero n fits least below = ap length (decimal_digit n (omega arith))
@@ -36,3 +37,13 @@ written_after old new digits rest start used end ends is before written =
     rw (is, ← here)
     (take-add start (length digits) new ∙ (λ i. before i ++ take (length digits) (written i))
     ∙ ap (λ l. take start old ++ l) (take-append_seam digits rest))
+
+-- the first bytes of those that were appended to the first bytes of a list
+pub first_after : (front bytes new : List ℕ) (used count end : ℕ) → length front ≡ used
+    → end ≡ used + length bytes → take end new ≡ front ++ bytes → count ≤ length bytes
+    → take (used + count) new ≡ front ++ take count bytes
+first_after front bytes new used count end long ends is few =
+    sym (take-take (used + count) end new (omega (arith, ends, few)))
+    ∙ ap (take (used + count)) is
+    ∙ ap (λ k. take (k + count) (front ++ bytes)) (sym long)
+    ∙ take-append-add front bytes count

@@ -67,7 +67,7 @@ fn digits_of(number: u64) -> usize
 }
 
 impl FixedBuffer {
-    ghost use Rattle.std.specs.Prelude.{◌≡◌, ◌≤◌, ◌+◌, ◌++◌, [], ◌^◌, length, IfOk};
+    ghost use Rattle.std.specs.Prelude.{◌≡◌, ◌≤◌, ◌+◌, ◌++◌, [], ◌^◌, length, take, IfOk};
     ghost use Rattle.plist_base.specs.Outcomes.{OnlyMemory};
     ghost use Rattle.plist_base.specs.Sinks.{buffered, room};
 
@@ -116,6 +116,20 @@ impl FixedBuffer {
     {
         let end = self.used + bytes.len();
         self.bytes[self.used..end].copy_from_slice(bytes);
+        self.used = end;
+    }
+
+    /// Appends the first `count` of eight bytes. There must be room for all eight: copying a fixed
+    /// number of bytes takes a single instruction.
+    #[inline(always)]
+    pub fn push_first(&mut self, bytes: [u8; 8], count: usize)
+        requires count { count ≤ 8 }
+        requires room { 8 ≤ room self.old }
+        ensures pushed { buffered self.new ≡ buffered self.old ++ take count bytes }
+        ensures room { room self.new + count ≡ room self.old }
+    {
+        let end = self.used + count;
+        self.push(&bytes);
         self.used = end;
     }
 

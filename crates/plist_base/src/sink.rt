@@ -98,6 +98,19 @@ impl<'s, W: Write> Sink<'s, W> {
         Ok(())
     }
 
+    /// Makes room for `size` more bytes, by writing the pending bytes if there isn't enough.
+    #[inline(always)]
+    pub fn make_room(&mut self, size: usize) -> Result<(), Error>
+        requires { size ≤ sink_capacity }
+        ensures put { Puts W.contents self.old [] result self.new }
+        ensures room { OnOk result (size ≤ room self.new.buffer.now) }
+    {
+        if size <= self.room() {
+            return Ok(());
+        }
+        self.write_pending()
+    }
+
     // Writes the pending bytes, and then these.
     #[cold]
     #[inline(never)]

@@ -1,9 +1,10 @@
 -- Big-endian numbers, and the least width of a number.
-use Rattle.std.proofs.Common.{◌≡◌, inl, inr, ℕ, zero, suc, ◌+◌, ◌-◌, ◌*◌, ◌/◌, ◌%◌, ◌^◌, ◌<◌, ◌≤◌, List, length, drop, take, refl, ap, ◌∙◌, arith}
+use Rattle.std.proofs.Common.{◌≡◌, inl, inr, ℕ, zero, suc, ◌+◌, ◌-◌, ◌*◌, ◌/◌, ◌%◌, ◌^◌, ◌<◌, ◌≤◌, List, length, drop, take, refl, ap, sym, subst, ◌∙◌, arith}
 use Rattle.std.specs.Int.{byte_at}
 use Rattle.std.specs.Int.Digits.{number_from_digits_after}
-use Rattle.std.proofs.Math.Nat.{pow-succ'}
+use Rattle.std.proofs.Math.Nat.{pow-succ', dvd-mul_right, mod-mod_of_dvd, mul-div-mul_right}
 use Rattle.std.proofs.lemmas.Bool.{lt-ltb, le-ltb, cases_lt}
+use Rattle.std.proofs.lemmas.Nat.{div-mul-add, mod_below, pow-add}
 use Rattle.std.proofs.Math.Seq.{take-length}
 use lib.Arith.{mod-mul}
 use native.Mathlib.Nat.{mod-eq_of_lt}
@@ -102,3 +103,47 @@ tail_of_digits digits w n is h =
     (is ∙ ap (λ k. big_endian k n) e) ∙ drop-big_endian (8 - w) w n in
     let back : 8 - (8 - w) ≡ length (big_endian w n) = omega (arith, length-big_endian w n) in
     rw (tail, back) (take-length (big_endian w n))
+
+-- ---- numbers in the highest bytes of another one
+
+eight_bits : (d : ℕ) → 2 ^ (8 * d) ≡ 256 ^ d
+eight_bits zero = refl
+eight_bits (suc d) =
+    let more : 8 * suc d ≡ 8 + 8 * d = omega arith in
+    rw (more, pow-add 2 8 (8 * d), eight_bits d, pow-succ' 256 d) refl
+
+-- byte w of n is byte w + d of n times 256^d, whose first eight bytes are kept
+shifted_byte : (w d n : ℕ) → w + d < 8 → byte_at (w + d) (n * 256 ^ d % 256 ^ 8) ≡ byte_at w n
+shifted_byte w d n h =
+    let k = w + d in
+    let r = 7 - k in
+    let c = pow_positive k in
+    let split : 256 ^ 8 ≡ 256 ^ suc r * 256 ^ k =
+    ap (λ e. 256 ^ e) (let e : 8 ≡ suc r + k = omega (arith, h) in e) ∙ pow-add 256 (suc r) k in
+    let high : n * 256 ^ d / 256 ^ k ≡ n / 256 ^ w =
+    rw (pow-add 256 w d) (mul-div-mul_right n (256 ^ w) (pow_positive d)) in
+    byte_is k _
+    ∙ ap (λ m. m / 256 ^ k % 256) (ap (λ m. n * 256 ^ d % m) split ∙ mod-mul _ (pow_positive (suc r)) c)
+    ∙ ap (λ m. m % 256) (div-mul-add _ (256 ^ k) _ (mod_below _ _ c) ∙ ap (λ m. m % 256 ^ suc r) high)
+    ∙ mod-mod_of_dvd 256 (n / 256 ^ w) (rw (pow-succ' 256 r) (dvd-mul_right 256 (256 ^ r)))
+    ∙ sym (byte_is w n)
+
+shifted_front : (w d n : ℕ) → w + d ≤ 8
+    → take w (big_endian (w + d) (n * 256 ^ d % 256 ^ 8)) ≡ big_endian w n
+shifted_front zero d n h = refl
+shifted_front (suc w) d n h =
+    let e : suc w + d ≡ suc (w + d) = omega arith in
+    rw e (cc (shifted_byte w d n (omega (arith, h)), shifted_front w d n (omega (arith, h))))
+
+-- the first bytes of a number that was shifted up are its lowest bytes before that
+pub front_of_shifted : (w n : ℕ) → w ≤ 8
+    → take w (big_endian 8 (n * 2 ^ ((64 - 8 * w) % 64) % 2 ^ 64)) ≡ big_endian w n
+front_of_shifted zero n h = refl
+front_of_shifted (suc w) n h =
+    let d = 7 - w in
+    let bits : (64 - 8 * suc w) % 64 ≡ 8 * d = omega (arith, h) in
+    let up : 2 ^ (8 * d) ≡ 256 ^ d = eight_bits d in
+    let all : suc w + d ≡ 8 = omega (arith, h) in
+    ap (λ m. take (suc w) (big_endian 8 (n * m % 2 ^ 64))) (ap (λ b. 2 ^ b) bits ∙ up)
+    ∙ subst (λ k. take (suc w) (big_endian k (n * 256 ^ d % 256 ^ 8)) ≡ big_endian (suc w) n) all
+    (shifted_front (suc w) d n (omega (arith, h)))

@@ -1,10 +1,9 @@
 -- The bytes of each form of a number or a length.
-use Rattle.std.proofs.Common.{◌≡◌, ℕ, zero, suc, ◌+◌, ◌-◌, ◌*◌, ◌^◌, ◌<◌, ◌≤◌, List, [], ◌∷◌, ◌++◌, take, drop, refl, arith}
+use Rattle.std.proofs.Common.{◌≡◌, ℕ, zero, suc, ◌+◌, ◌*◌, ◌^◌, ◌<◌, ◌≤◌, [], ◌∷◌, ◌++◌, refl, arith}
 use Rattle.std.specs.Int.{byte_at}
 use Rattle.std.proofs.lemmas.Bool.{lt-ltb, le-ltb}
 use native.Mathlib.Nat.{div-eq_of_lt}
 use Rattle.plist_binwrite.specs.Forms.{big_endian, doublings, least_width, unsigned_form, length_form}
-use Rattle.plist_binwrite.proofs.LeastWidths.{tail_of_digits}
 
 pub length_short : (high count : ℕ) → count < 15 → length_form high count ≡ (high * 16 + count) ∷ []
 unfolding length_form
@@ -16,14 +15,12 @@ unfolding length_form
 length_long high count h = rw (le-ltb _ 15 h) refl
 
 -- these are the bytes of a length that follows its marker
-pub length_told : (high count width marker : ℕ) (digits : List ℕ) → 15 ≤ count
-    → width ≡ least_width count → width ≤ 8 → marker ≡ 0x10 + doublings width
-    → digits ≡ big_endian 8 count
-    → (high * 16 + 15) ∷ marker ∷ take (8 - (8 - width)) (drop (8 - width) digits)
-    ≡ length_form high count
-length_told high count width marker digits long least h number is =
+pub length_told : (high count width marker : ℕ) → 15 ≤ count → width ≡ least_width count
+    → marker ≡ 0x10 + doublings width
+    → (high * 16 + 15) ∷ marker ∷ big_endian width count ≡ length_form high count
+length_told high count width marker long least number =
     let given : marker ∷ big_endian width count ≡ unsigned_form count = cc in
-    cc (tail_of_digits digits width count is h, length_long high count long)
+    cc (length_long high count long)
 
 high_zero : (k n : ℕ) → n < 256 ^ k → byte_at k n ≡ 0
 high_zero zero n h = omega arith

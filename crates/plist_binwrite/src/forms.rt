@@ -4,14 +4,16 @@
 //! [`Sink::put`]: `Io`, without an offset. The writer has then received a prefix of all the bytes
 //! that were put.
 
-ghost use Rattle.std.specs.Prelude.{◌≡◌, [], ◌≤◌, Ok, OnOk, true, false};
+ghost use Rattle.std.specs.Prelude.{◌≡◌, ◌≤◌, Ok, true, false};
 ghost use Rattle.plist_binwrite.specs.Forms.{big_endian, integer_form, uid_form, length_form, boolean_form, data_form, date_form, real_form, scalar_form, table_form};
 ghost use Rattle.plist_buffer.specs.StoredScalars.{scalar_of_ref};
 ghost use Rattle.plist_format.specs.Marker.{high_half};
-ghost use Rattle.plist_base.specs.Sinks.{Puts, PutsBytes, PutsNothing, room};
+ghost use Rattle.plist_base.specs.Sinks.{Puts, PutsBytes, PutsNothing};
 ghost use Rattle.plist_binwrite.specs.Written.{table_and_trailer, trailer_of};
 
-use crate::push::{push_boolean, push_date, push_integer, push_length, push_real, push_uid};
+use crate::push::{
+    push_boolean, push_date, push_integer, push_length, push_number, push_real, push_uid,
+};
 pub use crate::text::put_text;
 use crate::widths::{offset_width, reference_width};
 use plist_base::{Date, Error, Integer, RealBits, Sink, Uid};
@@ -20,17 +22,8 @@ use plist_buffer::stored_scalar::ScalarRef;
 pub use plist_format::CountedKind;
 use std::io::Write;
 
-// Makes room for an object of at most 17 bytes, by writing the pending bytes if there isn't enough.
-#[inline(always)]
-fn make_room<W: Write>(sink: &mut Sink<'_, W>) -> Result<(), Error>
-    ensures put { Puts W.contents sink.old [] result sink.new }
-    ensures room { OnOk result (17 ≤ room sink.new.buffer.now) }
-{
-    if sink.room() < 17 {
-        sink.write_pending()?;
-    }
-    Ok(())
-}
+// The greatest number of bytes in the object of a scalar other than a string or data.
+const MAX_FIXED_OBJECT: usize = 17;
 
 /// Puts the lowest `width` bytes of a number in big-endian order. `width` is at most 8.
 pub fn put_number<W: Write>(sink: &mut Sink<'_, W>, width: usize, number: u64) -> Result<(), Error>
@@ -41,9 +34,9 @@ pub fn put_number<W: Write>(sink: &mut Sink<'_, W>, width: usize, number: u64) -
     sink.put(&digits[8 - width..])
 }
 
-/// Puts the lowest `width` bytes of a number in big-endian order, if they fit into the buffer of
-/// the sink, and returns whether they do. `width` is at most 8. A loop calls this before
-/// [`put_number`], because the bytes mostly fit, and then no large `Result` is zeroed.
+/// Puts the lowest `width` bytes of a number in big-endian order, if there is room for eight bytes
+/// in the buffer of the sink, and returns whether there is. `width` is at most 8. A loop calls this
+/// before [`put_number`], because there mostly is room, and then no large `Result` is zeroed.
 #[inline(always)]
 pub fn try_put_number<W: Write>(sink: &mut Sink<'_, W>, width: usize, number: u64) -> bool
     requires width { width ≤ 8 }
@@ -51,8 +44,11 @@ pub fn try_put_number<W: Write>(sink: &mut Sink<'_, W>, width: usize, number: u6
         sink.new }
     ensures unchanged { result ≡ false → PutsNothing sink.old sink.new }
 {
-    let digits = number.to_be_bytes();
-    sink.try_put(&digits[8 - width..])
+    if sink.room() < 8 {
+        return false;
+    }
+    push_number(sink.buffer, width, number);
+    true
 }
 
 /// Puts a marker of this kind with a length. A length below 15 is in the low half of the marker,
@@ -65,7 +61,7 @@ pub fn put_length<W: Write>(
 ) -> Result<(), Error>
     ensures { Puts W.contents sink.old (length_form (high_half kind) count) result sink.new }
 {
-    make_room(sink)?;
+    sink.make_room(MAX_FIXED_OBJECT)?;
     push_length(sink.buffer, kind, count);
     Ok(())
 }
@@ -74,7 +70,7 @@ pub fn put_length<W: Write>(
 pub fn put_scalar<W: Write>(sink: &mut Sink<'_, W>, scalar: ScalarRef<'_>) -> Result<(), Error>
     ensures { Puts W.contents sink.old (scalar_form (scalar_of_ref scalar.entry)) result sink.new }
 {
-    make_room(sink)?;
+    sink.make_room(MAX_FIXED_OBJECT)?;
     match scalar {
         ScalarRef::String(text) => return put_text(sink, text),
         ScalarRef::Data(bytes) => return put_data(sink, bytes),

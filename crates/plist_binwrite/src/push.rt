@@ -4,7 +4,7 @@
 
 ghost use Rattle.std.specs.Prelude.{◌≡◌, ◌+◌, ◌++◌, ◌∷◌, ◌≤◌, length, true, false};
 ghost use Rattle.plist_base.specs.Sinks.{buffered, room};
-ghost use Rattle.plist_binwrite.specs.Forms.{doublings, unsigned_form, integer_form, uid_form, length_form, boolean_form, data_form, date_form, real_form, scalar_form, text_form, marker_and_number};
+ghost use Rattle.plist_binwrite.specs.Forms.{big_endian, doublings, unsigned_form, integer_form, uid_form, length_form, boolean_form, data_form, date_form, real_form, scalar_form, text_form, marker_and_number};
 ghost use Rattle.plist_buffer.specs.StoredScalars.{scalar_of_ref};
 ghost use Rattle.plist_format.specs.Marker.{byte_of, high_half};
 
@@ -27,19 +27,17 @@ fn number_marker(width: usize) -> Marker
     }
 }
 
-/// Pushes bytes. Copying a few bytes from a local array avoids a call that copies memory.
+/// Pushes the lowest `width` bytes of a number in big-endian order.
 #[inline(always)]
-pub fn push_few(buffer: &mut FixedBuffer, bytes: &[u8])
-    requires { length bytes.now ≤ room buffer.old }
-    ensures pushed { buffered buffer.new ≡ buffered buffer.old ++ bytes.now }
-    ensures room { room buffer.new + length bytes.now ≡ room buffer.old }
+pub fn push_number(buffer: &mut FixedBuffer, width: usize, number: u64)
+    requires width { width ≤ 8 }
+    requires room { 8 ≤ room buffer.old }
+    ensures pushed { buffered buffer.new ≡ buffered buffer.old ++ big_endian width number }
+    ensures room { room buffer.new + width ≡ room buffer.old }
 {
-    match bytes {
-        [a] => buffer.push(&[*a]),
-        [a, b] => buffer.push(&[*a, *b]),
-        [a, b, c, d] => buffer.push(&[*a, *b, *c, *d]),
-        _ => buffer.push(bytes),
-    }
+    // A shift by 64 bits, for which no byte is pushed, leaves the number as it is.
+    let shifted = number.wrapping_shl(64 - 8 * width as u32);
+    buffer.push_first(shifted.to_be_bytes(), width);
 }
 
 // Pushes a marker and the bytes that follow it.
@@ -50,7 +48,7 @@ fn push_marked(buffer: &mut FixedBuffer, marker: Marker, bytes: &[u8])
     ensures room { room buffer.new + (1 + length bytes.now) ≡ room buffer.old }
 {
     buffer.push(&[marker.encode()]);
-    push_few(buffer, bytes);
+    buffer.push(bytes);
 }
 
 // Pushes a marker and the lowest `width` bytes of a number.
@@ -62,8 +60,8 @@ fn push_marked_number(buffer: &mut FixedBuffer, marker: Marker, width: usize, nu
         ++ marker_and_number (byte_of marker) width number }
     ensures room { room buffer.old ≤ room buffer.new + 9 }
 {
-    let digits = number.to_be_bytes();
-    push_marked(buffer, marker, &digits[8 - width..]);
+    buffer.push(&[marker.encode()]);
+    push_number(buffer, width, number);
 }
 
 // Pushes an unsigned integer.
@@ -90,9 +88,8 @@ pub fn push_length(buffer: &mut FixedBuffer, kind: CountedKind, count: u64)
     }
     let marker = Marker::Counted(kind, LowHalf::follows());
     let width = least_width(count);
-    let digits = count.to_be_bytes();
     buffer.push(&[marker.encode(), number_marker(width).encode()]);
-    push_few(buffer, &digits[8 - width..]);
+    push_number(buffer, width, count);
 }
 
 /// Pushes a Boolean.

@@ -1,5 +1,6 @@
-use Rattle.std.proofs.Common.{◌∙◌, ◌++◌, ◌-◌, ap, append_assoc, drop, take}
+use Rattle.std.proofs.Common.{◌∙◌, ◌++◌, ap, append_assoc}
 use Rattle.plist_base.specs.Sinks.{buffered}
+use Rattle.plist_binwrite.specs.Forms.{big_endian}
 use Rattle.plist_binwrite.proofs.NumberForms.{length_short, length_told}
 use Rattle.plist_binwrite.proofs.push.push_length.Goals as goal
 
@@ -11,11 +12,9 @@ returns-in-Some-clause-pushed c =
 pub returns-clause-pushed : goal.returns-clause-pushed
 returns-clause-pushed c =
     let w = c.least_width-width.result in
-    let digits = take (8 - (8 - w)) (drop (8 - w) c.to_be_bytes-digits.result) in
-    rw (length_told _ c.args.count w c.encode-3.result c.to_be_bytes-digits.result
-    c.in_default.ensures.long c.least_width-width.ensures.value c.least_width-width.ensures.range.1
-    (c.encode-3.ensures ∙ c.number_marker.ensures) c.to_be_bytes-digits.ensures)
-    at (c.push_few.ensures.pushed
-    ∙ ap (λ l. l ++ digits)
+    rw (length_told _ c.args.count w c.encode-3.result c.in_default.ensures.long
+    c.least_width-width.ensures.value (c.encode-3.ensures ∙ c.number_marker.ensures))
+    at (c.push_number.ensures.pushed
+    ∙ ap (λ l. l ++ big_endian w c.args.count)
     (rw (c.encode-2.ensures, c.follows.ensures) at c.push-2.ensures.pushed)
     ∙ append_assoc (buffered c.args.buffer.now) _ _)
