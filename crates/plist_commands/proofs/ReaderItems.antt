@@ -9,19 +9,18 @@ use Rattle.plist_base.specs.Faults.{Fault, OutOfMemory, error_kind_of, kind_of}
 use Rattle.plist_base.specs.Sources.{ItemCountsIo}
 use Rattle.plist_base.specs.Visits.{YieldsPlain, PlainItem, plain_item}
 use Rattle.plist_base.proofs.Refusals.{MatchFault-at}
-use Rattle.plist_reader.specs.Reader.{HoldsSource, reader_items, reader_source}
+use Rattle.plist_reader.specs.Reader.{Gives, HoldsSource, reader_items, reader_source}
 use Rattle.plist_reader.specs.declared.reader.Reader.{Reader}
 use Rattle.plist.specs.Events.{GivesEvent, remaining_events}
 use Rattle.plist.specs.declared.stream.events.Events.{Events}
 use Rattle.plist_base.specs.FirstItems.{GivesFirst, GivesFirstIfKnown}
 use Rattle.plist_base.proofs.FirstItems.{plain_first}
 use Rattle.plist_commands.specs.BufferRuns.{failures_if_held, failures_in}
-use Rattle.plist_commands.specs.BufferRuns.{StepsReader}
 
 -- ---- a reader of either format
 
 pub reader_comes : {S : Type 0} {g : Ghosts S} (known : S → Option (List ℕ)) (failed : S → ℕ)
-    (old : Reader S g) (item : PlainItem) (new : Reader S g) → StepsReader known failed old item new
+    (old : Reader S g) (item : PlainItem) (new : Reader S g) → YieldsPlain (Gives known failed) old item new
     → GivesFirstIfKnown (λ event. event) (reader_items known old) item (reader_items known new)
 reader_comes known failed old item new (given, yields, is) =
     rw is (plain_first (reader_items known old) (reader_items known new) given yields.items)
@@ -42,7 +41,7 @@ source_counts failures (Some source) (Some kept) (Some (Err error)) some h = (h,
 
 pub reader_counts : {S : Type 0} {g : Ghosts S} (known : S → Option (List ℕ)) (failed : S → ℕ)
     (old : Reader S g) (item : PlainItem) (new : Reader S g) → IsOpen old
-    → StepsReader known failed old item new
+    → YieldsPlain (Gives known failed) old item new
     → ItemCountsIo item (failures_in failed old) (failures_in failed new) × IsOpen new
 reader_counts known failed old item new some (given, yields, is) =
     rw is (source_counts failed (reader_source old) (reader_source new) given some yields.failures)

@@ -24,18 +24,15 @@ IsResolvedAt root key answer =
 abbrev pub IsTreeAt : (root : Value) → (key : List ℕ) → Tree → Type 0
 IsTreeAt root key tree = IsResolvedAt root key (Ok tree)
 
--- the property list is an archive in which the key names no object
-abbrev pub IsUnnamed : (root : Value) → (key : List ℕ) → Type 0
-IsUnnamed root key =
-    (objects : List Value) × (names : List (List ℕ × Value)) × IsArchiveOf root objects names
-    × ((uid : ℕ) → ¬ (IsUidAt key names uid))
-
--- the failure says why there is no tree; `OutOfMemory` is always possible
+-- the failure says why there is no tree, and `NoSuchTop` that the key names no object of the archive;
+-- `OutOfMemory` is always possible
 abbrev pub IsRefusedAt : (root : Value) → (key : List ℕ) → PlainFailure → Type 0
 IsRefusedAt root key (OfPlist fault) = ⊥
 IsRefusedAt root key (OfArchive error) =
     MatchError error (¬ (IsArchive root)) ⊤ (λ fault. IsResolvedAt root key (Err fault))
-IsRefusedAt root key NoSuchTop = IsUnnamed root key
+IsRefusedAt root key NoSuchTop =
+    (objects : List Value) × (names : List (List ℕ × Value)) × IsArchiveOf root objects names
+    × ((uid : ℕ) → ¬ (IsUidAt key names uid))
 
 -- the lines of the tree at the key were written
 abbrev pub PrintsTreeAt : {W : Type 0} → (contents : W → Option (List ℕ)) → (root : Value)
@@ -52,6 +49,4 @@ IsUnprintedAt contents root key (OfPlist fault) old new =
     (fault.offset ≡ None) × IsIoOrMemory fault.kind
     × ((tree : Tree) × IsTreeAt root key tree
     × AppendsPrefix (contents old) (contents new) (lines_of_events (bracketing tree)))
-IsUnprintedAt contents root key (OfArchive error) old new =
-    IsRefusedAt root key (OfArchive error) × (new ≡ old)
-IsUnprintedAt contents root key NoSuchTop old new = IsRefusedAt root key NoSuchTop × (new ≡ old)
+IsUnprintedAt contents root key failure old new = IsRefusedAt root key failure × (new ≡ old)

@@ -40,11 +40,6 @@ failures_if_held failures (Some source) = failures source
 abbrev pub failures_in : {S : Type 0} {g : Ghosts S} → (failures : S → ℕ) → Reader S g → ℕ
 failures_in failures reader = failures_if_held failures (reader_source reader)
 
--- one step of a reader of either format
-abbrev pub StepsReader : {S : Type 0} {g : Ghosts S} (known : S → Option (List ℕ)) (failed : S → ℕ)
-    → Reader S g → PlainItem → Reader S g → Type 0
-StepsReader known failed = YieldsPlain (Gives known failed)
-
 -- the events of a new reader of this binary source were buffered, and its failed reads were counted
 abbrev pub HoldsBinary : {S : Type 0} (known : S → Option (List ℕ)) (failed : S → ℕ) (source : S)
     → Result Bool Error → (held : List PlainEvent) → Type 0
@@ -62,7 +57,7 @@ HoldsOther {S} known failed source answer held =
     (reader : Reader S (record { known = known; failures = failed }))
     × (left : Reader S (record { known = known; failures = failed }))
     × IsNewReader reader source
-    × BuffersRun (StepsReader known failed) reader answer left held
+    × BuffersRun (YieldsPlain (Gives known failed)) reader answer left held
     × CountsReads answer (failures_in failed reader) (failures_in failed left)
 
 -- A read failed while the format was determined; or no read failed, and a reader of the source was

@@ -33,13 +33,6 @@ collected collector = buffered_events collector.pending
 abbrev pub is_complete : Collector → Bool
 is_complete collector = is_whole collector.pending
 
--- the collector ends the visit, for this reason
-pub record EndsAtEvent (old : Collector) (stop : StopReason) (flow : Flow) (new : Collector) : Type 0
-  where
-    pub stops : flow ≡ Break tt
-    pub keeps : new.stop ≡ stop
-    pub pending : new.pending ≡ old.pending
-
 -- the collector wants more events, or pauses
 abbrev pub MayPause : (old : Collector) → Flow → (new : Collector) → Type 0
 MayPause old (Continue more) new = new ≡ old

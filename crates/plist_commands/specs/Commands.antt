@@ -66,10 +66,3 @@ RunEnds ends reports words status before after =
     status ≢ 2 → (asked : PlainCommand) × (answer : CommandOutcome)
     × (map string_bytes words ≡ words_for asked) × ends asked before.0 answer after.0
     × IsStatusAfter reports answer status before.1 after.1
-
--- the command may have this result, after which these are the known bytes of the output
-abbrev pub Performs : {O A : Type 0} → (answers : PlainCommand → Option (List ℕ) → CommandOutcome
-    → Option (List ℕ) → Type 0) → (contents : O → Option (List ℕ)) → Command → O → Result A Failure
-    → O → Type 0
-Performs answers contents command old answer new =
-    MayEnd answers contents (plain_command_of command) old (outcome_of answer) new

@@ -31,20 +31,11 @@ IsReadAs known answer = IsReadIfKnown (items_of_known known) answer
 abbrev pub LeavesToValue : {W : Type 0} → (known : Option (List ℕ)) → (old new : W) → Type 0
 LeavesToValue known old new = (new ≡ old) × IfSome known (λ bytes. BytesHaveKeysOnce bytes → ⊥)
 
-module _ {W : Type 0} (contents : W → Option (List ℕ)) (known : Option (List ℕ)) where
-  -- the bytes are read as some tree, and writing a file of it had this result
-  abbrev pub SendsRead : Answer → (old new : W) → Type 0
-  SendsRead answer old new =
-      (tree : Tree) × IsReadAs known (Ok tree) × SendsTree contents tree answer old new
-
-  -- reading failed, and nothing was written; or writing what was read failed
-  abbrev pub IsStopped : Fault → (old new : W) → Type 0
-  IsStopped fault old new =
-      ((new ≡ old) × IsReadAs known (Err fault)) ⊎ SendsRead (Err fault) old new
-
-  -- the bytes are read as some tree, and a whole file of it was written
-  abbrev pub SendsAll : (old new : W) → Type 0
-  SendsAll old new = SendsRead (Ok tt) old new
+-- the bytes are read as some tree, and writing a file of it had this result
+abbrev pub SendsRead : {W : Type 0} → (contents : W → Option (List ℕ)) → (known : Option (List ℕ))
+    → Answer → (old new : W) → Type 0
+SendsRead contents known answer old new =
+    (tree : Tree) × IsReadAs known (Ok tree) × SendsTree contents tree answer old new
 
 -- these bytes are read as some tree, and a file of it was written
 abbrev pub SendsBytes : (bytes old new : List ℕ) → Type 0
@@ -61,9 +52,10 @@ IfOkIs answer wanted P = IfOk answer (λ found. found ≡ wanted → P)
 -- of writing.
 pub record Converts {W : Type 0} (contents : W → Option (List ℕ)) (known : Option (List ℕ))
     (answer : Result FastPath Error) (old new : W) : Type 0 where
-  pub sent : IfOkIs answer Sent (SendsAll contents known old new)
+  pub sent : IfOkIs answer Sent (SendsRead contents known (Ok tt) old new)
   pub left : IfOkIs answer NotApplicable (LeavesToValue known old new)
-  pub refused : IfErr answer (λ error. IsStopped contents known (fault_of error) old new)
+  pub refused : IfErr answer (λ error. ((new ≡ old) × IsReadAs known (Err (fault_of error)))
+      ⊎ SendsRead contents known (Err (fault_of error)) old new)
 
 -- ---- the buffered events of a reader
 

@@ -1,4 +1,3 @@
-pub mod PrintedValues
 pub mod BufferRuns
 pub mod Messages
 pub mod Commands

@@ -59,7 +59,7 @@ pub(crate) struct Collector {
 
 impl Collector {
     ghost use Rattle.std.specs.Prelude.{[]};
-    ghost use Rattle.plist_commands.specs.CollectorSteps.{AnswersVisit, EndsAtEvent, HasPaused, MayPause, collected, is_complete};
+    ghost use Rattle.plist_commands.specs.CollectorSteps.{AnswersVisit, HasPaused, MayPause, collected, is_complete};
 
     /// Creates a collector that has taken no event.
     pub(crate) fn new(alloc: Global) -> Collector
@@ -77,7 +77,9 @@ impl Collector {
     // Stores why no more events are wanted, and ends the visit.
     #[cold]
     fn end(&mut self, stop: StopReason) -> ControlFlow<()>
-        ensures { EndsAtEvent self.old stop result self.new }
+        ensures stops { result ≡ ControlFlow.Break tt }
+        ensures keeps { self.new.stop ≡ stop }
+        ensures pending { self.new.pending ≡ self.old.pending }
     {
         self.stop = stop;
         ControlFlow::Break(())

@@ -1,8 +1,8 @@
 //! The commands that the arguments ask for, and how they are run.
 
 ghost use Rattle.std.specs.Prelude.{◌≡◌, ℕ, ◌↔◌, List, Option, Bool, map, string_bytes, IfSome, IsNone};
-ghost use Rattle.plist_commands.specs.Failures.{CommandOutcome};
-ghost use Rattle.plist_commands.specs.Commands.{PlainCommand, plain_command_of, words_for, IsNoCommand, MayEnd, RunEnds, Performs};
+ghost use Rattle.plist_commands.specs.Failures.{CommandOutcome, outcome_of};
+ghost use Rattle.plist_commands.specs.Commands.{PlainCommand, plain_command_of, words_for, IsNoCommand, MayEnd, RunEnds};
 ghost use Rattle.plist_commands.specs.Messages.{Usage};
 
 use crate::convert::convert_file;
@@ -66,7 +66,8 @@ pub trait Commands {
         command: Command<'_>,
         out: &mut O,
     ) -> Result<(), Failure>
-        ensures { Performs (answers self.now) O.contents command.entry out.old result out.new };
+        ensures { MayEnd (answers self.now) O.contents (plain_command_of command.entry) out.old
+            (outcome_of result) out.new };
 }
 
 /// Nothing is known about the contents of files, so nothing is known about the results.

@@ -19,27 +19,15 @@ pub fn digit_of(value: u8) -> u8
     }
 }
 
-// Returns the hexadecimal digits of a block. The fixed length lets the compiler compute the digits
-// of many bytes at once.
+// Returns the hexadecimal digits of a block of `N` bytes. The fixed length lets the compiler compute
+// the digits of many bytes at once.
 #[inline(always)]
-fn digits_of_block(bytes: &[u8; 64]) -> [u8; 128]
+fn digits_of_block<const N: usize, const DIGITS: usize>(bytes: &[u8; N]) -> [u8; DIGITS]
+    requires { DIGITS ≡ 2 * N }
     ensures { result ≡ hexadecimal bytes.now }
 {
-    let mut digits = [0; 128];
-    for index in 0..64 {
-        digits[2 * index] = digit_of(bytes[index] / 16);
-        digits[2 * index + 1] = digit_of(bytes[index] % 16);
-    }
-    digits
-}
-
-// Returns the hexadecimal digits of eight bytes.
-#[inline(always)]
-fn digits_of_eight(bytes: &[u8; 8]) -> [u8; 16]
-    ensures { result ≡ hexadecimal bytes.now }
-{
-    let mut digits = [0; 16];
-    for index in 0..8 {
+    let mut digits = [0; DIGITS];
+    for index in 0..N {
         digits[2 * index] = digit_of(bytes[index] / 16);
         digits[2 * index + 1] = digit_of(bytes[index] % 16);
     }
@@ -65,7 +53,7 @@ fn push_by_eights(line: &mut FixedBuffer, bytes: &[u8])
 {
     let (blocks, rest) = bytes.as_chunks::<8>();
     for block in blocks {
-        line.push(&digits_of_eight(block));
+        line.push(&digits_of_block::<8, 16>(block));
     }
     push_digits(line, rest);
 }
@@ -78,7 +66,7 @@ pub fn push_hexadecimal(line: &mut FixedBuffer, bytes: &[u8])
 {
     let (blocks, rest) = bytes.as_chunks::<64>();
     for block in blocks {
-        line.push(&digits_of_block(block));
+        line.push(&digits_of_block::<64, 128>(block));
     }
     push_by_eights(line, rest);
 }

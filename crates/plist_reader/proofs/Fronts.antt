@@ -24,14 +24,6 @@ pub within-placed : (start end : ℕ) (offset : Option ℕ) → IsOffsetWithin s
 within-placed start end None h = h
 within-placed start end (Some place) h = tt
 
--- bytes don't begin with a longer list
-pub short-starts : (bytes needle : List ℕ) → length bytes < length needle
-    → starts_with nat_eq bytes needle ≡ false
-short-starts bytes [] h = absurd (omega arith)
-short-starts [] (n ∷ needle) h = refl
-short-starts (b ∷ bytes) (n ∷ needle) h =
-    and_right (nat_eq n b) _ (short-starts bytes needle (omega arith))
-
 module _ (m : ℕ) (bytes : List ℕ) where
   abbrev cut : List ℕ
   cut = take m bytes

@@ -1,21 +1,21 @@
 use Rattle.std.proofs.Common.{ap, false, inl, refl, subst}
 use Rattle.std.specs.Prelude.{is_some}
-use Rattle.plist_reader.specs.Reader.{reader_items}
+use Rattle.plist_reader.specs.Reader.{Gives, reader_items}
 use Rattle.plist_commands.specs.Converting.{CollectsItems}
 use Rattle.plist_commands.specs.BufferRuns.{failures_in}
 use Rattle.plist_commands.specs.CollectorSteps.{collected}
-use Rattle.plist_commands.specs.BufferRuns.{StepsReader}
+use Rattle.plist_base.specs.Visits.{YieldsPlain}
 use Rattle.plist_commands.proofs.CollectorRuns.{Concludes, concludes, held_first}
 use Rattle.plist_commands.proofs.ReaderItems.{IsOpen, reader_comes, reader_counts}
 use Rattle.plist_commands.proofs.convert.collect_other.Goals as goal
 use Rattle.plist_commands.proofs.convert.collect_other.Goals.{After-answer}
 
 -- after the visit, the result is as `Concludes` says
-known : (g : _) (c : After-answer g) → Concludes (StepsReader g.S.Source.known g.S.Source.failures)
-    (reader_items g.S.Source.known) (failures_in g.S.Source.failures)
+known : (g : _) (c : After-answer g) → Concludes
+    (YieldsPlain (Gives g.S.Source.known g.S.Source.failures)) (reader_items g.S.Source.known) (failures_in g.S.Source.failures)
     c.new-reader.result c.answer.result (c.visit-visited.new.self, c.visit-visited.new.visitor)
 known g c =
-    let gives = StepsReader g.S.Source.known g.S.Source.failures in
+    let gives = YieldsPlain (Gives g.S.Source.known g.S.Source.failures) in
     let coming = reader_items g.S.Source.known in
     let comes = reader_comes g.S.Source.known g.S.Source.failures in
     let failures = failures_in g.S.Source.failures in

@@ -9,7 +9,7 @@ loop-block-preserved c = record {
   pushed = block_more notation.Hexadecimal 8 (length c.args.bytes.now / 8) c.args.bytes.now
       (buffered c.args.line.now) _ _ _ _ c.as_chunks.result.0.now c.loop-block.block-index
       c.as_chunks.ensures.front c.as_chunks.ensures.front_len c.loop-block-test.true
-      c.loop-block.invariant.pushed c.digits_of_eight.ensures c.push.ensures.pushed;
+      c.loop-block.invariant.pushed c.digits_of_block.ensures c.push.ensures.pushed;
   room = omega (arith, c.loop-block.invariant.room, c.push.ensures.room);
 }
 

@@ -1,9 +1,0 @@
-use Rattle.std.proofs.Common.{◌≡◌, ◌*◌, length, take}
-use Rattle.plist_print.specs.EscapedLines.{hexadecimal}
-use Rattle.plist_print.proofs.hexadecimal.digits_of_eight.Given as goal
-
-abbrev pub invariant-loop-index : goal.invariant-loop-index
-invariant-loop-index l = record {
-  long : length l.digits ≡ 16;
-  so_far : take (2 * l.index) l.digits ≡ hexadecimal (take l.index l.bytes);
-}
