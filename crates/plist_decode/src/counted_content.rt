@@ -26,12 +26,7 @@ fn number_width(byte: u64) -> u64
     ensures value { result ≡ 2 ^ (byte % 4) }
     ensures small { result ≤ 8 }
 {
-    match byte % 4 {
-        0 => 1,
-        1 => 2,
-        2 => 4,
-        _ => 8,
-    }
+    1 << (byte % 4)
 }
 
 // Returns the length of an object and the bytes that follow it, or `None` if the length is cut
