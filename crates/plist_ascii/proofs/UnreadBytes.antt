@@ -6,7 +6,7 @@ use Rattle.std.specs.Io.KnownBytes.{Consumes}
 use Rattle.std.proofs.lemmas.List.{length-take, length-take-le, take-append-le, take-append-drop, take_all, drop_at}
 use Rattle.std.proofs.Math.Seq.{take-append-add, take-nil}
 use Rattle.std.proofs.lemmas.Bool.{ne_eqb, eqb-true, eqb-false}
-use Rattle.plist_ascii.specs.Incoming.{GivesByte, StartsWithWindow}
+use Rattle.plist_ascii.specs.Incoming.{GivesByte}
 use Rattle.plist_ascii.specs.TokenPrefixes.{run}
 use Rattle.plist_ascii.specs.Comments.{begins_with}
 use Rattle.plist_ascii.specs.inner.Inputs.{hand_of}
@@ -101,7 +101,7 @@ whole_hand window e p t bytes h q is le =
 -- the bytes that remain begin with those at hand, if none was looked at
 pub hand_first : (k : Option (List ℕ)) (window : List ℕ) (e : Bool) (p : Option ℕ) (t : ℕ)
     (xs : List ℕ)
-    → is_some p ≡ false → StartsWithWindow window k → unread_of k e p t ≡ Some xs
+    → is_some p ≡ false → IfSome k (λ bytes. (rest : List ℕ) × (bytes ≡ window ++ rest)) → unread_of k e p t ≡ Some xs
     → (rest : List ℕ) × (xs ≡ hand_of window e p t ++ rest)
 unfolding unread_of hand_of
 hand_first k window e (Some b) t xs q h g = cc

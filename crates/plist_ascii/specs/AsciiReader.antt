@@ -13,7 +13,7 @@ use Rattle.plist_ascii.specs.declared.token.Lead.{Lead}
 use Rattle.plist_ascii.specs.Ascii.{PlacedItem, placed, placed_items, items_of_ascii, BeginsWithText, FirstIsQuoted}
 use Rattle.plist_ascii.specs.Kinds.{IsAsciiItem, IsFaultOfBytes, IfBracketItem}
 use Rattle.plist_ascii.specs.Incoming.{ItemCountsIoIfCounted}
-use Rattle.plist_ascii.specs.Unread.{readable_with, unread, IfKnown}
+use Rattle.plist_ascii.specs.Unread.{unread, IfKnown}
 
 -- the inner reader
 abbrev pub device_of : {R : Type 0} → AsciiReader R → R
@@ -46,12 +46,6 @@ untaken_bytes known reader = unread known reader.input
 -- the bytes that can be taken, which are at most 2^64 - 1
 abbrev pub readable : Option (List ℕ) → Option (List ℕ)
 readable known = option_map (λ bytes. take (2 ^ 64 - 1) bytes) known
-
--- the inner reader's known bytes are those that this reader hasn't taken, except a byte that was
--- looked at
-abbrev pub HoldsLeft : {R : Type 0} → AsciiReader R → (R → Option (List ℕ)) → R → Type 0
-HoldsLeft reader known inner = IfSome (known inner) (λ bytes.
-    untaken_bytes known reader ≡ Some (readable_with (peeked_byte reader) (place_of reader) bytes))
 
 -- the first item of the bytes from offset p on is this one, which ends at offset q; the other items
 -- are those of the bytes from q on

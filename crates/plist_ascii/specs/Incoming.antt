@@ -10,20 +10,11 @@ abbrev pub GivesByte : Option (List ℕ) → Option ℕ → Option (List ℕ) �
 GivesByte old None new = Consumes old new [] × IsAtEnd new
 GivesByte old (Some byte) new = Consumes old new (byte ∷ [])
 
--- the known bytes begin with the buffered ones
-abbrev pub StartsWithWindow : (window : List ℕ) → Option (List ℕ) → Type 0
-StartsWithWindow window known = IfSome known (λ bytes. (rest : List ℕ) × (bytes ≡ window ++ rest))
-
 -- if failures are counted, their count rose or is at its maximum
 abbrev pub RisesIfCounted : Option ℕ → Option ℕ → Type 0
 RisesIfCounted None new = ⊤
 RisesIfCounted (Some old) None = ⊥
 RisesIfCounted (Some old) (Some new) = Rises old new
-
--- the count of failures is unchanged after `Ok`, and rose after `Err`
-abbrev pub CountsFailureIfCounted : {A E : Type 0} → Result A E → Option ℕ → Option ℕ → Type 0
-CountsFailureIfCounted answer old new =
-    MatchResult answer (λ _. new ≡ old) (λ _. RisesIfCounted old new)
 
 -- the count of failures rose if the iterator yielded `Io`, and otherwise is unchanged
 abbrev pub ItemCountsIoIfCounted : {A : Type 0} → Option (Result A Error) → Option ℕ → Option ℕ

@@ -1,8 +1,8 @@
 //! The readers from which bytes are taken.
 
-ghost use Rattle.std.specs.Prelude.{◌≡◌, ◌≤◌, ℕ, List, [], length, take, Option, None, IfOk};
+ghost use Rattle.std.specs.Prelude.{◌≡◌, ◌≤◌, ◌++◌, ℕ, List, [], length, take, Option, None, IfOk, IfSome, MatchResult};
 ghost use Rattle.std.specs.Io.KnownBytes.{Consumes};
-ghost use Rattle.plist_ascii.specs.Incoming.{GivesByte, CountsFailureIfCounted, StartsWithWindow};
+ghost use Rattle.plist_ascii.specs.Incoming.{GivesByte, RisesIfCounted};
 
 use std::io;
 use std::io::Read;
@@ -27,12 +27,14 @@ pub trait ByteReader {
     /// The I/O error of the read that failed. The remaining bytes are unspecified then.
     fn next_byte(&mut self) -> Result<Option<u8>, io::Error>
         ensures byte { IfOk result (λ b. GivesByte (remaining self.old) b (remaining self.new)) }
-        ensures failures { CountsFailureIfCounted result (failures self.old) (failures self.new) };
+        ensures failures { MatchResult result (λ _. failures self.new ≡ failures self.old)
+            (λ _. RisesIfCounted (failures self.old) (failures self.new)) };
 
     /// Returns the buffered bytes. They are the next ones, and taking them needs no read.
     fn buffered(&self) -> &[u8]
         ensures window { result.now ≡ window self.now }
-        ensures next { StartsWithWindow (window self.now) (remaining self.now) };
+        ensures next { IfSome (remaining self.now) (λ bytes. (rest : List ℕ)
+            × (bytes ≡ window self.now ++ rest)) };
 
     /// Takes the first `count` of the buffered bytes.
     fn consume(&mut self, count: usize)

@@ -1,10 +1,10 @@
 //! Takes the bytes of a reader one after another.
 
 ghost use Rattle.std.specs.Prelude.{◌≡◌, ◌+◌, ◌++◌, ◌^◌, ◌<◌, ◌≤◌, ℕ, List, [], drop, length, None, Some, true, false, IfOk, IfErr, IfSome, OnOk};
-ghost use Rattle.plist_ascii.specs.Unread.{IfKnown, unread};
+ghost use Rattle.plist_ascii.specs.Unread.{IfKnown, TakesPart, stops, unread};
 ghost use Rattle.plist_base.specs.Faults.{UnclosedString, fault_of};
 ghost use Rattle.plist_ascii.specs.inner.TokenFaults.{fault_after, kind_in_bytes};
-ghost use Rattle.plist_ascii.specs.inner.Inputs.{AddsPart, CountsByte, CountsFailed, CountsRead, EndsInput, HasFailed, HasNothingLeft, IfCame, IsAtStop, Looks, SkipsPart, TakesHand, TakesIf, TakesNext, TakesOneMore, hand};
+ghost use Rattle.plist_ascii.specs.inner.Inputs.{CountsByte, CountsFailed, CountsRead, EndsInput, HasFailed, HasNothingLeft, IfCame, IsAtStop, Looks, TakesHand, TakesIf, TakesNext, TakesOneMore, hand};
 
 use crate::byte_reader::ByteReader;
 use crate::fault::TokenFault;
@@ -229,7 +229,9 @@ impl<R: ByteReader> Input<R> {
     #[inline(always)]
     pub fn skip_part(&mut self, stop: Stop) -> bool
         // Result.
-        ensures bytes { SkipsPart R.remaining stop self.old self.new }
+        ensures bytes { IfKnown (unread R.remaining self.old) (λ xs. (part : List ℕ)
+            × TakesPart (stops stop) self.old.taken (unread R.remaining self.new) self.new.taken
+            part xs) }
         ensures end { result ≡ false → IsAtStop R.remaining stop self.old self.new }
         // State afterwards.
         ensures whole { result ≡ true → TakesHand R.window self.old self.new }
@@ -254,8 +256,10 @@ impl<R: ByteReader> Input<R> {
         text: &mut Vec<u8>,
     ) -> Result<bool, AllocError>
         // Result.
-        ensures bytes { OnOk result (AddsPart R.remaining stop self.old
-            (text.old.items ++ front.now) self.new text.new) }
+        ensures bytes { OnOk result (IfKnown (unread R.remaining self.old) (λ xs. (part : List ℕ)
+            × (text.new.items ≡ (text.old.items ++ front.now) ++ part)
+            × TakesPart (stops stop) self.old.taken (unread R.remaining self.new) self.new.taken
+            part xs)) }
         ensures end { IfOk result (λ more. more ≡ false
             → IsAtStop R.remaining stop self.old self.new) }
         // State afterwards.

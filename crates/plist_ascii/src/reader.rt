@@ -5,7 +5,7 @@ ghost use Rattle.plist_ascii.specs.Kinds.{IsAsciiItem, IfBracketItem};
 ghost use Rattle.plist_ascii.specs.Ascii.{placed_items};
 ghost use Rattle.plist_ascii.specs.Incoming.{ItemCountsIoIfCounted};
 ghost use Rattle.plist_ascii.specs.Unread.{IfKnown, stops, unread};
-ghost use Rattle.plist_ascii.specs.AsciiReader.{GivesAsciiItem, TakesBytes, FaultIsAt, IfQuotedItem, EndsAfterIoOrMemory, bytes_to_come, readable, HoldsLeft};
+ghost use Rattle.plist_ascii.specs.AsciiReader.{GivesAsciiItem, TakesBytes, FaultIsAt, IfQuotedItem, EndsAfterIoOrMemory, bytes_to_come, readable};
 
 use crate::byte_reader::ByteReader;
 use crate::dialect::Dialect;
@@ -90,6 +90,7 @@ pub struct AsciiReader<R> {
 impl<R: ByteReader> AsciiReader<R> {
     ghost use Rattle.std.specs.Prelude.{◌≡◌, ◌-◌, None, IfSome, Some};
     ghost use Rattle.plist_ascii.specs.Ascii.{OnlyBareTextsDiffer};
+    ghost use Rattle.plist_ascii.specs.Unread.{readable_with};
     ghost use Rattle.plist_ascii.specs.AsciiReader.{untaken_bytes, dialect_of, device_of, peeked_byte, place_of, HasEndedAscii};
 
     /// Creates a reader of the lax dialect. Nothing is read before the first item is requested.
@@ -134,7 +135,9 @@ impl<R: ByteReader> AsciiReader<R> {
     /// been read.
     #[tactic(auto, using(crate::proofs::UnreadBytes::going_unread))]
     pub fn into_inner(self) -> R
-        ensures bytes { (HasEndedAscii self → ⊥) → HoldsLeft self R.remaining result }
+        ensures bytes { (HasEndedAscii self → ⊥) → IfSome (R.remaining result) (λ bytes.
+            untaken_bytes R.remaining self
+            ≡ Some (readable_with (peeked_byte self) (place_of self) bytes)) }
         ensures inner { result ≡ device_of self }
     {
         self.input.into_inner()

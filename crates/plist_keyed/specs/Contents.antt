@@ -56,10 +56,6 @@ abbrev pub IsArchive : (root : Value) → Type 0
 IsArchive root =
     (objects : List Value) × (names : List (List ℕ × Value)) × IsArchiveOf root objects names
 
--- the property list is this archive
-abbrev pub IsOpenedOf : (root : Value) → Archive → Type 0
-IsOpenedOf root archive = IsArchiveOf root (objects_of archive) (names_of archive)
-
 -- the property list isn't an archive, and the error is `NotAnArchive`
 abbrev pub IsNoArchive : (root : Value) → KeyedError → Type 0
 IsNoArchive root error = (error ≡ keyed_error.NotAnArchive) × ¬ (IsArchive root)

@@ -4,7 +4,7 @@ ghost use Rattle.std.specs.Prelude.{◌≡◌, ℕ, Ok, IfErr, IfOk, IfSome, IsN
 ghost use Rattle.std.specs.declared.alloc.Global.{Global};
 ghost use Rattle.std.specs.declared.vec.Vec.{Vec};
 ghost use Rattle.std.specs.Option.{option_copied};
-ghost use Rattle.plist_keyed.specs.Contents.{HasNoneAt, IsUidAt, IsValueAt, names_of, objects_of, trees_in, IsOpenedOf, IsNoArchive};
+ghost use Rattle.plist_keyed.specs.Contents.{HasNoneAt, IsUidAt, IsValueAt, names_of, objects_of, trees_in, IsArchiveOf, IsNoArchive};
 ghost use Rattle.plist.specs.Dictionaries.{pairs_of};
 ghost use Rattle.plist.specs.ValueTrees.{tree_of};
 ghost use Rattle.plist_keyed.specs.Archives.{resolved_tree};
@@ -57,7 +57,8 @@ impl<'a> Archive<'a> {
     /// `NotAnArchive` unless the property list is a dictionary whose `$objects` is an array and
     /// whose `$top` is a dictionary.
     pub fn open(root: &'a Value) -> Result<Archive<'a>, KeyedError>
-        ensures archive { IfOk result (IsOpenedOf root.now) }
+        ensures archive { IfOk result (λ archive. IsArchiveOf root.now (objects_of archive)
+            (names_of archive)) }
         ensures refused { IfErr result (IsNoArchive root.now) }
     {
         let Value::Dictionary(pairs) = root else {

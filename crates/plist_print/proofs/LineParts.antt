@@ -15,14 +15,6 @@ use Rattle.plist_print.proofs.Blocks.{block_more, blocks_end, both_noted}
 
 module _ {W : Type 0} {contents : W → Option (List ℕ)} (n : Notation) (size count : ℕ)
     (bytes : List ℕ) where
-  -- no block was put
-  pub no_block_put : {a : Sink W} → PutsBytes contents a (in_notation n (take 0 bytes)) (Ok tt) a
-  no_block_put = by n
-    where
-      by : {a : Sink W} (n : Notation) → PutsBytes contents a (in_notation n (take 0 bytes)) (Ok tt) a
-      by notation.Text = puts_none
-      by notation.Hexadecimal = puts_none
-
   module _ {a b c : Sink W} (i : ℕ)
       (so_far : PutsBytes contents a (in_notation n (take (i * size) bytes)) (Ok tt) b)
     where

@@ -12,7 +12,7 @@ use Rattle.plist_ascii.specs.Texts.{Token}
 use Rattle.plist_ascii.specs.Comments.{begins_with}
 use Rattle.plist_ascii.specs.Ascii.{IsTextToken}
 use Rattle.plist_ascii.specs.Incoming.{RisesIfCounted}
-use Rattle.plist_ascii.specs.Unread.{unread, IfKnown, first, stops, FirstIsTaken, TakesPart, GivesFront}
+use Rattle.plist_ascii.specs.Unread.{unread, IfKnown, first, stops, FirstIsTaken, GivesFront}
 use Rattle.plist_ascii.specs.inner.TokenFaults.{kind_in_bytes, said}
 use Rattle.plist_ascii.specs.inner.Parts.{EndsAt}
 
@@ -108,17 +108,6 @@ module _ {R : Type 0} (known : R → Option (List ℕ)) where
   abbrev pub IsAtStop : Stop → Input R → Input R → Type 0
   IsAtStop stop old new = IfKnown (unread known old)
       (λ xs. IfKnown (unread known new) (λ ys. run (stops stop) ys ≡ 0))
-
-  -- a part of the run was taken, and follows the bytes `front` in the text
-  abbrev pub AddsPart : Stop → Input R → (front : List ℕ) → Input R → (text : Vec ℕ Global) → Type 0
-  AddsPart stop old front new text = IfKnown (unread known old) (λ xs. (part : List ℕ)
-      × (text.items ≡ front ++ part)
-      × TakesPart (stops stop) old.taken (unread known new) new.taken part xs)
-
-  -- a part of the run was taken
-  abbrev pub SkipsPart : Stop → Input R → Input R → Type 0
-  SkipsPart stop old new = IfKnown (unread known old) (λ xs. (part : List ℕ)
-      × TakesPart (stops stop) old.taken (unread known new) new.taken part xs)
 
   -- the whole run was taken, and the byte after it, if there is one
   abbrev pub TakesPast : Stop → Input R → Option ℕ → Input R → Type 0
