@@ -7,7 +7,7 @@ use Rattle.plist_base.specs.declared.error.Error.{Error}
 use Rattle.plist_base.specs.declared.sink.Sink.{Sink}
 use Rattle.plist_base.specs.Sinks.{Puts, PutsBytes}
 use Rattle.plist_base.specs.Writing.{answer_of}
-use Rattle.plist_base.proofs.SinkSteps.{puts_none, puts_refused, puts_then}
+use Rattle.plist_base.proofs.SinkSteps.{puts_refused, puts_then}
 use Rattle.plist_print.specs.declared.lines.Notation.{Notation}
 use Rattle.plist_print.specs.declared.lines.Notation.TheVariants as notation
 use Rattle.plist_print.specs.EscapedLines.{in_notation}
