@@ -45,17 +45,24 @@ fn push_digits(line: &mut FixedBuffer, bytes: &[u8])
     }
 }
 
-// Pushes two hexadecimal digits for each byte, eight bytes at a time.
-fn push_by_eights(line: &mut FixedBuffer, bytes: &[u8])
-    requires { 2 * length bytes.now ≤ room line.old }
-    ensures pushed { buffered line.new ≡ buffered line.old ++ hexadecimal bytes.now }
-    ensures room { room line.old ≤ room line.new + 2 * length bytes.now }
+// Pushes two hexadecimal digits for each byte of the blocks of `N` bytes, and returns the bytes that
+// follow them.
+#[inline(always)]
+fn push_blocks<'b, const N: usize, const DIGITS: usize>(
+    line: &mut FixedBuffer,
+    bytes: &'b [u8],
+) -> &'b [u8]
+    requires size { (0 < N) × (DIGITS ≡ 2 * N) }
+    requires room { 2 * length bytes.now ≤ room line.old }
+    ensures pushed { buffered line.new ++ hexadecimal result.now
+        ≡ buffered line.old ++ hexadecimal bytes.now }
+    ensures room { room line.old + 2 * length result.now ≤ room line.new + 2 * length bytes.now }
 {
-    let (blocks, rest) = bytes.as_chunks::<8>();
+    let (blocks, rest) = bytes.as_chunks::<N>();
     for block in blocks {
-        line.push(&digits_of_block::<8, 16>(block));
+        line.push(&digits_of_block::<N, DIGITS>(block));
     }
-    push_digits(line, rest);
+    rest
 }
 
 /// Pushes two hexadecimal digits for each byte.
@@ -64,9 +71,7 @@ pub fn push_hexadecimal(line: &mut FixedBuffer, bytes: &[u8])
     ensures pushed { buffered line.new ≡ buffered line.old ++ hexadecimal bytes.now }
     ensures room { room line.old ≤ room line.new + 2 * length bytes.now }
 {
-    let (blocks, rest) = bytes.as_chunks::<64>();
-    for block in blocks {
-        line.push(&digits_of_block::<64, 128>(block));
-    }
-    push_by_eights(line, rest);
+    let shorter = push_blocks::<64, 128>(line, bytes);
+    let rest = push_blocks::<8, 16>(line, shorter);
+    push_digits(line, rest);
 }
