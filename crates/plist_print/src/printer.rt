@@ -34,18 +34,6 @@ struct Parts<'b> {
     end: &'b [u8],
 }
 
-// Makes room for `size` more bytes, by writing the pending bytes if there isn't enough.
-fn make_room<W: Write>(sink: &mut Sink<'_, W>, size: usize) -> Result<(), Error>
-    requires { size ≤ sink_capacity }
-    ensures put { Puts W.contents sink.old [] result sink.new }
-    ensures room { OnOk result (size ≤ room sink.new.buffer.now) }
-{
-    if size <= sink.room() {
-        return Ok(());
-    }
-    sink.write_pending()
-}
-
 // Puts the printed form of a block of a string or data into the sink.
 fn put_block<W: Write>(
     sink: &mut Sink<'_, W>,
@@ -55,7 +43,7 @@ fn put_block<W: Write>(
     requires { length block.now ≤ 4096 }
     ensures { Puts W.contents sink.old (in_notation notation block.now) result sink.new }
 {
-    make_room(sink, 4 * BLOCK)?;
+    sink.make_room(4 * BLOCK)?;
     push_bytes(sink.buffer, block, notation);
     Ok(())
 }
