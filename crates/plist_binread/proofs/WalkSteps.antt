@@ -6,14 +6,13 @@ use Rattle.std.proofs.Math.Nat.{mul-le-mul_right}
 use Rattle.plist_base.specs.declared.error.Error.{Error}
 use Rattle.plist_base.specs.Faults.{Fault, InvalidUtf8String, InvalidUtf16String, OutOfMemory, ObjectReferenceTooLarge, RecursiveObject, kind_of, error_kind_of, fault_of, fault_at, fault_without_offset}
 use Rattle.plist_base.specs.Events.{PlainEvent, EndCollection, Item}
-use Rattle.plist_base.specs.Trees as trees
 use Rattle.plist_base.specs.Trees.{Data, String}
 use Rattle.plist_base.proofs.Refusals.{MatchFault-at, MatchFault-weaker}
 use Rattle.plist_binread.specs.declared.frames.Frame.{Frame}
 use Rattle.plist_format.specs.Object.{Object, Scalar, Array, Dictionary, Faulty}
 use Rattle.plist_format.specs.Unfolding.{TableEntry, items_of, unfolding_of, until_fault}
 use Rattle.plist_binread.specs.Remaining.{path_of, MarksOpenPath, remaining_items, SomeRemain, AllocatesFirst, Explains, walk_steps, walk_weight}
-use Rattle.plist_decode.specs.Decoding.{IsCollection, children_in, scalar_in, scalar_event_in, Allocates, IsRefusedAs}
+use Rattle.plist_decode.specs.Decoding.{IsCollection, children_in, scalar_event_in, Allocates, IsRefusedAs}
 use Rattle.plist_binread.proofs.OpenObjects.{admits_more}
 
 -- ---- the first item of an object

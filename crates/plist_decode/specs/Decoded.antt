@@ -1,8 +1,7 @@
 -- What is decoded from the bytes at an object's front, whatever follows them.
-use Rattle.std.specs.Prelude.{◌≡◌, ℕ, ◌+◌, ◌*◌, ◌^◌, ◌<◌, ◌≤◌, List, ◌∷◌, ◌++◌, length, take, drop, true, Option, Some, Result, IfSome, MatchResult, ⊤}
+use Rattle.std.specs.Prelude.{◌≡◌, ℕ, ◌+◌, ◌*◌, ◌^◌, ◌<◌, ◌≤◌, List, ◌∷◌, ◌++◌, length, take, drop, true, Option, Result, IfSome, MatchResult, ⊤}
 use Rattle.plist_base.specs.declared.error.Error.{Error}
 use Rattle.plist_base.specs.Faults.{FaultKind, ObjectOffsetTooLarge, NullObjectUnimplemented, FillObjectUnimplemented, UnknownObjectType, IntegerOutOfRange, OverflowOrNanDate, InvalidUtf8String, InvalidUtf16String, OutOfMemory}
-use Rattle.plist_base.specs.Trees as trees
 use Rattle.plist_format.specs.Object.{Object, Scalar, Faulty, date, meaning_of_front, object_in}
 use Rattle.plist_decode.specs.CountedContent.{content_means, unit_size}
 use Rattle.plist_base.specs.declared.event.Event.{Event}

@@ -9,7 +9,6 @@ use Rattle.plist_base.specs.Sinks.{Puts, PutsBytes}
 use Rattle.plist_base.specs.Writing.{answer_of}
 use Rattle.plist_base.proofs.SinkSteps.{puts_refused, puts_then}
 use Rattle.plist_print.specs.declared.lines.Notation.{Notation}
-use Rattle.plist_print.specs.declared.lines.Notation.TheVariants as notation
 use Rattle.plist_print.specs.EscapedLines.{in_notation}
 use Rattle.plist_print.proofs.Blocks.{block_more, blocks_end, both_noted}
 

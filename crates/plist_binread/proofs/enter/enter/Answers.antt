@@ -5,7 +5,6 @@ use Rattle.plist_binread.proofs.ObjectEvents.{borrowed_sets, cached_if, fits_wal
 use Rattle.plist_decode.proofs.FaultOffsets.{err_within, passed}
 use Rattle.plist_binread.proofs.ObjectEntry.{IsDecodedAt, always_ok, known_decoded, known_opens, known_refused, known_set, known_unpacked, long_opens, on_answer}
 use Rattle.std.proofs.lemmas.List.{length-drop, length-take-le}
-use Rattle.std.proofs.lemmas.Option.{IfSome_then}
 use Rattle.plist_binread.proofs.VisitorLimits.{passed_on}
 use Rattle.plist_binread.proofs.WalkInvariant.{known_full}
 use Rattle.plist_decode.proofs.UnknownBytes.{IfSome-all}

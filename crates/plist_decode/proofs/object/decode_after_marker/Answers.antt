@@ -1,6 +1,5 @@
 use Rattle.std.proofs.Common.{◌++◌, length, refl, arith}
 use Rattle.std.proofs.lemmas.Bool.{le-leb}
-use Rattle.plist_base.specs.Trees.{Boolean}
 use Rattle.plist_decode.proofs.Markers.{object_by_half}
 use Rattle.plist_decode.proofs.object.decode_after_marker.Goals as goal
 
