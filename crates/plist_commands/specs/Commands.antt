@@ -1,8 +1,7 @@
 -- The command that the arguments ask for, and how a command ends.
-use Rattle.std.specs.Prelude.{◌≡◌, ◌≢◌, ℕ, Bool, List, [], ◌∷◌, Option, Result, Ok, Err, String, codes, map, string_bytes}
+use Rattle.std.specs.Prelude.{◌≡◌, ◌≢◌, ℕ, Bool, List, [], ◌∷◌, Option, Ok, Err, String, codes, map, string_bytes}
 use Rattle.std.specs.declared.alloc.Global.{Global}
-use Rattle.plist_commands.specs.Failures.{CommandOutcome, outcome_of}
-use Rattle.plist_commands.specs.declared.failure.Failure.{Failure}
+use Rattle.plist_commands.specs.Failures.{CommandOutcome}
 use Rattle.plist_commands.specs.Messages.{PlainMessage, Fault}
 use Rattle.plist_commands.specs.declared.commands.Command.{Command}
 use Rattle.plist_commands.specs.declared.commands.Command.TheVariants as command
