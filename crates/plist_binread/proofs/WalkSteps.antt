@@ -184,4 +184,3 @@ pub refused_memory : (object : Object) (place : ℕ) (e : Error) (start : PlainE
 refused_memory object place e start count memory collection =
     MatchFault-at _ _ _ _ _ (ap (λ (f : Fault). f.kind) memory)
     (grows_at-collection _ start count collection)
-

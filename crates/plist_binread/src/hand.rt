@@ -47,9 +47,7 @@ pub fn hand_small<V: EventVisitor>(
             visitor.real(RealBits::Four(four))
         }
         PackedKind::Uid => visitor.uid(Uid::new(content)),
-        PackedKind::Data(size) => {
-            visitor.data(CowSlice::Borrowed(&bytes[..usize::from(size)]))
-        }
+        PackedKind::Data(size) => visitor.data(CowSlice::Borrowed(&bytes[..usize::from(size)])),
         PackedKind::Text(size) => {
             let text = unsafe { str::from_utf8_unchecked(&bytes[..usize::from(size)]) };
             visitor.string(CowStr::Borrowed(text))
