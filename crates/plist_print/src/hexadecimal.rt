@@ -19,8 +19,8 @@ pub fn digit_of(value: u8) -> u8
     }
 }
 
-// Returns the hexadecimal digits of a block of `N` bytes. The fixed length lets the compiler compute
-// the digits of many bytes at once.
+// Returns the hexadecimal digits of a block of `N` bytes. The fixed length lets the compiler
+// compute the digits of many bytes at once.
 #[inline(always)]
 fn digits_of_block<const N: usize, const DIGITS: usize>(bytes: &[u8; N]) -> [u8; DIGITS]
     requires { DIGITS ≡ 2 * N }
@@ -45,8 +45,8 @@ fn push_digits(line: &mut FixedBuffer, bytes: &[u8])
     }
 }
 
-// Pushes two hexadecimal digits for each byte of the blocks of `N` bytes, and returns the bytes that
-// follow them.
+// Pushes two hexadecimal digits for each byte in blocks of `N` bytes, and returns the bytes that
+// remain.
 #[inline(always)]
 fn push_blocks<'b, const N: usize, const DIGITS: usize>(
     line: &mut FixedBuffer,
