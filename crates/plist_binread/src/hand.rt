@@ -22,6 +22,7 @@ use plist_decode::fault_slot::{FaultSlot, StepError};
 use plist_decode::long_content::{read_long, wide_text_event};
 use plist_decode::packed::PackedKind;
 use plist_decode::utf8::text_in;
+use plist_decode::utf16::{MOST_UNITS, large_text_in};
 use std::borrow::{CowSlice, CowStr};
 use std::ops::ControlFlow;
 
@@ -113,11 +114,11 @@ fn hand_text<V: EventVisitor>(
     }
 }
 
-// Hands over a string in UTF-16, or stores the error of the object at this offset if it is invalid.
-//
-// This is a separate function because the memory for an event is cleared on every call.
+// Hands over a string in UTF-16 that may have many units, or stores the error of the object at this
+// offset if it is invalid.
+#[cold]
 #[inline(never)]
-fn hand_wide_text<V: EventVisitor>(
+fn hand_long_wide_text<V: EventVisitor>(
     bytes: &[u8],
     place: u64,
     slot: &mut FaultSlot,
@@ -132,6 +133,32 @@ fn hand_wide_text<V: EventVisitor>(
 {
     let read = wide_text_event(slot.alloc, bytes, place);
     hand_read(read, slot, visitor)
+}
+
+// Hands over a string in UTF-16, or stores the error of the object at this offset if it is invalid.
+// A string of few units is decoded on the stack.
+#[inline(never)]
+fn hand_wide_text<V: EventVisitor>(
+    bytes: &[u8],
+    place: u64,
+    slot: &mut FaultSlot,
+    visitor: &mut V,
+) -> Result<ControlFlow<()>, StepError>
+    requires { AreUnits 2 bytes.now }
+    ensures handed { Hands V.step visitor.old visitor.new result (λ event.
+        SetsEvent (wide_text bytes.now) place (result_in result slot.new) event
+        × OnOk result (is_small_event event ≡ false)) }
+    ensures fault { (end : ℕ) → ErrWithin place end (result_in result slot.new) }
+    ensures failures { (count : ℕ) → ResultCountsIo (result_in result slot.new) count count }
+{
+    if bytes.len() > 2 * MOST_UNITS {
+        return hand_long_wide_text(bytes, place, slot, visitor);
+    }
+    let mut text = [0; 3 * MOST_UNITS];
+    match large_text_in(bytes, &mut text) {
+        Ok(text) => Ok(visitor.string(CowStr::Borrowed(text))),
+        Err(fault) => Err(slot.refuse_object(fault, place)),
+    }
 }
 
 /// Hands over the string or data in these bytes, or stores the error of the object at this offset

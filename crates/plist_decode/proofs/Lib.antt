@@ -10,3 +10,4 @@ pub mod ObjectFronts
 pub mod Markers
 pub mod UnknownBytes
 pub mod PackedScalars
+pub mod Utf16Chars

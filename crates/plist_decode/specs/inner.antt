@@ -1,2 +1,3 @@
 -- Definitions that are used by bodies and proofs, but by no public clause.
 pub mod Heads
+pub mod Utf16

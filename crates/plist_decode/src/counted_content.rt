@@ -14,11 +14,11 @@ ghost use Rattle.plist_decode.specs.declared.decoded.ContentKind.TheVariants.{Da
 ghost use Rattle.plist_decode.specs.declared.decoded.Decoded.TheVariants.{Long as LongContent};
 
 use crate::decoded::{CollectionKind, ContentKind, Decoded, ObjectFault};
-use crate::numbers::{number_from, write_units};
+use crate::numbers::number_from;
 use crate::packed::{PackedKind, content_from};
 use crate::utf8::short_text_in;
+use crate::utf16::utf16_text_in;
 use plist_format::LowHalf;
-use std::alloc::Global;
 
 // Returns how many bytes a number has. The low two bits of the byte before the number encode this.
 #[inline(always)]
@@ -141,29 +141,20 @@ pub fn decode_text(low: LowHalf, rest: &[u8], to_trailer: u64) -> Decoded
 
 // Decodes a UTF-16 string of at most eight units. Returns `None` if the string has more than eight
 // bytes in UTF-8, because it can't be packed then.
-fn short_wide_text(alloc: Global, bytes: &[u8]) -> Option<Decoded>
-    requires few { length bytes.now ≤ 16 }
-    requires units { AreUnits 2 bytes.now }
+fn short_wide_text(bytes: &[u8]) -> Option<Decoded>
+    requires { length bytes.now ≤ 16 }
     ensures { IfSome result (MeansDecoded (wide_text bytes.now)) }
 {
-    let mut all = [0; 8];
-    let units = &mut all[..bytes.len() / 2];
-    write_units(bytes, units);
-    let made: Result<Result<String, _>, _> = String::from_utf16(alloc, units);
-    match made {
-        Ok(Ok(text)) => {
-            if text.len() > 8 {
-                return None;
-            }
-            Some(small_text(text.as_str()))
-        }
-        Ok(Err(_)) => Some(Decoded::Faulty(ObjectFault::NotUtf16)),
-        Err(_) => Some(Decoded::Faulty(ObjectFault::NoMemory)),
+    let mut all = [0; 24];
+    match utf16_text_in(bytes, &mut all) {
+        Some(text) if text.len() > 8 => None,
+        Some(text) => Some(small_text(text)),
+        None => Some(Decoded::Faulty(ObjectFault::NotUtf16)),
     }
 }
 
 /// Decodes a string in UTF-16.
-pub fn decode_wide_text(alloc: Global, low: LowHalf, rest: &[u8], to_trailer: u64) -> Decoded
+pub fn decode_wide_text(low: LowHalf, rest: &[u8], to_trailer: u64) -> Decoded
     requires to_trailer { length rest.now ≤ to_trailer }
     requires shown { ShowsContent to_trailer rest.now }
     ensures { DecodesScalar to_trailer (counted_with KindWideText low) rest.now result }
@@ -175,7 +166,7 @@ pub fn decode_wide_text(alloc: Global, low: LowHalf, rest: &[u8], to_trailer: u6
     if count > 8 {
         return long;
     }
-    match short_wide_text(alloc, &following[..2 * count as usize]) {
+    match short_wide_text(&following[..2 * count as usize]) {
         Some(short) => short,
         None => long,
     }

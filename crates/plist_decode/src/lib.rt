@@ -17,4 +17,5 @@ pub mod numbers;
 pub mod object;
 pub mod packed;
 mod trailer;
+pub mod utf16;
 pub mod utf8;

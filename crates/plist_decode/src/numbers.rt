@@ -148,9 +148,9 @@ pub fn read_bytes<S: Source>(
     Ok(found)
 }
 
-// Returns the unit in two bytes.
+/// Returns the unit in two bytes.
 #[inline(always)]
-fn unit_from(bytes: &[u8]) -> u16
+pub fn unit_from(bytes: &[u8]) -> u16
     requires { length bytes.now ≡ 2 }
     ensures { result ≡ number_of bytes.now }
 {

@@ -26,17 +26,10 @@ use crate::head::Bounds;
 use crate::packed::PackedKind;
 use plist_base::{Source, read_exact_at};
 use plist_format::{CountedKind, Marker};
-use std::alloc::Global;
 
 // Decodes an object from its marker and the bytes that follow the marker.
 #[inline(always)]
-fn decode_after_marker(
-    alloc: Global,
-    marker: u8,
-    rest: &[u8],
-    to_trailer: u64,
-    width: usize,
-) -> Decoded
+fn decode_after_marker(marker: u8, rest: &[u8], to_trailer: u64, width: usize) -> Decoded
     requires to_trailer { length rest.now ≤ to_trailer }
     requires shown { ShowsContent to_trailer rest.now }
     requires width { (0 < width) × (width ≤ 8) }
@@ -57,7 +50,7 @@ fn decode_after_marker(
         Marker::Counted(kind, low) => match kind {
             CountedKind::Data => decode_data(low, rest, to_trailer),
             CountedKind::Text => decode_text(low, rest, to_trailer),
-            CountedKind::WideText => decode_wide_text(alloc, low, rest, to_trailer),
+            CountedKind::WideText => decode_wide_text(low, rest, to_trailer),
             CountedKind::Array => {
                 decode_collection(CollectionKind::Array, low, rest, to_trailer, width)
             }
@@ -107,10 +100,9 @@ pub fn decode_front<C: DecodeCounter>(decoder: &mut Decoder<C>, place: u64, seen
 {
     let to_trailer = decoder.bounds.trailer - place;
     let width = decoder.bounds.reference_width;
-    let alloc = decoder.slot.alloc;
     match seen.split_first() {
         Some((marker, rest)) => {
-            let decoded = decode_after_marker(alloc, *marker, rest, to_trailer - 1, width);
+            let decoded = decode_after_marker(*marker, rest, to_trailer - 1, width);
             count_small(decoded, &mut decoder.counter);
             decoded
         }
