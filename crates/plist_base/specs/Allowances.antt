@@ -1,5 +1,5 @@
 -- The items that an allowance admits.
-use Rattle.std.specs.Prelude.{◌≡◌, Bool, true, false, cond, List, [], ◌∷◌, Option, None, Some, Result, Ok, Err, MatchBool, MatchOption, MatchResult}
+use Rattle.std.specs.Prelude.{◌≡◌, Bool, true, false, if◌then◌else◌, List, [], ◌∷◌, Option, None, Some, Result, Ok, Err, MatchBool, MatchOption, MatchResult}
 use Rattle.plist_base.specs.declared.error.Error.{Error}
 use Rattle.plist_base.specs.declared.event.Event.{Event}
 use Rattle.plist_base.specs.declared.limited_items.LimitedItems.{LimitedItems}
@@ -30,7 +30,7 @@ module _ {A : Type 0} (lets : A → List Item → List Item) where
 
   -- the inner iterator's items that the allowance admits, or none after the end
   abbrev pub items_allowed : {I : Type 0} → LimitedItems I A → List Item → List Item
-  items_allowed limited items = cond limited.ended [] (lets limited.limiter items)
+  items_allowed limited items = if limited.ended then [] else lets limited.limiter items
 
 module _ {A : Type 0} (lets : A → List Item → List Item) (may_reach : Fault → Type 0) where
   -- `given` is yielded for the inner item `asked`, and `left` is a pair of the new allowance and

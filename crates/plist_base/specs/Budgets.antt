@@ -1,5 +1,5 @@
 -- Items within a budget of bytes, which all strings and data share.
-use Rattle.std.specs.Prelude.{◌≡◌, ℕ, ◌+◌, ◌-◌, nat_lt, cond, length, List, [], ◌∷◌, Option, Result, Ok, Err}
+use Rattle.std.specs.Prelude.{◌≡◌, ℕ, ◌+◌, ◌-◌, nat_lt, if◌then◌else◌, length, List, [], ◌∷◌, Option, Result, Ok, Err}
 use Rattle.plist_base.specs.declared.byte_budget.ByteBudget.{ByteBudget}
 use Rattle.plist_base.specs.declared.error.Error.{Error}
 use Rattle.plist_base.specs.declared.event.Event.{Event}
@@ -21,8 +21,8 @@ total_bytes (event ∷ events) = bytes_in event + total_bytes events
 abbrev pub within_bytes : (left : ℕ) → List Item → List Item
 within_bytes left [] = []
 within_bytes left (Ok event ∷ items) =
-    cond (nat_lt left (bytes_in event)) (Err (fault_without_offset OutOfMemory) ∷ [])
-    (Ok event ∷ within_bytes (left - bytes_in event) items)
+    if nat_lt left (bytes_in event) then Err (fault_without_offset OutOfMemory) ∷ []
+    else Ok event ∷ within_bytes (left - bytes_in event) items
 within_bytes left (Err fault ∷ items) = Err fault ∷ []
 
 -- ---- the items that a budget admits

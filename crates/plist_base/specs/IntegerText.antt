@@ -1,6 +1,6 @@
 -- The integer that a text spells: hexadecimal after `0x`, or decimal.
 use Prim.Native.String.{String}
-use Rattle.std.specs.Prelude.{map, ◌≡◌, ℕ, ◌-◌, ◌^◌, Bool, false, cond, ◌&&◌, ◌==◌, nat_lt, List, [], ◌∷◌, length, ℤ, pos, negsuc, Option, None, Some, Result, refl, codes, MatchResult}
+use Rattle.std.specs.Prelude.{map, ◌≡◌, ℕ, ◌-◌, ◌^◌, Bool, false, if◌then◌else◌, ◌&&◌, ◌==◌, nat_lt, List, [], ◌∷◌, length, ℤ, pos, negsuc, Option, None, Some, Result, refl, codes, MatchResult}
 use Rattle.std.specs.List.{list_all}
 use Rattle.std.specs.Char.{is_digit}
 use Rattle.std.specs.Str.Parse.{digits_value, signed_digits_value, without_leading_plus, without_leading_sign}
@@ -15,7 +15,7 @@ abbrev pub without_prefixes : List ℕ → List ℕ
 without_prefixes [] = []
 without_prefixes (a ∷ []) = a ∷ []
 without_prefixes (a ∷ b ∷ rest) =
-    cond ((a == 48) && (b == 120)) (without_prefixes rest) (a ∷ b ∷ rest)
+    if (a == 48) && (b == 120) then without_prefixes rest else a ∷ b ∷ rest
 
 -- has the text at least one digit, and nothing else?
 abbrev pub is_numeral : (radix : ℕ) → List ℕ → Bool
@@ -25,8 +25,8 @@ is_numeral radix digits = nat_lt 0 (length digits) && list_all (λ c. is_digit c
 abbrev pub unsigned_of_text : (radix : ℕ) → List ℕ → Option ℤ
 unsigned_of_text radix text =
     let digits = without_leading_plus text in
-    cond (is_numeral radix digits && nat_lt (digits_value radix digits) (2 ^ 64))
-    (Some (pos (digits_value radix digits))) None
+    if is_numeral radix digits && nat_lt (digits_value radix digits) (2 ^ 64) then
+    Some (pos (digits_value radix digits)) else None
 
 -- does the number fit into 64 signed bits?
 abbrev pub fits_signed : ℤ → Bool
@@ -36,8 +36,8 @@ fits_signed (negsuc n) = nat_lt n (2 ^ 63)
 -- the signed 64-bit number that the text spells in decimal, with an optional sign, or `None`
 abbrev pub signed_of_text : List ℕ → Option ℤ
 signed_of_text text =
-    cond (is_numeral 10 (without_leading_sign text) && fits_signed (signed_digits_value 10 text))
-    (Some (signed_digits_value 10 text)) None
+    if is_numeral 10 (without_leading_sign text) && fits_signed (signed_digits_value 10 text) then
+    Some (signed_digits_value 10 text) else None
 
 -- the first value, or else the second
 abbrev pub or_else : {A : Type 0} → Option A → Option A → Option A
@@ -47,8 +47,8 @@ or_else None other = other
 -- the integer that a text spells: hexadecimal after `0x`, else signed or unsigned decimal
 unfoldable pub integer_of_text : List ℕ → Option ℤ
 integer_of_text text =
-    cond (has_prefix text) (unsigned_of_text 16 (without_prefixes text))
-    (or_else (signed_of_text text) (unsigned_of_text 10 text))
+    if has_prefix text then unsigned_of_text 16 (without_prefixes text) else
+    or_else (signed_of_text text) (unsigned_of_text 10 text)
 
 -- the result is the number that the text spells, or `Err` if it spells no number
 abbrev pub SpellsInteger : {E : Type 0} → List ℕ → Result ℤ E → Type 0

@@ -1,5 +1,5 @@
 -- Items under limits: how many events there are, and how many collections are open at once.
-use Rattle.std.specs.Prelude.{◌≡◌, ℕ, ◌+◌, ◌-◌, Bool, true, false, ◌&&◌, nat_le, cond, List, [], ◌∷◌, Option, None, Some, Result, Ok, Err}
+use Rattle.std.specs.Prelude.{◌≡◌, ℕ, ◌+◌, ◌-◌, Bool, true, false, ◌&&◌, nat_le, if◌then◌else◌, List, [], ◌∷◌, Option, None, Some, Result, Ok, Err}
 use Rattle.plist_base.specs.declared.error.Error.{Error}
 use Rattle.plist_base.specs.declared.event.Event.{Event}
 use Rattle.plist_base.specs.declared.event.EventShape.{EventShape}
@@ -40,8 +40,8 @@ IsTooDeep depth level shape reached =
 -- the limit that an event exceeds after `admitted` events, while `level` collections are open
 abbrev pub limit_at : Limits → (admitted level : ℕ) → PlainEvent → Option Limit
 limit_at limits admitted level event =
-    cond (nat_le limits.items admitted) (Some limit.Items)
-    (cond (opens (shape_of event) && nat_le limits.depth level) (Some limit.Depth) None)
+    if nat_le limits.items admitted then Some limit.Items
+    else (if opens (shape_of event) && nat_le limits.depth level then Some limit.Depth else None)
 
 -- an event and the items after it, or the fault of the limit that it exceeds
 abbrev pub event_or_limit : Option Limit → PlainEvent → (more : List Item) → List Item

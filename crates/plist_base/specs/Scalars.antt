@@ -1,5 +1,5 @@
 -- Equality of scalars, and what a scalar writes to a hasher.
-use Rattle.std.proofs.Common.{◌≡◌, ℕ, ◌==◌, Bool, true, false, not, cond, List, [], ◌∷◌, refl, ap, subst}
+use Rattle.std.proofs.Common.{◌≡◌, ℕ, ◌==◌, Bool, true, false, not, if◌then◌else◌, List, [], ◌∷◌, refl, ap, subst}
 use mathlib.Core.HLevel.{Stable, Stable-paths→set}
 use Rattle.std.specs.Hash as fed
 use Rattle.std.specs.Ordering.{int_eq}
@@ -19,7 +19,7 @@ real_eq _ _ = false
 
 -- are the scalars of one kind, with the same content?
 abbrev pub scalar_eq : Scalar → Scalar → Bool
-scalar_eq (Boolean a) (Boolean b) = cond a b (not b)
+scalar_eq (Boolean a) (Boolean b) = if a then b else not b
 scalar_eq (Data a) (Data b) = bytes_eq a b
 scalar_eq (Date a) (Date b) = bytes_eq a b
 scalar_eq (Integer a) (Integer b) = int_eq a b
@@ -30,7 +30,7 @@ scalar_eq _ _ = false
 
 -- what a scalar writes to a hasher: its content, in one write
 abbrev pub writes_of_scalar : Scalar → List (List ℕ)
-writes_of_scalar (Boolean value) = fed.u8 (cond value 1 0)
+writes_of_scalar (Boolean value) = fed.u8 (if value then 1 else 0)
 writes_of_scalar (Data bytes) = bytes ∷ []
 writes_of_scalar (Date bytes) = bytes ∷ []
 writes_of_scalar (Integer number) = fed.i128 number
@@ -61,13 +61,13 @@ real_refl (Four a) = bytes_refl a
 real_refl (Eight a) = bytes_refl a
 
 -- two Booleans that pass the test are equal
-boolean_is : (a b : Bool) → cond a b (not b) ≡ true → a ≡ b
+boolean_is : (a b : Bool) → (if a then b else not b) ≡ true → a ≡ b
 boolean_is true true h = refl
 boolean_is false false h = refl
 boolean_is a b h = absurd (cc)
 
 -- a Boolean passes the test with itself
-boolean_refl : (a : Bool) → cond a a (not a) ≡ true
+boolean_refl : (a : Bool) → (if a then a else not a) ≡ true
 boolean_refl true = refl
 boolean_refl false = refl
 

@@ -1,6 +1,6 @@
 -- The Unix second that the text of a date spells. The text is in a profile of RFC 3339, such as
 -- `2001-01-01T00:00:00Z` or `2001-01-01 01:30:00+01:30`.
-use Rattle.std.specs.Prelude.{◌≡◌, ℕ, ◌+◌, ◌-◌, ◌*◌, nat_le, nat_lt, Bool, cond, ◌&&◌, ◌||◌, ◌==◌, List, length, slice_index, ℤ, pos, neg_ℤ, ◌+ℤ◌, ◌-ℤ◌, ◌*ℤ◌, ◌≤ℤ◌, ◌<ℤ◌, Option, None, Some, refl, codes}
+use Rattle.std.specs.Prelude.{◌≡◌, ℕ, ◌+◌, ◌-◌, ◌*◌, nat_le, nat_lt, Bool, if◌then◌else◌, ◌&&◌, ◌||◌, ◌==◌, List, length, slice_index, ℤ, pos, neg_ℤ, ◌+ℤ◌, ◌-ℤ◌, ◌*ℤ◌, ◌≤ℤ◌, ◌<ℤ◌, Option, None, Some, refl, codes}
 use Rattle.std.specs.Char.{is_ascii_digit}
 use Rattle.std.specs.Int.{is_in_range}
 use Rattle.jiff_core.specs.Calendar.{days_from_civil, days_in_month, days_of_months, days_of_years, day_count}
@@ -10,7 +10,7 @@ use Rattle.jiff_core.specs.Calendar.{days_from_civil, days_in_month, days_of_mon
 -- the number that two digits spell, or `None` if one isn't a digit
 unfoldable pub two_digits : (tens ones : ℕ) → Option ℕ
 two_digits tens ones =
-    cond (is_ascii_digit tens && is_ascii_digit ones) (Some ((tens - 48) * 10 + (ones - 48))) None
+    if is_ascii_digit tens && is_ascii_digit ones then Some ((tens - 48) * 10 + (ones - 48)) else None
 
 -- the number that the two digits at an offset of a text spell
 abbrev pub two_digits_at : (text : List ℕ) (place : ℕ) → Option ℕ
@@ -38,22 +38,22 @@ four_digits_at text place =
 -- the number of days from 1970-01-01 to a date, or `None` if the calendar doesn't have it
 unfoldable pub day_number : (year month day : ℕ) → Option ℤ
 day_number year month day =
-    cond (is_in_range 1 12 month && is_in_range 1 (days_in_month (pos year) month) day)
-    (Some (days_from_civil (pos year) month day)) None
+    if is_in_range 1 12 month && is_in_range 1 (days_in_month (pos year) month) day then
+    Some (days_from_civil (pos year) month day) else None
 
 -- the second of the day at this time, or `None` if a part is out of range
 unfoldable pub second_of_day : (hour minute second : ℕ) → Option ℕ
 second_of_day hour minute second =
-    cond (nat_lt hour 24 && nat_lt minute 60 && nat_lt second 60)
-    (Some (hour * 3600 + minute * 60 + second)) None
+    if nat_lt hour 24 && nat_lt minute 60 && nat_lt second 60 then
+    Some (hour * 3600 + minute * 60 + second) else None
 
 -- how many seconds a zone is ahead of UTC, or `None` if a part is out of range
 abbrev pub offset : (sign hours minutes : ℕ) → Option ℤ
 offset sign hours minutes =
-    cond (nat_lt hours 24 && nat_lt minutes 60)
-    (cond (sign == 43) (Some (pos (hours * 3600 + minutes * 60)))
-    (cond (sign == 45) (Some (neg_ℤ (pos (hours * 3600 + minutes * 60)))) None))
-    None
+    if nat_lt hours 24 && nat_lt minutes 60 then
+    (if sign == 43 then Some (pos (hours * 3600 + minutes * 60))
+    else (if sign == 45 then Some (neg_ℤ (pos (hours * 3600 + minutes * 60))) else None))
+    else None
 
 -- ---- the text
 
@@ -75,10 +75,10 @@ time_in text = of_three (two_digits_at text 11) (two_digits_at text 14) (two_dig
 -- how many seconds the zone at the end, `Z`, `z` or a sign with `HH:MM`, is ahead of UTC
 abbrev pub zone_in : List ℕ → Option ℤ
 zone_in text =
-    cond (length text == 20) (cond ((slice_index text 19 == 90) || (slice_index text 19 == 122))
-    (Some (pos 0)) None)
-    (cond ((length text == 25) && (slice_index text 22 == 58))
-    (of_both (two_digits_at text 20) (two_digits_at text 23) (offset (slice_index text 19))) None)
+    if length text == 20 then
+    (if (slice_index text 19 == 90) || (slice_index text 19 == 122) then Some (pos 0) else None)
+    else (if (length text == 25) && (slice_index text 22 == 58) then
+    of_both (two_digits_at text 20) (two_digits_at text 23) (offset (slice_index text 19)) else None)
 
 -- the Unix second of a day, a second of the day and a zone, if all exist
 abbrev pub second_of_parts : Option ℤ → Option ℕ → Option ℤ → Option ℤ
@@ -90,7 +90,7 @@ second_of_parts None time offset = None
 -- the Unix second that a text spells, or `None` if it spells no date
 unfoldable pub unix_second_of_text : List ℕ → Option ℤ
 unix_second_of_text text =
-    cond (has_separators text) (second_of_parts (day_in text) (time_in text) (zone_in text)) None
+    if has_separators text then second_of_parts (day_in text) (time_in text) (zone_in text) else None
 
 -- the text spells this second as it is printed, with `T` and `Z`
 pub record IsTextOfSecond (second : ℤ) (text : List ℕ) : Type 0 where

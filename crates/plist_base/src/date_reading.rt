@@ -1,6 +1,6 @@
 //! Parses dates to Unix seconds.
 
-ghost use Rattle.std.specs.Prelude.{◌≡◌, ◌==◌, ◌+◌, ◌+ℤ◌, ◌-ℤ◌, ◌*ℤ◌, ◌<◌, ◌≤◌, cond, length, neg_ℤ, ℤ, pos, IsTrue, Some, None, IfSome};
+ghost use Rattle.std.specs.Prelude.{◌≡◌, ◌==◌, ◌+◌, ◌+ℤ◌, ◌-ℤ◌, ◌*ℤ◌, ◌<◌, ◌≤◌, if◌then◌else◌, length, neg_ℤ, ℤ, pos, IsTrue, Some, None, IfSome};
 ghost use Rattle.jiff_core.specs.Calendar.{IsEpochDay, IsWithin};
 ghost use Rattle.plist_base.specs.UnixSeconds as spec;
 
@@ -110,8 +110,8 @@ fn has_separators(text: &[u8]) -> bool
 // Returns the number of seconds with this sign, or `None` if the sign isn't `+` or `-`.
 fn signed(sign: u8, seconds: u32) -> Option<i32>
     requires { seconds < 86400 }
-    ensures is { result ≡ cond (sign == 43) (Some (pos seconds))
-        (cond (sign == 45) (Some (neg_ℤ (pos seconds))) None) }
+    ensures is { result ≡ (if sign == 43 then Some (pos seconds)
+        else (if sign == 45 then Some (neg_ℤ (pos seconds)) else None)) }
     ensures bound { IfSome result (λ n. IsWithin 86399 n) }
 {
     match sign {

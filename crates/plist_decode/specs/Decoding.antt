@@ -1,5 +1,5 @@
 -- What an object consists of, where its references lie, and what its decoding returns.
-use Rattle.std.specs.Prelude.{◌≡◌, ℕ, ◌+◌, ◌*◌, ◌/◌, ◌%◌, ◌<◌, ◌≤◌, List, [], length, false, cond, get_or, nat_eq, Result, Option, None, Some, IfOk, MatchResult, ⊤}
+use Rattle.std.specs.Prelude.{◌≡◌, ℕ, ◌+◌, ◌*◌, ◌/◌, ◌%◌, ◌<◌, ◌≤◌, List, [], length, false, if◌then◌else◌, slice_index, nat_eq, Result, Option, None, Some, IfOk, MatchResult, ⊤}
 use Rattle.plist_base.specs.declared.error.Error.{Error}
 use Rattle.plist_base.specs.Faults.{InvalidUtf8String, InvalidUtf16String, MatchFault, kind_of, error_kind_of, offset_of}
 use Rattle.plist_base.specs.Events.{PlainEvent, StartArray, StartDictionary, event_of}
@@ -58,7 +58,7 @@ scalar_event_in object = scalar_event (scalar_in object)
 abbrev pub reference_index : CollectionKind → (count index : ℕ) → ℕ
 reference_index collection.Array count index = index
 reference_index collection.Dictionary count index =
-    cond (nat_eq (index % 2) 0) (index / 2) (count / 2 + index / 2)
+    if nat_eq (index % 2) 0 then index / 2 else count / 2 + index / 2
 
 -- the references to these children of the object in these bytes begin at `start`
 abbrev pub AreReferencesAt : (width : ℕ) (bytes children : List ℕ) → CollectionKind → (start : ℕ)
@@ -66,7 +66,7 @@ abbrev pub AreReferencesAt : (width : ℕ) (bytes children : List ℕ) → Colle
 AreReferencesAt width bytes children kind start = (index : ℕ) → index < length children
     → (start + reference_index kind (length children) index * width + width ≤ length bytes)
     × (number_at bytes (start + reference_index kind (length children) index * width) width
-    ≡ get_or children index 0)
+    ≡ slice_index children index)
 
 -- ---- what is decoded
 

@@ -1,6 +1,6 @@
 -- The tag and the content of an object, which store its offset or a small scalar, or where the
 -- references of an open collection lie.
-use Rattle.std.specs.Prelude.{◌≡◌, ℕ, pos, cond, get_or, nat_eq, ◌+◌, ◌-◌, ◌%◌, ◌≤◌, Bool, true, false, List, length, take, Option, Some, None, ◌==◌, nat_le, ⊤, if◌then◌else◌}
+use Rattle.std.specs.Prelude.{◌≡◌, ℕ, pos, slice_index, nat_eq, ◌+◌, ◌-◌, ◌%◌, ◌≤◌, Bool, true, false, List, length, take, Option, Some, None, ◌==◌, nat_le, ⊤, if◌then◌else◌}
 use Rattle.std.specs.Int.{w64, to_be_bytes, cast_signed}
 use Rattle.std.specs.Option.{option_map}
 use Rattle.std.specs.Str.{is_utf8}
@@ -78,7 +78,7 @@ is_marked tag = nat_le 128 tag
 
 -- the tag, or 0 if it is that of an open object
 abbrev pub unmarked : ℕ → ℕ
-unmarked tag = cond (is_marked tag) 0 tag
+unmarked tag = if is_marked tag then 0 else tag
 
 -- the tag of an open collection of this kind, whose references begin `start` bytes after its offset
 abbrev pub open_tag : CollectionKind → (start : ℕ) → ℕ
@@ -87,7 +87,7 @@ open_tag collection.Dictionary start = 144 + start
 
 -- the kind of the open collection with this tag
 abbrev pub open_kind : (tag : ℕ) → CollectionKind
-open_kind tag = cond (nat_le 144 tag) collection.Dictionary collection.Array
+open_kind tag = if nat_le 144 tag then collection.Dictionary else collection.Array
 
 -- the number of bytes from the offset of the open collection with this tag to its references
 abbrev pub open_start : (tag : ℕ) → ℕ
@@ -118,4 +118,4 @@ scalar_event scalar = option_map ScalarEvent scalar
 -- all tags except that of this object are unchanged
 pub record KeepsOtherTags (number : ℕ) (old new : List ℕ) : Type 0 where
   pub size : length new ≡ length old
-  pub others : (i : ℕ) → nat_eq i number ≡ false → get_or new i 0 ≡ get_or old i 0
+  pub others : (i : ℕ) → nat_eq i number ≡ false → slice_index new i ≡ slice_index old i

@@ -6,7 +6,7 @@
 //! If an object has several faults, the first of the following is reported: the marker is invalid,
 //! the object doesn't end before the trailer, or the content is invalid.
 
-ghost use Rattle.std.specs.Prelude.{◌≡◌, ◌-◌, ◌<◌, ◌≤◌, cond, length, IfErr, IfOk, IfSome};
+ghost use Rattle.std.specs.Prelude.{◌≡◌, ◌-◌, ◌<◌, ◌≤◌, if◌then◌else◌, length, IfErr, IfOk, IfSome};
 ghost use Rattle.plist_decode.specs.Decoded.{CountsSmall, DecodesAfter, DecodesSeen, small_count, CountsSmallRead, DecodesAt, FitsBefore, RefusesObjectAt};
 ghost use Rattle.plist_decode.specs.Front.{IsFront, ShowsContent, IsFrontAt};
 ghost use Rattle.plist_decode.specs.Reading.{object_with};
@@ -66,7 +66,7 @@ fn decode_after_marker(marker: u8, rest: &[u8], to_trailer: u64, width: usize) -
 // Returns whether the object can be cached.
 #[inline(always)]
 fn is_small(decoded: Decoded) -> bool
-    ensures { cond result 1 0 ≡ small_count decoded }
+    ensures { (if result then 1 else 0) ≡ small_count decoded }
 {
     match decoded {
         Decoded::Small(_, _) => true,

@@ -1,7 +1,7 @@
 //! Packs a small scalar into the tag byte and the content of its object, which is a `u64`, and the
 //! layout of an open collection into the tag byte.
 
-ghost use Rattle.std.specs.Prelude.{◌≡◌, ◌<◌, ◌≤◌, Some, get_or, length, slice_set, take, true};
+ghost use Rattle.std.specs.Prelude.{◌≡◌, ◌<◌, ◌≤◌, Some, length, slice_index, slice_set, take, true};
 ghost use Rattle.plist_decode.specs.Packed.{KeepsOtherTags, content_bytes, is_marked, is_packed, open_kind, open_start, open_tag, packed_kind};
 
 use crate::decoded::CollectionKind;
@@ -147,7 +147,7 @@ pub fn cache(
     requires packed { is_packed kind content ≡ true }
     requires number { number < length tags.old.items }
     requires same { length tags.old.items ≡ length contents.old.items }
-    ensures tag { packed_kind (get_or tags.new.items number 0) ≡ Some kind }
+    ensures tag { packed_kind (slice_index tags.new.items number) ≡ Some kind }
     ensures tags { KeepsOtherTags number tags.old.items tags.new.items }
     ensures contents { contents.new.items ≡ slice_set contents.old.items number content }
 {
@@ -161,7 +161,7 @@ pub fn cache(
 pub fn mark_open(tags: &mut Vec<u8>, number: usize, kind: CollectionKind, start: u8)
     requires number { number < length tags.old.items }
     requires start { start < 16 }
-    ensures tag { get_or tags.new.items number 0 ≡ open_tag kind start }
+    ensures tag { slice_index tags.new.items number ≡ open_tag kind start }
     ensures tags { KeepsOtherTags number tags.old.items tags.new.items }
 {
     tags[number] = open_tag(kind, start);
@@ -170,7 +170,7 @@ pub fn mark_open(tags: &mut Vec<u8>, number: usize, kind: CollectionKind, start:
 /// Removes the mark of an open object.
 pub fn unmark_open(tags: &mut Vec<u8>, number: usize)
     requires { number < length tags.old.items }
-    ensures tag { get_or tags.new.items number 0 ≡ 0 }
+    ensures tag { slice_index tags.new.items number ≡ 0 }
     ensures tags { KeepsOtherTags number tags.old.items tags.new.items }
 {
     tags[number] = 0;

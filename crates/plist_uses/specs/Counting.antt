@@ -1,5 +1,5 @@
 -- The counts of a property list.
-use Rattle.std.specs.Prelude.{◌≡◌, ℕ, ◌+◌, ◌-◌, ◌^◌, min, Bool, true, false, cond, List, ◌∷◌, ◌++◌, Result, Ok, Err, IfOk, IfErr, length, map, filter, ⊤}
+use Rattle.std.specs.Prelude.{◌≡◌, ℕ, ◌+◌, ◌-◌, ◌^◌, min, Bool, true, false, if◌then◌else◌, List, ◌∷◌, ◌++◌, Result, Ok, Err, IfOk, IfErr, length, map, filter, ⊤}
 use Rattle.plist_base.specs.declared.error.Error.{Error}
 use Rattle.plist_base.specs.Faults.{Fault, MatchFault, error_kind_of, fault_of, kind_of}
 use Rattle.plist_base.specs.Events.{PlainEvent, Item, StartArray, StartDictionary, ScalarEvent}
@@ -63,7 +63,7 @@ nothing = record { arrays = 0; dictionaries = 0; texts = 0; others = 0 }
 
 -- one more if the event passes, up to 2^64 - 1
 abbrev pub one_more : (passes : Bool) → ℕ → ℕ
-one_more passes count = cond passes (min (count + 1) (2 ^ 64 - 1)) count
+one_more passes count = if passes then min (count + 1) (2 ^ 64 - 1) else count
 
 -- an event is counted
 pub record CountsOne (event : PlainEvent) (old new : Counts) : Type 0 where
