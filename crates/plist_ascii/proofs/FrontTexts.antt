@@ -1,11 +1,12 @@
 -- Strings that end among the bytes at hand.
 use Rattle.std.proofs.Common.{◌≡◌, ℕ, zero, suc, ◌+◌, ◌-◌, ◌^◌, ◌<◌, ◌≤◌, Bool, true, false, List, [], ◌∷◌, ◌++◌, length, take, drop, Option, Some, Ok, None, refl, sym, ap, ◌∙◌, subst, append-nil, arith, length-drop}
 use Rattle.std.proofs.lemmas.List.{take-append-le, drop-append-le}
+use Rattle.std.specs.Option.{option_map_or}
 use Rattle.std.specs.Str.{is_utf8}
 use Rattle.std.specs.Prelude.{not, slice_get}
 use Rattle.plist_base.specs.declared.event.Event.{Event}
 use Rattle.plist_base.specs.Events.{Item, ScalarEvent, event_of}
-use Rattle.plist_base.specs.Trees.{String}
+use Rattle.plist_base.specs.Trees.{Integer, String}
 use Rattle.plist_base.specs.IntegerText.{integer_of_text}
 use Rattle.plist_ascii.specs.declared.stop.Stop.{Stop}
 use Rattle.plist_ascii.specs.declared.stop.Stop.TheVariants as stop
@@ -15,11 +16,10 @@ use Rattle.plist_ascii.specs.declared.reader.AsciiReader.{AsciiReader}
 use Rattle.plist_ascii.specs.AsciiReader.{GivesAscii, bytes_to_come}
 use Rattle.plist_ascii.specs.Kinds.{IfBracket, IsAsciiEvent}
 use Rattle.plist_ascii.specs.TokenPrefixes.{Taken, past_one, run, taken}
-use Rattle.plist_ascii.specs.Quoted.{ends_run, quoted, quoted_outcome, run_end}
-use Rattle.plist_ascii.specs.Texts.{bare_event, number_or_text, quoted_event}
+use Rattle.plist_ascii.specs.Texts.{ends_run, quoted, quoted_outcome, run_end, bare_event, quoted_event, scalar_of_text}
 use Rattle.plist_ascii.specs.Unread.{IfKnown, stops, unread}
 use Rattle.plist_ascii.specs.inner.Inputs.{hand_of}
-use Rattle.plist_ascii.specs.inner.FrontTexts.{BeginWithText, IsBareFront, IsQuotedFront, LeadsToText}
+use Rattle.plist_ascii.specs.inner.Parts.{BeginWithText, IsBareFront, IsQuotedFront, LeadsToText}
 use Rattle.plist_ascii.proofs.Items.{IsFirst, going_start, going_blanks, going_event}
 use Rattle.plist_ascii.proofs.UnreadBytes.{ended_hand}
 use Rattle.std.proofs.lemmas.Bool.{eq-eqb}
@@ -46,8 +46,8 @@ bare_means : (text : List ℕ) → is_utf8 text ≡ true → integer_of_text tex
     → bare_event text ≡ Ok (Some (ScalarEvent (String text)))
 unfolding bare_event
 bare_means text utf8 none =
-    (text_gives text (number_or_text text (integer_of_text text)) (ScalarEvent (String text)) utf8
-    (ap (λ n. ScalarEvent (number_or_text text n)) (sym none)) (number_is_text text _)).0
+    (text_gives text (scalar_of_text text) (ScalarEvent (String text)) utf8
+    (ap (λ n. ScalarEvent (option_map_or Integer n (String text))) (sym none)) (number_is_text text _)).0
 
 -- a bare string is the first token, whatever follows it
 pub bare_begins : (ends : ℕ → Bool) (bytes : List ℕ) (n : ℕ) (text : List ℕ)

@@ -6,7 +6,7 @@ use Rattle.std.specs.Prelude.{IfSome, MatchOption, not, ⊤}
 use Rattle.std.specs.Option.{option_map}
 use Rattle.plist_ascii.specs.declared.fault.TokenFault.{TokenFault}
 use Rattle.plist_ascii.specs.declared.fault.TokenFault.TheVariants as broken
-use Rattle.plist_ascii.specs.inner.TokenFaults.{kind_in_bytes, fault_after}
+use Rattle.plist_ascii.specs.inner.Inputs.{kind_in_bytes, fault_after}
 use Rattle.plist_base.specs.Events.{PlainEvent, Item}
 use Rattle.plist_ascii.specs.TokenPrefixes.{taken, run}
 use Rattle.plist_ascii.specs.Texts.{Token}

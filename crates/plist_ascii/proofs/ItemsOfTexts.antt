@@ -7,9 +7,8 @@ use Rattle.plist_base.specs.Faults.{FaultKind, fault_at, UnclosedString, Incompl
 use Rattle.plist_base.specs.Events.{Item, StartArray, StartDictionary, EndCollection, ScalarEvent}
 use Rattle.plist_base.specs.Trees as trees
 use Rattle.plist_base.specs.IntegerText.{integer_of_text}
-use Rattle.plist_ascii.specs.Texts.{lax_stops, tight_stops, bare_event, quoted_event}
+use Rattle.plist_ascii.specs.Texts.{lax_stops, tight_stops, bare_event, quoted_event, quoted_in}
 use Rattle.plist_ascii.specs.Escapes.{octal_char, octal_text, escape}
-use Rattle.plist_ascii.specs.Quoted.{quoted_in}
 use Rattle.plist_ascii.specs.Ascii.{token, items_in, items_of_ascii}
 
 -- the item of a string

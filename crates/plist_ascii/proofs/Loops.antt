@@ -11,8 +11,8 @@ use Rattle.std.proofs.lemmas.Bool.{eq-eqb}
 use Rattle.std.proofs.lemmas.List.Folds.{prefix_len-append}
 use Rattle.std.proofs.Math.Seq.{take-append-add, drop-append-add}
 use Rattle.std.specs.Prelude.{◌==◌}
-use Rattle.std.specs.Option.{option_map}
-use Rattle.plist_ascii.specs.Comments.{close_at, begins_with, block_comment, block_comment_to}
+use Rattle.std.specs.Option.{option_map, option_map_or}
+use Rattle.plist_ascii.specs.Ascii.{close_at, begins_with, block_comment}
 use Rattle.plist_ascii.specs.Texts.{Token}
 
 -- no byte was put back and no failure was counted, and `P` relates the bytes that remained, those
@@ -119,6 +119,12 @@ pub added : (more part : List ℕ) {all : List ℕ} → all ≡ (more ++ []) ++ 
 added more part h = h ∙ ap (λ z. z ++ part) (append-nil more)
 
 -- ---- comments
+
+-- a block comment, up to and including the `*/` at this offset
+abbrev block_comment_to : List ℕ → Option ℕ → Token
+block_comment_to rest found =
+    option_map_or (λ place. taken (suc (suc place)) (Ok None)) found
+    (taken (length rest) (Err IncompleteComment))
 
 after_star : (c : ℕ) (xs : List ℕ) (b : Bool) (o : Option ℕ)
     → block_comment_to (c ∷ xs) (cond b (Some 0) (option_map suc o))

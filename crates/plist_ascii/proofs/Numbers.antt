@@ -6,7 +6,6 @@ use Rattle.std.specs.Char.{is_digit}
 use Rattle.std.specs.Str.Parse.{without_leading_plus, without_leading_sign}
 use Rattle.std.proofs.lemmas.Bool.{eqb-true}
 use Rattle.plist_base.specs.IntegerText.{has_prefix, is_numeral, signed_of_text, unsigned_of_text, or_else, integer_of_text}
-use Rattle.plist_ascii.specs.inner.Parts.{begins_number}
 
 neither : (a b : Bool) → (a || b) ≡ false → (a ≡ false) × (b ≡ false)
 neither false false e = (refl, refl)
@@ -68,6 +67,10 @@ pub nothing_spelled : (bytes : List ℕ) → (length bytes == 0) ≡ true → in
 unfolding integer_of_text
 nothing_spelled [] e = refl
 nothing_spelled (c ∷ cs) e = absurd (no_length c cs e)
+
+-- is the byte a sign or a decimal digit?
+abbrev pub begins_number : ℕ → Bool
+begins_number c = (c == 43) || ((c == 45) || is_digit c 10)
 
 first_by : (c : ℕ) (cs : List ℕ) → begins_number c ≡ false → integer_of_text (c ∷ cs) ≡ None
 first_by c cs e =

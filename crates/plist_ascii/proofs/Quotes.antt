@@ -3,11 +3,16 @@ use Rattle.std.proofs.Common.{◌≡◌, ℕ, zero, suc, ◌+◌, ◌<◌, ◌�
 use Rattle.std.specs.Prelude.{◌==◌}
 use Rattle.std.proofs.lemmas.List.{drop-drop}
 use Rattle.plist_base.specs.Faults.{FaultKind, UnclosedString}
+use Rattle.std.specs.Result.{result_map_both}
 use Rattle.plist_ascii.specs.TokenPrefixes.{Taken, taken, past_one, run}
 use Rattle.plist_ascii.specs.Escapes.{escape}
-use Rattle.plist_ascii.specs.Quoted.{piece_then, with_front, ends_run, run_end, quoted_by, quoted_in, quoted, escape_then}
+use Rattle.plist_ascii.specs.Texts.{piece_then, ends_run, run_end, quoted_by, quoted_in, quoted, escape_then}
 use Rattle.plist_ascii.proofs.TokenOutcomes.{TakesFront}
 use Rattle.plist_ascii.proofs.Loops.{Continues, continues_more, continues_ends}
+
+-- the bytes `front`, followed by the rest of a string, or the fault of that rest
+abbrev pub with_front : List ℕ → Result (List ℕ) FaultKind → Result (List ℕ) FaultKind
+with_front front r = result_map_both (λ more. front ++ more) (λ fault. fault) r
 
 -- ---- what follows a run
 

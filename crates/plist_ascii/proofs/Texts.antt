@@ -1,24 +1,24 @@
 -- The meaning of strings, which tokens are strings, and what a slash begins.
 use Rattle.std.proofs.Common.{◌≡◌, ℕ, ◌+◌, ◌≤◌, List, true, false, Option, Some, Ok, Err, refl, ◌<◌, None, ap, sym, subst, ◌∙◌, arith, zero, suc, Bool, cond, [], ◌∷◌, ◌++◌, take, drop, Result, ◌≢◌}
 use Rattle.plist_base.specs.declared.event.Event.{Event}
-use Rattle.plist_ascii.specs.inner.TokenFaults.{Means, said}
+use Rattle.plist_ascii.specs.inner.Inputs.{Means, said}
 use Rattle.std.specs.Str.{is_utf8}
 use Rattle.plist_ascii.specs.declared.fault.TokenFault.{TokenFault}
 use Rattle.plist_ascii.specs.declared.fault.TokenFault.TheVariants as fault
 use Rattle.plist_base.specs.Faults.{InvalidUtf8AsciiStream, FaultKind, UnclosedString}
 use Rattle.plist_base.specs.Events.{PlainEvent, ScalarEvent, event_of}
-use Rattle.plist_base.specs.Trees.{Scalar, String}
+use Rattle.plist_base.specs.Trees.{Integer, Scalar, String}
+use Rattle.std.specs.Option.{option_map_or}
+use Rattle.std.specs.Result.{result_map_both}
 use Rattle.std.specs.Prelude.{ℤ, SomeIff, ⊤, ◌==◌, length, encode_utf8}
-use Rattle.plist_ascii.specs.Texts.{Token, utf8_or_fault, number_or_text, bare, bare_event, quoted_event}
+use Rattle.plist_ascii.specs.Texts.{Token, utf8_or_fault, bare, bare_event, quoted_event, escape_then, run_end, quoted_by, quoted_in, quoted, quoted_outcome, quoted_token}
 use Rattle.plist_ascii.specs.Kinds.{IsTextEvent, IsTextFault}
 use lib.Utf8.{low_scalar}
 use Rattle.std.specs.Char.{IsScalar, is_digit}
-use Rattle.plist_ascii.specs.TokenPrefixes.{Taken, taken, past_one, past_outcome, front, front_gives, run}
-use Rattle.plist_ascii.specs.Escapes.{is_surrogate, bad_unit, escape, escape_by, simple, simple_escape, octal_text, unit, first_unit, second_unit, second_letter, second_digits, pair_text}
-use Rattle.plist_ascii.specs.Quoted.{with_front, escape_then, run_end, quoted_by, quoted_in, quoted, quoted_outcome, quoted_token}
+use Rattle.plist_ascii.specs.TokenPrefixes.{Taken, taken, past_one, past_outcome, front, run}
+use Rattle.plist_ascii.specs.Escapes.{is_surrogate, bad_unit, escape, escape_by, simple_escape, octal_text, unit, first_unit, second_unit, second_letter, second_digits, pair_text}
 use Rattle.plist_ascii.specs.declared.token.Lead.{Lead}
-use Rattle.plist_ascii.specs.Ascii.{IsTextToken, lead_of, token_by}
-use Rattle.plist_ascii.specs.Comments.{slash}
+use Rattle.plist_ascii.specs.Ascii.{IsTextToken, lead_of, token_by, slash}
 use Rattle.plist_ascii.specs.Unread.{IfKnown, first, GivesFront}
 use Rattle.std.proofs.lemmas.Bool.{ne_eqb}
 use Rattle.plist_ascii.proofs.UnreadBytes.{first_splits}
@@ -28,7 +28,7 @@ pub text_gives : (xs : List ℕ) (e : Scalar) (f : PlainEvent) → is_utf8 xs �
 text_gives xs e f t h is = rw (t, h) (refl, is)
 
 pub number_is_text : (text : List ℕ) (o : Option ℤ) → IsTextEvent (ScalarEvent
-    (number_or_text text o))
+    (option_map_or Integer o (String text)))
 number_is_text text None = tt
 number_is_text text (Some number) = tt
 
@@ -61,7 +61,8 @@ bare_wants stops c xs =
 
 needs_in : {A : Type 0} (n : ℕ) (xs : List ℕ) (o : Option (List ℕ))
     (meaning : List ℕ → Result A FaultKind) → ((ds : List ℕ) → InText (meaning ds))
-    → InText (front_gives n (length xs) o meaning).gives
+    → InText (option_map_or (λ digits. taken n (meaning digits)) o
+    (taken (length xs) (Err UnclosedString))).gives
 needs_in n xs None meaning h = tt
 needs_in n xs (Some ds) meaning h = h ds
 
@@ -109,7 +110,8 @@ first_in None xs = tt
 first_in (Some u) xs =
     cond_in (is_surrogate u) (second_unit u xs) (taken 0 (Ok (encode_utf8 u))) (second_in u xs) tt
 
-simple_in : (o : Option ℕ) → InText (simple o).gives
+simple_in : (o : Option ℕ)
+    → InText (option_map_or (λ byte. Ok (byte ∷ [])) o (Err InvalidUtf8AsciiStream))
 simple_in None = tt
 simple_in (Some byte) = tt
 
@@ -129,7 +131,8 @@ unfolding escape
 escape_in [] = tt
 escape_in (c ∷ xs) = by_in c xs
 
-with_in : (front : List ℕ) (r : Result (List ℕ) FaultKind) → InText r → InText (with_front front r)
+with_in : (front : List ℕ) (r : Result (List ℕ) FaultKind) → InText r
+    → InText (result_map_both (λ more. front ++ more) (λ fault. fault) r)
 with_in front (Ok more) h = tt
 with_in front (Err fault) h = h
 

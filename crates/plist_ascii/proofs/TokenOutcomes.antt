@@ -5,9 +5,9 @@ use Rattle.std.specs.Option.{option_map}
 use Rattle.std.specs.Result.{IsErrAnd, IfErr, OnOk}
 use Rattle.plist_base.specs.Faults.{FaultKind, UnclosedString}
 use Rattle.plist_ascii.specs.declared.fault.TokenFault.{TokenFault}
-use Rattle.plist_ascii.specs.Unread.{IfKnown, FirstIsTaken, GivesFront}
+use Rattle.plist_ascii.specs.Unread.{IfKnown, GivesFront}
 use Rattle.plist_ascii.specs.TokenPrefixes.{Taken, taken, past_one, front}
-use Rattle.plist_ascii.specs.inner.TokenFaults.{kind_in_bytes, said}
+use Rattle.plist_ascii.specs.inner.Inputs.{kind_in_bytes, said}
 
 -- from offset p to offset q these bytes were taken, with this meaning or fault
 abbrev pub TakesFront : {A : Type 0} → Taken A → Result A FaultKind → (new : Option (List ℕ))
@@ -77,7 +77,7 @@ module _ {A : Type 0} (front : List ℕ → Taken A) where
   -- a byte was taken, and then what follows it
   pub gives_past : (back : List ℕ → Taken A) (old mid : Option (List ℕ)) (c p m : ℕ)
       (new : Option (List ℕ)) (q : ℕ) (o : Option (Result A FaultKind))
-      → FirstIsTaken old c mid → m ≡ p + 1 → ((ys : List ℕ) → front (c ∷ ys) ≡ past_one (back ys))
+      → IfKnown old (λ xs. (rest : List ℕ) × (xs ≡ c ∷ rest) × (mid ≡ Some rest)) → m ≡ p + 1 → ((ys : List ℕ) → front (c ∷ ys) ≡ past_one (back ys))
       → GivesFront back mid m new q o → GivesFront front old p new q o
   gives_past back old mid c p m new q o t s h a = (
     omega (arith, a.0, s),

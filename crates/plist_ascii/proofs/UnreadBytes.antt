@@ -6,11 +6,10 @@ use Rattle.std.specs.Io.KnownBytes.{Consumes}
 use Rattle.std.proofs.lemmas.List.{length-take, length-take-le, take-append-le, take-append-drop, take_all, drop_at}
 use Rattle.std.proofs.Math.Seq.{take-append-add, take-nil}
 use Rattle.std.proofs.lemmas.Bool.{ne_eqb, eqb-true, eqb-false}
-use Rattle.plist_ascii.specs.Incoming.{GivesByte}
+use Rattle.plist_ascii.specs.Unread.{GivesByte, unread_of, first, readable_with, IfKnown}
 use Rattle.plist_ascii.specs.TokenPrefixes.{run}
-use Rattle.plist_ascii.specs.Comments.{begins_with}
+use Rattle.plist_ascii.specs.Ascii.{begins_with}
 use Rattle.plist_ascii.specs.inner.Inputs.{hand_of}
-use Rattle.plist_ascii.specs.Unread.{unread_of, first, readable_with, IfKnown, FirstIsTaken, TakesPart}
 
 pub ended_unread : (k : Option (List ℕ)) (e : Bool) (p : Option ℕ) (t : ℕ) (xs : List ℕ) → e ≡ true
     → unread_of k e p t ≡ Some xs → xs ≡ []
@@ -263,7 +262,8 @@ begins_other b c (d ∷ xs) n h =
 -- the byte that was looked at is taken
 pub takes_looked : (old mid new : Option (List ℕ)) (b : ℕ)
     → IfKnown old (λ xs. (mid ≡ Some xs) × (Some b ≡ first xs))
-    → IfKnown mid (λ xs. new ≡ Some (drop 1 xs)) → FirstIsTaken old b new
+    → IfKnown mid (λ xs. new ≡ Some (drop 1 xs))
+    → IfKnown old (λ xs. (rest : List ℕ) × (xs ≡ b ∷ rest) × (new ≡ Some rest))
 takes_looked old mid new b looked taken =
     λ xs e. let h = looked xs e in (_, first_splits _ xs h.1, taken xs h.0)
 
@@ -320,12 +320,13 @@ plain_part stop (c ∷ xs) = by_stop (stop c) refl (plain_part stop xs)
     by_stop false e h =
         let one : 1 + n ≡ suc n = omega arith in rw (e, one, e) (ap (λ m. 1 + m) h ∙ one)
 
--- the bytes at hand before a stop are taken
+-- the bytes at hand before a stop are taken, of which `P` is true
 pub part_taken : (stop : ℕ → Bool) (hand bytes rest : List ℕ) (n : ℕ) (new : Option (List ℕ))
-    (p q : ℕ) (xs : List ℕ) → bytes ≡ hand → n ≡ run stop bytes → n ≤ length bytes
-    → xs ≡ hand ++ rest → new ≡ Some (drop n xs) → q ≡ p + n
-    → TakesPart stop p new q (take n bytes) xs
-part_taken stop hand bytes rest n new p q xs same is le e taken place =
+    (p q : ℕ) (xs : List ℕ) (P : List ℕ → Type 0) → P (take n bytes) → bytes ≡ hand
+    → n ≡ run stop bytes → n ≤ length bytes → xs ≡ hand ++ rest → new ≡ Some (drop n xs) → q ≡ p + n
+    → (part : List ℕ) × P part × (rest : List ℕ) × (xs ≡ part ++ rest)
+    × (run stop part ≡ length part) × (new ≡ Some rest) × (q ≡ p + length part)
+part_taken stop hand bytes rest n new p q xs P is-part same is le e taken place =
     let part = take n bytes in
     let len : length part ≡ n = length-take-le n bytes le in
     let all : xs ≡ bytes ++ rest = rw (← same) at e in
@@ -333,7 +334,7 @@ part_taken stop hand bytes rest n new p q xs same is le e taken place =
     let whole : xs ≡ part ++ drop n xs = sym (take-append-drop n xs) ∙ ap
     (λ z. z ++ drop n xs) front in
     let plain : run stop part ≡ length part = rw is (plain_part stop bytes ∙ sym (rw is at len)) in
-    (drop n xs, whole, plain, taken, place ∙ ap (λ z. p + z) (sym len))
+    (part, is-part, drop n xs, whole, plain, taken, place ∙ ap (λ z. p + z) (sym len))
 
 -- before the first byte is taken, all bytes remain, but no more than 2^64 - 1
 pub new_unread : {R : Type 0} (known : R → Option (List ℕ)) (r inner : R) (e : Bool) (p : Option ℕ)
@@ -344,6 +345,6 @@ new_unread known r inner e p t i n z g = rw (i, n, z, g) refl
 
 -- unless the input has ended, the bytes that remain are those that may be read
 pub going_unread : (k : Option (List ℕ)) (e : Bool) (p : Option ℕ) (t : ℕ) → (e ≡ true → ⊥)
-    → IfSome k (λ xs. unread_of k e p t ≡ Some (readable_with p t xs))
+    → unread_of k e p t ≡ option_map (readable_with p t) k
 unfolding unread_of
 going_unread k e p t h = search rules

@@ -1,14 +1,44 @@
 -- The tokens of an old-style ASCII property list, and their items.
-use Rattle.std.specs.Prelude.{◌≡◌, ◌⊎◌, ℕ, zero, suc, ◌+◌, Bool, true, false, if◌then◌else◌, List, [], ◌∷◌, length, drop, map, Option, None, Some, Result, Ok, Err}
-use Rattle.plist_base.specs.Faults.{FaultKind, fault_at}
+use Rattle.std.specs.Prelude.{◌≡◌, ◌⊎◌, ℕ, zero, suc, ◌+◌, ◌&&◌, ◌==◌, Bool, true, false, if◌then◌else◌, List, [], ◌∷◌, length, drop, map, Option, None, Some, Result, Ok, Err}
+use Rattle.std.specs.Option.{option_map, option_map_or}
+use Rattle.plist_base.specs.Faults.{FaultKind, IncompleteComment, fault_at}
 use Rattle.plist_base.specs.Events.{PlainEvent, StartArray, StartDictionary, EndCollection, Item}
 use Rattle.plist_ascii.specs.declared.token.Lead.{Lead}
 use Rattle.plist_ascii.specs.declared.token.Lead.TheVariants as lead
-use Rattle.plist_ascii.specs.TokenPrefixes.{is_one_of, taken, past_one}
-use Rattle.plist_ascii.specs.Texts.{Token, bare, lax_stops}
-use Rattle.plist_ascii.specs.Quoted.{quoted_token}
-use Rattle.plist_ascii.specs.Comments.{slash}
+use Rattle.plist_ascii.specs.TokenPrefixes.{is_one_of, taken, past_one, run}
+use Rattle.plist_ascii.specs.Texts.{Token, bare, lax_stops, quoted_token}
 use Rattle.plist_ascii.specs.Kinds.{IsTextEvent, IsTextFault}
+
+-- ---- what a slash begins
+
+-- a line comment, up to the LF, which isn't taken
+abbrev pub line_comment : List ℕ → Token
+line_comment rest = taken (run (λ c. c == 10) rest) (Ok None)
+
+-- is c the first byte?
+abbrev pub begins_with : ℕ → List ℕ → Bool
+begins_with c [] = false
+begins_with c (d ∷ rest) = d == c
+
+-- the offset of the first `*/`
+abbrev pub close_at : List ℕ → Option ℕ
+close_at [] = None
+close_at (c ∷ rest) =
+    if (c == 42) && begins_with 47 rest then Some 0 else option_map suc (close_at rest)
+
+-- a block comment, up to and including the first `*/`
+abbrev pub block_comment : List ℕ → Token
+block_comment rest = option_map_or (λ place. taken (suc (suc place)) (Ok None)) (close_at rest)
+    (taken (length rest) (Err IncompleteComment))
+
+-- the token that a slash begins: a comment, or a bare string
+abbrev pub slash : (stops : ℕ → Bool) → List ℕ → Token
+slash stops [] = taken 0 (Err IncompleteComment)
+slash stops (c ∷ rest) =
+    if c == 47 then past_one (line_comment rest)
+    else if c == 42 then past_one (block_comment rest) else bare stops 47 (c ∷ rest)
+
+-- ---- tokens
 
 -- what a byte begins: a start, an end, nothing, a quoted string, a comment or a bare string
 abbrev pub lead_of : ℕ → Lead
@@ -45,6 +75,8 @@ abbrev pub OnlyBareTextsDiffer : Type 0
 OnlyBareTextsDiffer =
     (c : ℕ) (rest : List ℕ) → ((stops : ℕ → Bool) → token stops c rest ≡ token lax_stops c rest)
     ⊎ ((stops : ℕ → Bool) → token stops c rest ≡ past_one (bare stops c rest))
+
+-- ---- items
 
 -- an item, what its first byte begins, and the offset of its end
 pub record PlacedItem : Type 0 where

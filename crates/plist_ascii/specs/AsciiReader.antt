@@ -12,8 +12,7 @@ use Rattle.plist_ascii.specs.Texts.{ends_bare}
 use Rattle.plist_ascii.specs.declared.token.Lead.{Lead}
 use Rattle.plist_ascii.specs.Ascii.{PlacedItem, placed, placed_items, items_of_ascii, BeginsWithText, FirstIsQuoted}
 use Rattle.plist_ascii.specs.Kinds.{IsAsciiItem, IsFaultOfBytes, IfBracketItem}
-use Rattle.plist_ascii.specs.Incoming.{ItemCountsIoIfCounted}
-use Rattle.plist_ascii.specs.Unread.{unread, IfKnown}
+use Rattle.plist_ascii.specs.Unread.{ItemCountsIoIfCounted, unread, IfKnown}
 
 -- the inner reader
 abbrev pub device_of : {R : Type 0} → AsciiReader R → R

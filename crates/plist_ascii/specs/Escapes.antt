@@ -9,6 +9,7 @@
 use Rattle.std.specs.Prelude.{ℕ, ◌-◌, Bool, if◌then◌else◌, ◌&&◌, ◌||◌, ◌==◌, codes, nat_lt, nat_le, List, [], ◌∷◌, ◌++◌, slice_index, Option, None, Some, Result, Ok, Err, encode_utf8}
 use Rattle.std.specs.List.{list_all, zip}
 use Rattle.std.specs.Map.{lookup}
+use Rattle.std.specs.Option.{option_map_or}
 use Rattle.std.specs.Char.{is_digit}
 use Rattle.std.specs.Char.Utf16.{is_high_surrogate, is_low_surrogate, surrogate_pair_char}
 use Rattle.std.specs.Str.Parse.{digits_value}
@@ -22,11 +23,6 @@ letters = zip (codes "\\\"'abfnrtv") (codes "\\\"'\u{7}\u{8}\u{c}\n\r\t\u{b}")
 -- the byte that a letter stands for, or `None`
 abbrev pub simple_escape : ℕ → Option ℕ
 simple_escape c = lookup (λ letter. c == letter) letters
-
--- the byte that a letter stands for, or a fault if it stands for no byte; no more bytes are taken
-abbrev pub simple : Option ℕ → Taken (List ℕ)
-simple (Some byte) = taken 0 (Ok (byte ∷ []))
-simple None = taken 0 (Err InvalidUtf8AsciiStream)
 
 -- NeXTSTEP's characters 128 to 255 in Unicode
 abbrev pub nextstep : List ℕ
@@ -103,7 +99,8 @@ unicode rest = followed rest (unit rest) first_unit
 abbrev pub escape_by : ℕ → List ℕ → Taken (List ℕ)
 escape_by c rest =
     if is_one_of "U" c then unicode rest
-    else if is_digit c 8 then octal c rest else simple (simple_escape c)
+    else if is_digit c 8 then octal c rest
+    else taken 0 (option_map_or (λ byte. Ok (byte ∷ [])) (simple_escape c) (Err InvalidUtf8AsciiStream))
 
 -- the bytes that an escape stands for
 unfoldable pub escape : List ℕ → Taken (List ℕ)

@@ -40,10 +40,8 @@ IsAsciiItem item =
 
 -- if the event is a start or an end, the fact is true
 abbrev pub IfBracket : PlainEvent → (fact : Type 0) → Type 0
-IfBracket (StartArray length) fact = fact
-IfBracket (StartDictionary length) fact = fact
-IfBracket EndCollection fact = fact
 IfBracket (ScalarEvent scalar) fact = ⊤
+IfBracket other fact = fact
 
 -- if the item is a start or an end, the fact is true
 abbrev pub IfBracketItem : Option (Result Event Error) → (fact : Type 0) → Type 0

@@ -1,11 +1,8 @@
 pub mod TokenPrefixes
-pub mod Texts
 pub mod Escapes
-pub mod Quoted
-pub mod Comments
-pub mod Ascii
+pub mod Texts
 pub mod Kinds
-pub mod Incoming
+pub mod Ascii
 pub mod Unread
 pub mod AsciiReader
 pub mod inner

@@ -1,13 +1,16 @@
--- The meaning of bare and quoted strings.
-use Rattle.std.specs.Prelude.{ℕ, ℤ, Bool, if◌then◌else◌, List, ◌∷◌, take, Option, None, Some, Result, Ok, Err}
+-- Bare and quoted strings, and their meaning.
+use Rattle.std.specs.Prelude.{ℕ, zero, suc, ◌+◌, Bool, if◌then◌else◌, ◌||◌, ◌==◌, List, [], ◌∷◌, ◌++◌, length, take, drop, Option, Some, Result, Ok, Err}
+use Rattle.std.specs.Option.{option_map_or}
+use Rattle.std.specs.Result.{result_map_both}
 use Rattle.std.specs.Str.{is_utf8}
-use Rattle.plist_base.specs.Faults.{FaultKind, InvalidUtf8AsciiStream}
+use Rattle.plist_base.specs.Faults.{FaultKind, InvalidUtf8AsciiStream, UnclosedString}
 use Rattle.plist_base.specs.Events.{PlainEvent, ScalarEvent}
 use Rattle.plist_base.specs.Trees.{Scalar, Integer, String}
 use Rattle.plist_base.specs.IntegerText.{integer_of_text}
 use Rattle.plist_ascii.specs.declared.dialect.Dialect.{Dialect}
 use Rattle.plist_ascii.specs.declared.dialect.Dialect.TheVariants as dialect
-use Rattle.plist_ascii.specs.TokenPrefixes.{Taken, is_one_of, taken, run}
+use Rattle.plist_ascii.specs.TokenPrefixes.{Taken, is_one_of, past_one, run, taken}
+use Rattle.plist_ascii.specs.Escapes.{escape}
 
 -- a token: the number of bytes taken, and an event, no event or a fault
 abbrev pub Token : Type 0
@@ -26,14 +29,9 @@ abbrev pub ends_bare : Dialect → ℕ → Bool
 ends_bare dialect.Lax c = lax_stops c
 ends_bare dialect.Tight c = tight_stops c
 
--- the integer that a string spells, or the string if it spells none
-abbrev pub number_or_text : List ℕ → Option ℤ → Scalar
-number_or_text text (Some number) = Integer number
-number_or_text text None = String text
-
--- the scalar of a bare string
+-- the scalar of a bare string: the integer that it spells, or the string if it spells none
 abbrev pub scalar_of_text : List ℕ → Scalar
-scalar_of_text text = number_or_text text (integer_of_text text)
+scalar_of_text text = option_map_or Integer (integer_of_text text) (String text)
 
 -- the event of a scalar, or a fault if the bytes of its string aren't UTF-8
 abbrev pub utf8_or_fault : List ℕ → Scalar → Result (Option PlainEvent) FaultKind
@@ -51,3 +49,51 @@ quoted_event text = utf8_or_fault text (String text)
 -- a bare string: its first byte, and the longest run after it without a stop
 abbrev pub bare : (stops : ℕ → Bool) → ℕ → List ℕ → Token
 bare stops c rest = taken (run stops rest) (bare_event (c ∷ take (run stops rest) rest))
+
+-- ---- quoted strings, from the byte after the opening quote on
+
+-- does a byte end a run of plain bytes, as the quote and a backslash do?
+abbrev pub ends_run : ℕ → ℕ → Bool
+ends_run quote c = (c == quote) || (c == 92)
+
+-- n bytes are taken, which stand for `front`, and then the rest of the string
+abbrev pub piece_then : ℕ → List ℕ → Taken (List ℕ) → Taken (List ℕ)
+piece_then n front t =
+    taken (n + t.bytes) (result_map_both (λ more. front ++ more) (λ fault. fault) t.gives)
+
+-- an escape of n bytes is taken, and then the rest of the string, unless the escape has a fault
+abbrev pub escape_then : ℕ → Result (List ℕ) FaultKind → (ℕ → Taken (List ℕ)) → Taken (List ℕ)
+escape_then n (Ok text) more = piece_then n text (more n)
+escape_then n (Err fault) more = taken n (Err fault)
+
+module _ (quote : ℕ) (more : List ℕ → Taken (List ℕ)) where
+  -- what ends a run: the closing quote, an escape, or the end of the input
+  abbrev pub run_end : List ℕ → Taken (List ℕ)
+  run_end [] = taken 0 (Err UnclosedString)
+  run_end (c ∷ rest) =
+      past_one (if c == quote then taken 0 (Ok [])
+      else escape_then (escape rest).bytes (escape rest).gives (λ n. more (drop n rest)))
+
+  -- the longest run of plain bytes, followed by what ends it
+  abbrev pub quoted_by : List ℕ → Taken (List ℕ)
+  quoted_by bytes =
+      piece_then (run (ends_run quote) bytes) (take (run (ends_run quote) bytes) bytes)
+      (run_end (drop (run (ends_run quote) bytes) bytes))
+
+-- runs and escapes alternate; `fuel` is at least the number of escapes
+unfoldable pub quoted_in : (quote fuel : ℕ) → List ℕ → Taken (List ℕ)
+quoted_in quote zero bytes = quoted_by quote (λ _. taken 0 (Err UnclosedString)) bytes
+quoted_in quote (suc fuel) bytes = quoted_by quote (quoted_in quote fuel) bytes
+
+-- the bytes of a quoted string up to its closing quote, or its first fault
+abbrev pub quoted : (quote : ℕ) → List ℕ → Taken (List ℕ)
+quoted quote bytes = quoted_in quote (length bytes) bytes
+
+-- the meaning of the bytes of a quoted string, or their fault
+abbrev pub quoted_outcome : Result (List ℕ) FaultKind → Result (Option PlainEvent) FaultKind
+quoted_outcome (Ok text) = quoted_event text
+quoted_outcome (Err fault) = Err fault
+
+-- the token of a quoted string, from the byte after the opening quote on
+abbrev pub quoted_token : ℕ → List ℕ → Token
+quoted_token quote rest = taken (quoted quote rest).bytes (quoted_outcome (quoted quote rest).gives)

@@ -2,7 +2,7 @@
 use Rattle.std.specs.Prelude.{ℕ, suc, zero, ◌+◌, Bool, not, ◌==◌, codes, List, [], ◌∷◌, length, drop, Option, None, Some, Result, Ok, Err}
 use Prim.Native.String.{String}
 use Rattle.std.specs.List.{list_any, prefix_len}
-use Rattle.std.specs.Option.{option_map}
+use Rattle.std.specs.Option.{option_map, option_map_or}
 use Rattle.plist_base.specs.Faults.{FaultKind, UnclosedString}
 
 -- the number of bytes taken, and their meaning or fault
@@ -39,16 +39,11 @@ front zero bytes = Some []
 front (suc n) [] = None
 front (suc n) (c ∷ bytes) = option_map (λ cs. c ∷ cs) (front n bytes)
 
--- `count` bytes are taken with their meaning; if there are fewer, all `left` bytes are taken, and
--- the string is unclosed
-abbrev pub front_gives : {A : Type 0} → ℕ → ℕ → Option (List ℕ) → (List ℕ → Result A FaultKind)
-    → Taken A
-front_gives count left (Some digits) meaning = taken count (meaning digits)
-front_gives count left None meaning = taken left (Err UnclosedString)
-
--- `count` bytes are taken with their meaning; if there are fewer, the string is unclosed
+-- `count` bytes are taken with their meaning; if there are fewer, all bytes are taken, and the string
+-- is unclosed
 abbrev pub needs : {A : Type 0} → ℕ → List ℕ → (List ℕ → Result A FaultKind) → Taken A
-needs count bytes meaning = front_gives count (length bytes) (front count bytes) meaning
+needs count bytes meaning = option_map_or (λ digits. taken count (meaning digits))
+    (front count bytes) (taken (length bytes) (Err UnclosedString))
 
 -- one byte is taken, and then what `next` takes; if there is no byte, the string is unclosed
 abbrev pub after_byte : {A : Type 0} → (ℕ → List ℕ → Taken A) → List ℕ → Taken A

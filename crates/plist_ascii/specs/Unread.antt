@@ -1,15 +1,39 @@
--- The bytes that an input hasn't taken yet, and those that remain after a part of a token is taken.
-use Rattle.std.specs.Prelude.{◌≡◌, ℕ, ◌+◌, ◌-◌, ◌^◌, ◌≤◌, Bool, true, false, not, ◌==◌, List, [], ◌∷◌, ◌++◌, length, take, drop, Option, Some, Result, IfSome, slice_get}
+-- The bytes that an input hasn't taken yet, what a read or a part of a token takes of them, and how
+-- the count of failures changes.
+use Rattle.std.specs.Prelude.{◌≡◌, ℕ, ◌+◌, ◌-◌, ◌^◌, ◌≤◌, Bool, true, false, not, ◌==◌, List, [], ◌∷◌, take, drop, Option, None, Some, Result, IfSome, slice_get, ⊤}
+use Rattle.std.specs.Io.KnownBytes.{Consumes, IsAtEnd}
 use Rattle.std.specs.List.{cons_option}
 use Rattle.std.specs.Option.{option_map}
+use Rattle.plist_base.specs.declared.error.Error.{Error}
 use Rattle.plist_base.specs.Faults.{FaultKind}
+use Rattle.plist_base.specs.FirstItems.{MatchItem}
+use Rattle.plist_base.specs.Sources.{Rises}
 use Rattle.plist_ascii.specs.declared.input.Input.{Input}
 use Rattle.plist_ascii.specs.declared.stop.Stop.{Stop}
 use Rattle.plist_ascii.specs.declared.stop.Stop.TheVariants as stop
-use Rattle.plist_ascii.specs.TokenPrefixes.{Taken, run}
-use Rattle.plist_ascii.specs.Texts.{ends_bare}
+use Rattle.plist_ascii.specs.TokenPrefixes.{Taken}
+use Rattle.plist_ascii.specs.Texts.{ends_bare, ends_run}
 use Rattle.plist_ascii.specs.Ascii.{is_blank}
-use Rattle.plist_ascii.specs.Quoted.{ends_run}
+
+-- the byte that was returned is removed from the known bytes; `None` is returned only at their end
+abbrev pub GivesByte : Option (List ℕ) → Option ℕ → Option (List ℕ) → Type 0
+GivesByte old None new = Consumes old new [] × IsAtEnd new
+GivesByte old (Some byte) new = Consumes old new (byte ∷ [])
+
+-- if failures are counted, their count rose or is at its maximum
+abbrev pub RisesIfCounted : Option ℕ → Option ℕ → Type 0
+RisesIfCounted None new = ⊤
+RisesIfCounted (Some old) None = ⊥
+RisesIfCounted (Some old) (Some new) = Rises old new
+
+-- the count of failures rose if the iterator yielded `Io`, and otherwise is unchanged
+abbrev pub ItemCountsIoIfCounted : {A : Type 0} → Option (Result A Error) → Option ℕ → Option ℕ
+    → Type 0
+ItemCountsIoIfCounted item old new =
+    let same = new ≡ old in
+    MatchItem item same (λ _. same) (RisesIfCounted old new) same (λ _. same)
+
+-- ---- bytes that were not taken yet
 
 -- the bytes that can be taken: one that was looked at, if any, and then the others, up to a total
 -- of 2^64 - 1
@@ -41,18 +65,6 @@ stops (stop.Bare dialect) c = ends_bare dialect c
 stops stop.LineEnd c = c == 10
 stops stop.Star c = c == 42
 stops (stop.Quoted quote) c = ends_run quote c
-
--- the first of the old bytes was taken
-abbrev pub FirstIsTaken : Option (List ℕ) → ℕ → Option (List ℕ) → Type 0
-FirstIsTaken old c new = IfKnown old (λ bytes. (rest : List ℕ) × (bytes ≡ c ∷ rest)
-    × (new ≡ Some rest))
-
--- the bytes begin with `part`, which has no stop and was taken, from offset p to offset q
-abbrev pub TakesPart : (stops : ℕ → Bool) → (p : ℕ) → (new : Option (List ℕ)) → (q : ℕ)
-    → (part : List ℕ) → List ℕ → Type 0
-TakesPart stops p new q part bytes =
-    (rest : List ℕ) × (bytes ≡ part ++ rest) × (run stops part ≡ length part) × (new ≡ Some rest)
-    × (q ≡ p + length part)
 
 -- from offset p to offset q, what is at the front of the old bytes was taken, with this meaning or
 -- fault; without an outcome, nothing is said about the bytes

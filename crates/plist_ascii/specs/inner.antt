@@ -1,5 +1,3 @@
 -- Definitions that are used by bodies and proofs, but by no public clause.
-pub mod TokenFaults
 pub mod Parts
 pub mod Inputs
-pub mod FrontTexts

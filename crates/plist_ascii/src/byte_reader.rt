@@ -2,7 +2,7 @@
 
 ghost use Rattle.std.specs.Prelude.{◌≡◌, ◌≤◌, ◌++◌, ℕ, List, [], length, take, Option, None, IfOk, IfSome, MatchResult};
 ghost use Rattle.std.specs.Io.KnownBytes.{Consumes};
-ghost use Rattle.plist_ascii.specs.Incoming.{GivesByte, RisesIfCounted};
+ghost use Rattle.plist_ascii.specs.Unread.{GivesByte, RisesIfCounted};
 
 use std::io;
 use std::io::Read;

@@ -1,10 +1,9 @@
 //! Takes the bytes of a reader one after another.
 
-ghost use Rattle.std.specs.Prelude.{◌≡◌, ◌+◌, ◌++◌, ◌^◌, ◌<◌, ◌≤◌, ℕ, List, [], drop, length, None, Some, true, false, IfOk, IfErr, IfSome, OnOk};
-ghost use Rattle.plist_ascii.specs.Unread.{IfKnown, TakesPart, stops, unread};
+ghost use Rattle.std.specs.Prelude.{◌≡◌, ◌+◌, ◌++◌, ◌^◌, ◌<◌, ◌≤◌, ℕ, List, [], drop, length, None, Some, true, false, IfOk, IfErr, IfSome, IsSome, OnOk, ⊤};
+ghost use Rattle.plist_ascii.specs.Unread.{IfKnown, unread};
 ghost use Rattle.plist_base.specs.Faults.{UnclosedString, fault_of};
-ghost use Rattle.plist_ascii.specs.inner.TokenFaults.{fault_after, kind_in_bytes};
-ghost use Rattle.plist_ascii.specs.inner.Inputs.{CountsByte, CountsFailed, CountsRead, EndsInput, HasFailed, HasNothingLeft, IfCame, IsAtStop, Looks, TakesHand, TakesIf, TakesNext, TakesOneMore, hand};
+ghost use Rattle.plist_ascii.specs.inner.Inputs.{fault_after, kind_in_bytes, CountsByte, CountsFailed, CountsRead, EndsInput, HasNothingLeft, IfCame, Looks, TakesHand, TakesIf, TakesNext, TakesOneMore, TakesPart, hand};
 
 use crate::byte_reader::ByteReader;
 use crate::fault::TokenFault;
@@ -229,10 +228,7 @@ impl<R: ByteReader> Input<R> {
     #[inline(always)]
     pub fn skip_part(&mut self, stop: Stop) -> bool
         // Result.
-        ensures bytes { IfKnown (unread R.remaining self.old) (λ xs. (part : List ℕ)
-            × TakesPart (stops stop) self.old.taken (unread R.remaining self.new) self.new.taken
-            part xs) }
-        ensures end { result ≡ false → IsAtStop R.remaining stop self.old self.new }
+        ensures part { TakesPart R.remaining stop (λ _. ⊤) self.old result self.new }
         // State afterwards.
         ensures whole { result ≡ true → TakesHand R.window self.old self.new }
         ensures place { self.old.taken ≤ self.new.taken }
@@ -256,12 +252,8 @@ impl<R: ByteReader> Input<R> {
         text: &mut Vec<u8>,
     ) -> Result<bool, AllocError>
         // Result.
-        ensures bytes { OnOk result (IfKnown (unread R.remaining self.old) (λ xs. (part : List ℕ)
-            × (text.new.items ≡ (text.old.items ++ front.now) ++ part)
-            × TakesPart (stops stop) self.old.taken (unread R.remaining self.new) self.new.taken
-            part xs)) }
-        ensures end { IfOk result (λ more. more ≡ false
-            → IsAtStop R.remaining stop self.old self.new) }
+        ensures part { IfOk result (λ more. TakesPart R.remaining stop (λ part. text.new.items
+            ≡ (text.old.items ++ front.now) ++ part) self.old more self.new) }
         // State afterwards.
         ensures whole { IfOk result (λ more. more ≡ true
             → TakesHand R.window self.old self.new) }
@@ -295,7 +287,7 @@ impl<R: ByteReader> Input<R> {
     #[cold]
     #[inline(never)]
     pub fn error(&mut self, fault: TokenFault) -> Error
-        requires failed { HasFailed fault self.old }
+        requires failed { fault ≡ TokenFault.Io → IsSome self.old.failure }
         // Result.
         ensures error { fault_of result ≡ fault_after fault self.old.taken }
         // State afterwards.

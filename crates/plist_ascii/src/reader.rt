@@ -3,8 +3,7 @@
 ghost use Rattle.std.specs.Prelude.{◌≡◌, ◌-◌, ◌<◌, ℕ, List, None, Some, true, IfSome};
 ghost use Rattle.plist_ascii.specs.Kinds.{IsAsciiItem, IfBracketItem};
 ghost use Rattle.plist_ascii.specs.Ascii.{placed_items};
-ghost use Rattle.plist_ascii.specs.Incoming.{ItemCountsIoIfCounted};
-ghost use Rattle.plist_ascii.specs.Unread.{IfKnown, stops, unread};
+ghost use Rattle.plist_ascii.specs.Unread.{ItemCountsIoIfCounted, IfKnown, stops, unread};
 ghost use Rattle.plist_ascii.specs.AsciiReader.{GivesAsciiItem, TakesBytes, FaultIsAt, IfQuotedItem, EndsAfterIoOrMemory, bytes_to_come, readable};
 
 use crate::byte_reader::ByteReader;
@@ -88,7 +87,8 @@ pub struct AsciiReader<R> {
 }
 
 impl<R: ByteReader> AsciiReader<R> {
-    ghost use Rattle.std.specs.Prelude.{◌≡◌, ◌-◌, None, IfSome, Some};
+    ghost use Rattle.std.specs.Prelude.{◌≡◌, ◌-◌, None};
+    ghost use Rattle.std.specs.Option.{option_map};
     ghost use Rattle.plist_ascii.specs.Ascii.{OnlyBareTextsDiffer};
     ghost use Rattle.plist_ascii.specs.Unread.{readable_with};
     ghost use Rattle.plist_ascii.specs.AsciiReader.{untaken_bytes, dialect_of, device_of, peeked_byte, place_of, HasEndedAscii};
@@ -135,9 +135,8 @@ impl<R: ByteReader> AsciiReader<R> {
     /// been read.
     #[tactic(auto, using(crate::proofs::UnreadBytes::going_unread))]
     pub fn into_inner(self) -> R
-        ensures bytes { (HasEndedAscii self → ⊥) → IfSome (R.remaining result) (λ bytes.
-            untaken_bytes R.remaining self
-            ≡ Some (readable_with (peeked_byte self) (place_of self) bytes)) }
+        ensures bytes { ¬ (HasEndedAscii self) → untaken_bytes R.remaining self
+            ≡ option_map (readable_with (peeked_byte self) (place_of self)) (R.remaining result) }
         ensures inner { result ≡ device_of self }
     {
         self.input.into_inner()

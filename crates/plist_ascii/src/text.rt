@@ -1,14 +1,12 @@
 //! Bare strings, and the meaning of strings.
 
-ghost use Rattle.std.specs.Prelude.{◌≡◌, ◌+◌, ◌≤◌, [], ◌∷◌, ◌++◌, None, Some, Ok, Err, false, true, IfOk, IfErr, OnOk, string_bytes};
+ghost use Rattle.std.specs.Prelude.{◌≡◌, ◌==◌, ◌||◌, ◌+◌, ◌≤◌, [], ◌∷◌, ◌++◌, None, Some, Ok, Err, false, true, IfOk, IfErr, OnOk, string_bytes};
 ghost use Rattle.plist_base.specs.IntegerText.{integer_of_text};
 ghost use Rattle.plist_base.specs.Events.{ScalarEvent, event_of};
-ghost use Rattle.plist_ascii.specs.Texts.{bare, bare_event, quoted_event, number_or_text, scalar_of_text};
+ghost use Rattle.plist_ascii.specs.Texts.{bare, bare_event, quoted_event, scalar_of_text};
 ghost use Rattle.plist_ascii.specs.Kinds.{IsTextEvent};
 ghost use Rattle.plist_ascii.specs.Unread.{stops};
-ghost use Rattle.plist_ascii.specs.inner.TokenFaults.{Means, kind_in_bytes};
-ghost use Rattle.plist_ascii.specs.inner.Inputs.{AddsRun, CountsFailed, GivesBy};
-ghost use Rattle.plist_ascii.specs.inner.Parts.{begins_number};
+ghost use Rattle.plist_ascii.specs.inner.Inputs.{Means, kind_in_bytes, AddsRun, CountsFailed, GivesBy};
 ghost use Rattle.std.specs.Char.{is_digit};
 ghost use Rattle.std.specs.Str.{is_utf8};
 
@@ -51,7 +49,7 @@ fn is_decimal(byte: u8) -> bool
 
 // Returns whether this byte is a sign or a decimal digit.
 fn begins_number(byte: u8) -> bool
-    ensures { result ≡ begins_number byte }
+    ensures { result ≡ (byte == 43) || ((byte == 45) || is_digit byte 10) }
 {
     byte == b'+' || byte == b'-' || is_decimal(byte)
 }

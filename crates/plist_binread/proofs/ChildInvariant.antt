@@ -6,8 +6,8 @@ use Rattle.plist_base.specs.Visits.{Flow}
 use Rattle.plist_base.specs.Events.{PlainEvent}
 use Rattle.plist_base.specs.Faults.{IsIo, kind_of, error_kind_of}
 use Rattle.plist_base.proofs.Refusals.{MatchFault-weaker}
-use Rattle.plist_binread.specs.Walking.{IsKnownWalk, IsWalkOf, open_in, remaining_entering, remaining_in}
-use Rattle.plist_binread.specs.Step.{YieldsResult, WalkTakesNextChild, stored_references}
+use Rattle.plist_binread.specs.Walking.{IsCachedIfSmall, IsKnownWalk, IsWalkOf, open_in, remaining_entering, remaining_in}
+use Rattle.plist_binread.specs.Step.{ParentIsOpen, TakesChild, TakesNextChild, YieldsResult, stored_references}
 use Rattle.plist_binread.specs.declared.frames.NextChild.{NextChild}
 use Rattle.plist_binread.specs.declared.frames.NextChild.TheVariants.{Child}
 use Rattle.plist_binread.specs.declared.walk.Walk.{Walk}
@@ -18,7 +18,6 @@ use Rattle.plist_format.specs.Unfolding.{until_fault}
 use Rattle.plist_decode.specs.Reading.{object_at}
 use Rattle.plist_binread.specs.References.{AreReferencesOf, ReadsChildAt}
 use Rattle.plist_binread.specs.Remaining.{place_at, children_at, entries_of, next_number, Explains}
-use Rattle.plist_binread.specs.NextChild.{IsCurrentCached, ParentIsOpen, TakesNextChild}
 use Rattle.plist_binread.proofs.WalkInvariant.{as_many, entry_there, held_place}
 use Rattle.std.proofs.lemmas.Option.{IfSome_then}
 use Rattle.plist_decode.proofs.UnknownBytes.{IfSome-both}
@@ -27,10 +26,10 @@ use Rattle.plist_decode.proofs.UnknownBytes.{IfSome-both}
 
 abbrev pub ChildTaken : (bytes : List ℕ) → Bounds → (old : Walk) → NextChild → (new : Walk) → Type 0
 ChildTaken bytes bounds old child new =
-    TakesNextChild (entries_of bytes bounds) (open_in old) child (open_in new) × IsWalkOf bytes bounds new
+    TakesChild bytes bounds old child new × IsWalkOf bytes bounds new
 
 pub known_child_taken : (known : Option (List ℕ)) (bounds : Bounds) (old new : Walk) (child : NextChild)
-    → IsKnownWalk known bounds old → WalkTakesNextChild old child new
+    → IsKnownWalk known bounds old → TakesNextChild old child new
     → IfSome known (λ bytes. ChildTaken bytes bounds old child new)
 known_child_taken known bounds old new child k takes =
     IfSome_then known k (λ bytes k. takes bytes bounds k)
@@ -41,7 +40,7 @@ child_of bytes bounds object index =
     get_or (children_at (slice_get (entries_of bytes bounds) object)) index 0
 
 module _ (known : Option (List ℕ)) (bounds : Bounds) (old mid : Walk) (frame : Frame)
-    (parent : ParentIsOpen mid.tags.items (Child frame))
+    (parent : ParentIsOpen mid (Child frame))
     (taken : IfSome known (λ bytes. ChildTaken bytes bounds old (Child frame) mid)) where
   -- the object of the frame is the one at the offset that is stored for it
   there : (bytes : List ℕ) → IsWalkOf bytes bounds mid
@@ -110,8 +109,8 @@ module _ (known : Option (List ℕ)) (bounds : Bounds) (old mid : Walk) (frame :
 
       -- the child is cached if its event is that of a small scalar
       pub child_kept : (answer : Result Flow Error) (current : PlainEvent) (tags : List ℕ)
-          → IfSome now (λ bytes. IsCurrentCached (Some number) (Some answer) current tags)
-          → IfSome known (λ bytes. IsCurrentCached
-          (next_number (entries_of bytes bounds) (open_in old)) (Some answer) current tags)
-      child_kept answer current tags kept = IfSome-both known (child_read (Ok number) reads)
-          (rw same at kept) (λ bytes child kept. rw (child.0.0.3, ← child.1) kept)
+          → IsCachedIfSmall (λ _. current) (Some number) (Some answer) tags
+          → IfSome known (λ bytes. IsCachedIfSmall (λ _. current)
+          (next_number (entries_of bytes bounds) (open_in old)) (Some answer) tags)
+      child_kept answer current tags kept = IfSome_then known (child_read (Ok number) reads)
+          (λ bytes child. rw (child.0.0.3, ← child.1) kept)

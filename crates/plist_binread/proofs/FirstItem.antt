@@ -1,5 +1,5 @@
 -- The first item of a file.
-use Rattle.std.proofs.Common.{◌≡◌, ℕ, suc, ◌<◌, ◌≤◌, ◌-◌, get_or, replicate, List, [], ◌∷◌, ◌++◌, length, reverse, inl, inr, Option, Result, Ok, Err, IfSome, MatchResult, refl, ap, sym, ◌∙◌, arith, append-nil}
+use Rattle.std.proofs.Common.{◌≡◌, ℕ, suc, ◌<◌, ◌≤◌, ◌-◌, get_or, replicate, List, [], ◌∷◌, ◌++◌, length, reverse, inl, inr, Option, Some, Result, Ok, Err, IfSome, MatchResult, refl, ap, sym, ◌∙◌, arith, append-nil}
 use Rattle.std.specs.Prelude.{⊤}
 use Rattle.std.specs.List.{slice_get}
 use Rattle.std.proofs.lemmas.Bool.{cases_lt}
@@ -16,13 +16,13 @@ use Rattle.plist_format.specs.Object.{Object}
 use Rattle.plist_format.specs.Unfolding.{table_of, items_of, unfolding_of, until_fault, items_with, items_of_file}
 use Rattle.plist_decode.specs.declared.head.Bounds.{Bounds}
 use Rattle.plist_binread.specs.Remaining.{path_of, remaining_items, entries_of, places_with, places_of, CountsObjects, IsHeld, MatchesFile, SomeRemain, AllocatesFirst}
-use Rattle.plist_binread.specs.FirstStep.{CachesRoot, CountsRoot, RefusesFirst}
-use Rattle.plist_binread.specs.Step.{CachesEntered, YieldsResult}
+use Rattle.plist_binread.specs.Step.{RefusesFirst, YieldsResult}
 use Rattle.plist_decode.specs.declared.fault_slot.FaultSlot.{FaultSlot}
 use Rattle.plist_decode.specs.declared.fault_slot.StepError.{StepError}
-use Rattle.plist_binread.specs.Walking.{walk_objects}
+use Rattle.plist_binread.specs.Walking.{IsCachedIfSmall, root_with, walk_objects}
 use Rattle.plist_binread.specs.declared.walk.Walk.{Walk}
 use Rattle.plist_decode.specs.Packed.{is_marked}
+use Rattle.plist_decode.specs.Slot.{result_in}
 use Rattle.plist_decode.specs.inner.Heads.{head_seen}
 use Rattle.plist_binread.proofs.WalkSteps.{items_beyond, items_step, remaining_at}
 use Rattle.plist_format.proofs.Tables.{slice_get-within, slice_get-beyond}
@@ -167,7 +167,7 @@ pub known_counted : (known : Option (List ℕ)) (head : code.Head)
     (answer : Result Flow StepError) (slot : FaultSlot) (walk : Walk)
     → walk_objects walk ≡ length head.places.items
     → IfSome known (λ bytes. head_of bytes ≡ Ok (head_seen head))
-    → IfSome known (CountsRoot answer slot walk)
+    → IfSome known (λ bytes. CountsObjects bytes (result_in answer slot) (walk_objects walk))
 known_counted known head (Ok value) slot walk count read = IfSome_then known read (λ bytes is.
     count ∙ sym (ap (λ head. length (places_with head)) is))
 known_counted known head (Err refused) slot walk count read = IfSome_then known read (λ bytes is.
@@ -195,10 +195,10 @@ pub known_few : (known : Option (List ℕ)) (tags : List ℕ) → length tags �
 known_few known tags count = IfSome-all known (λ bytes. omega arith)
 
 -- the root is cached if it is small
-pub known_cached : (known now : Option (List ℕ)) (head : code.Head) (number : ℕ)
-    (answer : Result Flow Error) (event : PlainEvent) (walk : Walk) → now ≡ known
-    → head.root ≡ number
+pub known_cached : (known : Option (List ℕ)) (head : code.Head) (number : ℕ)
+    (answer : Result Flow Error) (event : PlainEvent) (tags : List ℕ) → head.root ≡ number
     → IfSome known (λ bytes. head_of bytes ≡ Ok (head_seen head))
-    → CachesEntered now number answer event walk → IfSome known (CachesRoot answer event walk)
-known_cached known now head number answer event walk same root value caches =
-    IfSome-both known value (rw same at caches) (λ bytes is caches. rw (is, root) caches)
+    → IsCachedIfSmall (λ _. event) (Some number) (Some answer) tags
+    → IfSome known (λ bytes. IsCachedIfSmall (λ _. event) (root_with (head_of bytes)) (Some answer) tags)
+known_cached known head number answer event tags root value caches =
+    IfSome_then known value (λ bytes is. rw (is, root) caches)

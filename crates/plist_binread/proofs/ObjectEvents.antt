@@ -16,7 +16,7 @@ use Rattle.plist_decode.specs.Decoded.{FitsBefore, content_size, small_count}
 use Rattle.plist_binread.specs.ObjectEvents.{FitsWalk, SetsContentAt, SetsDecoded, SetsEvent, event_of_object}
 use Rattle.plist_decode.specs.Decoding.{IsCollection, scalar_event_in}
 use Rattle.plist_decode.specs.Packed.{is_small_event, unmarked}
-use Rattle.plist_binread.specs.NextChild.{IsCurrentCached}
+use Rattle.plist_binread.specs.Walking.{IsCachedIfSmall}
 use Rattle.plist_decode.specs.Slot.{result_in}
 use Rattle.plist_decode.specs.declared.decoded.Content.{Content}
 use Rattle.plist_decode.specs.declared.decoded.ContentKind.{ContentKind}
@@ -27,7 +27,6 @@ use Rattle.plist_decode.specs.declared.fault_slot.FaultSlot.{FaultSlot}
 use Rattle.plist_decode.specs.declared.fault_slot.StepError.{StepError}
 use Rattle.plist_decode.specs.declared.head.Bounds.{Bounds}
 use Rattle.plist_decode.proofs.NumberRuns.{take-drop-take}
-use Rattle.plist_decode.proofs.UnknownBytes.{IfSome-all}
 
 pub fits_walk : (bounds : Bounds) (place : ℕ) (d : Decoded) → FitsBefore bounds.trailer place d
     → FitsWalk d
@@ -147,11 +146,10 @@ large_unlike (Ok value) d current large = λ small. absurd (false≢true (sym la
 large_unlike (Err error) d current large = tt
 
 -- if the event is that of a small scalar, the object is cached
-pub cached_if : {A : Type 0} (known : Option (List ℕ)) (number : ℕ) (answer : Result A StepError)
-    (slot : FaultSlot) (current : PlainEvent) (d : Decoded) (tags : List ℕ)
+pub cached_if : {A : Type 0} (number : ℕ) (answer : Result A StepError) (slot : FaultSlot)
+    (current : PlainEvent) (d : Decoded) (tags : List ℕ)
     → OnOk answer (is_small_event current ≡ true → small_count d ≡ 1)
     → (small_count d ≡ 1 → 0 < unmarked (get_or tags number 0))
-    → IfSome known (λ _. IsCurrentCached (Some number) (Some (result_in answer slot)) current tags)
-cached_if known number (Ok value) slot current d tags small caches =
-    IfSome-all known (λ _ is. caches (small is))
-cached_if known number (Err error) slot current d tags small caches = IfSome-all known (λ _. tt)
+    → IsCachedIfSmall (λ _. current) (Some number) (Some (result_in answer slot)) tags
+cached_if number (Ok value) slot current d tags small caches = λ is. caches (small is)
+cached_if number (Err error) slot current d tags small caches = tt

@@ -42,7 +42,7 @@ pub refused-given : (start end : ℕ) (limiter : Option LimitCounter) (event : P
 refused-given start end limiter event fault r =
     let by = by-limit limiter event fault r in limit-given start end _ fault by.1 by.0 by.2
 
-none-under : (limiter : Option LimitCounter) → limited_by_any limiter [] ≡ []
+pub none-under : (limiter : Option LimitCounter) → limited_by_any limiter [] ≡ []
 none-under None = refl
 none-under (Some limiter) = refl
 

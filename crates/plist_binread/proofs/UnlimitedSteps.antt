@@ -10,18 +10,15 @@ use Rattle.plist_decode.specs.declared.counter.DecodeCounter.{Ghosts as CounterG
 use Rattle.plist_binread.specs.declared.reader.BinaryReader.{BinaryReader}
 use Rattle.plist_binread.specs.declared.reader.WalkState.{WalkState}
 use Rattle.plist_binread.specs.declared.reader.WalkState.TheVariants.{Fresh, Walking}
-use Rattle.plist_binread.specs.FirstStep.{CountsRoot, GivesRoot, IsBounded, CachesRoot}
-use Rattle.plist_binread.specs.Walking.{IsKnownWalk, cached_in, remaining_in, walk_objects, weight_in}
-use Rattle.plist_binread.specs.BinaryReader.{objects_in_head}
-use Rattle.plist_binread.specs.Remaining.{CountsObjects, walk_steps}
+use Rattle.plist_binread.specs.Walking.{IsBounded, IsCachedIfSmall, IsKnownWalk, cached_in, open_in, remaining_in, walk_objects, weight_in}
+use Rattle.plist_binread.specs.BinaryReader.{Walks, item_with}
+use Rattle.plist_binread.specs.Remaining.{CountsObjects, entries_of, is_fresh, is_walking, next_number, objects_in_head, state_after, walk_steps}
 use Rattle.plist_decode.specs.FaultOffsets.{ErrWithin, ItemWithin}
-use Rattle.plist_binread.specs.Step.{YieldsNext, CachesNext, LightensNext}
+use Rattle.plist_binread.specs.Step.{LightensNext, YieldsItem, YieldsNext, YieldsRoot}
 use Rattle.plist_base.specs.Events.{PlainEvent}
 use Rattle.plist_base.specs.Visits.{Flow}
-use Rattle.plist_binread.specs.ReaderSteps.{Walks, item_with}
 use Rattle.plist_decode.specs.declared.fault_slot.StepError.{StepError}
 use Rattle.plist_decode.specs.Slot.{SlotCountsIo, ItemSlotCountsIo, result_in, item_in}
-use Rattle.plist_binread.specs.NextChild.{is_fresh, is_walking, state_after}
 use Rattle.plist_base.proofs.Refusals.{MatchFault-all}
 use Rattle.plist_decode.proofs.FaultOffsets.{from_within}
 use Rattle.plist_decode.proofs.UnknownBytes.{IfSome-all, IfSome-never}
@@ -61,26 +58,26 @@ module _ {R C : Type 0} {g : Ghosts R} {h : CounterGhosts C} (old new : BinaryRe
     (limiter : new.limiter ≡ old.limiter) where
   pub first_walks : (noted : Result Flow StepError) (event : PlainEvent) → old.state ≡ Fresh
       → new.state ≡ state_after (Some noted)
-      → IfSome (g.known old.source) (GivesRoot (result_in noted new.decoder.slot) event new.decoder.bounds new.walk)
+      → YieldsRoot (g.known old.source) new.decoder.bounds (result_in noted new.decoder.slot) event new.walk
       → ErrWithin 0 (2 ^ 64) (result_in noted new.decoder.slot)
       → IfSome (g.known old.source) (IsBounded new.walk)
-      → IfSome (g.known old.source) (CountsRoot noted new.decoder.slot new.walk)
+      → IfSome (g.known old.source)
+      (λ bytes. CountsObjects bytes (result_in noted new.decoder.slot) (walk_objects new.walk))
       → OnOk noted (IsKnownWalk (g.known old.source) new.decoder.bounds new.walk)
-      → IfSome (g.known old.source) (CachesRoot (result_in noted new.decoder.slot) event new.walk)
       → OnOk noted (weight_in new.walk < walk_steps (walk_objects new.walk))
       → SlotCountsIo g.failures noted new.decoder.slot old.source new.source
       → Walks old (item_with (item_in (Some noted) new.decoder.slot) event) new
-  first_walks (Ok value) event fresh is yields within bounded objects held kept falls failures = record {
+  first_walks (Ok value) event fresh is yields within bounded objects held falls failures = record {
     gives = record {
       unchanged = same;
-      items = simp (fresh, is) (IfSome_then (g.known old.source) yields (λ bytes first. (first, tt)));
+      items = simp (fresh, is) (IfSome_then (g.known old.source) yields.first (λ bytes first. (first, tt)));
       failures = failures;
       ended = λ e. absurd (cc);
       ends = tt;
       begun = ap is_fresh is;
       faults = tt;
       head = holds_head (g.known old.source) new.decoder.bounds new.walk (is_walking new.state ≡ true) held;
-      cached = simp fresh kept;
+      cached = simp fresh yields.cached;
       leaves = left_behind old new counted bounded;
       objects = objects;
       kept = (ap is_some limiter, λ begun. absurd (cc (ap is_fresh fresh)));
@@ -90,10 +87,10 @@ module _ {R C : Type 0} {g : Ghosts R} {h : CounterGhosts C} (old new : BinaryRe
         (omega (arith, new.walk.tags.ok, new.walk.tags.small)) in
         simp (fresh, is) (omega (arith, falls, up));
   }
-  first_walks (Err r) event fresh is yields within bounded objects held kept falls failures = record {
+  first_walks (Err r) event fresh is yields within bounded objects held falls failures = record {
     gives = record {
       unchanged = same;
-      items = simp (fresh, is) (IfSome_then (g.known old.source) yields
+      items = simp (fresh, is) (IfSome_then (g.known old.source) yields.first
           (λ bytes. yields_error (λ event. event) true (items_of_file bytes) new.decoder.slot.fault));
       failures = failures;
       ended = λ e. absurd (cc);
@@ -117,7 +114,9 @@ module _ {R C : Type 0} {g : Ghosts R} {h : CounterGhosts C} (old new : BinaryRe
       → walk_objects new.walk ≡ walk_objects old.walk
       → IfSome (g.known old.source) (IsBounded old.walk)
       → IsKnownWalk (g.known old.source) new.decoder.bounds new.walk
-      → CachesNext (g.known old.source) old.decoder.bounds old.walk (item_in noted new.decoder.slot) event new.walk
+      → IfSome (g.known old.source) (λ bytes. IsCachedIfSmall (λ _. event) (next_number
+      (entries_of bytes old.decoder.bounds) (open_in old.walk)) (item_in noted new.decoder.slot)
+      new.walk.tags.items)
       → LightensNext old.walk noted new.walk
       → ItemSlotCountsIo g.failures noted new.decoder.slot old.source new.source
       → Walks old (item_with (item_in noted new.decoder.slot) event) new
@@ -180,18 +179,15 @@ module _ {R C : Type 0} {g : Ghosts R} {h : CounterGhosts C} (old new : BinaryRe
 
   pub item_walks : (noted : Option (Result Flow StepError)) (event : PlainEvent) → old.state ≡ Walking
       → new.decoder.bounds ≡ old.decoder.bounds → new.state ≡ state_after noted
-      → IfSome (g.known old.source) (λ bytes. YieldsNext
-      (remaining_in bytes old.decoder.bounds old.walk)
-      (item_in noted new.decoder.slot) event (remaining_in bytes old.decoder.bounds new.walk))
+      → YieldsItem (g.known old.source) old.decoder.bounds old.walk (item_in noted new.decoder.slot)
+      event new.walk
       → ItemWithin 0 old.decoder.bounds.trailer (item_in noted new.decoder.slot)
       → walk_objects new.walk ≡ walk_objects old.walk
       → IfSome (g.known old.source) (IsBounded old.walk)
       → IsKnownWalk (g.known old.source) old.decoder.bounds new.walk
-      → CachesNext (g.known old.source) old.decoder.bounds old.walk (item_in noted new.decoder.slot) event
-      new.walk
       → LightensNext old.walk noted new.walk
       → ItemSlotCountsIo g.failures noted new.decoder.slot old.source new.source
       → Walks old (item_with (item_in noted new.decoder.slot) event) new
-  item_walks noted event walking bounds is yields within size bounded held kept falls failures =
-      item_walks_at noted event walking is (rw bounds yields) within size bounded (rw bounds held) kept
-      falls failures
+  item_walks noted event walking bounds is yields within size bounded held falls failures =
+      item_walks_at noted event walking is (rw bounds yields.first) within size bounded (rw bounds held)
+      yields.cached falls failures

@@ -6,8 +6,7 @@ use Rattle.plist_base.specs.Faults.{Fault, fault_of}
 use Rattle.plist_base.specs.Limits.{Refuses, RefusesAny}
 use Rattle.plist_base.specs.declared.limits.LimitCounter.{LimitCounter}
 use Rattle.plist_base.specs.Visits.{Flow}
-use Rattle.plist_binread.specs.ReaderSteps.{TakesWithin}
-use Rattle.plist_binread.specs.Handovers.{HandsItem, PassesOn, Takes}
+use Rattle.plist_binread.specs.Handovers.{HandsItem, PassesOn, TakesIfAny, TakesWithin}
 use Rattle.plist_decode.specs.declared.fault_slot.StepError.{StepError}
 use Rattle.plist_binread.specs.declared.visitors.Relay.{Relay}
 use Rattle.plist_binread.specs.declared.visitors.Within.{Within}
@@ -55,7 +54,8 @@ refuses_any limiter limits now event fault given is at same refused =
 pub passed_on : {V : Type 0} (step : V → PlainEvent → Flow → V → Type 0) (old new : Relay V)
     (before after : V) (answer : Result Flow StepError) (event : PlainEvent)
     → old.visitor.now ≡ before → after ≡ new.visitor.now
-    → Takes (PassesOn step) old new answer event → Takes step before after answer event
+    → TakesIfAny (PassesOn step) old new (Some answer) event
+    → TakesIfAny step before after (Some answer) event
 passed_on step old new before after (Ok flow) event first last taken =
     rw (sym first, last) taken.taken
 passed_on step old new before after (Err refused) event first last same =

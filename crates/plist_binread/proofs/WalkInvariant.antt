@@ -1,5 +1,5 @@
 -- What a walk has stored about the file's objects, and how each step changes it.
-use Rattle.std.proofs.Common.{◌≡◌, ℕ, ◌-◌, ◌<◌, ◌≤◌, inl, inr, Bool, true, false, nat_eq, List, [], ◌∷◌, ◌++◌, length, take, drop, get_or, slice_set, Option, None, Some, Ok, Err, IfSome, refl, ap, sym, subst, ◌∙◌, arith}
+use Rattle.std.proofs.Common.{◌≡◌, ℕ, ◌-◌, ◌<◌, ◌≤◌, inl, inr, Bool, true, false, nat_eq, List, [], ◌∷◌, ◌++◌, length, take, drop, get_or, slice_set, Option, Some, Ok, Err, IfSome, MatchBool, refl, ap, sym, subst, ◌∙◌, arith}
 use Rattle.std.specs.Prelude.{⊤}
 use Rattle.std.specs.List.{AllByRecursion, slice_get}
 use Rattle.std.proofs.lemmas.Bool.Decides.{eqb_tells, nat_tests}
@@ -24,7 +24,7 @@ use Rattle.plist_decode.specs.declared.decoded.CollectionKind.{CollectionKind}
 use Rattle.plist_binread.proofs.Tags.{cached_closed, open_tag-kind, open_tag-marked, open_tag-start, open_uncached, kind_of_tag-some}
 use Rattle.plist_decode.specs.declared.packed.PackedKind.{PackedKind}
 use Rattle.plist_format.specs.Unfolding.{TableEntry, unfolding_of, until_fault}
-use Rattle.plist_binread.specs.Remaining.{children_at, place_at, scalar_at, path_of, MarksOpenPath, HoldsPlaceOr, IsHeld, LocatesReferences, MatchesFile, places_of, entries_of, remaining_items, Explains}
+use Rattle.plist_binread.specs.Remaining.{children_at, place_at, scalar_at, path_of, MarksOpenPath, IsHeld, LocatesReferences, MatchesFile, places_of, entries_of, remaining_items, Explains}
 use Rattle.plist_decode.specs.Decoding.{AreReferencesAt, IsCollection, IsRefusedAs, children_in, scalar_event_in, scalar_in}
 use Rattle.plist_binread.proofs.WalkSteps.{collection_count, items_beyond, items_open, yields_refused, yields_scalar, refused_memory}
 use Rattle.plist_format.proofs.Tables.{slice_get-within, slice_get-beyond, length-table_of}
@@ -34,19 +34,22 @@ use Rattle.std.proofs.lemmas.Bool.{eqb-false, false≢true}
 not_zero : (t : ℕ) → 0 < t → nat_eq t 0 ≡ false
 not_zero t h = grind (arith, nat_tests)
 
+-- the content is the offset of the entry, or else the entry's object is this scalar
+abbrev HoldsPlaceOr : (is_place : Bool) → Option Scalar → (content : ℕ) → Option TableEntry → Type 0
+HoldsPlaceOr is_place scalar content entry =
+    MatchBool is_place (content ≡ place_at entry) (scalar_at entry ≡ scalar)
+
 -- a content that isn't an offset stores this scalar
 held_as : (b : Bool) (scalar : Option Scalar) (content : ℕ) (entry : Option TableEntry) → b ≡ false
     → HoldsPlaceOr b scalar content entry → scalar_at entry ≡ scalar
 held_as true scalar content entry b h = absurd (cc)
-held_as false None content entry b h = absurd h
-held_as false (Some s) content entry b h = h
+held_as false scalar content entry b h = h
 
 from_scalar : (b : Bool) (found : Option Scalar) (content : ℕ) (entry : Option TableEntry)
     (scalar : Scalar) → b ≡ false → found ≡ Some scalar → scalar_at entry ≡ Some scalar
     → HoldsPlaceOr b found content entry
 from_scalar true found content entry scalar b is h = absurd (cc)
-from_scalar false None content entry scalar b is h = absurd (cc)
-from_scalar false (Some s) content entry scalar b is h = h ∙ sym is
+from_scalar false found content entry scalar b is h = h ∙ sym is
 
 module _ (bytes : List ℕ) (bounds : Bounds) where
   abbrev table : List TableEntry

@@ -1,14 +1,16 @@
 -- What is handed over to a visitor.
-use Rattle.std.specs.Prelude.{◌≡◌, Option, None, Some, Result, Ok, Err, MatchResult}
+use Rattle.std.specs.Prelude.{◌≡◌, ◌⊎◌, Option, Some, Result, Ok, Err, MatchResult}
+use Rattle.std.specs.declared.ops.ControlFlow.TheVariants.{Break}
 use Rattle.plist_base.specs.declared.error.Error.{Error}
 use Rattle.plist_base.specs.declared.event.Event.{Event}
 use Rattle.plist_base.specs.Events.{PlainEvent, event_of, IsTextOrDataEvent}
+use Rattle.plist_base.specs.Faults.{OutOfMemory, fault_without_offset, fault_of}
+use Rattle.plist_base.specs.Limits.{Admits, Refuses}
 use Rattle.plist_base.specs.Visits.{Flow}
 use Rattle.plist_decode.specs.declared.fault_slot.StepError.{StepError}
-use Rattle.plist_binread.specs.declared.visitors.Relay.{Relay}
-use Rattle.std.specs.declared.ops.ControlFlow.TheVariants.{Break}
-use Rattle.plist_base.specs.Faults.{OutOfMemory, fault_without_offset, fault_of}
 use Rattle.plist_binread.specs.declared.visitors.FirstEvent.{FirstEvent}
+use Rattle.plist_binread.specs.declared.visitors.Relay.{Relay}
+use Rattle.plist_binread.specs.declared.visitors.Within.{Within}
 
 -- the event is the one that was read, or the result is the error of the read
 abbrev pub HandsRead : {A : Type 0} → Result Event Error → (answer : Result A Error) → PlainEvent
@@ -22,31 +24,48 @@ KeepsEvent event flow visitor = (flow ≡ Break tt) × MatchResult visitor.kept
     (λ owned. event_of owned ≡ event)
     (λ error. (fault_of error ≡ fault_without_offset OutOfMemory) × IsTextOrDataEvent event)
 
--- a visitor passes an event on to the visitor in it
-pub record PassesOn {V : Type 0} (step : V → PlainEvent → Flow → V → Type 0) (old : Relay V)
-    (event : PlainEvent) (flow : Flow) (new : Relay V) : Type 0 where
-  pub same : new.visitor.ghost_name ≡ old.visitor.ghost_name
-  pub taken : step old.visitor.now event flow new.visitor.now
-
 module _ {V : Type 0} (step : V → PlainEvent → Flow → V → Type 0) (old new : V) where
-  -- the visitor took this event, or is unchanged after an error
-  abbrev pub Takes : Result Flow StepError → PlainEvent → Type 0
-  Takes (Ok flow) event = step old event flow new
-  Takes (Err refused) event = new ≡ old
-
   -- the visitor took this event, or is unchanged after an error or if there is no item
   abbrev pub TakesIfAny : Option (Result Flow StepError) → PlainEvent → Type 0
-  TakesIfAny None event = new ≡ old
-  TakesIfAny (Some answer) event = Takes answer event
-
-  -- an event satisfies `P`, and the visitor took it unless the result is an error
-  pub record Hands (answer : Result Flow StepError) (P : PlainEvent → Type 0) : Type 0 where
-    pub event : PlainEvent
-    pub is : P event
-    pub taken : Takes answer event
+  TakesIfAny (Some (Ok flow)) event = step old event flow new
+  TakesIfAny other event = new ≡ old
 
   -- an event satisfies `P`, and the visitor took it unless there is an error or no item
-  pub record HandsItem (item : Option (Result Flow StepError)) (P : PlainEvent → Type 0) : Type 0 where
-    pub event : PlainEvent
-    pub is : P event
-    pub taken : TakesIfAny item event
+  pub record HandsItem (item : Option (Result Flow StepError)) (P : PlainEvent → Type 0) : Type 0
+    where
+      pub event : PlainEvent
+      pub is : P event
+      pub taken : TakesIfAny item event
+
+  -- an event satisfies `P`, and the visitor took it unless the result is an error
+  abbrev pub Hands : Result Flow StepError → (P : PlainEvent → Type 0) → Type 0
+  Hands answer P = HandsItem (Some answer) P
+
+module _ {V : Type 0} (step : V → PlainEvent → Flow → V → Type 0) where
+  -- a visitor passes an event on to the visitor in it
+  pub record PassesOn (old : Relay V) (event : PlainEvent) (flow : Flow) (new : Relay V) : Type 0
+    where
+      pub same : new.visitor.ghost_name ≡ old.visitor.ghost_name
+      pub taken : step old.visitor.now event flow new.visitor.now
+
+  -- the limits admit the event, and the inner visitor takes it
+  pub record TakesAdmitted (old : Within V) (event : PlainEvent) (flow : Flow) (new : Within V)
+      : Type 0 where
+    pub admitted : Admits old.limiter.now event new.limiter.now
+    pub reached : new.reached.now ≡ old.reached.now
+    pub taken : step old.visitor.now event flow new.visitor.now
+
+  -- the event exceeds a limit, and the inner visitor doesn't receive it
+  pub record ReachesLimit (old : Within V) (event : PlainEvent) (new : Within V) : Type 0 where
+    pub error : Error
+    pub refused : Refuses old.limiter.now event (fault_of error)
+    pub reached : new.reached.now ≡ Err error
+    pub untaken : new.visitor.now ≡ old.visitor.now
+
+  -- a visitor within limits passes an event on, or reports the limit that the event exceeds
+  pub record TakesWithin (old : Within V) (event : PlainEvent) (flow : Flow) (new : Within V) : Type 0
+    where
+      pub limiter : new.limiter.ghost_name ≡ old.limiter.ghost_name
+      pub slot : new.reached.ghost_name ≡ old.reached.ghost_name
+      pub visitor : new.visitor.ghost_name ≡ old.visitor.ghost_name
+      pub takes : TakesAdmitted old event flow new ⊎ ReachesLimit old event new

@@ -1,12 +1,8 @@
-pub mod FirstStep
 pub mod References
-pub mod Runs
-pub mod BinaryReader
 pub mod Remaining
 pub mod Frames
+pub mod Walking
 pub mod ObjectEvents
 pub mod Step
-pub mod ReaderSteps
 pub mod Handovers
-pub mod NextChild
-pub mod Walking
+pub mod BinaryReader

@@ -18,8 +18,8 @@ abbrev pub is_refused : Decoded → Bool
 is_refused (decoded.Faulty fault) = true
 is_refused other = false
 
--- the walk can store what was decoded: the kind can have the content, or the number of children isn't
--- too large
+-- the walk can store what was decoded: the kind can have the content, or the number of children
+-- isn't too large
 abbrev pub FitsWalk : Decoded → Type 0
 FitsWalk (decoded.Small kind content) = is_packed kind content ≡ true
 FitsWalk (decoded.Collection kind start count) = (child_count kind count < 2 ^ 64) × (start < 16)

@@ -1,6 +1,7 @@
 -- The items that remain in the middle of a walk. A list of frames has the innermost one first.
-use Rattle.std.specs.Prelude.{◌≡◌, ℕ, zero, suc, ◌+◌, ◌-◌, ◌*◌, ◌^◌, ◌<◌, ◌≤◌, Bool, true, List, [], ◌∷◌, ◌++◌, length, take, drop, reverse, nat_eq, nat_lt, cond, get_or, Result, Ok, Err, Option, None, Some, MatchBool, MatchResult, MatchOption, ⊤}
+use Rattle.std.specs.Prelude.{◌≡◌, ℕ, zero, suc, ◌+◌, ◌-◌, ◌*◌, ◌^◌, ◌<◌, ◌≤◌, Bool, true, false, if◌then◌else◌, List, [], ◌∷◌, ◌++◌, length, take, drop, slice_index, nat_eq, nat_lt, Result, Ok, Err, Option, None, Some, option_and_then, IsOkAnd, MatchBool, MatchResult, ⊤}
 use Rattle.std.specs.List.{list_any, flat_map, IsDistinct, AllByRecursion, slice_get}
+use Rattle.std.specs.Option.{option_map_or}
 use Rattle.plist_base.specs.declared.error.Error.{Error}
 use Rattle.plist_base.specs.Faults.{Fault, FaultKind, InvalidUtf8String, InvalidUtf16String, LimitReached, MatchFault, kind_of, error_kind_of, fault_of}
 use Rattle.plist_base.specs.Events.{StartArray, StartDictionary, EndCollection, ScalarEvent, Item}
@@ -12,7 +13,7 @@ use Rattle.plist_format.specs.Container.{Head, head_of}
 use Rattle.plist_decode.specs.Packed.{is_marked, is_packed_if_any, packed_kind, unmarked, cached, open_kind, open_start}
 use Rattle.plist_binread.specs.declared.reader.WalkState.{WalkState}
 use Rattle.plist_binread.specs.declared.reader.WalkState.TheVariants.{Fresh, Walking, Ended}
-use Rattle.plist_format.specs.Unfolding.{TableEntry, table_of, unfolding_of, until_fault, items_of_file}
+use Rattle.plist_format.specs.Unfolding.{TableEntry, table_of, unfolding_of}
 use Rattle.plist_decode.specs.Decoding.{AreReferencesAt, children_in, scalar_in}
 use Rattle.plist_decode.specs.Reading.{bytes_at}
 
@@ -28,34 +29,31 @@ pub record MarksOpenPath (tags : List ℕ) (frames : List Frame) : Type 0 where
   pub distinct : IsDistinct nat_eq (path_of frames)
   pub below : (number : ℕ) → list_any (nat_eq number) (path_of frames) ≡ true → number < length tags
   pub marks : (number : ℕ) → number < length tags
-      → is_marked (get_or tags number 0) ≡ list_any (nat_eq number) (path_of frames)
+      → is_marked (slice_index tags number) ≡ list_any (nat_eq number) (path_of frames)
 
 -- each content is one that the kind in its tag can have
 abbrev pub ArePacked : (tags contents : List ℕ) → Type 0
 ArePacked tags contents = (number : ℕ) → number < length tags
-    → is_packed_if_any (packed_kind (get_or tags number 0)) (get_or contents number 0) ≡ true
+    → is_packed_if_any (packed_kind (slice_index tags number)) (slice_index contents number) ≡ true
 
 -- the number of cached objects
 abbrev pub cached_count : (tags : List ℕ) → ℕ
 cached_count [] = 0
-cached_count (tag ∷ tags) = cond (nat_lt 0 (unmarked tag)) 1 0 + cached_count tags
+cached_count (tag ∷ tags) = (if nat_lt 0 (unmarked tag) then 1 else 0) + cached_count tags
 
 -- ---- the remaining items
 
 -- the offset of an entry, or 0 without an entry
 abbrev pub place_at : Option TableEntry → ℕ
-place_at None = 0
-place_at (Some entry) = entry.place
+place_at entry = option_map_or (λ (e : TableEntry). e.place) entry 0
 
 -- the numbers of the children of an entry's object
 abbrev pub children_at : Option TableEntry → List ℕ
-children_at None = []
-children_at (Some entry) = children_in entry.object
+children_at entry = option_map_or (λ (e : TableEntry). children_in e.object) entry []
 
 -- the scalar of an entry's object, or `None` if the object isn't a scalar
 abbrev pub scalar_at : Option TableEntry → Option trees.Scalar
-scalar_at None = None
-scalar_at (Some entry) = scalar_in entry.object
+scalar_at entry = option_and_then (λ (e : TableEntry). scalar_in e.object) entry
 
 module _ (table : List TableEntry) where
   -- the items of the children that remain in each frame, and its end, without regard to faults
@@ -78,10 +76,14 @@ places_with (Err fault) = []
 abbrev pub places_of : List ℕ → List ℕ
 places_of bytes = places_with (head_of bytes)
 
+-- the number of objects that the head of these bytes counts
+abbrev pub objects_in_head : List ℕ → ℕ
+objects_in_head bytes = length (places_of bytes)
+
 -- `found` is the number of objects in the file, unless a read or an allocation failed
 abbrev pub CountsObjects : {A : Type 0} → List ℕ → Result A Error → (found : ℕ) → Type 0
-CountsObjects bytes answer found = MatchResult answer (λ _. found ≡ length (places_of bytes))
-    (λ error. MatchFault (kind_of (error_kind_of error)) ⊤ ⊤ (found ≡ length (places_of bytes)))
+CountsObjects bytes answer found = MatchResult answer (λ _. found ≡ objects_in_head bytes)
+    (λ error. MatchFault (kind_of (error_kind_of error)) ⊤ ⊤ (found ≡ objects_in_head bytes))
 
 -- the table of a file's objects, which end before the trailer
 abbrev pub entries_of : List ℕ → Bounds → List TableEntry
@@ -90,21 +92,13 @@ entries_of bytes bounds =
 
 -- a file with this head has these bounds
 abbrev pub AreBoundsOf : Result Head Fault → Bounds → Type 0
-AreBoundsOf answer bounds =
-    MatchResult answer (λ head. (bounds.trailer ≡ head.trailer)
-    × (bounds.reference_width ≡ head.reference_width)) (λ fault. ⊥)
+AreBoundsOf answer bounds = IsOkAnd answer (λ head.
+    (bounds.trailer ≡ head.trailer) × (bounds.reference_width ≡ head.reference_width))
 
--- the content is the offset of the entry, or else the entry's object is this scalar
-abbrev pub HoldsPlaceOr : (is_place : Bool) → Option trees.Scalar → (content : ℕ)
-    → Option TableEntry
-    → Type 0
-HoldsPlaceOr is_place scalar content entry =
-    MatchBool is_place (content ≡ place_at entry)
-    (MatchOption scalar ⊥ (λ scalar. scalar_at entry ≡ Some scalar))
-
--- the tag and the content store the offset of the entry, or its small scalar
+-- the content is the offset of the entry, or the tag and the content encode the entry's scalar
 abbrev pub IsHeld : Option TableEntry → (tag content : ℕ) → Type 0
-IsHeld entry tag content = HoldsPlaceOr (nat_eq (unmarked tag) 0) (cached tag content) content entry
+IsHeld entry tag content = MatchBool (nat_eq (unmarked tag) 0) (content ≡ place_at entry)
+    (scalar_at entry ≡ cached tag content)
 
 -- the tag of an open collection says where the references to its children lie
 abbrev pub LocatesReferences : List ℕ → Bounds → Option TableEntry → (tag : ℕ) → Type 0
@@ -117,22 +111,15 @@ pub record MatchesFile (bytes : List ℕ) (bounds : Bounds) (tags contents : Lis
     (frames : List Frame) : Type 0 where
   pub head : AreBoundsOf (head_of bytes) bounds
   pub within : bounds.trailer ≤ length bytes
-  pub size : length (places_of bytes) ≡ length tags
+  pub size : objects_in_head bytes ≡ length tags
   pub held : (number : ℕ) → number < length tags
-      → IsHeld (slice_get (entries_of bytes bounds) number) (get_or tags number 0)
-      (get_or contents number 0)
+      → IsHeld (slice_get (entries_of bytes bounds) number) (slice_index tags number)
+      (slice_index contents number)
   pub refers : (number : ℕ) → number < length tags
       → LocatesReferences bytes bounds (slice_get (entries_of bytes bounds) number)
-      (get_or tags number 0)
+      (slice_index tags number)
   pub counts : AllByRecursion (λ frame. length
       (children_at (slice_get (entries_of bytes bounds) frame.object)) ≡ frame.count) frames
-
--- the items that remain in this state
-abbrev pub remaining_now : List ℕ → WalkState → Bounds → List Frame → List Item
-remaining_now bytes Fresh bounds frames = items_of_file bytes
-remaining_now bytes Walking bounds frames =
-    until_fault (remaining_items (entries_of bytes bounds) (reverse frames))
-remaining_now bytes Ended bounds frames = []
 
 -- ---- what a step yields
 
@@ -176,15 +163,30 @@ walk_weight count (frame ∷ below) =
     (frame.count - frame.next) * walk_steps (count - suc (length below)) + 1 + walk_weight count
     below
 
--- an upper bound on the steps that remain in this state
-abbrev pub steps_left : WalkState → (count : ℕ) → List Frame → ℕ
-steps_left Fresh count frames = walk_steps (2 ^ 64) + 1
-steps_left Walking count frames = walk_weight count (reverse frames)
-steps_left Ended count frames = 0
-
 -- the number of the object that is entered next, or `None` if there is none
 abbrev pub next_number : List TableEntry → List Frame → Option ℕ
 next_number table [] = None
-next_number table (frame ∷ below) =
-    cond (nat_lt frame.next frame.count)
-    (Some (get_or (children_at (slice_get table frame.object)) frame.next 0)) None
+next_number table (frame ∷ below) = if nat_lt frame.next frame.count
+    then Some (slice_index (children_at (slice_get table frame.object)) frame.next) else None
+
+-- ---- the state of a reader
+
+-- the value that belongs to the state
+abbrev pub by_state : {X : Type 0} → WalkState → (fresh walking ended : X) → X
+by_state Fresh fresh walking ended = fresh
+by_state Walking fresh walking ended = walking
+by_state Ended fresh walking ended = ended
+
+-- whether no item has been requested yet
+abbrev pub is_fresh : WalkState → Bool
+is_fresh state = by_state state true false false
+
+-- whether the reader has begun and hasn't ended
+abbrev pub is_walking : WalkState → Bool
+is_walking state = by_state state false true false
+
+-- the state of a reader after it has yielded this item
+abbrev pub state_after : {A E : Type 0} → Option (Result A E) → WalkState
+state_after None = Ended
+state_after (Some (Ok value)) = Walking
+state_after (Some (Err error)) = Ended

@@ -1,27 +1,29 @@
 -- What a step does to the walk, to the current event and to the remaining items.
-use Rattle.std.specs.Prelude.{◌≡◌, ℕ, ◌+◌, ◌<◌, List, false, get_or, Option, Some, Result, IfSome, OnOk, ⊤, [], ◌∷◌, Ok, MatchOption, MatchResult}
+use Rattle.std.specs.Prelude.{◌≡◌, ℕ, ◌+◌, ◌-◌, ◌<◌, Bool, true, false, not, List, [], ◌∷◌, ◌++◌, length, nat_lt, slice_index, Option, Some, Result, Ok, Err, IsOkAnd, IfSome, IsSomeAnd, OnOk, MatchOption, MatchResult, ⊤}
 use Rattle.std.specs.List.{slice_get}
-use Rattle.plist_base.specs.Events.{PlainEvent, EndCollection, Item}
-use Rattle.plist_binread.specs.Remaining.{Explains, entries_of, next_number, walk_steps, walk_weight}
-use Rattle.plist_decode.specs.Reading.{bytes_at}
-use Rattle.plist_decode.specs.Decoded.{IsDecodedAs, small_count}
-use Rattle.plist_binread.specs.ObjectEvents.{event_of_object, is_refused}
-use Rattle.plist_decode.specs.Packed.{open_kind, open_start, unmarked}
-use Rattle.plist_binread.specs.declared.references.References.{References}
-use Rattle.plist_binread.specs.declared.frames.Frame.{Frame}
-use Rattle.plist_decode.specs.declared.fault_slot.StepError.{StepError}
-use Rattle.plist_base.specs.Faults.{MatchFault, kind_of, error_kind_of}
 use Rattle.plist_base.specs.declared.error.Error.{Error}
-use Rattle.plist_binread.specs.declared.enter.Known.{Known}
-use Rattle.plist_binread.specs.NextChild.{IsFound, IsCurrentCached, WeightFalls, TakesNextChild}
-use Rattle.plist_format.specs.Unfolding.{TableEntry, until_fault}
-use Rattle.plist_binread.specs.Walking.{IsWalkOf, walk_objects, open_in, fuel_in, remaining_entering, remaining_in, weight_in}
+use Rattle.plist_base.specs.Events.{PlainEvent, EndCollection, Item}
+use Rattle.plist_base.specs.Faults.{MatchFault, kind_of, error_kind_of, fault_of}
+use Rattle.plist_format.specs.Container.{head_of}
+use Rattle.plist_format.specs.Unfolding.{TableEntry, items_of_file, unfolding_of, until_fault}
+use Rattle.plist_decode.specs.Decoded.{IsDecodedAs}
+use Rattle.plist_decode.specs.Packed.{cached, is_marked, is_packed, open_kind, open_start, unmarked, unpacked}
+use Rattle.plist_decode.specs.Reading.{bytes_at}
 use Rattle.plist_decode.specs.declared.decoded.Decoded.{Decoded}
-use Rattle.plist_decode.specs.declared.head.Bounds.{Bounds}
-use Rattle.plist_decode.specs.declared.fault_slot.FaultSlot.{FaultSlot}
-use Rattle.plist_binread.specs.declared.frames.NextChild.{NextChild}
-use Rattle.plist_binread.specs.declared.walk.Walk.{Walk}
 use Rattle.plist_decode.specs.declared.decoded.Decoded.TheVariants as decoded
+use Rattle.plist_decode.specs.declared.fault_slot.FaultSlot.{FaultSlot}
+use Rattle.plist_decode.specs.declared.fault_slot.StepError.{StepError}
+use Rattle.plist_decode.specs.declared.head.Bounds.{Bounds}
+use Rattle.plist_binread.specs.declared.enter.Known.{Known}
+use Rattle.plist_binread.specs.declared.enter.Known.TheVariants as looked
+use Rattle.plist_binread.specs.declared.frames.Frame.{Frame}
+use Rattle.plist_binread.specs.declared.frames.NextChild.{NextChild}
+use Rattle.plist_binread.specs.declared.frames.NextChild.TheVariants as child
+use Rattle.plist_binread.specs.declared.references.References.{References}
+use Rattle.plist_binread.specs.declared.walk.Walk.{Walk}
+use Rattle.plist_binread.specs.ObjectEvents.{event_of_object, is_refused}
+use Rattle.plist_binread.specs.Remaining.{Explains, SomeRemain, children_at, entries_of, next_number, path_of, place_at, walk_steps, walk_weight}
+use Rattle.plist_binread.specs.Walking.{IsCachedIfSmall, IsWalkOf, fuel_in, open_in, remaining_entering, remaining_in, root_with, walk_objects, weight_in}
 
 -- ---- the remaining items
 
@@ -31,86 +33,84 @@ YieldsCurrent before current after = until_fault before ≡ Ok current ∷ until
 
 -- like `YieldsCurrent`, or the result is an error that may replace the first item
 abbrev pub YieldsResult : {A : Type 0} → List Item → Result A Error → (current : PlainEvent)
-    → List Item
-    → Type 0
+    → List Item → Type 0
 YieldsResult before answer current after = MatchResult answer
-    (λ _. YieldsCurrent before current after)
-    (λ error. Explains (until_fault before) error)
+    (λ _. YieldsCurrent before current after) (Explains (until_fault before))
 
 -- like `YieldsResult`, or there is no item because none remained
 abbrev pub YieldsNext : {A : Type 0} → List Item → Option (Result A Error) → (current : PlainEvent)
     → List Item → Type 0
-YieldsNext before item current after =
-    MatchOption item ((before ≡ []) × (after ≡ [])) (λ answer. YieldsResult before answer current
-    after)
+YieldsNext before item current after = MatchOption item ((before ≡ []) × (after ≡ []))
+    (λ answer. YieldsResult before answer current after)
 
--- the item isn't an error, and the current event is the end of a collection
-abbrev pub IsCurrentEnd : {A E : Type 0} → Option (Result A E) → (current : PlainEvent) → Type 0
-IsCurrentEnd item current =
-    MatchOption item ⊥ (λ answer. MatchResult answer (λ _. current ≡ EndCollection) (λ error. ⊥))
+-- ---- the next child
 
--- ---- the walk
+-- the items of the next child, or an end, are the first of those that remained
+abbrev pub TakesChild : List ℕ → Bounds → (old : Walk) → NextChild → (new : Walk) → Type 0
+TakesChild bytes bounds old child.Nothing new = (open_in old ≡ []) × (open_in new ≡ [])
+TakesChild bytes bounds old (child.End object) new =
+    remaining_in bytes bounds old ≡ Ok EndCollection ∷ remaining_in bytes bounds new
+TakesChild bytes bounds old (child.Child frame) new =
+    let table = entries_of bytes bounds in
+    let entry = slice_get table frame.object in
+    let number = slice_index (children_at entry) frame.next in
+    (remaining_in bytes bounds old ≡ unfolding_of table (length table - length (open_in new))
+    (path_of (open_in new)) (place_at entry) number ++ remaining_in bytes bounds new)
+    × (length (children_at entry) ≡ frame.count)
+    × SomeRemain (until_fault (remaining_in bytes bounds old))
+    × (next_number table (open_in old) ≡ Some number)
 
--- fewer steps remain than when the object was about to be entered
-abbrev pub IsLighterEntered : (old new : Walk) → Type 0
-IsLighterEntered old new =
-    walk_weight (walk_objects old) (open_in new) < weight_in old + walk_steps (fuel_in old)
+-- over the bytes of its file, the walk takes the next child as `TakesChild` says
+abbrev pub TakesNextChild : (old : Walk) → NextChild → (new : Walk) → Type 0
+TakesNextChild old child new = (bytes : List ℕ) (bounds : Bounds) → IsWalkOf bytes bounds old
+    → TakesChild bytes bounds old child new × IsWalkOf bytes bounds new
 
--- an item is yielded only if some steps remained, and fewer steps remain after an event
-abbrev pub LightensNext : {A : Type 0} → (old : Walk) → Option (Result A StepError) → (new : Walk)
-    → Type 0
-LightensNext old item new =
-    IfSome item (λ answer. (0 < weight_in old) × OnOk answer
-    (walk_weight (walk_objects old) (open_in new) < weight_in old))
+-- the collection that contains the next child is open, and it has this child
+abbrev pub ParentIsOpen : Walk → NextChild → Type 0
+ParentIsOpen walk (child.Child frame) = (frame.object < walk_objects walk)
+    × (is_marked (slice_index walk.tags.items frame.object) ≡ true) × (frame.next < frame.count)
+ParentIsOpen walk other = ⊤
 
--- the walk is unchanged
-abbrev pub IsUnchanged : (old new : Walk) → Type 0
-IsUnchanged old new =
-    (new.tags.items ≡ old.tags.items) × (new.contents.items ≡ old.contents.items)
-    × (new.frames ≡ old.frames)
+-- the weight falls by 1 at an end, and at a child by the greatest number of steps below it
+abbrev pub WeightFalls : (count : ℕ) → (old : Walk) → NextChild → (new : Walk) → Type 0
+WeightFalls count old child.Nothing new = ⊤
+WeightFalls count old (child.End object) new =
+    walk_weight count (open_in old) ≡ walk_weight count (open_in new) + 1
+WeightFalls count old (child.Child frame) new = walk_weight count (open_in old)
+    ≡ walk_weight count (open_in new) + walk_steps (count - length (open_in new))
 
--- over the bytes of its file, the walk takes the next child as `TakesNextChild` says
-abbrev pub WalkTakesNextChild : (old : Walk) → NextChild → (new : Walk) → Type 0
-WalkTakesNextChild old child new = (bytes : List ℕ) (bounds : Bounds) → IsWalkOf bytes bounds old →
-    TakesNextChild (entries_of bytes bounds) (open_in old) child (open_in new)
-    × IsWalkOf bytes bounds new
+-- whether the innermost collection has no child left
+abbrev pub closes : List Frame → Bool
+closes [] = false
+closes (frame ∷ below) = not (nat_lt frame.next frame.count)
+
+-- the innermost collection was closed
+abbrev pub IsEnd : NextChild → Type 0
+IsEnd (child.End object) = ⊤
+IsEnd other = ⊥
 
 -- where the references of an open collection lie
 abbrev pub stored_references : Walk → Frame → References
 stored_references walk frame = record {
-  place = get_or walk.contents.items frame.object 0;
-  kind = open_kind (get_or walk.tags.items frame.object 0);
-  start = open_start (get_or walk.tags.items frame.object 0);
+  place = slice_index walk.contents.items frame.object;
+  kind = open_kind (slice_index walk.tags.items frame.object);
+  start = open_start (slice_index walk.tags.items frame.object);
   count = frame.count;
 }
 
--- the weight of the walk falls as `WeightFalls` says
-abbrev pub WalkWeightFalls : (old : Walk) → NextChild → (new : Walk) → Type 0
-WalkWeightFalls old child new = (count : ℕ) → WeightFalls count (open_in old) child (open_in new)
+-- ---- an object that is entered
 
--- ---- what is looked up
-
--- this is what the walk has stored about the object of this number
-abbrev pub IsFoundAt : (number : ℕ) → Walk → Known → Type 0
-IsFoundAt number walk found = IsFound (get_or walk.tags.items number 0)
-    (get_or walk.contents.items number 0) found
+-- the tag and the content encode this: the object's offset, or a small scalar that is cached
+abbrev pub IsFound : (tag content : ℕ) → Known → Type 0
+IsFound tag content (looked.Small kind packed) = (0 < unmarked tag)
+    × (cached tag content ≡ Some (unpacked kind packed)) × (is_packed kind packed ≡ true)
+IsFound tag content (looked.At place) = (unmarked tag ≡ 0) × (place ≡ content)
 
 -- the object of this number can't be entered, because of the error in the slot
 abbrev pub RefusesEntering : Walk → (at number : ℕ) → FaultSlot → StepError → Type 0
 RefusesEntering walk at number slot refused =
     (bytes : List ℕ) (bounds : Bounds) → IsWalkOf bytes bounds walk →
     Explains (until_fault (remaining_entering bytes bounds walk at number)) slot.fault
-
--- the error in the slot isn't `Io`
-abbrev pub RefusesWithoutIo : FaultSlot → StepError → Type 0
-RefusesWithoutIo slot refused = MatchFault (kind_of (error_kind_of slot.fault)) ⊥ ⊤ ⊤
-
--- ---- an object that is opened
-
--- the object that was decoded is cached if it is a small scalar
-abbrev pub CachesDecoded : Decoded → (number : ℕ) → Walk → Type 0
-CachesDecoded decoded number walk =
-    small_count decoded ≡ 1 → 0 < unmarked (get_or walk.tags.items number 0)
 
 -- the object's first event is the first item that remained, and the walk has entered the object
 abbrev pub OpensObject : (number : ℕ) → Decoded → (old new : Walk) → Type 0
@@ -128,22 +128,45 @@ abbrev pub IsCollectionStart : Decoded → Type 0
 IsCollectionStart (decoded.Collection kind start count) = ⊤
 IsCollectionStart other = ⊥
 
--- ---- over known bytes
+-- fewer steps remain than when the object was about to be entered
+abbrev pub IsLighterEntered : (old new : Walk) → Type 0
+IsLighterEntered old new =
+    walk_weight (walk_objects old) (open_in new) < weight_in old + walk_steps (fuel_in old)
 
--- the object that was entered is cached if it is a small scalar
-abbrev pub CachesEntered : {A : Type 0} → (known : Option (List ℕ)) → (number : ℕ)
-    → Result A Error → (event : PlainEvent) → Walk → Type 0
-CachesEntered known number answer event walk = IfSome known (λ _.
-    IsCurrentCached (Some number) (Some answer) event walk.tags.items)
+-- the walk is unchanged
+abbrev pub IsUnchanged : (old new : Walk) → Type 0
+IsUnchanged old new = (new.tags.items ≡ old.tags.items)
+    × (new.contents.items ≡ old.contents.items) × (new.frames ≡ old.frames)
 
--- the item is the first that remained, and the others remain
-abbrev pub YieldsItem : {A : Type 0} → (known : Option (List ℕ)) → Bounds → (old : Walk)
-    → Option (Result A Error) → (event : PlainEvent) → (new : Walk) → Type 0
-YieldsItem known bounds old item event new = IfSome known (λ bytes.
-    YieldsNext (remaining_in bytes bounds old) item event (remaining_in bytes bounds new))
+-- ---- a whole step
 
--- the object that was entered next is cached if it is a small scalar
-abbrev pub CachesNext : {A : Type 0} → (known : Option (List ℕ)) → Bounds → (old : Walk)
-    → Option (Result A Error) → (event : PlainEvent) → (new : Walk) → Type 0
-CachesNext known bounds old item event new = IfSome known (λ bytes.
-    IsCurrentCached (next_number (entries_of bytes bounds) (open_in old)) item event new.tags.items)
+-- the error is the only item of the file, or that of a failed read or allocation
+abbrev pub RefusesFirst : List ℕ → Error → Type 0
+RefusesFirst bytes e = MatchFault (kind_of (error_kind_of e)) (SomeRemain (items_of_file bytes))
+    (SomeRemain (items_of_file bytes)) (items_of_file bytes ≡ Err (fault_of e) ∷ [])
+
+-- over known bytes, the event is the first item of the file and the others remain, or the first
+-- step failed; the root is cached if it is small
+pub record YieldsRoot {A : Type 0} (known : Option (List ℕ)) (bounds : Bounds)
+    (answer : Result A Error) (event : PlainEvent) (new : Walk) : Type 0 where
+  pub first : IfSome known (λ bytes. MatchResult answer
+      (λ _. items_of_file bytes ≡ Ok event ∷ until_fault (remaining_in bytes bounds new))
+      (RefusesFirst bytes))
+  pub cached : IfSome known (λ bytes.
+      IsCachedIfSmall (λ _. event) (root_with (head_of bytes)) (Some answer) new.tags.items)
+
+-- over known bytes, the item is the first that remained and the others remain, and the object that
+-- was entered is cached if it is small; a collection without another child was closed
+pub record YieldsItem {A : Type 0} (known : Option (List ℕ)) (bounds : Bounds) (old : Walk)
+    (item : Option (Result A Error)) (event : PlainEvent) (new : Walk) : Type 0 where
+  pub first : IfSome known (λ bytes.
+      YieldsNext (remaining_in bytes bounds old) item event (remaining_in bytes bounds new))
+  pub cached : IfSome known (λ bytes. IsCachedIfSmall (λ _. event)
+      (next_number (entries_of bytes bounds) (open_in old)) item new.tags.items)
+  pub end : closes (open_in old) ≡ true
+      → IsSomeAnd item (λ answer. IsOkAnd answer (λ _. event ≡ EndCollection))
+
+-- an item is yielded only if some steps remained, and fewer steps remain after an event
+abbrev pub LightensNext : {A E : Type 0} → (old : Walk) → Option (Result A E) → Walk → Type 0
+LightensNext old item new = IfSome item (λ answer. (0 < weight_in old)
+    × OnOk answer (walk_weight (walk_objects old) (open_in new) < weight_in old))

@@ -1,11 +1,17 @@
--- What contracts say about a walk over a file's objects: what it stores, and what remains of it.
-use Rattle.std.specs.Prelude.{◌≡◌, ℕ, ◌-◌, List, ◌++◌, length, reverse, Option, IfSome}
-use Rattle.plist_base.specs.Events.{Item}
+-- A walk over a file's objects: what it stores, what remains of it, and what it caches.
+use Rattle.std.specs.Prelude.{◌≡◌, ℕ, ◌-◌, ◌<◌, ◌≤◌, true, List, ◌++◌, length, reverse, slice_index, Option, None, Some, Result, Ok, Err, IfOk, IfSome}
+use Rattle.plist_base.specs.declared.error.Error.{Error}
+use Rattle.plist_base.specs.Events.{Item, PlainEvent}
+use Rattle.plist_base.specs.Faults.{Fault}
+use Rattle.plist_format.specs.Container.{Head}
+use Rattle.plist_format.specs.Unfolding.{unfolding_of}
+use Rattle.plist_decode.specs.Packed.{is_small_event, unmarked}
 use Rattle.plist_decode.specs.declared.head.Bounds.{Bounds}
 use Rattle.plist_binread.specs.declared.frames.Frame.{Frame}
 use Rattle.plist_binread.specs.declared.walk.Walk.{Walk}
-use Rattle.plist_binread.specs.Remaining.{MatchesFile, cached_count, entries_of, remaining_items, path_of, walk_weight}
-use Rattle.plist_format.specs.Unfolding.{unfolding_of}
+use Rattle.plist_binread.specs.Remaining.{MatchesFile, cached_count, entries_of, objects_in_head, path_of, remaining_items, walk_weight}
+
+-- ---- what a walk stores
 
 -- the number of objects
 abbrev pub walk_objects : Walk → ℕ
@@ -23,6 +29,14 @@ open_in walk = reverse walk.frames
 abbrev pub fuel_in : Walk → ℕ
 fuel_in walk = length walk.tags.items - length (open_in walk)
 
+-- the walk has no objects, and no collection is open
+abbrev pub IsEmptyWalk : Walk → Type 0
+IsEmptyWalk walk = (length walk.tags.items ≡ 0) × (length walk.frames ≡ 0)
+
+-- the walk has no more objects than the file
+abbrev pub IsBounded : Walk → List ℕ → Type 0
+IsBounded walk bytes = walk_objects walk ≤ objects_in_head bytes
+
 -- this is a walk over the file with these bytes
 abbrev pub IsWalkOf : (bytes : List ℕ) → Bounds → Walk → Type 0
 IsWalkOf bytes bounds walk = MatchesFile bytes bounds walk.tags.items walk.contents.items (open_in walk)
@@ -30,6 +44,8 @@ IsWalkOf bytes bounds walk = MatchesFile bytes bounds walk.tags.items walk.conte
 -- if the bytes are known, this is a walk over their file
 abbrev pub IsKnownWalk : (known : Option (List ℕ)) → Bounds → Walk → Type 0
 IsKnownWalk known bounds walk = IfSome known (λ bytes. IsWalkOf bytes bounds walk)
+
+-- ---- what remains
 
 -- the items that remain of the open collections
 abbrev pub remaining_in : (bytes : List ℕ) → Bounds → Walk → List Item
@@ -46,6 +62,15 @@ remaining_entering bytes bounds walk at number =
 abbrev pub weight_in : Walk → ℕ
 weight_in walk = walk_weight (walk_objects walk) (open_in walk)
 
--- the walk has no objects, and no collection is open
-abbrev pub IsEmptyWalk : Walk → Type 0
-IsEmptyWalk walk = (length walk.tags.items ≡ 0) × (length walk.frames ≡ 0)
+-- ---- what a step caches
+
+-- the number of the root in a file with this head, or `None` if the head is invalid
+abbrev pub root_with : Result Head Fault → Option ℕ
+root_with (Ok head) = Some head.root
+root_with (Err fault) = None
+
+-- the object of this number is cached if the item is the event of a small scalar
+abbrev pub IsCachedIfSmall : {A : Type 0} → (shown : A → PlainEvent) → Option ℕ
+    → Option (Result A Error) → (tags : List ℕ) → Type 0
+IsCachedIfSmall shown number item tags = IfSome item (λ answer. IfOk answer (λ value. IfSome number
+    (λ number. is_small_event (shown value) ≡ true → 0 < unmarked (slice_index tags number))))

@@ -1,10 +1,10 @@
 //! Enters an object: decodes it and hands its first event to a visitor.
 
-ghost use Rattle.std.specs.Prelude.{◌≡◌, ◌+◌, ◌<◌, get_or, true, false, IfOk, IfErr, OnOk, IfSome};
-ghost use Rattle.plist_base.specs.Faults.{ObjectReferenceTooLarge, RecursiveObject, fault_at, fault_of};
-ghost use Rattle.plist_decode.specs.Packed.{is_marked};
-ghost use Rattle.plist_binread.specs.Walking.{IsWalkOf, cached_in, remaining_entering, remaining_in, walk_objects};
-ghost use Rattle.plist_binread.specs.Step.{YieldsResult, IsFoundAt, IsLighterEntered, IsUnchanged, CachesDecoded, CachesEntered, IsCollectionStart, OpensObject, RefusesEntering, RefusesWithoutIo};
+ghost use Rattle.std.specs.Prelude.{◌≡◌, ◌+◌, ◌<◌, slice_index, true, false, Some, IfOk, IfErr, OnOk, IfSome, ⊤};
+ghost use Rattle.plist_base.specs.Faults.{MatchFault, ObjectReferenceTooLarge, RecursiveObject, error_kind_of, fault_at, fault_of, kind_of};
+ghost use Rattle.plist_decode.specs.Packed.{is_marked, unmarked};
+ghost use Rattle.plist_binread.specs.Walking.{IsCachedIfSmall, IsKnownWalk, cached_in, remaining_entering, remaining_in, walk_objects};
+ghost use Rattle.plist_binread.specs.Step.{YieldsResult, IsFound, IsLighterEntered, IsUnchanged, IsCollectionStart, OpensObject, RefusesEntering};
 ghost use Rattle.plist_decode.specs.FaultOffsets.{ErrWithin};
 ghost use Rattle.plist_decode.specs.Decoded.{small_count};
 ghost use Rattle.plist_binread.specs.ObjectEvents.{FitsWalk};
@@ -58,14 +58,15 @@ enum Known {
 #[inline(always)]
 fn look_up(walk: &Walk, slot: &mut FaultSlot, at: u64, number: u64) -> Result<Known, StepError>
     // Result.
-    ensures found { IfOk result (IsFoundAt number walk.now) }
+    ensures found { IfOk result (IsFound (slice_index walk.now.tags.items number)
+        (slice_index walk.now.contents.items number)) }
     // Errors.
     ensures refused { IfErr result (RefusesEntering walk.now at number slot.new) }
-    ensures kinds { IfErr result (RefusesWithoutIo slot.new) }
+    ensures kinds { IfErr result (λ _. MatchFault (kind_of (error_kind_of slot.new.fault)) ⊥ ⊤ ⊤) }
     ensures fault { ErrWithin 0 0 (result_in result slot.new) }
     // State afterwards.
     ensures below { IfOk result (λ _. number < walk_objects walk.now) }
-    ensures new { IfOk result (λ _. is_marked (get_or walk.now.tags.items number 0) ≡ false) }
+    ensures new { IfOk result (λ _. is_marked (slice_index walk.now.tags.items number) ≡ false) }
 {
     if number >= walk.tags.len() as u64 {
         return Err(refuse_number(slot, at));
@@ -86,7 +87,7 @@ fn look_up(walk: &Walk, slot: &mut FaultSlot, at: u64, number: u64) -> Result<Kn
 #[inline(always)]
 fn open(walk: &mut Walk, number: u64, kind: CollectionKind, start: u8, count: u64) -> bool
     requires below { number < walk_objects walk.old }
-    requires new { get_or walk.old.tags.items number 0 ≡ 0 }
+    requires new { slice_index walk.old.tags.items number ≡ 0 }
     requires fits { FitsWalk (OpenCollection kind start count) }
     // Result.
     ensures yields { result ≡ true
@@ -111,7 +112,7 @@ fn open(walk: &mut Walk, number: u64, kind: CollectionKind, start: u8, count: u6
 #[inline(always)]
 fn cache_or_open(walk: &mut Walk, number: u64, decoded: Decoded) -> bool
     requires below { number < walk_objects walk.old }
-    requires new { get_or walk.old.tags.items number 0 ≡ 0 }
+    requires new { slice_index walk.old.tags.items number ≡ 0 }
     requires fits { FitsWalk decoded }
     // Result.
     ensures yields { result ≡ true → OpensObject number decoded walk.old walk.new }
@@ -119,7 +120,8 @@ fn cache_or_open(walk: &mut Walk, number: u64, decoded: Decoded) -> bool
     // State afterwards.
     ensures size { walk_objects walk.new ≡ walk_objects walk.old }
     ensures counted { cached_in walk.new ≡ cached_in walk.old + small_count decoded }
-    ensures cached { CachesDecoded decoded number walk.new }
+    ensures cached { small_count decoded ≡ 1
+        → 0 < unmarked (slice_index walk.new.tags.items number) }
     ensures falls { result ≡ true → IsLighterEntered walk.old walk.new }
     ensures unchanged { result ≡ false → IsUnchanged walk.old walk.new }
 {
@@ -150,8 +152,7 @@ pub fn enter<S: Source, C: DecodeCounter, V: EventVisitor>(
     reference: Reference,
     visitor: &mut V,
 ) -> Result<ControlFlow<()>, StepError>
-    requires known { IfSome (S.known source.old) (λ bytes.
-        IsWalkOf bytes decoder.old.bounds walk.old) }
+    requires known { IsKnownWalk (S.known source.old) decoder.old.bounds walk.old }
     requires counted { C.counts → C.count decoder.old.counter ≡ cached_in walk.old }
     // Result.
     ensures handed { Hands V.step visitor.old visitor.new result (λ event.
@@ -159,14 +160,13 @@ pub fn enter<S: Source, C: DecodeCounter, V: EventVisitor>(
         YieldsResult
         (remaining_entering bytes decoder.old.bounds walk.old reference.at reference.number)
         (result_in result decoder.new.slot) event (remaining_in bytes decoder.old.bounds walk.new))
-        × CachesEntered (S.known source.old) reference.number (result_in result decoder.new.slot)
-        event walk.new) }
+        × IsCachedIfSmall (λ _. event) (Some reference.number)
+        (Some (result_in result decoder.new.slot)) walk.new.tags.items) }
     // Errors.
     ensures fault { ErrWithin 0 decoder.old.bounds.trailer (result_in result decoder.new.slot) }
     // State afterwards.
     ensures size { walk_objects walk.new ≡ walk_objects walk.old }
-    ensures known { IfSome (S.known source.old) (λ bytes.
-        IsWalkOf bytes decoder.old.bounds walk.new) }
+    ensures known { IsKnownWalk (S.known source.old) decoder.old.bounds walk.new }
     ensures bounds { decoder.new.bounds ≡ decoder.old.bounds }
     ensures counted { C.counts → C.count decoder.new.counter ≡ cached_in walk.new }
     ensures falls { OnOk result (IsLighterEntered walk.old walk.new) }

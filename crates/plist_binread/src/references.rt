@@ -1,8 +1,10 @@
 //! Reads the references of collections to their children, from copies of a few bytes.
 
 ghost use Rattle.std.specs.Prelude.{◌≤◌, ◌≡◌, ◌+◌, ◌^◌, ◌<◌};
+ghost use Rattle.plist_base.specs.Outcomes.{DecodesBy, IfRefused};
+ghost use Rattle.plist_base.specs.Sources.{IsIoWithin};
+ghost use Rattle.plist_format.specs.Container.{number_at};
 ghost use Rattle.plist_decode.specs.FaultOffsets.{ErrWithin};
-ghost use Rattle.plist_binread.specs.References.{RefusesNumber, ReadsNumber};
 ghost use Rattle.plist_decode.specs.Slot.{SlotCountsIo, result_in};
 
 use plist_base::Source;
@@ -31,9 +33,9 @@ pub struct Run {
 }
 
 impl Run {
-    ghost use Rattle.std.specs.Prelude.{◌≡◌, ◌≤◌, ℕ, List, Option};
-    ghost use Rattle.plist_binread.specs.References.{IfFound, IsNumberAt};
-    ghost use Rattle.plist_binread.specs.Runs.{IsRunOf, LieAt};
+    ghost use Rattle.std.specs.Prelude.{◌≡◌, ◌≤◌, ℕ, List, Option, IfSome};
+    ghost use Rattle.plist_base.specs.Sources.{LiesAt};
+    ghost use Rattle.plist_binread.specs.References.{IsNumberAt, IsRunOf};
 
     /// Creates an empty run.
     pub fn new() -> Self
@@ -72,7 +74,7 @@ impl Run {
     #[inline(always)]
     pub fn bytes_from(&self, place: u64) -> &[u8]
         ensures { (known : Option (List ℕ)) → IsRunOf known self.now
-            → LieAt known place result.now }
+            → IfSome known (λ bytes. LiesAt bytes place result.now) }
     {
         match place.checked_sub(self.at) {
             Some(skipped) if skipped <= self.len as u64 => &self.bytes[skipped as usize..self.len],
@@ -86,7 +88,7 @@ impl Run {
     pub fn number_at(&self, place: u64, width: usize) -> Option<u64>
         requires { width ≤ 8 }
         ensures { (known : Option (List ℕ)) → IsRunOf known self.now
-            → IfFound result known (IsNumberAt place width) }
+            → IsNumberAt result known place width }
     {
         let found = self.bytes_from(place);
         if found.len() < width {
@@ -102,7 +104,7 @@ impl Run {
     pub fn read<S: Source>(&mut self, source: &S, place: u64, width: usize) -> Option<u64>
         requires width { width ≤ 8 }
         requires run { IsRunOf (S.known source.now) self.old }
-        ensures value { IfFound result (S.known source.now) (IsNumberAt place width) }
+        ensures value { IsNumberAt result (S.known source.now) place width }
         ensures run { IsRunOf (S.known source.now) self.new }
     {
         match self.number_at(place, width) {
@@ -116,7 +118,7 @@ impl Run {
     #[inline(always)]
     pub fn refill<S: Source>(&mut self, source: &S, place: u64, width: usize) -> Option<u64>
         requires { width ≤ 8 }
-        ensures value { IfFound result (S.known source.now) (IsNumberAt place width) }
+        ensures value { IsNumberAt result (S.known source.now) place width }
         ensures run { IsRunOf (S.known source.now) self.new }
     {
         self.fill(source, place);
@@ -204,9 +206,11 @@ fn read_reference<S: Source>(
     requires width { width ≤ 8 }
     requires fits { place + width < 2 ^ 64 }
     // Result.
-    ensures value { ReadsNumber (result_in result slot.new) (S.known source.old) place width }
+    ensures value { DecodesBy (result_in result slot.new) (S.known source.old)
+        (λ bytes. number_at bytes place width) }
     // Errors.
-    ensures refused { RefusesNumber (result_in result slot.new) (S.known source.old) place width }
+    ensures refused { IfRefused (result_in result slot.new) (S.known source.old)
+        (IsIoWithin place width) }
     ensures fault { ErrWithin place (place + width) (result_in result slot.new) }
     // State afterwards.
     ensures unchanged { S.known source.new ≡ S.known source.old }
@@ -231,8 +235,7 @@ pub struct ReferenceReader {
 impl ReferenceReader {
     ghost use Rattle.std.specs.Prelude.{◌≡◌, ◌<◌, ◌≤◌, Option, List, ℕ};
     ghost use Rattle.plist_decode.specs.FaultOffsets.{ErrWithin};
-    ghost use Rattle.plist_binread.specs.References.{AreReferencesOf, IfFound, IsNumberAt, ReadsChildAt};
-    ghost use Rattle.plist_binread.specs.Runs.{AreRunsOf};
+    ghost use Rattle.plist_binread.specs.References.{AreReferencesOf, AreRunsOf, IsNumberAt, ReadsChildAt};
     ghost use Rattle.plist_decode.specs.Slot.{SlotCountsIo, result_in};
 
     /// Creates a reader that hasn't read any references yet.
@@ -256,7 +259,7 @@ impl ReferenceReader {
     ) -> Option<u64>
         requires width { width ≤ 8 }
         requires runs { AreRunsOf (S.known source.now) self.old }
-        ensures value { IfFound result (S.known source.now) (IsNumberAt at width) }
+        ensures value { IsNumberAt result (S.known source.now) at width }
         ensures runs { AreRunsOf (S.known source.now) self.new }
     {
         match self.near.number_at(at, width) {

@@ -1,16 +1,14 @@
 //! Takes the steps of a walk: reads the head and enters the root, or advances by one event.
 
-ghost use Rattle.std.specs.Prelude.{◌≡◌, ◌^◌, ◌<◌, Ok, replicate, IfOk, IfSome, OnOk, true};
+ghost use Rattle.std.specs.Prelude.{◌≡◌, ◌^◌, ◌<◌, replicate, IfOk, IfSome, OnOk};
 ghost use Rattle.plist_base.specs.Outcomes.{OnlyMemory};
-ghost use Rattle.plist_binread.specs.Remaining.{walk_steps};
+ghost use Rattle.plist_binread.specs.Remaining.{CountsObjects, walk_steps};
 ghost use Rattle.plist_decode.specs.FaultOffsets.{ErrWithin, ItemWithin};
 ghost use Rattle.plist_binread.specs.Handovers.{Hands, HandsItem};
 ghost use Rattle.plist_decode.specs.Slot.{SlotCountsIo, result_in, ItemSlotCountsIo, item_in};
-ghost use Rattle.plist_binread.specs.Walking.{IsEmptyWalk, cached_in, walk_objects, weight_in, IsKnownWalk, open_in};
-ghost use Rattle.plist_binread.specs.FirstStep.{CountsRoot, GivesRoot, IsBounded, CachesRoot};
-ghost use Rattle.plist_binread.specs.NextChild.{closes};
-ghost use Rattle.plist_binread.specs.Step.{IsCurrentEnd, CachesNext, LightensNext, YieldsItem};
-ghost use Rattle.plist_binread.specs.Runs.{AreRunsOf};
+ghost use Rattle.plist_binread.specs.Walking.{IsBounded, IsEmptyWalk, IsKnownWalk, cached_in, walk_objects, weight_in};
+ghost use Rattle.plist_binread.specs.Step.{LightensNext, YieldsItem, YieldsRoot};
+ghost use Rattle.plist_binread.specs.References.{AreRunsOf};
 
 use crate::enter::enter;
 use crate::frames::NextChild;
@@ -47,16 +45,15 @@ pub fn begin<S: Source, C: DecodeCounter, V: EventVisitor>(
     requires counted { C.counts → C.count decoder.old.counter ≡ cached_in walk.old }
     // Result.
     ensures handed { Hands V.step visitor.old visitor.new result (λ event.
-        IfSome (S.known source.old) (GivesRoot (result_in result decoder.new.slot) event
-        decoder.new.bounds walk.new)
-        × IfSome (S.known source.old) (CachesRoot (result_in result decoder.new.slot) event
-        walk.new)) }
+        YieldsRoot (S.known source.old) decoder.new.bounds (result_in result decoder.new.slot) event
+        walk.new) }
     // Errors.
     ensures fault { ErrWithin 0 (2 ^ 64) (result_in result decoder.new.slot) }
     // State afterwards.
     ensures counted { C.counts → C.count decoder.new.counter ≡ cached_in walk.new }
     ensures bounded { IfSome (S.known source.old) (IsBounded walk.new) }
-    ensures objects { IfSome (S.known source.old) (CountsRoot result decoder.new.slot walk.new) }
+    ensures objects { IfSome (S.known source.old) (λ bytes.
+        CountsObjects bytes (result_in result decoder.new.slot) (walk_objects walk.new)) }
     ensures known { OnOk result (IsKnownWalk (S.known source.old) decoder.new.bounds walk.new) }
     ensures falls { OnOk result (weight_in walk.new < walk_steps (walk_objects walk.new)) }
     ensures unchanged { S.known source.new ≡ S.known source.old }
@@ -100,10 +97,7 @@ pub fn advance<S: Source, C: DecodeCounter, V: EventVisitor>(
     // Result.
     ensures handed { HandsItem V.step visitor.old visitor.new result (λ event.
         YieldsItem (S.known source.old) decoder.old.bounds walk.old
-        (item_in result decoder.new.slot) event walk.new
-        × CachesNext (S.known source.old) decoder.old.bounds walk.old
-        (item_in result decoder.new.slot) event walk.new
-        × (closes (open_in walk.old) ≡ true → IsCurrentEnd result event)) }
+        (item_in result decoder.new.slot) event walk.new) }
     // Errors.
     ensures fault { ItemWithin 0 decoder.old.bounds.trailer (item_in result decoder.new.slot) }
     // State afterwards.

@@ -108,7 +108,7 @@ impl<'v, V: EventVisitor> Within<'v, V> {
 }
 
 impl<'v, V: EventVisitor> EventVisitor for Within<'v, V> {
-    ghost use Rattle.plist_binread.specs.ReaderSteps.{TakesWithin};
+    ghost use Rattle.plist_binread.specs.Handovers.{TakesWithin};
 
     ghost step = { TakesWithin V.step };
 

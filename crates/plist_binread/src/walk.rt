@@ -1,9 +1,8 @@
 //! Stores the state of a walk: the open collections, and what is known about each object.
 
-ghost use Rattle.std.specs.Prelude.{◌≡◌, ◌<◌, length, reverse, true};
+ghost use Rattle.std.specs.Prelude.{◌≡◌, length, reverse};
 ghost use Rattle.std.proofs.Props.{props};
 ghost use Rattle.plist_binread.specs.Remaining.{ArePacked, MarksOpenPath};
-ghost use Rattle.plist_binread.specs.NextChild.{IsEnd, ParentIsOpen, closes};
 
 use crate::frames::{Frame, Frames, NextChild};
 use crate::references::References;
@@ -26,8 +25,9 @@ pub struct Walk {
 }
 
 impl Walk {
-    ghost use Rattle.plist_binread.specs.Step.{WalkWeightFalls, WalkTakesNextChild, stored_references};
-    ghost use Rattle.plist_binread.specs.Walking.{IsEmptyWalk, cached_in, walk_objects, open_in};
+    ghost use Rattle.std.specs.Prelude.{◌≡◌, ◌<◌, ℕ, true};
+    ghost use Rattle.plist_binread.specs.Step.{IsEnd, ParentIsOpen, TakesNextChild, WeightFalls, closes, stored_references};
+    ghost use Rattle.plist_binread.specs.Walking.{IsEmptyWalk, cached_in, open_in, walk_objects};
 
     /// Creates a walk over a file whose objects aren't known yet.
     pub fn new(alloc: Global) -> Self
@@ -44,13 +44,13 @@ impl Walk {
     /// left.
     pub fn next_child(&mut self) -> NextChild
         // Result.
-        ensures remaining { WalkTakesNextChild self.old result self.new }
-        ensures within { ParentIsOpen self.new.tags.items result }
+        ensures remaining { TakesNextChild self.old result self.new }
+        ensures within { ParentIsOpen self.new result }
         ensures closes { closes (open_in self.old) ≡ true → IsEnd result }
         // State afterwards.
         ensures size { walk_objects self.new ≡ walk_objects self.old }
         ensures counted { cached_in self.new ≡ cached_in self.old }
-        ensures weight { WalkWeightFalls self.old result self.new }
+        ensures weight { (count : ℕ) → WeightFalls count self.old result self.new }
         ensures contents { self.new.contents.items ≡ self.old.contents.items }
     {
         match self.frames.next_child() {

@@ -17,8 +17,7 @@ use Rattle.plist_format.specs.Unfolding.{items_of_file}
 use Rattle.plist_ascii.specs.AsciiReader.{GivesAsciiItem}
 use Rattle.plist_ascii.specs.Ascii.{items_in, items_of_ascii, token}
 use Rattle.plist_ascii.specs.Escapes.{escape, octal_char}
-use Rattle.plist_ascii.specs.Quoted.{quoted_in}
-use Rattle.plist_ascii.specs.Texts.{bare_event, lax_stops, quoted_event}
+use Rattle.plist_ascii.specs.Texts.{quoted_in, bare_event, lax_stops, quoted_event}
 use Rattle.plist_callers.specs.SmallInputs.{comment_and_array, empty_array, five_at_true, five_byte_offsets, minus_one, missing_child, nested_arrays, root_is_second}
 
 pub of_root_is_second : items_of_file root_is_second

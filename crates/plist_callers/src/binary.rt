@@ -1,7 +1,7 @@
 //! Proved callers of a reader: how many objects it reports, and what it yields after an error.
 
 ghost use Rattle.std.specs.Prelude.{◌≡◌, ◌≤◌, None, IfSome, false};
-ghost use Rattle.plist_binread.specs.BinaryReader.{objects_in_head};
+ghost use Rattle.plist_binread.specs.Remaining.{objects_in_head};
 
 use plist_base::{Error, ErrorKind, OwnedEvent, Source};
 use plist_binread::BinaryReader;

@@ -16,7 +16,7 @@ use Rattle.plist_base.proofs.Visits.{kept_all}
 use Rattle.plist_buffer.specs.EventBuffers.{TestsWhole}
 use Rattle.plist.specs.ValueOfItems.{IsReadIfKnown}
 use Rattle.plist_base.specs.declared.source.Source.{Ghosts}
-use Rattle.plist_binread.specs.BinaryReader.{binary_source}
+use Rattle.plist_binread.specs.BinaryReader.{Steps, binary_source}
 use Rattle.plist_reader.specs.Reader.{BinaryReaderOf}
 use Rattle.plist_commands.specs.Converting.{CollectsItems}
 use Rattle.plist_print.specs.Printing.{items_left}
@@ -26,7 +26,6 @@ use Rattle.plist_commands.specs.declared.collector.StopReason.TheVariants.{Faile
 use Rattle.plist_commands.specs.CollectorSteps.{AnswersVisit, HasPaused, HoldsMore, IsEmpty, MatchStop, MayPause, CollectsEvent, collected, is_complete}
 use Rattle.plist_base.specs.FirstItems.{GivesFirstIfKnown}
 use Rattle.plist_print.specs.Printing.{CountsReads}
-use Rattle.plist_binread.specs.ReaderSteps.{Steps}
 use Rattle.plist_commands.specs.BufferRuns.{BuffersRun}
 use Rattle.plist_print.proofs.SourceItems.{binary_comes}
 use Rattle.plist_print.proofs.PendingBytes.{fault_counts, memory_own, own_counts}

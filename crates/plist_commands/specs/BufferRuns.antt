@@ -7,9 +7,8 @@ use Rattle.plist_base.specs.Events.{PlainEvent}
 use Rattle.plist_base.specs.Faults.{IsIo, OutOfMemory, error_kind_of, fault_without_offset, fault_of, kind_of, offset_of}
 use Rattle.plist_base.specs.Sources.{Rises}
 use Rattle.plist_base.specs.Visits.{YieldsAll, YieldsPlain, PlainItem}
-use Rattle.plist_binread.specs.BinaryReader.{is_new, binary_source}
+use Rattle.plist_binread.specs.BinaryReader.{Steps, is_new, binary_source}
 use Rattle.plist_decode.specs.FaultOffsets.{HasOffset}
-use Rattle.plist_binread.specs.ReaderSteps.{Steps}
 use Rattle.plist_reader.specs.Reader.{reader_source, Gives, BinaryReaderOf, IsNewReader}
 use Rattle.plist_reader.specs.declared.reader.Reader.{Reader}
 use Rattle.plist_commands.specs.declared.convert.FastPath.{FastPath}

@@ -12,12 +12,11 @@ use Rattle.plist_base.proofs.WriterBytes.{Appends-at}
 use Rattle.plist_base.proofs.Refusals.{MatchFault-weaker}
 use Rattle.plist_base.specs.FirstItems.{GivesFirst, GivesFirstIfKnown}
 use Rattle.plist_base.proofs.FirstItems.{first_of_known}
-use Rattle.plist_binread.specs.BinaryReader.{binary_source, items_to_come}
+use Rattle.plist_binread.specs.BinaryReader.{Steps, binary_source, items_to_come}
 use Rattle.plist_reader.specs.Reader.{BinaryReaderOf}
 use Rattle.plist_print.specs.Printing.{items_left}
 use Rattle.plist_print.specs.EscapedLines.{first_fault, lines_of, lines_of_events}
 use Rattle.plist_print.specs.Printing.{CountsReads, IsWriterError, PrintsKnown, PrintsAll, PrintsUntil}
-use Rattle.plist_binread.specs.ReaderSteps.{Steps}
 use Rattle.plist_print.specs.PrintRuns.{IsAskedOnce, PrintsRun, StopsPrinting}
 use Rattle.plist_base.proofs.SinkSteps.{prefix_more}
 use Rattle.plist_print.proofs.PendingBytes.{device_own, fault_counts, memory_own, own_counts, own_ends}

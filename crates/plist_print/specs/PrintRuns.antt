@@ -7,8 +7,7 @@ use Rattle.plist_base.specs.Events.{PlainEvent}
 use Rattle.plist_base.specs.Faults.{Io, OutOfMemory, fault_without_offset, fault_of}
 use Rattle.plist_base.specs.Prefixes.{AppendsPrefix}
 use Rattle.plist_base.specs.Visits.{YieldsAll, PlainItem}
-use Rattle.plist_binread.specs.BinaryReader.{is_new, binary_source}
-use Rattle.plist_binread.specs.ReaderSteps.{Steps}
+use Rattle.plist_binread.specs.BinaryReader.{Steps, is_new, binary_source}
 use Rattle.plist_reader.specs.Reader.{BinaryReaderOf}
 use Rattle.plist_print.specs.EscapedLines.{lines_of_events}
 use Rattle.plist_print.specs.Printing.{CountsReadsOf}

@@ -25,7 +25,7 @@ use Rattle.plist_binread.specs.Remaining.{SomeRemain}
 use Rattle.plist_ascii.specs.Ascii.{items_of_ascii, items_in, BeginsWithText}
 use Rattle.plist_ascii.specs.AsciiReader as ascii
 use Rattle.plist_ascii.specs.Kinds.{IsAsciiItem, IsFaultOfBytes}
-use Rattle.plist_ascii.specs.Incoming as incoming
+use Rattle.plist_ascii.specs.Unread as incoming
 use Rattle.plist_ascii.specs.declared.dialect.Dialect.{Dialect}
 use Rattle.plist_ascii.specs.Texts.{ends_bare}
 use Rattle.plist_reader.specs.declared.reader.State.{State}

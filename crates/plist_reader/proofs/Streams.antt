@@ -5,7 +5,7 @@ use Rattle.std.specs.Io.KnownBytes.{Consumes, IsAtEnd}
 use Rattle.std.proofs.lemmas.List.{drop-drop, drop_all, drop-take, take-take, take-append-drop, length-take, length-take-le, get_or-take}
 use Rattle.plist_base.specs.Sources.{GivesAt}
 use Rattle.plist_base.specs.Sequential.{from_place}
-use Rattle.plist_ascii.specs.Incoming.{GivesByte}
+use Rattle.plist_ascii.specs.Unread.{GivesByte}
 use Rattle.plist_base.proofs.Places.{nothing_past, nothing_after}
 
 -- ---- one read

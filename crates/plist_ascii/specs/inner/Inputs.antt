@@ -1,20 +1,53 @@
 -- What calls of an input do to the bytes that remain, to the number of bytes taken, and to the
--- count of failures.
-use Rattle.std.specs.Prelude.{◌≡◌, ℕ, ◌+◌, ◌-◌, ◌^◌, ◌<◌, ◌≤◌, Bool, true, false, List, [], ◌∷◌, ◌++◌, length, take, drop, Option, None, Some, Result, Ok, Err, IfOk, IfSome, IsSome, MatchOption, MatchResult, ⊤}
+-- count of failures, and which errors they return.
+use Rattle.std.specs.Prelude.{◌≡◌, ℕ, ◌+◌, ◌-◌, ◌^◌, ◌<◌, ◌≤◌, Bool, true, false, List, [], ◌∷◌, ◌++◌, length, take, drop, Option, None, Some, Result, Ok, Err, IfOk, IfSome, IsSome, MatchOption, MatchResult}
+use Rattle.std.specs.Option.{option_map, option_map_or}
 use Rattle.std.specs.declared.alloc.Global.{Global}
 use Rattle.std.specs.declared.vec.Vec.{Vec}
+use Rattle.plist_base.specs.declared.event.Event.{Event}
+use Rattle.plist_base.specs.Events.{PlainEvent, event_of}
+use Rattle.plist_base.specs.Faults.{Fault, FaultKind, Io, OutOfMemory, UnclosedString, IncompleteComment, InvalidUtf8AsciiStream, InvalidOctalString, InvalidUtf16String, fault_at, fault_without_offset}
 use Rattle.plist_ascii.specs.declared.fault.TokenFault.{TokenFault}
 use Rattle.plist_ascii.specs.declared.fault.TokenFault.TheVariants as fault
 use Rattle.plist_ascii.specs.declared.input.Input.{Input}
 use Rattle.plist_ascii.specs.declared.stop.Stop.{Stop}
 use Rattle.plist_ascii.specs.TokenPrefixes.{Taken, run}
 use Rattle.plist_ascii.specs.Texts.{Token}
-use Rattle.plist_ascii.specs.Comments.{begins_with}
-use Rattle.plist_ascii.specs.Ascii.{IsTextToken}
-use Rattle.plist_ascii.specs.Incoming.{RisesIfCounted}
-use Rattle.plist_ascii.specs.Unread.{unread, IfKnown, first, stops, FirstIsTaken, GivesFront}
-use Rattle.plist_ascii.specs.inner.TokenFaults.{kind_in_bytes, said}
+use Rattle.plist_ascii.specs.Kinds.{IsTextEvent}
+use Rattle.plist_ascii.specs.Ascii.{IsTextToken, begins_with}
+use Rattle.plist_ascii.specs.Unread.{IfKnown, GivesFront, RisesIfCounted, first, stops, unread}
 use Rattle.plist_ascii.specs.inner.Parts.{EndsAt}
+
+-- ---- the errors of a token
+
+-- the kind of a fault in the bytes, or `None` if a read or an allocation failed
+abbrev pub kind_in_bytes : TokenFault → Option FaultKind
+kind_in_bytes fault.Io = None
+kind_in_bytes fault.OutOfMemory = None
+kind_in_bytes fault.UnclosedString = Some UnclosedString
+kind_in_bytes fault.IncompleteComment = Some IncompleteComment
+kind_in_bytes fault.InvalidUtf8 = Some InvalidUtf8AsciiStream
+kind_in_bytes fault.InvalidOctal = Some InvalidOctalString
+kind_in_bytes fault.InvalidUtf16 = Some InvalidUtf16String
+
+-- the error that a fault becomes, if `place` bytes were taken
+abbrev pub fault_after : TokenFault → ℕ → Fault
+fault_after fault.Io place = fault_at Io place
+fault_after f place =
+    option_map_or (λ kind. fault_at kind place) (kind_in_bytes f) (fault_without_offset OutOfMemory)
+
+-- the meaning of the bytes, which is the value of the result mapped by `view`, or their fault;
+-- `None` if a read or an allocation failed
+abbrev pub said : {X A : Type 0} → (view : X → A) → Result X TokenFault
+    → Option (Result A FaultKind)
+said view (Ok x) = Some (Ok (view x))
+said view (Err f) = option_map (λ kind. Err kind) (kind_in_bytes f)
+
+-- the result has the meaning of this string: an event, or the fault that the string isn't UTF-8
+abbrev pub Means : Result Event TokenFault → Result (Option PlainEvent) FaultKind → Type 0
+Means answer outcome = MatchResult answer
+    (λ event. (outcome ≡ Ok (Some (event_of event))) × IsTextEvent (event_of event))
+    (λ f. (f ≡ fault.InvalidUtf8) × (outcome ≡ Err InvalidUtf8AsciiStream))
 
 -- ---- failures
 
@@ -32,11 +65,6 @@ module _ {R : Type 0} (failures : R → Option ℕ) (old : Input R) where
   abbrev pub CountsRead : {A : Type 0} → Result A TokenFault → Input R → Type 0
   CountsRead answer new = MatchResult answer (λ _. failures new.inner ≡ failures old.inner)
       (λ f. (f ≡ fault.Io) × ReadFailed new)
-
--- if the fault is `Io`, the error of the failed read is stored
-abbrev pub HasFailed : {R : Type 0} → TokenFault → Input R → Type 0
-HasFailed fault.Io input = IsSome input.failure
-HasFailed other input = ⊤
 
 -- ---- the bytes at hand
 
@@ -94,20 +122,25 @@ module _ {R : Type 0} (known : R → Option (List ℕ)) where
 
   -- the first byte was taken, or none remains
   abbrev pub TakesNext : Input R → Option ℕ → Input R → Type 0
-  TakesNext old (Some byte) new = FirstIsTaken (unread known old) byte (unread known new)
+  TakesNext old (Some byte) new = IfKnown (unread known old) (λ xs. (rest : List ℕ)
+      × (xs ≡ byte ∷ rest) × (unread known new ≡ Some rest))
   TakesNext old None new = HasNothingLeft old new
 
   -- this byte was taken, or the next byte isn't this one
   abbrev pub TakesIf : ℕ → Input R → (is : Bool) → Input R → Type 0
-  TakesIf byte old true new = FirstIsTaken (unread known old) byte (unread known new)
-  TakesIf byte old false new =
-      IfKnown (unread known old) (λ xs. (unread known new ≡ Some xs)
-      × (begins_with byte xs ≡ false))
+  TakesIf byte old true new = TakesNext old (Some byte) new
+  TakesIf byte old false new = IfKnown (unread known old)
+      (λ xs. (unread known new ≡ Some xs) × (begins_with byte xs ≡ false))
 
-  -- the bytes that remain, if there are any, begin with a stop
-  abbrev pub IsAtStop : Stop → Input R → Input R → Type 0
-  IsAtStop stop old new = IfKnown (unread known old)
-      (λ xs. IfKnown (unread known new) (λ ys. run (stops stop) ys ≡ 0))
+  -- bytes without a stop, of which `P` is true, were taken; if there are no more of them, the bytes
+  -- that remain, if there are any, begin with a stop
+  pub record TakesPart (stop : Stop) (P : (part : List ℕ) → Type 0) (old : Input R) (more : Bool)
+      (new : Input R) : Type 0 where
+    pub bytes : IfKnown (unread known old) (λ xs. (part : List ℕ) × P part × (rest : List ℕ)
+        × (xs ≡ part ++ rest) × (run (stops stop) part ≡ length part)
+        × (unread known new ≡ Some rest) × (new.taken ≡ old.taken + length part))
+    pub end : more ≡ false → IfKnown (unread known old)
+        (λ xs. IfKnown (unread known new) (λ ys. run (stops stop) ys ≡ 0))
 
   -- the whole run was taken, and the byte after it, if there is one
   abbrev pub TakesPast : Stop → Input R → Option ℕ → Input R → Type 0

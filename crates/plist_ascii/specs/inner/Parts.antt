@@ -1,23 +1,22 @@
 -- What has been taken of a string: its characters, its escapes, and parts that end with an escape
--- or the closing quote.
-use Rattle.std.specs.Prelude.{◌≡◌, ℕ, ◌==◌, ◌||◌, Bool, true, false, List, [], ◌∷◌, ◌++◌, drop, Option, None, Some, Result, Ok, Err, MatchOption, encode_utf8}
-use Rattle.std.specs.Char.{is_digit}
+-- or the closing quote. And strings that end among the bytes at hand.
+use Rattle.std.specs.Prelude.{◌≡◌, ℕ, ◌+◌, ◌<◌, Bool, true, false, not, List, [], ◌∷◌, ◌++◌, length, drop, slice_get, Option, None, Some, Result, Ok, Err, MatchOption, encode_utf8}
 use Rattle.std.specs.declared.alloc.Global.{Global}
 use Rattle.std.specs.declared.vec.Vec.{Vec}
+use Rattle.plist_base.specs.Events.{ScalarEvent}
 use Rattle.plist_base.specs.Faults.{FaultKind}
+use Rattle.plist_base.specs.Trees.{String}
+use Rattle.plist_ascii.specs.declared.token.Lead.TheVariants as lead
 use Rattle.plist_ascii.specs.declared.unescape.Escaped.{Escaped}
 use Rattle.plist_ascii.specs.declared.unescape.Escaped.TheVariants as piece
-use Rattle.plist_ascii.specs.TokenPrefixes.{Taken, taken}
-use Rattle.plist_ascii.specs.Quoted.{piece_then, run_end, quoted_by}
+use Rattle.plist_ascii.specs.Ascii.{is_blank, lead_of, token_by}
+use Rattle.plist_ascii.specs.TokenPrefixes.{Taken, past_one, run, taken}
+use Rattle.plist_ascii.specs.Texts.{ends_run, piece_then, quoted_by, run_end}
 
 -- the bytes that an escape stands for
 abbrev pub escaped_bytes : Escaped → List ℕ
 escaped_bytes (piece.Byte byte) = byte ∷ []
 escaped_bytes (piece.Char c) = encode_utf8 c
-
--- is the byte a sign or a decimal digit?
-abbrev pub begins_number : ℕ → Bool
-begins_number c = (c == 43) || ((c == 45) || is_digit c 10)
 
 -- the outcome is the character's bytes or, without a character, this fault
 abbrev pub IsCharOr : FaultKind → Result (List ℕ) FaultKind → Option ℕ → Type 0
@@ -51,3 +50,33 @@ abbrev pub Quotes : (quote : ℕ) → (closed : Bool) → (text longer : Vec ℕ
     → Type 0
 Quotes quote closed text longer bytes n =
     (part : List ℕ) × Parts quote bytes closed n part × (longer.items ≡ text.items ++ part)
+
+-- ---- strings at hand
+
+-- the first n bytes are a bare string, and more bytes follow
+abbrev pub IsBareFront : (stops : ℕ → Bool) → List ℕ → ℕ → Type 0
+IsBareFront stops [] n = ⊥
+IsBareFront stops (c ∷ bytes) n =
+    (lead_of c ≡ lead.Bare) × (n ≡ 1 + run stops bytes) × (run stops bytes < length bytes)
+
+-- the bytes begin with a quoted string, which has n bytes between its quotes and no escape
+abbrev pub IsQuotedFront : List ℕ → ℕ → Type 0
+IsQuotedFront [] n = ⊥
+IsQuotedFront (c ∷ bytes) n =
+    (lead_of c ≡ lead.Quote) × (n ≡ run (ends_run c) bytes) × (slice_get bytes n ≡ Some c)
+
+-- the first n bytes are a token, which is this string, whatever follows them
+abbrev pub BeginWithText : (stops : ℕ → Bool) → List ℕ → (n : ℕ) → (text : List ℕ) → Type 0
+BeginWithText stops [] n text = ⊥
+BeginWithText stops (c ∷ bytes) n text =
+    (more : List ℕ) → past_one (token_by stops (lead_of c) c (bytes ++ more))
+    ≡ taken n (Ok (Some (ScalarEvent (String text))))
+
+-- the first `count` bytes are blanks, if any, and then a token, which is this string
+pub record LeadsToText (stops : ℕ → Bool) (bytes : List ℕ) (count : ℕ) (text : List ℕ) : Type 0 where
+  pub byte : ℕ
+  pub rest : List ℕ
+  pub next : drop (run (λ c. not (is_blank c)) bytes) bytes ≡ byte ∷ rest
+  pub means : (token_by stops (lead_of byte) byte rest).gives ≡ Ok (Some (ScalarEvent (String text)))
+  pub ends : count ≡ run (λ c. not (is_blank c)) bytes + 1
+      + (token_by stops (lead_of byte) byte rest).bytes

@@ -1,4 +1,4 @@
-use Rattle.std.proofs.Common.{◌≡◌, ℕ, ◌<◌, true, arith, get_or, length, List, Ok, Option, IfSome, ap, refl, rules, subst, sym, ◌∙◌}
+use Rattle.std.proofs.Common.{◌≡◌, ℕ, arith, length, List, Ok, Option, IfSome, ap, refl, rules, subst, sym, ◌∙◌}
 use Rattle.plist_base.specs.Events.{EndCollection, ScalarEvent}
 use Rattle.plist_decode.proofs.Decoding.{long_bytes, seen_decodes, seen_fits}
 use Rattle.plist_binread.proofs.ObjectEvents.{borrowed_sets, cached_if, fits_walk, large_unlike, long_sets}
@@ -7,7 +7,6 @@ use Rattle.plist_binread.proofs.ObjectEntry.{IsDecodedAt, always_ok, known_decod
 use Rattle.std.proofs.lemmas.List.{length-drop, length-take-le}
 use Rattle.plist_binread.proofs.VisitorLimits.{passed_on}
 use Rattle.plist_binread.proofs.WalkInvariant.{known_full}
-use Rattle.plist_decode.proofs.UnknownBytes.{IfSome-all}
 use Rattle.plist_binread.proofs.WalkSteps.{steps_positive}
 use Rattle.plist_decode.specs.Decoded.{DecodesAt, FitsBefore}
 use Rattle.plist_decode.specs.Front.{IsFrontAt}
@@ -15,7 +14,7 @@ use Rattle.plist_decode.specs.declared.decoded.Content.{Content}
 use Rattle.plist_decode.specs.declared.decoded.Decoded.{Decoded}
 use Rattle.plist_decode.specs.declared.head.Bounds.{Bounds}
 use Rattle.plist_decode.specs.declared.decoded.Decoded.TheVariants as decoded
-use Rattle.plist_decode.specs.Packed.{is_small_event, scalar_event, unmarked, unpacked}
+use Rattle.plist_decode.specs.Packed.{scalar_event, unpacked}
 use Rattle.plist_decode.specs.Slot.{result_in}
 use Rattle.plist_binread.proofs.enter.enter.Goals as goal
 use Rattle.plist_binread.proofs.enter.enter.Goals.{After-cache_or_open, In-Long, in-Some+in-Long+else-lies_in, in-Some+in_default, in-None+in_ok-decoded-in-None}
@@ -36,9 +35,7 @@ returns-in-Small-clause-handed g c =
         known_unpacked _ _ c.args.walk.now c.args.reference.number c.requires.known
             c.in_ok-kind.ensures.below c.args.reference.at event c.in_ok-kind.ensures.new found.0
             (ap scalar_event found.1),
-        IfSome-all (g.S.Source.known c.args.source.now)
-            {P = λ _. is_small_event event ≡ true → 0 < unmarked
-            (get_or c.args.walk.now.tags.items c.args.reference.number 0)} (λ _ _. found.0),
+        λ _. found.0,
       );
       taken = passed_on g.V.EventVisitor.step c.new-relay.result c.hand_small.new.visitor _ _ (Ok _) event
           (search rules) (search rules) c.hand_small.ensures;
@@ -52,7 +49,7 @@ returns-in_err-decoded-in-None-clause-handed g c =
         known_refused _ _ c.args.walk.now c.args.reference.number c.requires.known
             c.in_ok-kind.ensures.below c.args.reference.at c.in-At.place _ c.in_ok-kind.ensures.new
             (rw c.in-At.is at c.in_ok-kind.ensures.found) c.in_err-decoded-in-None.ensures.refused,
-        IfSome-all _ (λ _. tt),
+        tt,
       );
       taken = refl;
     })
@@ -119,7 +116,7 @@ returns-then-lies_in-clause-handed g c =
             h.event refl c.in_ok-kind.ensures.new there
             (long_opens c.args.reference.number c.in-Long.start c.in-Long.count c.in-Long.kind
             c.args.walk.now c.in_ok-kind.ensures.below (search rules)) sets (always_ok _ answer refl),
-        cached_if _ c.args.reference.number c.hand_bytes.result c.hand_bytes.new.slot h.event long
+        cached_if c.args.reference.number c.hand_bytes.result c.hand_bytes.new.slot h.event long
             c.args.walk.now.tags.items (large_unlike c.hand_bytes.result long h.event h.is.1)
             (λ no. absurd (cc)),
       );
@@ -219,7 +216,7 @@ returns-else-cache_or_open-clause-handed g c =
             (known_full _ c.args.decoder.now.bounds c.in-At.place c.match-buffered_front.decoded
             c.refuse_memory.new.self.fault c.refuse_memory.ensures.fault
             (c.cache_or_open.ensures.wanted c.if-cache_or_open.false) f.decodes),
-        IfSome-all _ (λ _. tt),
+        tt,
       );
       taken = refl;
     }
@@ -238,7 +235,7 @@ returns-then-cache_or_open-clause-handed g c =
             f.unchanged c.in_ok-kind.ensures.new (there g at)
             (c.cache_or_open.ensures.yields c.if-cache_or_open.true) (rw f.same at h.is.0)
             (on_answer _ c.hand_decoded.result c.hand_decoded.new.decoder.slot c.hand_decoded.ensures.found),
-        cached_if _ c.args.reference.number c.hand_decoded.result c.hand_decoded.new.decoder.slot h.event
+        cached_if c.args.reference.number c.hand_decoded.result c.hand_decoded.new.decoder.slot h.event
             c.match-buffered_front.decoded c.cache_or_open.new.walk.tags.items h.is.1
             c.cache_or_open.ensures.cached,
       );

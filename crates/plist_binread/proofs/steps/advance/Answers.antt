@@ -42,13 +42,13 @@ returns-in-Err-clause-handed g c =
     let t = goal.at.returns-in-Err-clause-handed g c in
     record {
       event = EndCollection;
-      is = (
-        child_failed _ _ c.args.walk.now c.next_child.new.self c.in-Child.frame
+      is = record {
+        first = child_failed _ _ c.args.walk.now c.next_child.new.self c.in-Child.frame
             c.in-Child.ensures.within (taken g t.In-Child) _
-            (rw c.references-location.ensures at c.in-Err.ensures.child),
-        IfSome-all _ (λ _. tt),
-        λ closes. absurd (rw c.in-Child.is at (c.next_child.ensures.closes closes)),
-      );
+            (rw c.references-location.ensures at c.in-Err.ensures.child);
+        cached = IfSome-all _ (λ _. tt);
+        end = λ closes. absurd (rw c.in-Child.is at (c.next_child.ensures.closes closes));
+      };
       taken = refl;
     }
 
@@ -70,16 +70,16 @@ returns-in-Ok-clause-handed g c =
     let answer = result_in c.enter.result c.enter.new.decoder.slot in
     record {
       event = h.event;
-      is = (
-        child_yields _ _ c.args.walk.now c.next_child.new.self c.in-Child.frame
+      is = record {
+        first = child_yields _ _ c.args.walk.now c.next_child.new.self c.in-Child.frame
             c.in-Child.ensures.within (taken g t.In-Child) _ c.in-Ok.ensures.unchanged
             c.in-Ok.number (rw at at c.in-Ok.ensures.child) answer h.event c.enter.new.walk
-            (rw (c.read_child.ensures.bounds, at) at h.is.0),
-        child_kept _ c.args.decoder.now.bounds c.args.walk.now c.next_child.new.self
+            (rw (c.read_child.ensures.bounds, at) at h.is.0);
+        cached = child_kept _ c.args.decoder.now.bounds c.args.walk.now c.next_child.new.self
             c.in-Child.frame c.in-Child.ensures.within (taken g t.In-Child) _
             c.in-Ok.ensures.unchanged c.in-Ok.number (rw at at c.in-Ok.ensures.child) answer h.event
-            c.enter.new.walk.tags.items h.is.1,
-        λ closes. absurd (rw c.in-Child.is at (c.next_child.ensures.closes closes)),
-      );
+            c.enter.new.walk.tags.items h.is.1;
+        end = λ closes. absurd (rw c.in-Child.is at (c.next_child.ensures.closes closes));
+      };
       taken = h.taken;
     }

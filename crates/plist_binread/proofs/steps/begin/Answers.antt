@@ -18,10 +18,10 @@ returns-in_err-head-clause-handed g c =
     let refused = rw (← c.in_err-head.ensures.answer) at c.read.ensures.refused in
     rw (passed _ c.from_residual.ensures.1) (record {
       event = EndCollection;
-      is = (
-        known_unread (g.S.Source.known c.args.source.now) c.keep_error.new.self.fault refused,
-        IfSome-all _ (λ _. tt),
-      );
+      is = record {
+        first = known_unread (g.S.Source.known c.args.source.now) c.keep_error.new.self.fault refused;
+        cached = IfSome-all _ (λ _. tt);
+      };
       taken = refl;
     })
 
@@ -30,10 +30,10 @@ returns-in_err-none-clause-handed g c =
     let memory = rw (← c.in_err-none.ensures.answer) at c.no_tags.ensures.memory in
     rw (passed _ c.from_residual-in_err-none.ensures.1) (record {
       event = EndCollection;
-      is = (
-        known_wanted (g.S.Source.known c.args.source.now) c.keep_error-2.new.self.fault memory,
-        IfSome-all _ (λ _. tt),
-      );
+      is = record {
+        first = known_wanted (g.S.Source.known c.args.source.now) c.keep_error-2.new.self.fault memory;
+        cached = IfSome-all _ (λ _. tt);
+      };
       taken = refl;
     })
 
@@ -111,18 +111,17 @@ returns-clause-handed g c =
     let h = c.enter.ensures.handed in
     record {
       event = h.event;
-      is = (
-        rw c.enter.ensures.bounds (known_begun
+      is = record {
+        first = rw c.enter.ensures.bounds (known_begun
             (g.S.Source.known c.args.source.now) (g.S.Source.known c.read.new.source)
             c.in_ok-head.head (bounds g there) c.in_ok-none.none.items c.args.walk.now.frames
             c.enter.new.walk.frames (result_in c.enter.result c.enter.new.decoder.slot) h.event
             c.read.ensures.unchanged c.requires.empty.1 (count g there) refl refl
-            (rw (← c.in_ok-head.ensures.answer) at c.read.ensures.value) h.is.0),
-        known_cached (g.S.Source.known c.args.source.now) (g.S.Source.known c.read.new.source)
-            c.in_ok-head.head _ (result_in c.enter.result c.enter.new.decoder.slot) h.event
-            c.enter.new.walk c.read.ensures.unchanged refl
-            (rw (← c.in_ok-head.ensures.answer) at c.read.ensures.value) h.is.1,
-      );
+            (rw (← c.in_ok-head.ensures.answer) at c.read.ensures.value) h.is.0);
+        cached = known_cached (g.S.Source.known c.args.source.now) c.in_ok-head.head _
+            (result_in c.enter.result c.enter.new.decoder.slot) h.event c.enter.new.walk.tags.items
+            refl (rw (← c.in_ok-head.ensures.answer) at c.read.ensures.value) h.is.1;
+      };
       taken = passed_on g.V.EventVisitor.step c.new-relay.result c.enter.new.visitor _ _
           c.enter.result h.event (search rules) (search rules) h.taken;
     }

@@ -1,9 +1,8 @@
 use Rattle.std.proofs.Common.{◌≡◌, ap, subst, true}
-use Rattle.plist_binread.specs.BinaryReader.{binary_source, items_to_come}
+use Rattle.plist_binread.specs.BinaryReader.{Steps, binary_source, items_to_come}
 use Rattle.plist_commands.specs.Converting.{CollectsItems, items_of_known}
 use Rattle.plist_print.specs.Printing.{items_left}
 use Rattle.plist_commands.specs.CollectorSteps.{collected}
-use Rattle.plist_binread.specs.ReaderSteps.{Steps}
 use Rattle.plist_commands.proofs.CollectorRuns.{Concludes, binary_once, binary_twice}
 use Rattle.plist_commands.proofs.BufferedItems.{binary_items}
 use Rattle.plist_commands.proofs.convert.collect_binary.Goals as goal

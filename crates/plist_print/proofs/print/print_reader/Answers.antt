@@ -1,6 +1,5 @@
-use Rattle.plist_binread.specs.BinaryReader.{binary_source}
+use Rattle.plist_binread.specs.BinaryReader.{Steps, binary_source}
 use Rattle.plist_print.specs.Printing.{items_left}
-use Rattle.plist_binread.specs.ReaderSteps.{Steps}
 use Rattle.plist_print.proofs.SourceItems.{binary_comes, run_counted, run_prints, run_unchanged}
 use Rattle.plist_print.proofs.print.print_reader.Goals as goal
 

@@ -1,7 +1,7 @@
 use Rattle.std.proofs.Common.{arith, Err, [], refl, ◌∙◌}
 use Rattle.plist_base.specs.Faults.{fault_of}
 use Rattle.std.specs.Option.{option_map}
-use Rattle.plist_ascii.specs.inner.TokenFaults.{kind_in_bytes}
+use Rattle.plist_ascii.specs.inner.Inputs.{kind_in_bytes}
 use Rattle.plist_ascii.proofs.TokenOutcomes.{some_same}
 use Rattle.plist_ascii.proofs.Loops.{since_on}
 use Rattle.plist_ascii.proofs.UnreadBytes.{ended_unread}

@@ -1,10 +1,9 @@
 use Rattle.std.proofs.Common.{ap, Some, ◌∙◌, ◌+◌, ◌++◌, [], arith, take, drop}
 use Rattle.std.proofs.lemmas.List.{drop-drop}
 use Rattle.plist_ascii.specs.TokenPrefixes.{run}
-use Rattle.plist_ascii.specs.Quoted.{ends_run, quoted_by}
-use Rattle.plist_ascii.specs.inner.Inputs.{FailsAfter}
+use Rattle.plist_ascii.specs.Texts.{ends_run, quoted_by}
+use Rattle.plist_ascii.specs.inner.Inputs.{FailsAfter, kind_in_bytes}
 use Rattle.plist_ascii.specs.inner.Parts.{escaped_bytes}
-use Rattle.plist_ascii.specs.inner.TokenFaults.{kind_in_bytes}
 use Rattle.plist_ascii.proofs.TokenOutcomes.{passed_on, some_same}
 use Rattle.plist_ascii.proofs.Quotes.{part_ends, part_goes_on, text_closes, text_goes_on}
 use Rattle.plist_ascii.proofs.input.Input.part.Goals as goal

@@ -1,6 +1,6 @@
 use Rattle.std.proofs.Common.{arith, ap, sym, refl, Ok}
-use Rattle.plist_ascii.specs.Quoted.{quoted}
-use Rattle.plist_ascii.specs.inner.TokenFaults.{kind_in_bytes}
+use Rattle.plist_ascii.specs.Texts.{quoted}
+use Rattle.plist_ascii.specs.inner.Inputs.{kind_in_bytes}
 use Rattle.std.specs.Prelude.{vec_items, Err}
 use Rattle.plist_ascii.proofs.TokenOutcomes.{gives_passed, some_by}
 use Rattle.plist_ascii.proofs.Loops.{since_on}

@@ -3,9 +3,8 @@ use Rattle.std.proofs.lemmas.Bool.{ne_eqb}
 use Rattle.plist_ascii.specs.Escapes.{escape}
 use Rattle.plist_ascii.proofs.TokenOutcomes.{passed_on, some_from}
 use Rattle.plist_ascii.proofs.Quotes.{end_goes_on, end_fails, drop_past}
-use Rattle.plist_ascii.specs.inner.Inputs.{FailsAfter}
-use Rattle.plist_ascii.specs.Quoted.{run_end}
-use Rattle.plist_ascii.specs.inner.TokenFaults.{kind_in_bytes}
+use Rattle.plist_ascii.specs.inner.Inputs.{FailsAfter, kind_in_bytes}
+use Rattle.plist_ascii.specs.Texts.{run_end}
 use Rattle.plist_ascii.proofs.input.Input.run_end.Goals as goal
 
 pub returns-clause-value : goal.returns-clause-value

@@ -9,13 +9,12 @@ run-preserved g c =
     since_on c.run.invariant (took.failures ∙ c.in_ok-_byte.ensures.failures)
     (omega (arith, c.in_ok-_byte.ensures.place, took.place)) (λ xs ys i u.
     let looked = c.in_ok-_byte.ensures.next ys u in
-    let k = took.bytes ys looked.0 in (
-      k.1.0,
-      k.1.3,
+    let k = took.part.bytes ys looked.0 in (
+      k.2,
+      k.5,
       (
         _,
-        runs_part i.1 k.0 k.1.0 k.1.1 k.1.2 refl (omega
-            (arith, k.1.4, c.in_ok-_byte.ensures.place)),
+        runs_part i.1 k.0 k.2 k.3 k.4 refl (omega (arith, k.6, c.in_ok-_byte.ensures.place)),
       ),
     ))
 
@@ -24,12 +23,11 @@ returns-then-not-skip_part-clause-value g c = λ xs e.
     let took = c.skip_part.ensures in
     let i = c.run.invariant.goes xs e in
     let looked = c.in_ok-_byte.ensures.next i.0 i.1 in
-    let k = took.bytes i.0 looked.0 in
-    let stop = took.end c.if-not-skip_part.true i.0 looked.0 k.1.0 k.1.3 in
-    let on = runs_part i.2.1 k.0 k.1.0 k.1.1 k.1.2 refl (omega
-    (arith, k.1.4, c.in_ok-_byte.ensures.place)) in
+    let k = took.part.bytes i.0 looked.0 in
+    let stop = took.part.end c.if-not-skip_part.true i.0 looked.0 k.2 k.5 in
+    let on = runs_part i.2.1 k.0 k.2 k.3 k.4 refl (omega (arith, k.6, c.in_ok-_byte.ensures.place)) in
     let end = runs_end on stop in
-    (k.1.3 ∙ ap Some end.1, end.2)
+    (k.5 ∙ ap Some end.1, end.2)
 
 pub returns-in-None-clause-value : goal.returns-in-None-clause-value
 returns-in-None-clause-value g c = λ xs e.

@@ -9,11 +9,11 @@ run-preserved g c =
     since_on c.run.invariant (took.failures ∙ c.in_ok-_byte.ensures.failures)
     (omega (arith, c.in_ok-_byte.ensures.place, took.place)) (λ xs ys on u.
     let looked = c.in_ok-_byte.ensures.next ys u in
-    let k = took.bytes ys looked.0 in (
-      k.2.0,
-      k.2.3,
-      runs_part on k.0 k.2.0 k.2.1 k.2.2 (added c.run.text.items k.0 k.1)
-          (omega (arith, k.2.4, c.in_ok-_byte.ensures.place)),
+    let k = took.part.bytes ys looked.0 in (
+      k.2,
+      k.5,
+      runs_part on k.0 k.2 k.3 k.4 (added c.run.text.items k.0 k.1)
+          (omega (arith, k.6, c.in_ok-_byte.ensures.place)),
     ))
 
 pub returns-then-not-branch-clause-value : goal.returns-then-not-branch-clause-value
@@ -21,12 +21,12 @@ returns-then-not-branch-clause-value g c = λ xs e.
     let took = c.in_ok-take_part-in-Some.ensures in
     let i = c.run.invariant.goes xs e in
     let looked = c.in_ok-_byte.ensures.next i.0 i.1 in
-    let k = took.bytes i.0 looked.0 in
-    let stop = took.end c.if-not-branch.true i.0 looked.0 k.2.0 k.2.3 in
-    let on = runs_part i.2 k.0 k.2.0 k.2.1 k.2.2 (added c.run.text.items k.0 k.1)
-    (omega (arith, k.2.4, c.in_ok-_byte.ensures.place)) in
+    let k = took.part.bytes i.0 looked.0 in
+    let stop = took.part.end c.if-not-branch.true i.0 looked.0 k.2 k.5 in
+    let on = runs_part i.2 k.0 k.2 k.3 k.4 (added c.run.text.items k.0 k.1)
+    (omega (arith, k.6, c.in_ok-_byte.ensures.place)) in
     let end = runs_end on stop in
-    (end.0, k.2.3 ∙ ap Some end.1, end.2)
+    (end.0, k.5 ∙ ap Some end.1, end.2)
 
 pub returns-in-None-clause-value : goal.returns-in-None-clause-value
 returns-in-None-clause-value g c = λ xs e.

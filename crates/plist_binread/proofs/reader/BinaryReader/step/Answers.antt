@@ -2,6 +2,7 @@ use Rattle.std.proofs.Common.{refl, Some}
 use Rattle.plist_base.specs.Events.{EndCollection}
 use Rattle.plist_binread.proofs.ReaderCalls.{left_behind, nothing_ended}
 use Rattle.plist_decode.proofs.UnknownBytes.{IfSome-all, IfSome-never}
+use Rattle.plist_binread.specs.Walking.{IsBounded}
 use Rattle.plist_binread.proofs.UnlimitedSteps.{first_walks, item_walks, not_fresh, walks_on_ok}
 use Rattle.plist_binread.proofs.reader.BinaryReader.step.Goals as goal
 
@@ -34,9 +35,9 @@ returns-in-Fresh-clause-walks g c =
     record {
       event = h.event;
       is = first_walks c.args.self.now _ c.begin.ensures.unchanged c.begin.ensures.counted
-          refl c.begin.result h.event c.in-Fresh.is c.state_after-self.ensures h.is.0
+          refl c.begin.result h.event c.in-Fresh.is c.state_after-self.ensures h.is
           c.begin.ensures.fault c.begin.ensures.bounded c.begin.ensures.objects c.begin.ensures.known
-          h.is.1 c.begin.ensures.falls c.begin.ensures.failures;
+          c.begin.ensures.falls c.begin.ensures.failures;
       taken = h.taken;
     }
 
@@ -48,8 +49,8 @@ returns-in-Walking-clause-walks g c =
       is = item_walks c.args.self.now _ c.advance-item.ensures.unchanged
           c.advance-item.ensures.counted refl c.advance-item.result h.event c.in-Walking.is
           c.advance-item.ensures.bounds
-          c.end_after.ensures h.is.0 c.advance-item.ensures.fault
-          c.advance-item.ensures.size c.args.self.now.bounded c.advance-item.ensures.known h.is.1
+          c.end_after.ensures h.is c.advance-item.ensures.fault
+          c.advance-item.ensures.size c.args.self.now.bounded c.advance-item.ensures.known
           c.advance-item.ensures.falls c.advance-item.ensures.failures;
       taken = h.taken;
     }
@@ -69,7 +70,7 @@ invariant_of-self-in-Walking g c = record {
   fresh = λ fresh. absurd (not_fresh c.advance-item.result _ c.end_after.ensures
       fresh);
   counted = c.advance-item.ensures.counted;
-  bounded = rw (c.advance-item.ensures.unchanged, c.advance-item.ensures.size)
+  bounded = rw (c.advance-item.ensures.unchanged, c.advance-item.ensures.size, IsBounded)
       c.args.self.now.bounded;
   known = λ _. rw (c.advance-item.ensures.unchanged, c.advance-item.ensures.bounds)
       c.advance-item.ensures.known;

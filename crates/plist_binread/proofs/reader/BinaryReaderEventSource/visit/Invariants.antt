@@ -1,8 +1,7 @@
 use Rattle.std.proofs.Common.{List}
 use Rattle.plist_base.specs.Events.{PlainEvent}
 use Rattle.plist_base.specs.Visits.{HandsOverAll}
-use Rattle.plist_binread.specs.ReaderSteps.{Steps}
-use Rattle.plist_binread.specs.BinaryReader.{binary_steps}
+use Rattle.plist_binread.specs.BinaryReader.{Steps, binary_steps}
 use Rattle.plist_binread.proofs.reader.BinaryReaderEventSource.visit.Given as goal
 
 -- these events were handed over

@@ -1,7 +1,7 @@
 use Rattle.std.proofs.Common.{ap, not, sym, ◌∙◌}
 use Rattle.std.proofs.lemmas.Bool.{lt-ltb}
 use Rattle.plist_binread.specs.Frames.{frame_of}
-use Rattle.plist_binread.specs.NextChild.{closes}
+use Rattle.plist_binread.specs.Step.{closes}
 use Rattle.plist_binread.proofs.InnermostChild.{next_path, child_remaining, closed_remaining, child_weight, closed_weight}
 use Rattle.plist_decode.specs.Packed.{unmarked}
 use Rattle.plist_binread.proofs.OpenObjects.{IsOpen-pop, first_below, first_open, cached_count-kept}
