@@ -1,7 +1,7 @@
 -- What the sharing writer writes for a tree: a file of it with one object for each different
--- subtree. No file with the same events has fewer objects. The subtrees are the scalars, the keys as
--- strings, and the collections. Two collections that differ only in order or in repeated keys are
--- different.
+-- subtree. No file with the same events has fewer objects. The subtrees are the scalars, the keys
+-- as strings, and the collections. Two collections that differ only in order or in repeated keys
+-- are different.
 use Rattle.std.specs.Prelude.{◌≡◌, ℕ, ◌^◌, ◌<◌, ◌≤◌, Bool, true, false, ◌&&◌, List, length, map, Ok}
 use Rattle.std.specs.Set.{distinct_count, unique_keys}
 use Rattle.std.specs.Str.{bytes_eq}

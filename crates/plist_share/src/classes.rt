@@ -43,7 +43,8 @@ fn index_of(seen: &mut IndexSet<Collection>, collection: Collection) -> Result<u
         ≡ Some (node_of collection)) }
     ensures below { IfOk result (λ index. index < length (map node_of seen.new.keys)) }
     // State afterwards.
-    ensures extends { OnOk result (Extends (map node_of seen.old.keys) (map node_of seen.new.keys)) }
+    ensures extends { OnOk result
+        (Extends (map node_of seen.old.keys) (map node_of seen.new.keys)) }
     ensures apart { OnOk result (AreDistinct (map node_of seen.new.keys)) }
 {
     match seen.insert_full(collection) {
@@ -119,7 +120,8 @@ fn class_of_collection(
     ensures below { IfOk result (λ class. class < found.now.count
         + length (map node_of seen.new.keys)) }
     // State afterwards.
-    ensures extends { OnOk result (Extends (map node_of seen.old.keys) (map node_of seen.new.keys)) }
+    ensures extends { OnOk result
+        (Extends (map node_of seen.old.keys) (map node_of seen.new.keys)) }
     ensures apart { OnOk result (AreDistinct (map node_of seen.new.keys)) }
 {
     let children = classes_within(alloc, events, &found.of, index)?;
