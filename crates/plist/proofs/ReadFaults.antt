@@ -18,6 +18,7 @@ use Rattle.plist_base.specs.Allowances.{GivesAllowed, PassesNext}
 use Rattle.plist_base.specs.Budgets.{GivesWithinBudget, IsBudgetUsedUp, within_budget}
 use Rattle.plist_base.specs.Limits.{GivesLimited, IsLimitReached, limited_by}
 use Rattle.plist_base.specs.Trees.{Tree}
+use Rattle.plist_decode.specs.FaultOffsets.{HasOffset, MatchGiven}
 use Rattle.plist_reader.specs.declared.reader.Reader.{Reader}
 use Rattle.plist_reader.specs.Reader.{Gives, IsReaderFault, reader_is_limited}
 use Rattle.plist.specs.declared.value.Value.{Value}
@@ -41,7 +42,7 @@ refused-events (Complete tree) event = tt
 
 of-refusal : (limited : Bool) (refusal : Option FaultKind) (fault : Fault)
     → IfSome refusal IsFaultOfEvents → IsRefusal refusal fault → IsReadingFault limited fault
-of-refusal limited None fault events is = subst (IsReadingFault limited) (sym is) (inl (tt, refl))
+of-refusal limited None fault events is = subst (IsReadingFault limited) (sym is) (inl (inr refl))
 of-refusal limited (Some kind) fault events is =
     subst (IsReadingFault limited) (sym is) (inr (events, refl))
 
@@ -91,10 +92,18 @@ module _ {E I : Type 0} (plain : E → PlainEvent)
 abbrev refused : Error → Option (Result Event Error)
 refused error = Some (Err error)
 
-loosened : (limited : Bool) (kind : FaultKind) → IsReaderFault limited kind
-    → IsReaderFault true kind
-loosened limited (LimitReached limit) is = refl
-loosened limited kind is = is
+loosened : (limited : Bool) (fault : Fault) → IsReaderFault limited fault → IsReaderFault true fault
+loosened true fault is = is
+loosened false fault (inl is) = inl is
+loosened false fault (inr is) = inr (by fault.kind fault.offset is)
+  where
+    by : (kind : FaultKind) (offset : Option ℕ)
+        → MatchGiven kind (HasOffset offset) (offset ≡ None) (HasOffset offset)
+        ((false ≡ true) × (offset ≡ None))
+        → MatchGiven kind (HasOffset offset) (offset ≡ None) (HasOffset offset)
+        ((true ≡ true) × (offset ≡ None))
+    by (LimitReached limit) offset is = (refl, is.1)
+    by kind offset is = is
 
 -- a fault that is yielded under an allowance is one of its own, or one of the inner iterator
 module _ {I A : Type 0} (lets : A → List Item → List Item) (may_reach : Fault → Type 0)
@@ -133,10 +142,8 @@ module _ {R : Type 0} {g : Ghosts R} (known : R → Option (List ℕ)) (failed :
   reader-tells reader answer none collects =
       error-tells event_of (Gives known failed) false (λ r. reader_is_limited r ≡ false)
       (λ old item new gives none. gives.limits none)
-      (λ old error new gives none. inl (
-        subst (λ b. IsReaderFault b (fault_of error).kind) none gives.kinds,
-        gives.offset,
-      ))
+      (λ old error new gives none.
+      inl (subst (λ b. IsReaderFault b (fault_of error)) none gives.faults))
       reader answer none collects
 
   limit-tells : (old : LimitedItems (Reader R g) LimitCounter) (error : Error)
@@ -145,11 +152,8 @@ module _ {R : Type 0} {g : Ghosts R} (known : R → Option (List ℕ)) (failed :
       → IsReadingFault true (fault_of error)
   limit-tells =
       passed limited_by IsLimitReached (Gives known failed) true
-      (λ fault reached. subst (IsReadingFault true) (sym reached.1) (inl (refl, refl)))
-      (λ old error new gave. inl (
-        loosened (reader_is_limited old) (fault_of error).kind gave.kinds,
-        gave.offset,
-      ))
+      (λ fault reached. subst (IsReadingFault true) (sym reached.1) (inl (inr (refl, refl))))
+      (λ old error new gave. inl (loosened (reader_is_limited old) (fault_of error) gave.faults))
 
   budget-tells : (old : LimitedItems (LimitedItems (Reader R g) LimitCounter) ByteBudget) (error : Error)
       (new : LimitedItems (LimitedItems (Reader R g) LimitCounter) ByteBudget)
@@ -157,7 +161,7 @@ module _ {R : Type 0} {g : Ghosts R} (known : R → Option (List ℕ)) (failed :
       → IsReadingFault true (fault_of error)
   budget-tells =
       passed within_budget IsBudgetUsedUp (GivesLimited (Gives known failed)) true
-      (λ fault reached. subst (IsReadingFault true) (sym reached) (inl (tt, refl))) limit-tells
+      (λ fault reached. subst (IsReadingFault true) (sym reached) (inl (inr refl))) limit-tells
 
   -- a reader under limits fails only with such a fault, or with that of a limit
   pub limited-tells : (limited : LimitedItems (Reader R g) LimitCounter) (answer : Result Value Error)

@@ -19,7 +19,7 @@ use Rattle.plist_ascii.specs.declared.reader.AsciiReader.{AsciiReader}
 use Rattle.plist_ascii.specs.declared.dialect.Dialect.{Dialect}
 use Rattle.plist_reader.specs.Formats.{input_front}
 use Rattle.plist_reader.specs.declared.reader.Reader.{Reader}
-use Rattle.plist_reader.specs.Reader.{Gives, FaultHasOffset, IsReaderFault, IsNewReader, IsUnread, limited_input}
+use Rattle.plist_reader.specs.Reader.{Gives, IsNewReader, IsReaderFault, IsUnread, limited_input}
 use Rattle.plist.specs.Collecting.{Collects}
 
 -- the result is built from the items of a new reader of this source, which reads ASCII in this
@@ -85,12 +85,11 @@ IsFaultOfEvents (ExpectedEndOfEventStream found) = ⊤
 IsFaultOfEvents UnexpectedEndOfEventStream = ⊤
 IsFaultOfEvents kind = ⊥
 
--- why a source has no value: a fault that its reader can yield, with an offset if that kind has
--- one; or a fault of the events, without an offset
+-- why a source has no value: a fault that its reader can yield, or a fault of the events, without
+-- an offset
 abbrev pub IsReadingFault : (limited : Bool) → Fault → Type 0
 IsReadingFault limited fault =
-    (IsReaderFault limited fault.kind × FaultHasOffset fault)
-    ⊎ (IsFaultOfEvents fault.kind × (fault.offset ≡ None))
+    IsReaderFault limited fault ⊎ (IsFaultOfEvents fault.kind × (fault.offset ≡ None))
 
 -- the file couldn't be opened; or `P` is true of a source over it, none of whose calls has failed
 abbrev pub IfOpened : (F : Type 0) → Result Tree Fault → (Seeking F → Type 0) → Type 0

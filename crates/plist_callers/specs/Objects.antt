@@ -2,7 +2,7 @@
 use Rattle.std.specs.Prelude.{◌≡◌, ℕ, List, None, Some, slice_get}
 use Rattle.plist.specs.declared.value.Value.{Value}
 use Rattle.plist_keyed.specs.declared.archive.Archive.{Archive}
-use Rattle.plist_keyed.specs.Contents.{IsUidAt, names_of, objects_of}
+use Rattle.plist_keyed.specs.Archives.{IsUidAt, names_of, objects_of}
 
 -- the key's Uid is that of this object
 abbrev pub IsObjectAt : (key : List ℕ) → Archive → (object : Value) → Type 0

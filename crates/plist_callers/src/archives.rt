@@ -1,8 +1,7 @@
 //! Proved callers of an archive: the calls that allocate no memory, and the error of a tree.
 
 ghost use Rattle.std.specs.Prelude.{◌≡◌, Err, IfSome, IsNone, false};
-ghost use Rattle.plist_keyed.specs.Archives.{RecursiveUid, resolved_tree};
-ghost use Rattle.plist_keyed.specs.Contents.{trees_in};
+ghost use Rattle.plist_keyed.specs.Archives.{RecursiveUid, resolved_tree, trees_in};
 ghost use Rattle.plist_callers.specs.Objects.{HasNoObjectAt, IsObjectAt};
 
 use plist::{Uid, Value};

@@ -15,9 +15,8 @@ use Rattle.plist.specs.Events.{remaining_events}
 use Rattle.plist.specs.ValueTrees.{tree_of}
 use Rattle.plist_keyed.specs.declared.check.Check.{Check}
 use Rattle.plist_keyed.specs.declared.error.WalkError.{WalkError}
-use Rattle.plist_keyed.specs.inner.Checking.{IsCheck, IsCheckAt, IsCheckOf, IsOpened, IsReached, Leaves, objects_seen, open_uids, unchecked_from, unchecked_steps, unchecked_steps_in, unchecked_with}
-use Rattle.plist_keyed.specs.inner.Settled.{IsIn, settled_in}
-use Rattle.plist_keyed.specs.inner.Walks.{PassesEvents, given_by, steps_from}
+use Rattle.plist_keyed.specs.inner.States.{IsCheck, IsCheckOf, IsCheckWith, IsOpened, IsReached, Leaves, objects_seen, open_uids, unchecked_from, unchecked_steps, unchecked_steps_in, unchecked_with}
+use Rattle.plist_keyed.specs.inner.Walks.{IsIn, settled_in, PassesEvents, given_by, steps_from}
 use Rattle.plist_keyed.proofs.CheckSteps.{any_reversed, first-check, found-key, opened-check, passes-opened, reverse-snoc}
 
 -- ---- the settled Uids
@@ -48,7 +47,7 @@ settles ends new uid end out is =
     by (Some e) p = absurd (out (member ends uid (ap is_some p)))
 
 module _ (old new : Check) (uid : ℕ) (object : Value)
-    (o : IsCheckAt old (ScalarEvent (Uid uid) ∷ []))
+    (o : IsCheckWith old [] (ScalarEvent (Uid uid) ∷ []))
     (at : slice_get (objects_seen old.objects.now) uid ≡ Some (bracketing (tree_of object)))
     (closed : list_any (nat_eq uid) old.path.keys ≡ false)
     (out : IsIn uid (settled_in old.ends) → ⊥) where
@@ -81,7 +80,7 @@ module _ (old new : Check) (uid : ℕ) (object : Value)
 
 module _ (start : Check) (uid : ℕ) (keys : start.path.keys ≡ []) (levels : start.levels.items ≡ [])
   where
-    pub begins-checked : start.ends.entries ≡ [] → IsCheckAt start (ScalarEvent (Uid uid) ∷ [])
+    pub begins-checked : start.ends.entries ≡ [] → IsCheckWith start [] (ScalarEvent (Uid uid) ∷ [])
     begins-checked entries =
         rw (keys, levels, entries) (first-check (objects_seen start.objects.now) uid (λ u. None))
 
@@ -125,7 +124,7 @@ module _ (old new : Check) where
   pub left-passes : (left : Events) → remaining_events left ≡ []
       → {A : Type 0} (r : Result A WalkError) → OnOk r (Leaves old new)
       → OnOk r (new.objects ≡ old.objects)
-      → OnOk r (PassesEvents (unchecked_with old left) (unchecked_steps new))
+      → OnOk r (PassesEvents (unchecked_with old (left ∷ [])) (unchecked_steps new))
   left-passes left none (Ok a) (uid, open_before, settled_after, levels) same =
       rw (open_before, none, levels, same) (omega arith, ([], refl))
   left-passes left none (Err e) h same = tt

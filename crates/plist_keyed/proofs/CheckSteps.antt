@@ -21,9 +21,8 @@ use Rattle.plist.specs.Events.{remaining_events}
 use Rattle.plist.specs.ValueTrees.{tree_of}
 use Rattle.plist_keyed.specs.declared.error.WalkError.{WalkError}
 use Rattle.plist_keyed.specs.declared.error.WalkError.TheVariants as walk
-use Rattle.plist_keyed.specs.inner.Checking.{Covers, IsCheckOf, objects_seen, unchecked_steps_in}
-use Rattle.plist_keyed.specs.inner.Settled.{AreSettled, IsEndOf, IsIn, IsNoUid, LeadsOnlyTo, NameOnly}
-use Rattle.plist_keyed.specs.inner.Walks.{Given, Step, IsFirstFaultOf, PassesEvents, follow_in, given_by, steps_of_event, steps_of_events, uid_of_event}
+use Rattle.plist_keyed.specs.inner.States.{Covers, IsCheckOf, objects_seen, unchecked_steps_in}
+use Rattle.plist_keyed.specs.inner.Walks.{AreSettled, IsEndOf, IsIn, IsNoUid, LeadsOnlyTo, NameOnly, Given, Step, IsFirstFaultOf, PassesEvents, follow_in, given_by, steps_of_event, steps_of_events, uid_of_event}
 use Rattle.plist_keyed.proofs.TreeItems.{given_by-append}
 use Rattle.plist_keyed.proofs.SettledUids.{more-ends, more-named, named-append, named-member, opened_in, out_of_range, own-end, further-end, recursive, settled-faultless, settled-same, some_step}
 

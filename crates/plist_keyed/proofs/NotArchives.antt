@@ -5,7 +5,7 @@ use Rattle.plist.specs.declared.value.Value.{Value, Value-F, out-Value, out-roll
 use Rattle.plist.specs.declared.value.Value.TheVariants as value
 use Rattle.plist.specs.declared.value.Value.TheVariants.{rolls-Dictionary}
 use Rattle.plist.specs.Dictionaries.{pairs_of}
-use Rattle.plist_keyed.specs.Contents.{HasNoneAt, IsArchive, IsValueAt}
+use Rattle.plist_keyed.specs.Archives.{HasNoneAt, IsArchive, IsValueAt}
 
 out_of : (d : Dictionary) → out-Value (value.Dictionary d) ≡ Value-F.Dictionary d
 out_of d = ap out-Value (sym (rolls-Dictionary d)) ∙ out-roll-Value (Value-F.Dictionary d)

@@ -12,8 +12,7 @@ use Rattle.plist_base.specs.Trees.{Uid}
 use Rattle.plist_base.specs.inner.Paths.{IsPath}
 use Rattle.plist_base.proofs.Paths.{path_none, path_push, path_rises}
 use Rattle.plist_keyed.specs.Archives.{UidOutOfRange, RecursiveUid}
-use Rattle.plist_keyed.specs.inner.Settled.{IsIn, AreApart, NameOnly, LeadsOnlyTo, AreSettled, IsEndOf, IsNoUid}
-use Rattle.plist_keyed.specs.inner.Walks.{Step, IsFaultless, follow_in, given_by, steps_at, steps_found, steps_from, steps_of_event, steps_of_events, uid_of_event}
+use Rattle.plist_keyed.specs.inner.Walks.{IsIn, AreApart, NameOnly, LeadsOnlyTo, AreSettled, IsEndOf, IsNoUid, Step, IsFaultless, follow_in, given_by, steps_at, steps_found, steps_from, steps_of_event, steps_of_events, uid_of_event}
 use Rattle.plist_keyed.proofs.TreeItems.{given_by-append}
 
 -- ---- the steps of one Uid

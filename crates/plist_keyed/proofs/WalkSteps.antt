@@ -13,10 +13,8 @@ use Rattle.plist.specs.Events.{remaining_events}
 use Rattle.plist.specs.ValueTrees.{tree_of}
 use Rattle.plist_base.specs.Bracketing.{bracketing}
 use Rattle.plist_keyed.specs.declared.walk.Walk.{Walk}
-use Rattle.plist_keyed.specs.inner.Checking.{objects_seen}
-use Rattle.plist_keyed.specs.inner.RemainingSteps.{Skips, IsWalk, remaining_from, remaining_steps, steps_in_levels, items_of_steps}
-use Rattle.plist_keyed.specs.inner.Settled.{AreEnds, AreSettled, IsEndOf, IsIn, IsSettledIn, NameOnly}
-use Rattle.plist_keyed.specs.inner.Walks.{Step, events_given, given_by, steps_from, steps_of_event, steps_of_events, uid_of_event}
+use Rattle.plist_keyed.specs.inner.States.{objects_seen, Skips, IsWalk, remaining_steps, steps_in_levels, items_of_steps}
+use Rattle.plist_keyed.specs.inner.Walks.{AreEnds, AreSettled, IsEndOf, IsIn, IsSettledIn, NameOnly, Step, events_given, given_by, steps_from, steps_of_event, steps_of_events, uid_of_event}
 use Rattle.plist_keyed.proofs.TreeItems.{given_by-append}
 use Rattle.plist_keyed.proofs.CheckSteps.{uid_steps}
 use Rattle.plist_keyed.proofs.SettledUids.{settled-unfolds, some_step}
@@ -82,10 +80,11 @@ module _ (objects : List (List PlainEvent)) where
 
 -- the items that remain of a walk that began with a Uid are those of the Uid
 pub begun : (start walk : Walk) (objects : List Value) (uid : ℕ) → start.objects.now ≡ objects
-    → start.levels.items ≡ [] → Skips (remaining_from start uid) (remaining_steps walk)
+    → start.levels.items ≡ [] → Skips (steps_from (objects_seen start.objects.now) uid ++ remaining_steps start)
+    (remaining_steps walk)
     → items_of_steps (remaining_steps walk) ≡ items_of_steps (steps_from (objects_seen objects) uid)
 begun start walk objects uid seen none (given, fewer) =
-    let from_start : given_by (remaining_from start uid)
+    let from_start : given_by (steps_from (objects_seen start.objects.now) uid ++ remaining_steps start)
     ≡ given_by (steps_from (objects_seen objects) uid) =
     rw (seen, none) (ap given_by (append-nil (steps_from (objects_seen objects) uid))) in
     ap (λ g. map Ok (events_given g)) (sym given ∙ from_start)

@@ -17,10 +17,8 @@ use Rattle.plist.proofs.KeysOnce.{keys-once}
 use Rattle.plist_keyed.specs.declared.error.KeyedError.{KeyedError}
 use Rattle.plist_keyed.specs.declared.error.WalkError.{WalkError}
 use Rattle.plist_keyed.specs.declared.error.WalkError.TheVariants as walk
-use Rattle.plist_keyed.specs.Archives.{ArchiveFault, UidOutOfRange, RecursiveUid, resolved_tree}
-use Rattle.plist_keyed.specs.Errors.{IsFaultOf, error_of_walk}
-use Rattle.plist_keyed.specs.inner.Checking.{objects_seen}
-use Rattle.plist_keyed.specs.inner.RemainingSteps.{items_of_steps}
+use Rattle.plist_keyed.specs.Archives.{ArchiveFault, UidOutOfRange, RecursiveUid, resolved_tree, IsFaultOf, error_of_walk}
+use Rattle.plist_keyed.specs.inner.States.{objects_seen, items_of_steps}
 use Rattle.plist_keyed.specs.inner.Walks.{Given, Step, IsFaultless, IsFirstFaultOf, events_given, given_by, steps_at, steps_from}
 use Rattle.plist_keyed.proofs.TreeItems.{Gives, uid-gives, resolved-once}
 

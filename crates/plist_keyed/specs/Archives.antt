@@ -1,9 +1,71 @@
--- The tree of an object of a keyed archive, in which each Uid is replaced by the tree of the object
--- that it names.
-use Rattle.std.specs.Prelude.{ℕ, zero, suc, Bool, true, false, List, [], ◌∷◌, length, Option, Some, None, Result, Ok, Err, nat_eq, slice_get}
+-- The contents of a keyed archive, the tree of each of its objects, in which each Uid is replaced by
+-- the tree of the object that it names, and the errors.
+use Rattle.std.specs.Prelude.{◌≡◌, ℕ, zero, suc, Bool, true, false, List, [], ◌∷◌, ◌++◌, length, map, Option, Some, None, Result, Ok, Err, codes, decimal, nat_eq, slice_get, ⊤}
 use Rattle.std.specs.List.{list_any}
+use Rattle.std.specs.Map.{lookup}
 use Rattle.std.specs.Option.{option_map_or}
+use Rattle.std.specs.Str.{bytes_eq}
+use Rattle.std.specs.declared.alloc.Global.{Global}
+use Rattle.std.specs.declared.vec.Vec.{Vec}
 use Rattle.plist_base.specs.Trees.{Scalar, Uid, Tree, Leaf, Array, Dictionary, Trees, NoTrees, TreeAnd, Members, NoMembers, MemberAnd}
+use Rattle.plist.specs.declared.value.Value.{Value}
+use Rattle.plist.specs.declared.value.Value.TheVariants as value
+use Rattle.plist.specs.declared.dictionary.Dictionary as plist
+use Rattle.plist.specs.Dictionaries.{pairs_of}
+use Rattle.plist.specs.ValueTrees.{tree_of}
+use Rattle.plist_keyed.specs.declared.archive.Archive.{Archive}
+use Rattle.plist_keyed.specs.declared.error.KeyedError.{KeyedError}
+use Rattle.plist_keyed.specs.declared.error.KeyedError.TheVariants as error
+use Rattle.plist_keyed.specs.declared.error.WalkError.{WalkError}
+use Rattle.plist_keyed.specs.declared.error.WalkError.TheVariants as walk
+
+-- the objects, by index
+abbrev pub objects_of : Archive → List Value
+objects_of archive = archive.objects.now.items
+
+-- the trees of the objects, in which no Uid is replaced
+abbrev pub trees_in : Archive → List Tree
+trees_in archive = map tree_of (objects_of archive)
+
+-- the pairs of a name and a value, which names an object if it is a Uid
+abbrev pub names_of : Archive → List (List ℕ × Value)
+names_of archive = pairs_of archive.names.now
+
+-- the key has this value
+abbrev pub IsValueAt : (key : List ℕ) → (pairs : List (List ℕ × Value)) → Value → Type 0
+IsValueAt key pairs v = lookup (bytes_eq key) pairs ≡ Some v
+
+-- the key's value isn't of this kind, or the key is missing
+abbrev pub HasNoneAt : {X : Type 0} → (kind : X → Value) → (key : List ℕ)
+    → (pairs : List (List ℕ × Value)) → Type 0
+HasNoneAt {X} kind key pairs = (x : X) → ¬ (IsValueAt key pairs (kind x))
+
+-- the key's value is this Uid
+abbrev pub IsUidAt : (key : List ℕ) → (pairs : List (List ℕ × Value)) → (uid : ℕ) → Type 0
+IsUidAt key pairs uid = IsValueAt key pairs (value.Uid uid)
+
+-- the property list is a dictionary with these objects in the array at `$objects`, and these names
+-- in the dictionary at `$top`
+abbrev pub IsArchiveOf : (root : Value) → (objects : List Value) → (names : List (List ℕ × Value))
+    → Type 0
+IsArchiveOf root objects names =
+    (dictionary : plist.Dictionary) × (array : Vec Value Global) × (top : plist.Dictionary)
+    × (root ≡ value.Dictionary dictionary)
+    × IsValueAt (codes "$objects") (pairs_of dictionary) (value.Array array)
+    × (array.items ≡ objects)
+    × IsValueAt (codes "$top") (pairs_of dictionary) (value.Dictionary top)
+    × (pairs_of top ≡ names)
+
+-- the property list is an archive
+abbrev pub IsArchive : (root : Value) → Type 0
+IsArchive root =
+    (objects : List Value) × (names : List (List ℕ × Value)) × IsArchiveOf root objects names
+
+-- the property list isn't an archive, and the error is `NotAnArchive`
+abbrev pub IsNoArchive : (root : Value) → KeyedError → Type 0
+IsNoArchive root answer = (answer ≡ error.NotAnArchive) × ¬ (IsArchive root)
+
+-- ---- the tree of an object
 
 -- why a Uid has no tree: the archive has no such object, or that object's tree would contain itself
 pub data ArchiveFault : Type 0 where
@@ -62,3 +124,29 @@ module _ (objects : List Tree) where
   -- the tree of a Uid
   abbrev pub resolved_tree : (uid : ℕ) → Result Tree ArchiveFault
   resolved_tree uid = resolved (length objects) [] uid
+
+-- ---- errors
+
+-- the printed form of an error: its name, and its number in parentheses, if it has one
+abbrev pub text_of_error : KeyedError → List ℕ
+text_of_error error.NotAnArchive = codes "NotAnArchive"
+text_of_error (error.UidOutOfRange uid) = codes "UidOutOfRange(" ++ decimal uid ++ codes ")"
+text_of_error (error.RecursiveUid uid) = codes "RecursiveUid(" ++ decimal uid ++ codes ")"
+text_of_error error.OutOfMemory = codes "OutOfMemory"
+
+-- a fact for `NotAnArchive`, one for `OutOfMemory`, and one for a fault of the archive
+abbrev pub MatchError : KeyedError → (closed memory : Type 0) → (ArchiveFault → Type 0) → Type 0
+MatchError error.NotAnArchive closed memory fault = closed
+MatchError (error.UidOutOfRange uid) closed memory fault = fault (UidOutOfRange uid)
+MatchError (error.RecursiveUid uid) closed memory fault = fault (RecursiveUid uid)
+MatchError error.OutOfMemory closed memory fault = memory
+
+-- the error is the fault of this result, or `OutOfMemory`
+abbrev pub IsFaultOf : {A : Type 0} → Result A ArchiveFault → KeyedError → Type 0
+IsFaultOf answer e = MatchError e ⊥ ⊤ (λ fault. answer ≡ Err fault)
+
+-- the error of an archive for an error of a walk over it
+abbrev pub error_of_walk : WalkError → KeyedError
+error_of_walk (walk.MissingObject uid) = error.UidOutOfRange uid
+error_of_walk (walk.OpenObject uid) = error.RecursiveUid uid
+error_of_walk walk.OutOfMemory = error.OutOfMemory

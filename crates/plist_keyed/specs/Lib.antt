@@ -1,4 +1,2 @@
 pub mod Archives
-pub mod Contents
-pub mod Errors
 pub mod inner

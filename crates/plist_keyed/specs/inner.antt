@@ -1,5 +1,3 @@
 -- Definitions that are used by bodies and proofs, but by no public clause.
+pub mod States
 pub mod Walks
-pub mod Settled
-pub mod Checking
-pub mod RemainingSteps

@@ -4,11 +4,9 @@ ghost use Rattle.std.specs.Prelude.{◌≡◌, ℕ, Ok, IfErr, IfOk, IfSome, IsN
 ghost use Rattle.std.specs.declared.alloc.Global.{Global};
 ghost use Rattle.std.specs.declared.vec.Vec.{Vec};
 ghost use Rattle.std.specs.Option.{option_copied};
-ghost use Rattle.plist_keyed.specs.Contents.{HasNoneAt, IsUidAt, IsValueAt, names_of, objects_of, trees_in, IsArchiveOf, IsNoArchive};
+ghost use Rattle.plist_keyed.specs.Archives.{HasNoneAt, IsUidAt, IsValueAt, names_of, objects_of, trees_in, IsArchiveOf, IsNoArchive, resolved_tree, IsFaultOf};
 ghost use Rattle.plist.specs.Dictionaries.{pairs_of};
 ghost use Rattle.plist.specs.ValueTrees.{tree_of};
-ghost use Rattle.plist_keyed.specs.Archives.{resolved_tree};
-ghost use Rattle.plist_keyed.specs.Errors.{IsFaultOf};
 
 use crate::KeyedError;
 use crate::walk::value_at;

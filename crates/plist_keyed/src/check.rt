@@ -14,9 +14,8 @@ ghost use Rattle.plist.specs.declared.stream.events.Events.{Events as PlainEvent
 ghost use Rattle.plist.specs.Events.{remaining_events};
 ghost use Rattle.plist.specs.ValueTrees.{tree_of};
 ghost use Rattle.plist_keyed.specs.declared.error.WalkError.TheVariants.{OutOfMemory as NoMemory};
-ghost use Rattle.plist_keyed.specs.inner.Checking.{objects_seen};
-ghost use Rattle.plist_keyed.specs.inner.Settled.{IsSettledBelow, LeadsOnlyTo, settled_in};
-ghost use Rattle.plist_keyed.specs.inner.Walks.{IsFirstFaultOf, follow_in, steps_from, steps_of_event, uid_of_event};
+ghost use Rattle.plist_keyed.specs.inner.States.{objects_seen};
+ghost use Rattle.plist_keyed.specs.inner.Walks.{IsSettledBelow, LeadsOnlyTo, settled_in, IsFirstFaultOf, follow_in, steps_from, steps_of_event, uid_of_event};
 
 use crate::error::WalkError;
 use indexmap::{IndexMap, IndexSet};
@@ -63,7 +62,7 @@ struct Check<'a> {
 }
 
 impl<'a> Check<'a> {
-    ghost use Rattle.plist_keyed.specs.inner.Checking.{HasEnd, IsCheck, IsCheckAt, IsOpened, IsReached, KeepsReached, IsCheckWith, Leaves, open_uids, unchecked_steps, unchecked_from, unchecked_with};
+    ghost use Rattle.plist_keyed.specs.inner.States.{HasEnd, IsCheck, IsOpened, IsReached, KeepsReached, IsCheckWith, Leaves, open_uids, unchecked_steps, unchecked_from, unchecked_with};
     ghost use Rattle.plist_keyed.specs.inner.Walks.{PassesEvents};
 
     fn new(alloc: Global, objects: &'a [Value]) -> Check<'a>
@@ -101,7 +100,7 @@ impl<'a> Check<'a> {
 
     // Enters the object of a Uid, unless it is settled.
     fn follow(&mut self, uid: u64) -> Result<(), WalkError>
-        requires { IsCheckAt self.old (ScalarEvent (PlainUid uid) ∷ []) }
+        requires { IsCheckWith self.old [] (ScalarEvent (PlainUid uid) ∷ []) }
         // Result.
         ensures passed { OnOk result (PassesEvents (unchecked_from self.old uid)
             (unchecked_steps self.new)) }
@@ -127,7 +126,7 @@ impl<'a> Check<'a> {
 
     // Takes an event of the innermost object, and follows it if it is a Uid.
     fn pass(&mut self, event: &Event<'a>) -> Result<(), WalkError>
-        requires { IsCheckAt self.old (event_of event.now ∷ []) }
+        requires { IsCheckWith self.old [] (event_of event.now ∷ []) }
         ensures passed { OnOk result (PassesEvents
             (steps_of_event (follow_in (objects_seen self.old.objects.now) (open_uids self.old))
             (event_of event.now) ++ unchecked_steps self.old) (unchecked_steps self.new)) }
@@ -165,7 +164,8 @@ impl<'a> Check<'a> {
 
     // Settles the innermost Uid, whose object has no items left.
     fn leave(&mut self) -> Result<(), WalkError>
-        requires { (left : PlainEvents) × (remaining_events left ≡ []) × IsCheckWith self.old left }
+        requires { (left : PlainEvents) × (remaining_events left ≡ [])
+            × IsCheckWith self.old (left ∷ []) [] }
         ensures left { OnOk result (Leaves self.old self.new) }
         ensures memory { IfErr result (λ e. e ≡ NoMemory) }
         ensures check { OnOk result (IsCheck self.new) }
@@ -182,10 +182,11 @@ impl<'a> Check<'a> {
     // Takes the next of these remaining items of the innermost object, or leaves the object if it
     // has none.
     fn step(&mut self, left: Events<'a>) -> Result<(), WalkError>
-        requires { IsCheckWith self.old left }
-        ensures passed { OnOk result (PassesEvents (unchecked_with self.old left.entry)
+        requires { IsCheckWith self.old (left ∷ []) [] }
+        ensures passed { OnOk result (PassesEvents (unchecked_with self.old (left.entry ∷ []))
             (unchecked_steps self.new)) }
-        ensures refused { IfErr result (IsFirstFaultOf (unchecked_with self.old left.entry)) }
+        ensures refused { IfErr result
+            (IsFirstFaultOf (unchecked_with self.old (left.entry ∷ []))) }
         ensures check { OnOk result (IsCheck self.new) }
         ensures objects { OnOk result (self.new.objects ≡ self.old.objects) }
         ensures kept { OnOk result (KeepsReached self.old self.new) }

@@ -1,7 +1,7 @@
 //! The errors of an archive.
 
 ghost use Rattle.std.specs.Prelude.{◌≡◌, Some};
-ghost use Rattle.plist_keyed.specs.Errors.{error_of_walk, text_of_error};
+ghost use Rattle.plist_keyed.specs.Archives.{error_of_walk, text_of_error};
 ghost use Rattle.plist_keyed.specs.declared.error.WalkError.TheVariants.{OutOfMemory as NoMemory};
 
 use std::alloc::{AllocError, AllocFailed};

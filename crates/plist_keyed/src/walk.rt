@@ -4,14 +4,12 @@ ghost use Rattle.std.specs.Prelude.{◌≡◌, ◌<◌, [], ◌∷◌, ◌++◌,
 ghost use Rattle.indexmap.specs.IndexMap.{get};
 ghost use Rattle.plist_base.specs.Events.{event_of};
 ghost use Rattle.plist_base.specs.Outcomes.{OnlyMemory};
-ghost use Rattle.plist_keyed.specs.inner.Walks.{IsFaultless, IsFirstFaultOf, steps_from, steps_of_event};
+ghost use Rattle.plist_keyed.specs.inner.Walks.{IsFaultless, IsFirstFaultOf, steps_from, steps_of_event, IsSettledBelow};
 ghost use Rattle.plist.specs.Collecting.{built_tree};
 ghost use Rattle.plist.specs.ValueOfItems.{IsValueOf};
 ghost use Rattle.plist.specs.LastWins.{last_wins};
 ghost use Rattle.plist.specs.ValueTrees.{tree_of};
-ghost use Rattle.plist_keyed.specs.inner.Checking.{objects_seen};
-ghost use Rattle.plist_keyed.specs.inner.RemainingSteps.{items_of_steps};
-ghost use Rattle.plist_keyed.specs.inner.Settled.{IsSettledBelow};
+ghost use Rattle.plist_keyed.specs.inner.States.{objects_seen, items_of_steps};
 
 use crate::check::{settled_below, uid_of};
 use crate::error::WalkError;
@@ -44,8 +42,8 @@ struct Walk<'a> {
 }
 
 impl<'a> Walk<'a> {
-    ghost use Rattle.plist_keyed.specs.inner.RemainingSteps.{GivesItemOfUid, IsWalk, KeepsArchive, Skips, Yields, remaining_steps, remaining_from};
-    ghost use Rattle.plist_keyed.specs.inner.Settled.{IsIn, NameOnly, settled_in};
+    ghost use Rattle.plist_keyed.specs.inner.States.{GivesItemOfUid, IsWalk, KeepsArchive, Skips, Yields, remaining_steps};
+    ghost use Rattle.plist_keyed.specs.inner.Walks.{IsIn, NameOnly, settled_in};
     ghost use Rattle.std.specs.Option.{unwrap_or};
 
     fn new(alloc: Global, objects: &'a [Value], ends: IndexMap<u64, u64>) -> Walk<'a>
@@ -86,8 +84,8 @@ impl<'a> Walk<'a> {
     fn enter(&mut self, uid: u64) -> Result<(), Error>
         requires walk { IsWalk self.old }
         requires settled { IsIn uid (settled_in self.old.ends) }
-        ensures entered { OnOk result (Skips (remaining_from self.old uid)
-            (remaining_steps self.new)) }
+        ensures entered { OnOk result (Skips (steps_from (objects_seen self.old.objects.now) uid
+            ++ remaining_steps self.old) (remaining_steps self.new)) }
         ensures memory { OnlyMemory result }
         ensures path { IsWalk self.new }
         ensures archive { KeepsArchive self.old self.new }
@@ -161,7 +159,7 @@ impl<'a> Iterator for Walk<'a> {
     type Item = Result<Event<'a>, Error>;
 
     ghost use Rattle.std.specs.Iterator.{at_most};
-    ghost use Rattle.plist_keyed.specs.inner.RemainingSteps.{GivesItemOfUid, IsWalk, remaining_steps};
+    ghost use Rattle.plist_keyed.specs.inner.States.{GivesItemOfUid, IsWalk, remaining_steps};
 
     ghost can_next = { IsWalk };
 

@@ -1,5 +1,5 @@
 -- What the reader of ASCII yields as the chosen one, with limits or without.
-use Rattle.std.proofs.Common.{◌≡◌, ℕ, ◌-◌, ◌^◌, Bool, true, false, cond, List, [], ◌∷◌, ◌++◌, Option, None, Some, Ok, Err, IfSome, MatchBool, refl, ap, sym, ◌∙◌, subst, arith}
+use Rattle.std.proofs.Common.{◌≡◌, ◌⊎◌, inl, inr, ℕ, ◌-◌, ◌^◌, Bool, true, false, cond, List, [], ◌∷◌, ◌++◌, Option, None, Some, Ok, Err, IfSome, MatchBool, refl, ap, sym, ◌∙◌, subst, arith}
 use Rattle.std.specs.Option.{option_map}
 use Rattle.std.proofs.lemmas.List.{take-take}
 use Rattle.plist_base.specs.declared.source.Source.{Ghosts}
@@ -12,15 +12,14 @@ use Rattle.plist_base.specs.declared.limits.Limits.{Limits}
 use Rattle.plist_base.specs.declared.limits.LimitCounter.{LimitCounter}
 use Rattle.plist_base.specs.Allowances.{PassesNext as PassesAllowed, iterator_of}
 use Rattle.plist_base.specs.Limits.{GivesLimited, IsLimitReached, items_admitted, limited_items, limited_by}
-use Rattle.plist_base.specs.Faults.{FaultKind, Fault, Io, OutOfMemory, InvalidUtf16String, UnclosedString, IncompleteComment, InvalidUtf8AsciiStream, InvalidOctalString, LimitReached, MatchFault, kind_of, error_kind_of, fault_of}
+use Rattle.plist_base.specs.Faults.{FaultKind, Fault, Io, OutOfMemory, LimitReached, MatchFault, XmlUnsupported, kind_of, error_kind_of, fault_of}
 use Rattle.plist_base.specs.Sequential.{from_place}
-use Rattle.plist_reader.specs.Streams.{stream_bytes_left, stream_source, buffered_bytes}
 use Rattle.plist_base.specs.Sources.{ItemCountsIo}
 use Rattle.plist_base.specs.FirstItems.{GivesFirstIfKnown, MatchItem}
 use Rattle.plist_base.proofs.FirstItems.{first_allowed_if_known, none_allowed}
 use Rattle.plist_base.proofs.Refusals.{MatchFault-weaker}
 use Rattle.plist_binread.proofs.LimitedSteps.{limits_remain}
-use Rattle.plist_decode.specs.FaultOffsets.{HasOffset}
+use Rattle.plist_decode.specs.FaultOffsets.{HasOffset, MatchGiven}
 use Rattle.plist_binread.specs.Remaining.{SomeRemain}
 use Rattle.plist_ascii.specs.Ascii.{items_of_ascii, items_in, BeginsWithText}
 use Rattle.plist_ascii.specs.AsciiReader as ascii
@@ -30,10 +29,10 @@ use Rattle.plist_ascii.specs.declared.dialect.Dialect.{Dialect}
 use Rattle.plist_ascii.specs.Texts.{ends_bare}
 use Rattle.plist_reader.specs.declared.reader.State.{State}
 use Rattle.plist_reader.specs.declared.reader.State.TheVariants as state
-use Rattle.plist_reader.specs.Reader.{MatchText, AsciiReaderOf, AsciiGives, state_items, input_within, items_in_format, items_of_dialect, ascii_items_to_come, StopsIfKnown, EndsAfter, IsReaderFault, IfItemFault, StateGives, FaultHasOffset, MatchOffset}
+use Rattle.plist_reader.specs.Reader.{AsciiReaderOf, AsciiGives, state_items, stream_bytes_left, stream_source, buffered_bytes, items_in_format, items_of_dialect, ascii_items_to_come, StopsIfKnown, EndsAfter, IsReaderFault, StateGives}
 use Rattle.plist_reader.specs.declared.format.Format.TheVariants as format
 use Rattle.plist_reader.specs.Formats.{format_of, input_front}
-use Rattle.plist_reader.proofs.ReaderItems.{Given, chosen-gives, one-remain, text-or-all}
+use Rattle.plist_reader.proofs.ReaderItems.{Given, IsReaderItem, chosen-gives, input_within, one-remain}
 
 -- ---- `OutOfMemory` is yielded only if something remains
 
@@ -84,32 +83,13 @@ ascii-ends E None h k = h
 ascii-ends E (Some (Ok event)) h k = tt
 ascii-ends E (Some (Err error)) h k = by (kind_of (error_kind_of error)) h k
   where
-    by : (kind : FaultKind) → MatchFault kind E E ⊤ → MatchFault kind ⊤ ⊤ (IsFaultOfBytes kind) → MatchText kind ⊤ E
-    by Io h k = h
-    by OutOfMemory h k = h
-    by UnclosedString h k = tt
-    by IncompleteComment h k = tt
-    by InvalidUtf8AsciiStream h k = tt
-    by InvalidOctalString h k = tt
-    by InvalidUtf16String h k = tt
-    by kind h k = absurd k
+    by : (kind : FaultKind) → MatchFault kind E E ⊤ → MatchFault kind ⊤ ⊤ (IsFaultOfBytes kind)
+        → IsFaultOfBytes kind ⊎ E
+    by Io h k = inr h
+    by OutOfMemory h k = inr h
+    by kind h k = inl k
 
 -- ---- which faults there are, and their offsets
-
-ascii-kinds : (limited : Bool) (item : Given) → IsAsciiItem item → IfItemFault item (λ fault. IsReaderFault limited fault.kind)
-ascii-kinds limited None h = tt
-ascii-kinds limited (Some (Ok event)) h = tt
-ascii-kinds limited (Some (Err error)) h = by (kind_of (error_kind_of error)) h
-  where
-    by : (kind : FaultKind) → MatchFault kind ⊤ ⊤ (IsFaultOfBytes kind) → IsReaderFault limited kind
-    by Io h = tt
-    by OutOfMemory h = tt
-    by UnclosedString h = tt
-    by IncompleteComment h = tt
-    by InvalidUtf8AsciiStream h = tt
-    by InvalidOctalString h = tt
-    by InvalidUtf16String h = tt
-    by kind h = absurd h
 
 same-count : (a b : ℕ) → Some b ≡ Some a → b ≡ a
 same-count a b e = cc
@@ -117,23 +97,21 @@ same-count a b e = cc
 some-place : (offset : Option ℕ) (place : ℕ) → offset ≡ Some place → HasOffset offset
 some-place offset place is = rw is tt
 
-ascii-placed : (place : ℕ) (item : Given) → ascii.FaultIsAt item place → IfItemFault item FaultHasOffset
-ascii-placed place None h = tt
-ascii-placed place (Some (Ok event)) h = tt
-ascii-placed place (Some (Err error)) h = placed _ _ h
+ascii-faults : (limited : Bool) (place : ℕ) (item : Given) → ascii.FaultIsAt item place
+    → IsReaderItem limited item
+ascii-faults limited place None h = tt
+ascii-faults limited place (Some (Ok event)) h = tt
+ascii-faults limited place (Some (Err error)) h = by (fault_of error).kind (fault_of error).offset h
   where
-    placed : (kind : FaultKind) (offset : Option ℕ)
+    by : (kind : FaultKind) (offset : Option ℕ)
         → MatchFault kind (offset ≡ Some place) (offset ≡ None)
         (IsFaultOfBytes kind × (offset ≡ Some place))
-        → MatchOffset kind (offset ≡ None) (HasOffset offset)
-    placed Io offset p = some-place offset place p
-    placed OutOfMemory offset p = p
-    placed UnclosedString offset p = some-place offset place p.1
-    placed IncompleteComment offset p = some-place offset place p.1
-    placed InvalidUtf8AsciiStream offset p = some-place offset place p.1
-    placed InvalidOctalString offset p = some-place offset place p.1
-    placed InvalidUtf16String offset p = some-place offset place p.1
-    placed kind offset p = absurd p.0
+        → (((kind ≡ XmlUnsupported) ⊎ IsFaultOfBytes kind) × HasOffset offset)
+        ⊎ MatchGiven kind (HasOffset offset) (offset ≡ None) (HasOffset offset)
+        ((limited ≡ true) × (offset ≡ None))
+    by Io offset p = inr (some-place offset place p)
+    by OutOfMemory offset p = inr p
+    by kind offset p = inl (inr p.0, some-place offset place p.1)
 
 -- if both counts exist, a fact about optional counts is one about them
 counted-failures : (a b : ℕ) (item : Given) → incoming.ItemCountsIoIfCounted item (Some a) (Some b)
@@ -197,33 +175,24 @@ module _ (now : Bool) (old new : LimitCounter) where
   passes-count (Some (Err fault)) None a b h p = absurd p
   passes-count (Some (Err fault)) (Some given) a b h p = rw p.0 h
 
-  passes-placed : (asked item : Given) → IfItemFault asked FaultHasOffset → PassesNext old asked item new now
-      → IfItemFault item FaultHasOffset
-  passes-placed None item h p = rw p.0 tt
-  passes-placed (Some (Ok asked)) None h p = absurd p
-  passes-placed (Some (Ok asked)) (Some (Ok passed)) h p = tt
-  passes-placed (Some (Ok asked)) (Some (Err error)) h p = subst FaultHasOffset (sym p.0.0.1) refl
-  passes-placed (Some (Err fault)) None h p = absurd p
-  passes-placed (Some (Err fault)) (Some given) h p = rw p.0 h
-
-  passes-kinds : (asked item : Given) → IfItemFault asked (λ fault. IsReaderFault true fault.kind)
-      → PassesNext old asked item new now → IfItemFault item (λ fault. IsReaderFault true fault.kind)
-  passes-kinds None item h p = rw p.0 tt
-  passes-kinds (Some (Ok asked)) None h p = absurd p
-  passes-kinds (Some (Ok asked)) (Some (Ok passed)) h p = tt
-  passes-kinds (Some (Ok asked)) (Some (Err error)) h p =
-      rw (ap (λ (f : Fault). f.kind) p.0.0.1) refl
-  passes-kinds (Some (Err fault)) None h p = absurd p
-  passes-kinds (Some (Err fault)) (Some given) h p = rw p.0 h
+  passes-faults : (asked item : Given) → IsReaderItem true asked → PassesNext old asked item new now
+      → IsReaderItem true item
+  passes-faults None item h p = rw p.0 tt
+  passes-faults (Some (Ok asked)) None h p = absurd p
+  passes-faults (Some (Ok asked)) (Some (Ok passed)) h p = tt
+  passes-faults (Some (Ok asked)) (Some (Err error)) h p =
+      subst (IsReaderFault true) (sym p.0.0.1) (inr (refl, refl))
+  passes-faults (Some (Err fault)) None h p = absurd p
+  passes-faults (Some (Err fault)) (Some given) h p = rw p.0 h
 
   passes-ends : (asked item : Given) → PassesNext old asked item new now
       → EndsAfter item (now ≡ true)
   passes-ends None item p = rw p.0 p.2
   passes-ends (Some (Ok asked)) None p = absurd p
   passes-ends (Some (Ok asked)) (Some (Ok passed)) p = tt
-  passes-ends (Some (Ok asked)) (Some (Err error)) p = text-or-all _ (now ≡ true) p.1
+  passes-ends (Some (Ok asked)) (Some (Err error)) p = inr p.1
   passes-ends (Some (Err fault)) None p = absurd p
-  passes-ends (Some (Err fault)) (Some given) p = rw p.0 (text-or-all _ (now ≡ true) p.1)
+  passes-ends (Some (Err fault)) (Some given) p = rw p.0 (inr p.1)
 
 -- a reader of ASCII that has yielded nothing has all items of its source left
 fresh-text : {R : Type 0} (known : R → Option (List ℕ)) (dialect : Dialect) (source : R) (sequence : BufferedSource R) (reader : AsciiReaderOf R)
@@ -270,12 +239,11 @@ module _ {R : Type 0} {g : Ghosts R} (known : R → Option (List ℕ)) (failed :
         (ascii.place_of new) item h.items;
     failures = counted-failures (failed (stream_source (ascii.device_of old)))
         (failed (stream_source (ascii.device_of new))) item h.failures;
-    offset = ascii-placed (ascii.place_of new) item h.offset;
     ended = h.ended;
     ends = ascii-ends (ascii.HasEndedAscii new) item h.ends h.kinds;
-    kinds = ascii-kinds false item h.kinds;
+    faults = ascii-faults false (ascii.place_of new) item h.offset;
     limits = λ none. refl;
-    inside = (new, refl, h);
+    inside = h;
   }
 
   -- the reader has ended
@@ -286,12 +254,11 @@ module _ {R : Type 0} {g : Ghosts R} (known : R → Option (List ℕ)) (failed :
         (λ items. rw over refl);
     stops = stays (ascii_items_to_come known (iterator_of old));
     failures = refl;
-    offset = tt;
     ended = λ _. refl;
     ends = over;
-    kinds = tt;
+    faults = tt;
     limits = λ none. none;
-    inside = (old, refl, rw over (refl, refl));
+    inside = rw over (refl, refl);
   }
     where
       stays : (k : Option (List Item))
@@ -322,13 +289,12 @@ module _ {R : Type 0} {g : Ghosts R} (known : R → Option (List ℕ)) (failed :
             failures = passes-count new.ended old.limiter new.limiter asked item
                 (failed (stream_source (ascii.device_of old.inner)))
                 (failed (stream_source (ascii.device_of new.inner))) inner.failures passes;
-            offset = passes-placed new.ended old.limiter new.limiter asked item inner.offset passes;
             ended = λ over. (let no : false ≡ true → item ≡ None = λ q. cc in no (cc));
             ends = passes-ends new.ended old.limiter new.limiter asked item passes;
-            kinds = passes-kinds new.ended old.limiter new.limiter asked item
-                (ascii-kinds true asked gave.kinds) passes;
+            faults = passes-faults new.ended old.limiter new.limiter asked item
+                (ascii-faults true (ascii.place_of new.inner) asked gave.offset) passes;
             limits = λ none. none;
-            inside = (new, refl, h);
+            inside = h;
           }
 
   pub begun-ascii : (source : R) (dialect : Dialect) (sequence : BufferedSource R) (old new : AsciiReaderOf R) (item : Given)

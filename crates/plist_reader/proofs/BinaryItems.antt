@@ -1,13 +1,12 @@
 -- What the reader of the binary format yields as the chosen one.
-use Rattle.std.proofs.Common.{◌≡◌, ℕ, ◌^◌, Bool, true, false, List, [], ◌∷◌, Option, None, Some, Ok, Err, IfSome, OnErr, MatchBool, MatchOption, refl, ap, ◌∙◌, subst}
+use Rattle.std.proofs.Common.{◌≡◌, ℕ, ◌^◌, Bool, true, false, List, [], ◌∷◌, Option, None, Some, Ok, Err, IfSome, OnErr, MatchBool, MatchOption, inr, ap, ◌∙◌, subst}
 use Rattle.std.specs.Option.{is_some, option_map}
 use Rattle.plist_base.specs.declared.source.Source.{Ghosts}
 use Rattle.plist_base.specs.Events.{Item, event_of}
 use Rattle.plist_base.proofs.FirstItems.{first_of_known}
 use Rattle.std.proofs.lemmas.Option.{IfSome_then}
 use Rattle.plist_base.specs.declared.limits.Limits.{Limits}
-use Rattle.plist_base.specs.Limits.{limited_items}
-use Rattle.plist_base.specs.Faults.{FaultKind, Io, UnexpectedEof, OutOfMemory, InvalidMagic, InvalidTrailerObjectOffsetSize, InvalidTrailerObjectReferenceSize, ObjectOffsetTooLarge, ObjectReferenceTooLarge, RecursiveObject, NullObjectUnimplemented, FillObjectUnimplemented, UnknownObjectType, IntegerOutOfRange, OverflowOrNanDate, InvalidUtf8String, InvalidUtf16String, LimitReached, kind_of, error_kind_of, fault_of}
+use Rattle.plist_base.specs.Faults.{FaultKind, Io, UnexpectedEof, kind_of, error_kind_of}
 use Rattle.plist_base.specs.Sources.{ItemCountsIo, IsOffsetWithin}
 use Rattle.plist_base.proofs.Refusals.{MatchFault-weaker}
 use Rattle.plist_binread.specs.BinaryReader as binary
@@ -15,11 +14,11 @@ use Rattle.plist_decode.specs.FaultOffsets.{HasOffset, MatchGiven, ItemGivenWith
 use Rattle.plist_binread.specs.Remaining.{SomeRemain, AllocatesFirst}
 use Rattle.plist_ascii.specs.declared.dialect.Dialect.{Dialect}
 use Rattle.plist_reader.specs.declared.reader.State.TheVariants as state
-use Rattle.plist_reader.specs.Reader.{BinaryReaderOf, items_of_input, file_within, input_within, items_in_format, StopsIfKnown, EndsAfter, IsReaderFault, IfItemFault, StateGives, MatchOffset, FaultHasOffset}
+use Rattle.plist_reader.specs.Reader.{BinaryReaderOf, items_of_input, items_in_format, items_within, StopsIfKnown, EndsAfter, StateGives}
 use Rattle.plist_reader.specs.declared.format.Format.TheVariants as format
 use Rattle.plist_reader.specs.Formats.{format_of}
 use Rattle.plist_reader.proofs.Fronts.{within-placed}
-use Rattle.plist_reader.proofs.ReaderItems.{Given, chosen-gives, one-remain, same-items, text-or-all}
+use Rattle.plist_reader.proofs.ReaderItems.{Given, IsReaderItem, chosen-gives, input_within, one-remain, same-items}
 use Rattle.plist_format.specs.Unfolding.{items_of_file}
 use Rattle.plist_ascii.specs.declared.dialect.Dialect.TheVariants.{Lax}
 
@@ -52,74 +51,32 @@ over-ends : (E : Type 0) (item : Given) → MatchOption item E (λ answer. OnErr
     → EndsAfter item E
 over-ends E None h = h
 over-ends E (Some (Ok event)) h = tt
-over-ends E (Some (Err error)) h = text-or-all _ E h
+over-ends E (Some (Err error)) h = inr h
 
 -- ---- which faults there are, and their offsets
 
-binary-kinds : (limited : Bool) (item : Given) → ItemGivenWithin 0 (2 ^ 64) limited item
-    → IfItemFault item (λ fault. IsReaderFault limited fault.kind)
-binary-kinds limited None h = tt
-binary-kinds limited (Some (Ok event)) h = tt
-binary-kinds limited (Some (Err error)) h =
-    by (kind_of (error_kind_of error)) (fault_of error).offset h.placed
-  where
-    by : (kind : FaultKind) (offset : Option ℕ)
-        → MatchGiven kind (IsOffsetWithin 0 (2 ^ 64) offset) (offset ≡ None) (HasOffset offset)
-        ((limited ≡ true) × (offset ≡ None)) → IsReaderFault limited kind
-    by (LimitReached limit) offset h = h.0
-    by Io offset h = tt
-    by UnexpectedEof offset h = tt
-    by OutOfMemory offset h = tt
-    by InvalidMagic offset h = tt
-    by InvalidTrailerObjectOffsetSize offset h = tt
-    by InvalidTrailerObjectReferenceSize offset h = tt
-    by ObjectOffsetTooLarge offset h = tt
-    by ObjectReferenceTooLarge offset h = tt
-    by RecursiveObject offset h = tt
-    by NullObjectUnimplemented offset h = tt
-    by FillObjectUnimplemented offset h = tt
-    by (UnknownObjectType marker) offset h = tt
-    by IntegerOutOfRange offset h = tt
-    by OverflowOrNanDate offset h = tt
-    by InvalidUtf8String offset h = tt
-    by InvalidUtf16String offset h = tt
-    by kind offset h = absurd h
-
-binary-placed : (limited : Bool) (item : Given) → ItemGivenWithin 0 (2 ^ 64) limited item
-    → IfItemFault item FaultHasOffset
-binary-placed limited None h = tt
-binary-placed limited (Some (Ok event)) h = tt
-binary-placed limited (Some (Err error)) h = placed _ _ h.placed
+binary-faults : (limited : Bool) (item : Given) → ItemGivenWithin 0 (2 ^ 64) limited item
+    → IsReaderItem limited item
+binary-faults limited None h = tt
+binary-faults limited (Some (Ok event)) h = tt
+binary-faults limited (Some (Err error)) h = inr (placed _ _ h.placed)
   where
     placed : (kind : FaultKind) (offset : Option ℕ)
         → MatchGiven kind (IsOffsetWithin 0 (2 ^ 64) offset) (offset ≡ None) (HasOffset offset)
-        ((limited ≡ true) × (offset ≡ None)) → MatchOffset kind (offset ≡ None) (HasOffset offset)
-    placed (LimitReached limit) offset p = p.1
+        ((limited ≡ true) × (offset ≡ None))
+        → MatchGiven kind (HasOffset offset) (offset ≡ None) (HasOffset offset)
+        ((limited ≡ true) × (offset ≡ None))
     placed Io offset p = within-placed 0 (2 ^ 64) offset p
     placed UnexpectedEof offset p = within-placed 0 (2 ^ 64) offset p
-    placed OutOfMemory offset p = p
-    placed InvalidMagic offset p = p
-    placed InvalidTrailerObjectOffsetSize offset p = p
-    placed InvalidTrailerObjectReferenceSize offset p = p
-    placed ObjectOffsetTooLarge offset p = p
-    placed ObjectReferenceTooLarge offset p = p
-    placed RecursiveObject offset p = p
-    placed NullObjectUnimplemented offset p = p
-    placed FillObjectUnimplemented offset p = p
-    placed (UnknownObjectType marker) offset p = p
-    placed IntegerOutOfRange offset p = p
-    placed OverflowOrNanDate offset p = p
-    placed InvalidUtf8String offset p = p
-    placed InvalidUtf16String offset p = p
-    placed kind offset p = absurd p
+    placed kind offset p = p
 
 -- ---- the items that remain before the first call
 
 file-input : (limits : Option Limits) (dialect : Dialect) (bytes : List ℕ)
-    → format.Binary ≡ format_of bytes → file_within limits bytes ≡ input_within dialect limits bytes
-file-input None dialect bytes is = ap (λ f. items_in_format dialect f bytes) is
-file-input (Some limits) dialect bytes is =
-    ap (λ f. limited_items limits (items_in_format dialect f bytes)) is
+    → format.Binary ≡ format_of bytes
+    → items_within limits (items_of_file bytes) ≡ input_within dialect limits bytes
+file-input limits dialect bytes is =
+    ap (λ f. items_within limits (items_in_format dialect f bytes)) is
 
 -- the items of an input that is binary are those of the file
 pub binary-input : (bytes : List ℕ) → format.Binary ≡ format_of bytes
@@ -138,17 +95,16 @@ module _ {R : Type 0} {g : Ghosts R} where
         (g.known (binary.binary_source new)) (λ bytes. binary.items_to_come bytes old)
         (λ bytes. binary.items_to_come bytes new) (binary.is_new old) item h.unchanged h.items;
     failures = h.failures;
-    offset = binary-placed (binary.has_limits old) item h.faults;
     ended = h.ended;
     ends = over-ends (binary.HasEndedBinary new) item h.ends;
-    kinds = binary-kinds (binary.has_limits old) item h.faults;
+    faults = binary-faults (binary.has_limits old) item h.faults;
     limits = λ none. h.kept.0 ∙ none;
-    inside = (new, refl, h);
+    inside = h;
   }
 
   binary-items : (limits : Option Limits) (dialect : Dialect) (k : Option (List ℕ)) (reader : BinaryReaderOf R g)
       → IfSome k (λ bytes. format.Binary ≡ format_of bytes)
-      → IfSome k (λ bytes. binary.items_to_come bytes reader ≡ file_within limits bytes)
+      → IfSome k (λ bytes. binary.items_to_come bytes reader ≡ items_within limits (items_of_file bytes))
       → IfSome k (λ bytes. binary.items_to_come bytes reader ≡ input_within dialect limits bytes)
   binary-items limits dialect None reader is h = tt
   binary-items limits dialect (Some bytes) reader is h = h ∙ file-input limits dialect bytes is
@@ -157,7 +113,7 @@ module _ {R : Type 0} {g : Ghosts R} where
       → binary.binary_source old ≡ source → binary.is_new old ≡ true
       → binary.has_limits old ≡ is_some limits
       → IfSome (g.known source) (λ bytes. format.Binary ≡ format_of bytes)
-      → IfSome (g.known source) (λ bytes. binary.items_to_come bytes old ≡ file_within limits bytes)
+      → IfSome (g.known source) (λ bytes. binary.items_to_come bytes old ≡ items_within limits (items_of_file bytes))
       → binary.GivesBinary old item new
       → StateGives g.known g.failures (state.Unread source limits dialect) item (state.Binary new)
   begun-binary source limits dialect old new item at fresh limited is begins h =

@@ -1,6 +1,7 @@
 -- The first bytes of a source.
 use Rattle.std.proofs.Common.{◌≡◌, inl, inr, ℕ, ◌+◌, ◌<◌, ◌≤◌, Bool, true, false, cond, ◌==◌, nat_eq, List, length, take, get_or, Option, None, Some, IfSome, refl, ap, ◌∙◌, arith}
 use Rattle.std.specs.Bool.{then_some}
+use Rattle.std.specs.Option.{option_map_or}
 use Rattle.std.specs.List.{starts_with, slice_get}
 use Rattle.std.proofs.lemmas.Bool.{cases_lt}
 use Rattle.std.proofs.lemmas.List.{length-take, get_or-take, get_or_past}
@@ -9,8 +10,8 @@ use Rattle.std.proofs.lemmas.Option.{slice_get_within, slice_get-get_or, get_or_
 use Rattle.plist_base.specs.Sources.{IsOffsetWithin}
 use Rattle.plist_format.specs.Container.{magic}
 use Rattle.plist_decode.specs.FaultOffsets.{HasOffset}
-use Rattle.plist_reader.specs.declared.format.Format.TheVariants.{Binary}
-use Rattle.plist_reader.specs.Formats.{input_front, is_white, byte_order_mark_length, past_white, xml_place, text_format, format_of}
+use Rattle.plist_reader.specs.declared.format.Format.TheVariants.{Binary, Xml, Ascii}
+use Rattle.plist_reader.specs.Formats.{input_front, is_white, byte_order_mark_length, past_white, xml_place, format_of}
 
 -- two facts that are true of known bytes can be used together
 pub both_known : {A : Type 0} (o : Option A) {P Q R : A → Type 0} → IfSome o P → IfSome o Q
@@ -92,15 +93,15 @@ then_some-cond false place = refl
 pub binary-is : (bytes : List ℕ) → true ≡ starts_with nat_eq bytes magic → Binary ≡ format_of bytes
 unfolding format_of
 binary-is bytes h =
-    ap (λ b. cond b Binary (text_format (xml_place (byte_order_mark_length bytes) (input_front bytes)))) h
+    ap (λ b. cond b Binary (option_map_or Xml (xml_place (byte_order_mark_length bytes) (input_front bytes)) Ascii)) h
 
 pub text-is : (k a b : Option (List ℕ)) (start : ℕ) (place : Option ℕ) → a ≡ k → b ≡ a
     → IfSome k (λ bytes. false ≡ starts_with nat_eq bytes magic)
     → IfSome a (λ bytes. start ≡ byte_order_mark_length bytes)
     → IfSome b (λ bytes. place ≡ xml_place start (input_front bytes))
-    → IfSome k (λ bytes. text_format place ≡ format_of bytes)
+    → IfSome k (λ bytes. option_map_or Xml place Ascii ≡ format_of bytes)
 unfolding format_of
 text-is k a b start place p q h m x =
     both_known k (both_known k (rw p at m) (rw (q ∙ p) at x)
-    (λ bytes m x. x ∙ ap (λ s. xml_place s (input_front bytes)) m)) h (λ bytes x h. ap text_format x
-    ∙ ap (λ b. cond b Binary (text_format (xml_place (byte_order_mark_length bytes) (input_front bytes)))) h)
+    (λ bytes m x. x ∙ ap (λ s. xml_place s (input_front bytes)) m)) h (λ bytes x h. ap (λ p. option_map_or Xml p Ascii) x
+    ∙ ap (λ b. cond b Binary (option_map_or Xml (xml_place (byte_order_mark_length bytes) (input_front bytes)) Ascii)) h)

@@ -1,23 +1,23 @@
 -- What the chosen reader yields: what both formats share, and what is yielded if the choice fails.
-use Rattle.std.proofs.Common.{◌≡◌, ℕ, ◌<◌, Bool, List, [], ◌∷◌, length, Option, None, Some, Err, IfSome, refl, ap, sym, ◌∙◌, subst, arith}
+use Rattle.std.proofs.Common.{◌≡◌, inl, inr, ◌⊎◌, ℕ, ◌<◌, Bool, true, List, [], ◌∷◌, length, Option, None, Some, Err, IfSome, refl, ap, sym, ◌∙◌, subst, arith}
 use Rattle.std.specs.Option.{is_some, option_map}
-use Rattle.std.specs.Prelude.{Result, ⊤}
+use Rattle.std.specs.Prelude.{Result}
 use Rattle.plist_base.specs.declared.error.Error.{Error}
 use Rattle.plist_base.specs.declared.event.Event.{Event}
 use Rattle.plist_base.specs.declared.source.Source.{Ghosts}
 use Rattle.plist_base.specs.Events.{Item, event_of}
 use Rattle.plist_base.specs.FirstItems.{GivesFirst, GivesFirstIfKnown}
-use Rattle.plist_binread.specs.Remaining.{SomeRemain}
 use Rattle.plist_base.specs.declared.limits.Limits.{Limits}
 use Rattle.plist_base.specs.Limits.{limited_items}
-use Rattle.plist_base.specs.Faults.{FaultKind, Fault, Io, InvalidUtf16String, UnclosedString, IncompleteComment, InvalidUtf8AsciiStream, InvalidOctalString, MatchFault, XmlUnsupported, IsIo, fault_at, kind_of, error_kind_of, fault_of}
+use Rattle.plist_base.specs.Faults.{FaultKind, Fault, Io, MatchFault, XmlUnsupported, IsIo, fault_at, kind_of, error_kind_of, fault_of}
+use Rattle.plist_base.specs.Outcomes.{IfFault}
 use Rattle.plist_base.specs.Sources.{ItemCountsIo}
-use Rattle.plist_base.proofs.Refusals.{MatchFault-weaker}
-use Rattle.plist_decode.specs.FaultOffsets.{HasOffset}
+use Rattle.plist_base.proofs.Refusals.{MatchFault-at, MatchFault-weaker}
+use Rattle.plist_decode.specs.FaultOffsets.{HasOffset, MatchGiven}
 use Rattle.plist_ascii.specs.declared.dialect.Dialect.{Dialect}
 use Rattle.plist_reader.specs.declared.reader.State.{State}
 use Rattle.plist_reader.specs.declared.reader.State.TheVariants as state
-use Rattle.plist_reader.specs.Reader.{BeginsInside, MatchText, state_items, input_within, is_limited_in, items_in_format, StopsIfKnown, IsReaderFault, IfItemFault, IsRefusedKind, StateGives, HoldsSource, FaultHasOffset, MatchOffset, source_in}
+use Rattle.plist_reader.specs.Reader.{BeginsInside, state_items, is_limited_in, items_in_format, items_of_dialect, items_within, StopsIfKnown, IsReaderFault, StateGives, HoldsSource, source_in}
 use Rattle.plist_reader.specs.declared.format.Format.TheVariants as format
 use Rattle.plist_reader.specs.Formats.{format_of}
 
@@ -28,13 +28,17 @@ Given = Option (Result Event Error)
 pub one-remain : {A : Type 0} (x : A) (xs : List A) → 0 < length (x ∷ xs)
 one-remain x xs = omega arith
 
-pub text-or-all : (kind : FaultKind) (E : Type 0) → E → MatchText kind ⊤ E
-text-or-all UnclosedString E h = tt
-text-or-all IncompleteComment E h = tt
-text-or-all InvalidUtf8AsciiStream E h = tt
-text-or-all InvalidOctalString E h = tt
-text-or-all InvalidUtf16String E h = tt
-text-or-all kind E h = h
+-- the items of an input in this dialect under optional limits
+abbrev pub input_within : Dialect → Option Limits → List ℕ → List Item
+input_within dialect limits bytes = items_within limits (items_of_dialect dialect bytes)
+
+-- if the item is a fault, a reader can yield it
+abbrev pub IsReaderItem : (limited : Bool) → Given → Type 0
+IsReaderItem limited item = IfSome item (λ answer. IfFault answer (IsReaderFault limited))
+
+-- why no reader was chosen: the source is XML, or a read failed
+abbrev pub IsRefusedKind : FaultKind → Type 0
+IsRefusedKind kind = (kind ≡ XmlUnsupported) ⊎ IsIo kind
 
 -- two functions that agree on known bytes yield the same items that remain before the first call
 pub same-items : (k l : Option (List ℕ)) (f g : List ℕ → List Item) → l ≡ k
@@ -42,22 +46,15 @@ pub same-items : (k l : Option (List ℕ)) (f g : List ℕ → List Item) → l 
 same-items None l f g e h = rw e refl
 same-items (Some bytes) l f g e h = rw e (ap Some h)
 
-refused-kind : (limited : Bool) (kind : FaultKind) → IsRefusedKind kind → IsReaderFault limited kind
-refused-kind limited XmlUnsupported h = tt
-refused-kind limited Io h = tt
-refused-kind limited kind h = absurd h
-
 -- after the choice failed, no item remains
 refused-stops : (before : Option (List Item)) (error : Error)
     → IsRefusedKind (kind_of (error_kind_of error)) → StopsIfKnown before (Some (Err error)) (Some [])
 refused-stops None error h = tt
-refused-stops (Some all) error h = by (kind_of (error_kind_of error)) h
-  where
-    by : (kind : FaultKind) → IsRefusedKind kind → MatchFault kind (◌≡◌ {A = Option (List Item)} (Some []) (Some []))
-        (◌≡◌ {A = Option (List Item)} (Some []) (Some []) × SomeRemain all) ⊤
-    by XmlUnsupported h = tt
-    by Io h = refl
-    by kind h = absurd h
+refused-stops (Some all) error (inl xml) =
+    MatchFault-at (kind_of (error_kind_of error)) XmlUnsupported _ _ _ xml tt
+refused-stops (Some all) error (inr io) =
+    MatchFault-weaker (kind_of (error_kind_of error)) (λ _. refl) (λ none. absurd none)
+    (λ none. absurd none) io
 
 xml-other : (kind : FaultKind) (X Y Z : Type 0) → kind ≡ XmlUnsupported → Z → MatchFault kind X Y Z
 xml-other kind X Y Z is z = rw is z
@@ -79,16 +76,16 @@ xml-items (Some bytes) limits dialect place error is h =
 
 pub xml-kind : (place : ℕ) (error : Error) → fault_of error ≡ fault_at XmlUnsupported place
     → IsRefusedKind (kind_of (error_kind_of error))
-xml-kind place error is = let kind = ap (λ (f : Fault). f.kind) is in rw kind tt
+xml-kind place error is = inl (ap (λ (f : Fault). f.kind) is)
 
 pub xml-counts : (place a b : ℕ) (error : Error) → fault_of error ≡ fault_at XmlUnsupported place
     → b ≡ a → ItemCountsIo {A = Event} (Some (Err error)) a b
 xml-counts place a b error is same =
     let kind = ap (λ (f : Fault). f.kind) is in rw kind same
 
-pub xml-place : (place : ℕ) (error : Error) → fault_of error ≡ fault_at XmlUnsupported place
-    → IfItemFault (Some (Err error)) FaultHasOffset
-xml-place place error is = subst FaultHasOffset (sym is) tt
+pub xml-fault : (limited : Bool) (place : ℕ) (error : Error)
+    → fault_of error ≡ fault_at XmlUnsupported place → IsReaderFault limited (fault_of error)
+xml-fault limited place error is = subst (IsReaderFault limited) (sym is) (inl (inl refl, tt))
 
 -- a read failed
 pub io-items : (k : Option (List ℕ)) (limits : Option Limits) (dialect : Dialect) (error : Error)
@@ -99,20 +96,13 @@ io-items (Some bytes) limits dialect error io =
     MatchFault-weaker (kind_of (error_kind_of error)) (λ _. tt) (λ none. absurd none)
     (λ none. absurd none) io
 
-pub io-kind : (error : Error) → IsIo (kind_of (error_kind_of error))
-    → IsRefusedKind (kind_of (error_kind_of error))
-io-kind error io = by (kind_of (error_kind_of error)) io
-  where
-    by : (kind : FaultKind) → IsIo kind → IsRefusedKind kind
-    by Io io = tt
-    by kind io = absurd io
-
-pub io-place : (error : Error) → IsIo (kind_of (error_kind_of error))
-    → HasOffset (fault_of error).offset → IfItemFault (Some (Err error)) FaultHasOffset
-io-place error io place = placed _ _ io place
+pub io-fault : (limited : Bool) (error : Error) → IsIo (kind_of (error_kind_of error))
+    → HasOffset (fault_of error).offset → IsReaderFault limited (fault_of error)
+io-fault limited error io place = inr (placed _ _ io place)
   where
     placed : (kind : FaultKind) (offset : Option ℕ) → IsIo kind → HasOffset offset
-        → MatchOffset kind (offset ≡ None) (HasOffset offset)
+        → MatchGiven kind (HasOffset offset) (offset ≡ None) (HasOffset offset)
+        ((limited ≡ true) × (offset ≡ None))
     placed Io offset io place = place
     placed kind offset io place = absurd io
 
@@ -128,10 +118,9 @@ module _ {R : Type 0} {g : Ghosts R} (known : R → Option (List ℕ)) (failed :
     items = subst (λ o. GivesFirstIfKnown event_of o item (state_items known new)) same h.items;
     stops = subst (λ o. StopsIfKnown o item (state_items known new)) same h.stops;
     failures = count;
-    offset = h.offset;
     ended = λ e. absurd e;
     ends = h.ends;
-    kinds = subst (λ b. IfItemFault item (λ fault. IsReaderFault b fault.kind)) limited h.kinds;
+    faults = subst (λ b. IsReaderItem b item) limited h.faults;
     limits = λ none. h.limits (limited ∙ none);
     inside = inside;
   }
@@ -155,17 +144,16 @@ module _ {R : Type 0} {g : Ghosts R} (known : R → Option (List ℕ)) (failed :
       → IfSome (known source) (λ bytes. GivesFirst event_of (input_within dialect limits bytes) (Some (Err error)) [])
       → IsRefusedKind (kind_of (error_kind_of error))
       → ItemCountsIo {A = Event} (Some (Err error)) (failed source) (failed other)
-      → IfItemFault (Some (Err error)) FaultHasOffset
+      → IsReaderFault (is_some limits) (fault_of error)
       → StateGives {R = R} {g = g} known failed (state.Unread source limits dialect) (Some (Err error))
       (state.Refused other)
-  refused-gives source other limits dialect error items kind count place = record {
+  refused-gives source other limits dialect error items kind count fault = record {
     items = empty (known source) items;
     stops = refused-stops (option_map (input_within dialect limits) (known source)) error kind;
     failures = count;
-    offset = place;
     ended = λ e. absurd e;
-    ends = text-or-all _ ⊤ tt;
-    kinds = refused-kind (is_some limits) (kind_of (error_kind_of error)) kind;
+    ends = inr tt;
+    faults = fault;
     limits = λ none. refl;
     inside = kind;
   }

@@ -1,5 +1,6 @@
 -- The format that the first bytes of an input indicate.
-use Rattle.std.specs.Prelude.{ℕ, ◌+◌, ◌-◌, ◌^◌, Bool, if◌then◌else◌, ◌==◌, nat_eq, List, [], ◌∷◌, take, drop, get_or, Option, None, Some}
+use Rattle.std.specs.Prelude.{ℕ, ◌+◌, ◌-◌, ◌^◌, Bool, if◌then◌else◌, ◌==◌, nat_eq, List, [], ◌∷◌, take, drop, slice_index, Option, None, Some}
+use Rattle.std.specs.Option.{option_map_or}
 use Rattle.std.specs.List.{list_any, prefix_len, starts_with}
 use Rattle.plist_format.specs.Container.{magic}
 use Rattle.plist_reader.specs.declared.format.Format.{Format}
@@ -25,16 +26,11 @@ past_white place bytes = place + prefix_len is_white (drop place bytes)
 -- the offset of the first byte after white space, if that byte is `<`
 abbrev pub xml_place : (place : ℕ) → List ℕ → Option ℕ
 xml_place place bytes =
-    let start = past_white place bytes in if get_or bytes start 0 == 60 then Some start else None
-
--- XML if there is such an offset, and else ASCII
-abbrev pub text_format : Option ℕ → Format
-text_format None = Ascii
-text_format (Some place) = Xml place
+    let start = past_white place bytes in if slice_index bytes start == 60 then Some start else None
 
 -- the format: binary if the bytes begin with the magic; XML if the first byte after a byte order
 -- mark and white space is `<`; and otherwise ASCII
 unfoldable pub format_of : List ℕ → Format
 format_of bytes =
     if starts_with nat_eq bytes magic then Binary
-    else text_format (xml_place (byte_order_mark_length bytes) (input_front bytes))
+    else option_map_or Xml (xml_place (byte_order_mark_length bytes) (input_front bytes)) Ascii

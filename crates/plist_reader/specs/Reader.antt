@@ -1,5 +1,5 @@
 -- What contracts see of a reader of either format: the items that it hasn't yielded yet.
-use Rattle.std.specs.Prelude.{◌≡◌, ℕ, ◌+◌, ◌^◌, Bool, true, false, List, [], ◌∷◌, Option, None, Some, Result, Err, MatchOption, MatchResult, IfErr, IfSome, ⊤}
+use Rattle.std.specs.Prelude.{◌≡◌, ◌⊎◌, ℕ, ◌+◌, ◌^◌, Bool, true, false, List, [], ◌∷◌, ◌++◌, take, drop, Option, None, Some, Result, Err, MatchOption, IsErrAnd, IsSomeAnd, IfSome, ⊤}
 use Rattle.std.specs.Option.{is_some, option_map}
 use Rattle.plist_base.specs.declared.error.Error.{Error}
 use Rattle.plist_base.specs.declared.event.Event.{Event}
@@ -9,9 +9,11 @@ use Rattle.plist_base.specs.declared.limits.Limits.{Limits}
 use Rattle.plist_base.specs.declared.limits.LimitCounter.{LimitCounter}
 use Rattle.plist_base.specs.Allowances.{HasEndedLimited, iterator_of}
 use Rattle.plist_base.specs.Limits.{GivesLimited, items_admitted, limited_items}
-use Rattle.plist_base.specs.Faults.{Fault, FaultKind, Io, IncompleteComment, InvalidOctalString, InvalidUtf16String, InvalidUtf8AsciiStream, LimitReached, OutOfMemory, UnclosedString, XmlUnsupported, kind_of, error_kind_of, fault_of, fault_at}
+use Rattle.plist_base.specs.Faults.{Fault, IsIo, XmlUnsupported, fault_of, fault_at}
 use Rattle.plist_base.specs.Events.{Item, event_of}
 use Rattle.plist_base.specs.FirstItems.{GivesFirstIfKnown, MatchItem}
+use Rattle.plist_base.specs.Outcomes.{IfFault}
+use Rattle.plist_base.specs.Sequential.{from_place}
 use Rattle.plist_base.specs.Sources.{ItemCountsIo}
 use Rattle.plist_binread.specs.BinaryReader as binary
 use Rattle.plist_binread.specs.declared.reader.BinaryReader.{BinaryReader}
@@ -22,6 +24,7 @@ use Rattle.plist_binread.specs.Remaining.{SomeRemain, walk_steps}
 use Rattle.plist_format.specs.Unfolding.{items_of_file}
 use Rattle.plist_ascii.specs.Ascii.{items_of_ascii}
 use Rattle.plist_ascii.specs.AsciiReader as ascii
+use Rattle.plist_ascii.specs.Kinds.{IsFaultOfBytes}
 use Rattle.plist_ascii.specs.declared.reader.AsciiReader.{AsciiReader}
 use Rattle.plist_reader.specs.declared.bytes.BufferedSource.{BufferedSource}
 use Rattle.plist_ascii.specs.Texts.{ends_bare}
@@ -33,8 +36,6 @@ use Rattle.plist_reader.specs.declared.reader.Reader.{Reader}
 use Rattle.plist_reader.specs.declared.reader.State.{State}
 use Rattle.plist_reader.specs.declared.reader.State.TheVariants as state
 use Rattle.plist_reader.specs.Formats.{input_front, format_of}
-use Rattle.plist_reader.specs.Streams as stream
-use Rattle.plist_reader.specs.Streams.{stream_bytes_left}
 
 -- the items of some bytes in this format, and in this dialect if it is ASCII
 abbrev pub items_in_format : Dialect → Format → List ℕ → List Item
@@ -55,15 +56,24 @@ items_of_input bytes = items_of_dialect Lax bytes
 abbrev pub limited_input : Limits → List ℕ → List Item
 limited_input limits bytes = limited_items limits (items_of_input bytes)
 
--- the items of an input in this dialect under optional limits
-abbrev pub input_within : Dialect → Option Limits → List ℕ → List Item
-input_within dialect None bytes = items_of_dialect dialect bytes
-input_within dialect (Some limits) bytes = limited_items limits (items_of_dialect dialect bytes)
+-- the items that limits admit, or all of them without limits
+abbrev pub items_within : Option Limits → List Item → List Item
+items_within None items = items
+items_within (Some limits) items = limited_items limits items
 
--- the items of a binary file under optional limits
-abbrev pub file_within : Option Limits → List ℕ → List Item
-file_within None bytes = items_of_file bytes
-file_within (Some limits) bytes = limited_items limits (items_of_file bytes)
+-- the source inside a buffered one
+abbrev pub stream_source : {R : Type 0} → BufferedSource R → R
+stream_source reader = reader.source
+
+-- the buffered bytes, which were read from the source but not consumed yet
+abbrev pub buffered_bytes : {R : Type 0} → BufferedSource R → List ℕ
+buffered_bytes reader = drop reader.from (take reader.end reader.window)
+
+-- all bytes of a buffered source that haven't been consumed yet, if its bytes are known
+abbrev pub stream_bytes_left : {R : Type 0} → (R → Option (List ℕ)) → BufferedSource R
+    → Option (List ℕ)
+stream_bytes_left known reader =
+    option_map (λ all. buffered_bytes reader ++ from_place reader.place all) (known reader.source)
 
 -- the type of the reader of a binary source, which doesn't count what it decodes
 abbrev pub BinaryReaderOf : (R : Type 0) → Ghosts R → Type 0
@@ -84,7 +94,7 @@ module _ {R : Type 0} {g : Ghosts R} (known : R → Option (List ℕ)) where
   -- the remaining items, of the source or of the chosen reader, if the source's bytes are known
   abbrev pub state_items : State R g → Option (List Item)
   state_items (state.Unread source limits dialect) =
-      option_map (input_within dialect limits) (known source)
+      option_map (λ bytes. items_within limits (items_of_dialect dialect bytes)) (known source)
   state_items (state.Binary reader) =
       option_map (λ bytes. binary.items_to_come bytes reader) (known (binary.binary_source reader))
   state_items (state.Ascii reader) = ascii_items_to_come known reader
@@ -100,9 +110,8 @@ module _ {R : Type 0} {g : Ghosts R} (known : R → Option (List ℕ)) where
 abbrev pub source_in : {R : Type 0} {g : Ghosts R} → State R g → Option R
 source_in (state.Unread source limits dialect) = Some source
 source_in (state.Binary reader) = Some (binary.binary_source reader)
-source_in (state.Ascii reader) = Some (stream.stream_source (ascii.device_of reader))
-source_in (state.Limited reader) = Some (stream.stream_source (ascii.device_of
-    (iterator_of reader)))
+source_in (state.Ascii reader) = Some (stream_source (ascii.device_of reader))
+source_in (state.Limited reader) = Some (stream_source (ascii.device_of (iterator_of reader)))
 source_in (state.Refused source) = Some source
 source_in state.Moved = None
 
@@ -146,58 +155,30 @@ StopsIfKnown before item after = IfSome before (λ all.
     let over = after ≡ Some [] in
     MatchItem item over (λ _. ⊤) over (over × SomeRemain all) (λ _. ⊤))
 
--- a fact for a fault that ASCII can have, and one for every other fault
-abbrev pub MatchText : FaultKind → (text other : Type 0) → Type 0
-MatchText UnclosedString text other = text
-MatchText IncompleteComment text other = text
-MatchText InvalidUtf8AsciiStream text other = text
-MatchText InvalidOctalString text other = text
-MatchText InvalidUtf16String text other = text
-MatchText kind text other = other
-
--- after `None`, and after a fault that ASCII can't have, the reader has ended
+-- after `None`, and after a fault that the bytes of ASCII can't have, the reader has ended
 abbrev pub EndsAfter : Option (Result Event Error) → Type 0 → Type 0
-EndsAfter item ended = MatchOption item ended (λ answer.
-    IfErr answer (λ error. MatchText (kind_of (error_kind_of error)) ⊤ ended))
+EndsAfter item ended =
+    MatchOption item ended (λ answer. IfFault answer (λ fault. IsFaultOfBytes fault.kind ⊎ ended))
 
--- one of the readers can yield a fault of this kind; the fault of a limit is possible only under
--- limits
-abbrev pub IsReaderFault : (limited : Bool) → FaultKind → Type 0
-IsReaderFault limited XmlUnsupported = ⊤
-IsReaderFault limited kind = MatchText kind ⊤ (MatchGiven kind ⊤ ⊤ ⊤ (limited ≡ true))
-
--- `P` is true of the item's fault, if it has one
-abbrev pub IfItemFault : Option (Result Event Error) → (P : Fault → Type 0) → Type 0
-IfItemFault item P = IfSome item (λ answer. IfErr answer (λ error. P (fault_of error)))
+-- One of the readers can yield this fault. It has an offset, except for `OutOfMemory`, and for the
+-- fault of a limit, which is possible only under limits.
+abbrev pub IsReaderFault : (limited : Bool) → Fault → Type 0
+IsReaderFault limited fault =
+    (((fault.kind ≡ XmlUnsupported) ⊎ IsFaultOfBytes fault.kind) × HasOffset fault.offset)
+    ⊎ MatchGiven fault.kind (HasOffset fault.offset) (fault.offset ≡ None) (HasOffset fault.offset)
+    ((limited ≡ true) × (fault.offset ≡ None))
 
 -- the source is kept, and its count of failures rises if the item is `Io`, and else is unchanged
 abbrev pub HoldsSource : {R : Type 0} (failed : R → ℕ) (old : Option R)
     → Option (Result Event Error) → (new : Option R) → Type 0
-HoldsSource failed old item new =
-    MatchOption old ⊤ (λ source. MatchOption new ⊥
-    (λ kept. ItemCountsIo item (failed source) (failed kept)))
-
--- the fault is that the source is XML, or that a read failed
-abbrev pub IsRefusedKind : FaultKind → Type 0
-IsRefusedKind XmlUnsupported = ⊤
-IsRefusedKind Io = ⊤
-IsRefusedKind kind = ⊥
-
--- a fact for `OutOfMemory` and `LimitReached`, and one for every other fault of a reader
-abbrev pub MatchOffset : FaultKind → (without placed : Type 0) → Type 0
-MatchOffset OutOfMemory without placed = without
-MatchOffset (LimitReached limit) without placed = without
-MatchOffset kind without placed = placed
-
--- the fault has an offset, unless it is `OutOfMemory` or `LimitReached`, which have none
-abbrev pub FaultHasOffset : Fault → Type 0
-FaultHasOffset fault = MatchOffset fault.kind (fault.offset ≡ None) (HasOffset fault.offset)
+HoldsSource failed old item new = IfSome old (λ source.
+    IsSomeAnd new (λ kept. ItemCountsIo item (failed source) (failed kept)))
 
 -- one call of the ASCII reader's `next`
 abbrev pub AsciiGives : {R : Type 0} (known : R → Option (List ℕ)) (failed : R → ℕ)
     → AsciiReaderOf R → Option (Result Event Error) → AsciiReaderOf R → Type 0
 AsciiGives known failed =
-    ascii.GivesAscii (stream_bytes_left known) (λ bytes. Some (failed (stream.stream_source bytes)))
+    ascii.GivesAscii (stream_bytes_left known) (λ bytes. Some (failed (stream_source bytes)))
 
 module _ {R : Type 0} {g : Ghosts R} (known : R → Option (List ℕ)) (failed : R → ℕ) where
   -- the first item is that of a new reader, or a fault because no reader was chosen
@@ -212,21 +193,17 @@ module _ {R : Type 0} {g : Ghosts R} (known : R → Option (List ℕ)) (failed :
       × (ascii.place_of (iterator_of fresh) ≡ 0)
       × (ascii.dialect_of (iterator_of fresh) ≡ dialect) × (is_some limits ≡ true)
       × GivesLimited (AsciiGives known failed) fresh item new
-  BeginsInside limits dialect item (state.Refused source) = MatchOption item ⊥ (λ answer.
-      MatchResult answer (λ _. ⊥) (λ error. IsRefusedKind (kind_of (error_kind_of error))))
+  BeginsInside limits dialect item (state.Refused source) = IsSomeAnd item (λ answer.
+      IsErrAnd answer (λ e. let kind = (fault_of e).kind in (kind ≡ XmlUnsupported) ⊎ IsIo kind))
   BeginsInside limits dialect item new = ⊥
 
   -- the chosen reader yields the item, and stays chosen
-  abbrev pub GivesInside : (old : State R g) → Option (Result Event Error) → (new : State R g)
-      → Type 0
-  GivesInside (state.Unread source limits dialect) item new =
-      BeginsInside limits dialect item new
-  GivesInside (state.Binary old) item new =
-      (reader : BinaryReaderOf R g) × (new ≡ state.Binary reader) × binary.GivesBinary old item reader
-  GivesInside (state.Ascii old) item new =
-      (reader : AsciiReaderOf R) × (new ≡ state.Ascii reader) × AsciiGives known failed old item reader
-  GivesInside (state.Limited old) item new = (reader : LimitedItems (AsciiReaderOf R) LimitCounter)
-      × (new ≡ state.Limited reader) × GivesLimited (AsciiGives known failed) old item reader
+  abbrev pub GivesInside : State R g → Option (Result Event Error) → State R g → Type 0
+  GivesInside (state.Unread source limits dialect) item new = BeginsInside limits dialect item new
+  GivesInside (state.Binary old) item (state.Binary new) = binary.GivesBinary old item new
+  GivesInside (state.Ascii old) item (state.Ascii new) = AsciiGives known failed old item new
+  GivesInside (state.Limited old) item (state.Limited new) =
+      GivesLimited (AsciiGives known failed) old item new
   GivesInside old item new = (item ≡ None) × (new ≡ old)
 
 -- one call of `next`, as it changes the state
@@ -235,10 +212,9 @@ pub record StateGives {R : Type 0} {g : Ghosts R} (known : R → Option (List �
   pub items : GivesFirstIfKnown event_of (state_items known old) item (state_items known new)
   pub stops : StopsIfKnown (state_items known old) item (state_items known new)
   pub failures : HoldsSource failed (source_in old) item (source_in new)
-  pub offset : IfItemFault item FaultHasOffset
   pub ended : HasEndedState old → item ≡ None
   pub ends : EndsAfter item (HasEndedState new)
-  pub kinds : IfItemFault item (λ fault. IsReaderFault (is_limited_in old) fault.kind)
+  pub faults : IfSome item (λ answer. IfFault answer (IsReaderFault (is_limited_in old)))
   pub limits : is_limited_in old ≡ false → is_limited_in new ≡ false
   pub inside : GivesInside known failed old item new
 

@@ -49,7 +49,7 @@ pub struct BufferedSource<R> {
 impl<R: Source> BufferedSource<R> {
     ghost use Rattle.std.specs.Prelude.{◌≡◌, [], OnOk};
     ghost use Rattle.std.specs.Io.KnownBytes.{IsAtEnd};
-    ghost use Rattle.plist_reader.specs.Streams.{stream_source, buffered_bytes, stream_bytes_left};
+    ghost use Rattle.plist_reader.specs.Reader.{stream_source, buffered_bytes, stream_bytes_left};
 
     /// Creates a `BufferedSource` from which no byte has been read.
     pub fn new(source: R) -> Self
@@ -94,7 +94,7 @@ impl<R: Source> BufferedSource<R> {
 
 impl<R: Source> ByteReader for BufferedSource<R> {
     ghost use Rattle.std.specs.Prelude.{Some};
-    ghost use Rattle.plist_reader.specs.Streams.{stream_bytes_left, buffered_bytes};
+    ghost use Rattle.plist_reader.specs.Reader.{stream_bytes_left, buffered_bytes};
 
     ghost remaining = { stream_bytes_left R.known };
 

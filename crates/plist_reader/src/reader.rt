@@ -3,8 +3,9 @@
 ghost use Rattle.std.specs.Prelude.{◌≡◌, ◌<◌, IfSome, Some, true};
 ghost use Rattle.std.specs.Option.{is_some};
 ghost use Rattle.plist_binread.specs.BinaryReader.{WillGive, has_limits as is_limited_file, is_new, binary_source as source_of_file};
+ghost use Rattle.plist_format.specs.Unfolding.{items_of_file};
 ghost use Rattle.plist_reader.specs.Formats.{format_of};
-ghost use Rattle.plist_reader.specs.Reader.{StateGives, all_steps, file_within, steps_in_state};
+ghost use Rattle.plist_reader.specs.Reader.{StateGives, all_steps, items_within, steps_in_state};
 
 use crate::bytes::BufferedSource;
 use crate::format::{Format, format_of};
@@ -34,7 +35,8 @@ pub(crate) enum State<R: Source> {
 
 // Makes the reader of a binary source.
 fn binary_reader<R: Source>(alloc: Global, source: R, limits: Option<Limits>) -> BinaryReader<R>
-    ensures items { WillGive (R.known source) (file_within limits) result }
+    ensures items { WillGive (R.known source)
+        (λ bytes. items_within limits (items_of_file bytes)) result }
     ensures source { source_of_file result ≡ source }
     ensures new { is_new result ≡ true }
     ensures limited { is_limited_file result ≡ is_some limits }

@@ -1,5 +1,5 @@
 -- The classes that are found from the inside outwards: each class has one tree.
-use Rattle.std.proofs.Common.{◌≡◌, ◌≢◌, ◌⊎◌, inl, inr, ℕ, ◌+◌, ◌<◌, ◌≤◌, true, false, List, ◌∷◌, ◌++◌, length, map, set, Some, refl, sym, ap, ◌∙◌, subst, arith, length-append}
+use Rattle.std.proofs.Common.{◌≡◌, ◌≢◌, ◌⊎◌, inl, inr, ℕ, ◌+◌, ◌<◌, ◌≤◌, ◌↔◌, Bool, IsTrue, true, false, List, ◌∷◌, ◌++◌, length, map, set, Some, refl, sym, ap, ◌∙◌, subst, arith, length-append}
 use Rattle.std.specs.Prelude.{slice_get}
 use Rattle.std.proofs.lemmas.Bool.Decides.{eqb_tells}
 use Rattle.std.proofs.lemmas.List.{get_or-set_other}
@@ -24,7 +24,11 @@ use Rattle.plist_binwrite.proofs.TreeObjects.{refs_are, keys_are, values_are}
 use Rattle.plist_binwrite.proofs.Reading.{dictionary_is, length-keys_of, length-values_of}
 use Rattle.plist_buffer.proofs.TreeStarts.{stands_single, starts_array, starts_dictionary, occurs_in}
 use Rattle.plist_share.proofs.EqualClasses.{complete}
-use Rattle.plist_share.specs.inner.Nodes.{Node, is_dictionary, node_at, node_by, IsIndexed, IsClass, HaveTreeClasses, Extends, SeparatesTrees}
+use Rattle.plist_share.specs.inner.Nodes.{Node, node_at, node_by, IsClass, HaveTreeClasses, Extends, SeparatesTrees}
+
+-- c is a collection's class: `count` plus its index among the collections found so far
+abbrev IsIndexed : (count : ℕ) → (nodes : List Node) → Node → ℕ → Type 0
+IsIndexed count nodes node c = IsClass count nodes 0 (Some node) c
 
 -- ---- a dictionary's pairs by their keys and their values, and back
 
@@ -178,19 +182,32 @@ module _ (class after : ℕ → ℕ) (lo : ℕ) (agree : (q : ℕ) → lo ≤ q 
     class_stays (Array ts) p c h k = indexed_stays false (Array ts) p c h k
     class_stays (Dictionary ms) p c h k = indexed_stays true (Dictionary ms) p c h k
 
-module _ (es : List PlainEvent) (scalar class : ℕ → ℕ) (count : ℕ) (keys : List Node) where
+module _ (es : List PlainEvent) (class : ℕ → ℕ) (count : ℕ) (keys : List Node) where
+  not_dictionary : (b : Bool) (kind : EventShape) → IsTrue b ↔ (kind ≡ shape.StartDictionary)
+      → kind ≡ shape.StartArray → false ≡ b
+  not_dictionary false kind tells is = refl
+  not_dictionary true kind tells is = let dictionary = tells.0 refl in absurd (cc)
+
   -- if a collection begins at an index, its class as a collection is its class as a tree
-  by_collection : (t : Tree) (p c : ℕ) → OccursAt es t p
-      → shape_of (event_at es p) ≢ shape.Scalar
-      → IsIndexed count keys (node_by class (is_dictionary (shape_of (event_at es p))) t p) c
+  pub by_collection : (b : Bool) (t : Tree) (p c : ℕ) → OccursAt es t p
+      → IsTrue b ↔ (shape_of (event_at es p) ≡ shape.StartDictionary)
+      → IsIndexed count keys (node_by class b t p) c → IsClass count keys c (node_at class t p) c
+  by_collection b (Leaf x) p c s tells h = refl
+  by_collection b (Array ts) p c s tells h =
+      subst (λ d. IsIndexed count keys (node_by class d (Array ts) p) c)
+      (sym (not_dictionary b _ tells (ap shape_of (starts_array s)))) h
+  by_collection b (Dictionary ms) p c s tells h =
+      subst (λ d. IsIndexed count keys (node_by class d (Dictionary ms) p) c)
+      (tells.1 (ap shape_of (starts_dictionary s))) h
+
+module _ (es : List PlainEvent) (scalar class : ℕ → ℕ) (count : ℕ) (keys : List Node) where
+  -- the class of a collection doesn't depend on those of scalars
+  not_scalar : (t : Tree) (p c : ℕ) → OccursAt es t p
+      → shape_of (event_at es p) ≢ shape.Scalar → IsClass count keys c (node_at class t p) c
       → IsClass count keys (scalar p) (node_at class t p) c
-  by_collection (Leaf x) p c s k h = absurd (k (ap shape_of (stands_single s)))
-  by_collection (Array ts) p c s k h =
-      subst (λ e. IsIndexed count keys (node_by class (is_dictionary (shape_of e)) (Array ts) p) c)
-      (starts_array s) h
-  by_collection (Dictionary ms) p c s k h =
-      subst (λ e. IsIndexed count keys (node_by class (is_dictionary (shape_of e)) (Dictionary ms) p) c)
-      (starts_dictionary s) h
+  not_scalar (Leaf x) p c s k h = absurd (k (ap shape_of (stands_single s)))
+  not_scalar (Array ts) p c s k h = h
+  not_scalar (Dictionary ms) p c s k h = h
 
   by_scalar : (t : Tree) (p c : ℕ) → OccursAt es t p → shape_of (event_at es p) ≢ shape.StartArray
       → shape_of (event_at es p) ≢ shape.StartDictionary → c ≡ scalar p
@@ -211,15 +228,13 @@ module _ (classes : List ℕ) (p c : ℕ) where
       → HaveTreeClasses (nth_number classes) count scalar es keys (p + 1)
       → Extends keys new → p < length classes → c < count + length new
       → shape_of (event_at es p) ≢ shape.Scalar
-      → ((t : Tree) → OccursAt es t p
-      → IsIndexed count new
-      (node_by (nth_number classes) (is_dictionary (shape_of (event_at es p))) t p) c)
+      → ((t : Tree) → OccursAt es t p → IsClass count new c (node_at (nth_number classes) t p) c)
       → HaveTreeClasses after count scalar es new p
   collection_written {es} {scalar} {count} {keys} {new} old more lt low k this = record {
     following = λ t q le s. at_set classes p c 0 q (IsClass count new (scalar q) (node_at after t q)) lt
         (λ e. subst (λ r. OccursAt es t r → IsClass count new (scalar r) (node_at after t r) c) (sym e)
         (λ r. stays new (λ i h. refl) t p c (omega arith)
-        (by_collection es scalar (nth_number classes) count new t p c r k (this t r))) s)
+        (not_scalar es scalar (nth_number classes) count new t p c r k (this t r))) s)
         (λ d. stays keys more.keeps t q (nth_number classes q) (omega (arith, le))
         (old.following t q (omega (arith, le, d)) s));
     before = λ q h. other q (λ e. absurd (omega (arith, h, e))) ∙ old.before q (omega (arith, h));

@@ -1,48 +1,27 @@
 -- A file with one object for each class has one for each different subtree.
-use Rattle.std.proofs.Common.{◌≡◌, inl, inr, ℕ, ◌+◌, ◌^◌, ◌<◌, true, nat_eq, List, [], ◌∷◌, ◌++◌, length, map, refl, sym, ap, ◌∙◌, subst}
+use Rattle.std.proofs.Common.{◌≡◌, inl, inr, ℕ, ◌+◌, ◌^◌, ◌<◌, true, nat_eq, List, [], ◌∷◌, length, map, refl, sym, ap, ◌∙◌, subst}
 use Rattle.std.specs.Set.{unique_keys}
 use Rattle.std.proofs.lemmas.Bool.Decides.{eqb_tells}
-use Rattle.std.proofs.lemmas.List.{length-map, map-append}
+use Rattle.std.proofs.lemmas.List.{length-map}
 use Rattle.plist_base.specs.Events.{PlainEvent}
-use Rattle.plist_base.specs.Trees.{Tree, Leaf, Array, Dictionary, Trees, NoTrees, TreeAnd, Members, NoMembers, MemberAnd, String}
+use Rattle.plist_base.specs.Trees.{Tree}
 use Rattle.plist_binwrite.specs.Classes.{same_class, representatives, count_by, objects_by, size_by, IsFileBy}
-use Rattle.plist_binwrite.specs.Sizes.{total, size_with}
-use Rattle.plist_buffer.specs.Occurrences.{OccursAt, positions, positions_in_items, positions_in_pairs}
+use Rattle.plist_binwrite.specs.Sizes.{total, object_size, size_with}
+use Rattle.plist_buffer.specs.Occurrences.{OccursAt, positions}
 use Rattle.plist_binwrite.specs.Widths.{reference_width}
 use Rattle.plist_buffer.proofs.TreePositions.{Stands, positions_stand}
 use Rattle.plist_buffer.proofs.Uniques.{unique_seen}
-use Rattle.plist_share.specs.Distinct.{tree_eq, subtrees, subtrees_of_items, subtrees_of_pairs, distinct_subtrees}
 use Rattle.plist_share.specs.inner.Nodes.{SeparatesTrees}
-use Rattle.plist_share.specs.SharedFiles.{IsSharedFileOf, shared_objects_size, shared_file_size}
+use Rattle.plist_share.specs.SharedFiles.{tree_eq, subtrees, distinct_subtrees, IsSharedFileOf, shared_file_size}
 use Rattle.plist_share.proofs.Least.{least}
 use Rattle.plist_share.proofs.TreeEquality.{tree_same, tree_other}
 
 abbrev tree_positions : ℕ × Tree → Tree
 tree_positions a = a.1
 
--- the positions are those of the subtrees
-mutual
-  trees_positions : (t : Tree) (p : ℕ) → map tree_positions (positions t p) ≡ subtrees t
-  trees_positions (Leaf x) p = refl
-  trees_positions (Array ts) p = ap (λ l. Array ts ∷ l) (trees_positions_in_items ts _)
-  trees_positions (Dictionary ms) p = ap (λ l. Dictionary ms ∷ l) (trees_positions_in_pairs ms _)
-
-  trees_positions_in_items : (ts : Trees) (p : ℕ)
-      → map tree_positions (positions_in_items ts p) ≡ subtrees_of_items ts
-  trees_positions_in_items NoTrees p = refl
-  trees_positions_in_items (TreeAnd t ts) p =
-      let first = trees_positions t p in
-      let more = trees_positions_in_items ts _ in
-      map-append tree_positions _ _ ∙ (λ i. first i ++ more i)
-
-  trees_positions_in_pairs : (ms : Members) (p : ℕ)
-      → map tree_positions (positions_in_pairs ms p) ≡ subtrees_of_pairs ms
-  trees_positions_in_pairs NoMembers p = refl
-  trees_positions_in_pairs (MemberAnd k t ms) p =
-      let first = trees_positions t _ in
-      let more = trees_positions_in_pairs ms _ in
-      ap (λ l. Leaf (String k) ∷ l) (map-append _ _
-      _ ∙ (λ i. first i ++ more i))
+-- the number of bytes of the objects, one for each different subtree of the tree
+abbrev shared_objects_size : (width : ℕ) → Tree → ℕ
+shared_objects_size width tree = total (object_size width) (unique_keys tree_eq (subtrees tree))
 
 total_trees : (weight : Tree → ℕ) (xs : List (ℕ × Tree))
     → total (λ a. weight a.1) xs ≡ total weight (map tree_positions xs)
@@ -63,7 +42,7 @@ module _ (es : List PlainEvent) (class : ℕ → ℕ) (given : SeparatesTrees es
     trees_kept : map tree_positions (representatives class t) ≡ unique_keys tree_eq (subtrees t)
     trees_kept =
         unique_seen (same_class class) tree_eq tree_positions (Stands es) separate_alike (positions t 0)
-        (positions_stand es t 0 s) ∙ ap (unique_keys tree_eq) (trees_positions t 0)
+        (positions_stand es t 0 s)
 
     pub count_is : count_by class t ≡ distinct_subtrees t
     count_is = sym (length-map (representatives class t) tree_positions) ∙ ap length trees_kept

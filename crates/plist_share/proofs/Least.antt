@@ -1,5 +1,5 @@
 -- No file of a tree has fewer objects than the tree has different subtrees.
-use Rattle.std.proofs.Common.{◌≡◌, ℕ, List, [], length, map, take, Result, Ok, Err, refl, sym, ap, ◌∙◌, append-nil, add-zero}
+use Rattle.std.proofs.Common.{◌≡◌, ◌≤◌, ℕ, List, [], length, map, take, Result, Ok, Err, refl, sym, ap, ◌∙◌, append-nil, add-zero}
 use Rattle.std.specs.Set.{unique_keys}
 use Rattle.std.proofs.lemmas.List.{length-map}
 use Rattle.plist_base.specs.Faults.{Fault}
@@ -11,13 +11,14 @@ use Rattle.plist_format.specs.Unfolding.{table_of, unfolding_of, items_with, ite
 use Rattle.plist_binwrite.proofs.Least.{no_fault, all_items}
 use Rattle.plist_binwrite.proofs.Totals.{unique_distinct, pigeons}
 use Rattle.plist_buffer.proofs.Uniques.{all_unique}
-use Rattle.plist_share.specs.Distinct.{tree_eq, subtrees, distinct_subtrees, HasAtLeast, IsLeastOfAll}
+use Rattle.plist_share.specs.SharedFiles.{tree_eq, subtrees, distinct_subtrees, IsLeastOfAll}
 use Rattle.plist_share.proofs.Meaning.{Means, Numbered, one_tree, all_numbered}
 use Rattle.plist_share.proofs.Parsing.{unfolding_parses}
 use Rattle.plist_share.proofs.TreeEquality.{tree_tells}
 
 least_with : (file : List ℕ) (t : Tree) (head : Result Head Fault) → head_of file ≡ head
-    → items_with file head ≡ map Ok (bracketing t) → HasAtLeast file (distinct_subtrees t)
+    → items_with file head ≡ map Ok (bracketing t)
+    → (head : Head) × (head_of file ≡ Ok head) × (distinct_subtrees t ≤ length head.places)
 least_with file t (Err f) h p = no_fault f [] (bracketing t) p
 least_with file t (Ok head) h p =
     let table = table_of (take head.trailer file) head.reference_width head.places in
@@ -32,7 +33,7 @@ least_with file t (Ok head) h p =
       h,
       rw (← size) (pigeons tree_eq tree_tells (length table) (Means table) (one_tree table)
           (unique_keys tree_eq (subtrees t))
-          (all_unique (Numbered table) tree_eq (subtrees t) (all_numbered table t head.root means))
+          (all_unique (Numbered table) tree_eq (subtrees t) (all_numbered table t 0 head.root means))
           (unique_distinct tree_eq tree_tells (subtrees t))),
     )
 

@@ -1,7 +1,8 @@
 -- The one tree that an object number represents in a table of objects.
-use Rattle.std.proofs.Common.{◌≡◌, ℕ, ◌<◌, List, [], ◌∷◌, length, Some, refl, ap}
+use Rattle.std.proofs.Common.{◌≡◌, ℕ, ◌+◌, ◌<◌, List, [], ◌∷◌, ◌++◌, length, map, Some, refl, ap, subst, sym}
 use Rattle.std.specs.Prelude.{slice_get, ⊤}
 use Rattle.std.specs.List.{AllByRecursion}
+use Rattle.std.proofs.lemmas.List.{map-append}
 use Rattle.std.proofs.lemmas.Option.{slice_get_within}
 use Rattle.plist_base.specs.Trees as trees
 use Rattle.plist_base.specs.Trees.{Tree, Leaf, Array, Dictionary, Trees, NoTrees, TreeAnd, Members, NoMembers, MemberAnd}
@@ -10,7 +11,7 @@ use Rattle.plist_format.specs.Object.{Object}
 use Rattle.plist_format.specs.Unfolding.{TableEntry}
 use Rattle.plist_binwrite.proofs.ClassObjects.{the_scalar, the_text, the_items, the_pairs}
 use Rattle.plist_buffer.proofs.Uniques.{all_both}
-use Rattle.plist_share.specs.Distinct.{subtrees, subtrees_of_items, subtrees_of_pairs}
+use Rattle.plist_buffer.specs.Occurrences.{positions, positions_in_items, positions_in_pairs}
 
 module _ (table : List TableEntry) where
   -- this is the object of the number
@@ -100,27 +101,38 @@ module _ (table : List TableEntry) where
   numbered : (t : Tree) (i : ℕ) → Means t i → Numbered t
   numbered t i m = (i, means_below t i m, m)
 
+  -- the tree at a position
+  abbrev tree_at : ℕ × Tree → Tree
+  tree_at one = one.1
+
+  both_numbered : (xs ys : List (ℕ × Tree)) → AllByRecursion Numbered (map tree_at xs)
+      → AllByRecursion Numbered (map tree_at ys) → AllByRecursion Numbered (map tree_at (xs ++ ys))
+  both_numbered xs ys p q =
+      subst (AllByRecursion Numbered) (sym (map-append tree_at xs ys))
+      (all_both Numbered (map tree_at xs) (map tree_at ys) p q)
+
   mutual
-    -- each subtree has a number
-    pub all_numbered : (t : Tree) (i : ℕ) → Means t i → AllByRecursion Numbered (subtrees t)
-    all_numbered (Leaf x) i m = (numbered (Leaf x) i m, tt)
-    all_numbered (Array ts) i m = (numbered (Array ts) i m, items_numbered ts m.0 m.2)
-    all_numbered (Dictionary ms) i m = (numbered (Dictionary ms) i m, pairs_numbered ms m.0 m.2)
+    -- each tree in a tree has a number
+    pub all_numbered : (t : Tree) (p i : ℕ) → Means t i
+        → AllByRecursion Numbered (map tree_at (positions t p))
+    all_numbered (Leaf x) p i m = (numbered (Leaf x) i m, tt)
+    all_numbered (Array ts) p i m = (numbered (Array ts) i m, items_numbered ts (p + 1) m.0 m.2)
+    all_numbered (Dictionary ms) p i m =
+        (numbered (Dictionary ms) i m, pairs_numbered ms (p + 1) m.0 m.2)
 
-    items_numbered : (ts : Trees) (references : List ℕ) → MeansItems ts references
-        → AllByRecursion Numbered (subtrees_of_items ts)
-    items_numbered NoTrees references m = tt
-    items_numbered (TreeAnd t ts) [] m = absurd m
-    items_numbered (TreeAnd t ts) (c ∷ cs) m =
-        all_both Numbered (subtrees t) (subtrees_of_items ts) (all_numbered t c m.0)
-        (items_numbered ts cs m.1)
+    items_numbered : (ts : Trees) (p : ℕ) (references : List ℕ) → MeansItems ts references
+        → AllByRecursion Numbered (map tree_at (positions_in_items ts p))
+    items_numbered NoTrees p references m = tt
+    items_numbered (TreeAnd t ts) p [] m = absurd m
+    items_numbered (TreeAnd t ts) p (c ∷ cs) m =
+        both_numbered (positions t p) _ (all_numbered t p c m.0) (items_numbered ts _ cs m.1)
 
-    pairs_numbered : (ms : Members) (pairs : List (ℕ × ℕ)) → MeansPairs ms pairs
-        → AllByRecursion Numbered (subtrees_of_pairs ms)
-    pairs_numbered NoMembers pairs m = tt
-    pairs_numbered (MemberAnd k t ms) [] m = absurd m
-    pairs_numbered (MemberAnd k t ms) (p ∷ ps) m = (
-      numbered (Leaf (trees.String k)) p.0 m.0,
-      all_both Numbered (subtrees t)
-          (subtrees_of_pairs ms) (all_numbered t p.1 m.1) (pairs_numbered ms ps m.2),
+    pairs_numbered : (ms : Members) (p : ℕ) (pairs : List (ℕ × ℕ)) → MeansPairs ms pairs
+        → AllByRecursion Numbered (map tree_at (positions_in_pairs ms p))
+    pairs_numbered NoMembers p pairs m = tt
+    pairs_numbered (MemberAnd k t ms) p [] m = absurd m
+    pairs_numbered (MemberAnd k t ms) p (n ∷ ns) m = (
+      numbered (Leaf (trees.String k)) n.0 m.0,
+      both_numbered (positions t (p + 1)) _ (all_numbered t (p + 1) n.1 m.1)
+          (pairs_numbered ms _ ns m.2),
     )

@@ -4,7 +4,7 @@ use Rattle.std.specs.Str.{bytes_eq}
 use Rattle.plist_base.specs.Trees.{Tree, Leaf, Array, Dictionary, Trees, NoTrees, TreeAnd, Members, NoMembers, MemberAnd}
 use Rattle.plist_base.specs.Scalars.{scalar_eq}
 use Rattle.plist_buffer.proofs.SameScalars.{Tells, bytes_tell, scalars_tell, tells_made}
-use Rattle.plist_share.specs.Distinct.{tree_eq, trees_eq, members_eq}
+use Rattle.plist_share.specs.SharedFiles.{tree_eq, trees_eq, members_eq}
 
 -- if two tests decide the parts, both together decide what is made of the parts
 tells_both : {A B C : Type 0} (one : A → A → Bool) (other : B → B → Bool) (test : C → C → Bool)

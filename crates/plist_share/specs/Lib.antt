@@ -1,3 +1,2 @@
-pub mod Distinct
 pub mod SharedFiles
 pub mod inner

@@ -1,24 +1,62 @@
 -- What the sharing writer writes for a tree: a file of it with one object for each different
--- subtree. No file with the same events has fewer objects.
-use Rattle.std.specs.Prelude.{◌≡◌, ℕ, ◌^◌, ◌<◌, List, length}
-use Rattle.std.specs.Set.{unique_keys}
-use Rattle.plist_base.specs.Trees.{Tree}
+-- subtree. No file with the same events has fewer objects. The subtrees are the scalars, the keys
+-- as strings, and the collections. Two collections that differ only in order or in repeated keys
+-- are different.
+use Rattle.std.specs.Prelude.{◌≡◌, ℕ, ◌^◌, ◌<◌, ◌≤◌, Bool, true, false, ◌&&◌, List, length, map, Ok}
+use Rattle.std.specs.Set.{distinct_count, unique_keys}
+use Rattle.std.specs.Str.{bytes_eq}
+use Rattle.plist_base.specs.Bracketing.{bracketing}
+use Rattle.plist_base.specs.Scalars.{scalar_eq}
+use Rattle.plist_base.specs.Trees.{Tree, Leaf, Array, Dictionary, Trees, NoTrees, TreeAnd, Members, NoMembers, MemberAnd}
+use Rattle.plist_format.specs.Container.{Head, head_of}
+use Rattle.plist_format.specs.Unfolding.{items_of_file}
+use Rattle.plist_buffer.specs.Occurrences.{positions}
 use Rattle.plist_binwrite.specs.ObjectCounts.{HasObjects}
 use Rattle.plist_binwrite.specs.SendingAs.{FileKind}
 use Rattle.plist_binwrite.specs.Sizes.{total, object_size, size_with}
 use Rattle.plist_binwrite.specs.Widths.{reference_width}
 use Rattle.plist_binwrite.specs.Written.{IsWrittenAs}
-use Rattle.plist_share.specs.Distinct.{tree_eq, subtrees, distinct_subtrees, IsLeastOfAll}
 
--- the number of bytes of the objects, one for each different subtree of the tree
-abbrev pub shared_objects_size : (width : ℕ) → Tree → ℕ
-shared_objects_size width tree = total (object_size width) (unique_keys tree_eq (subtrees tree))
+-- equality of trees
+abbrev mutual
+  pub tree_eq : Tree → Tree → Bool
+  tree_eq (Leaf x) (Leaf y) = scalar_eq x y
+  tree_eq (Array ts) (Array us) = trees_eq ts us
+  tree_eq (Dictionary ms) (Dictionary ns) = members_eq ms ns
+  tree_eq t u = false
 
--- the number of bytes of the whole file
+  -- equality of the items of arrays
+  pub trees_eq : Trees → Trees → Bool
+  trees_eq NoTrees NoTrees = true
+  trees_eq (TreeAnd t ts) (TreeAnd u us) = tree_eq t u && trees_eq ts us
+  trees_eq ts us = false
+
+  -- equality of the pairs of dictionaries
+  pub members_eq : Members → Members → Bool
+  members_eq NoMembers NoMembers = true
+  members_eq (MemberAnd k t ms) (MemberAnd l u ns) =
+      bytes_eq k l && (tree_eq t u && members_eq ms ns)
+  members_eq ms ns = false
+
+-- the tree and all trees in it, with each key as a string
+abbrev pub subtrees : Tree → List Tree
+subtrees tree = map (λ (one : ℕ × Tree). one.1) (positions tree 0)
+
+-- the number of different subtrees of a tree
+abbrev pub distinct_subtrees : Tree → ℕ
+distinct_subtrees tree = distinct_count tree_eq (subtrees tree)
+
+-- no file with these items has fewer objects than the tree has different subtrees
+abbrev pub IsLeastOfAll : Tree → Type 0
+IsLeastOfAll tree = (file : List ℕ) → items_of_file file ≡ map Ok (bracketing tree)
+    → (head : Head) × (head_of file ≡ Ok head) × (distinct_subtrees tree ≤ length head.places)
+
+-- the number of bytes of the whole file, which has one object for each different subtree
 abbrev pub shared_file_size : Tree → ℕ
 shared_file_size tree =
-    size_with (distinct_subtrees tree)
-    (shared_objects_size (reference_width (distinct_subtrees tree)) tree)
+    let count = distinct_subtrees tree in
+    let objects = total (object_size (reference_width count)) (unique_keys tree_eq (subtrees tree))
+    in size_with count objects
 
 -- the bytes are such a file of the tree
 pub record IsSharedFileOf (tree : Tree) (file : List ℕ) : Type 0 where

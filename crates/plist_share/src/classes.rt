@@ -1,13 +1,14 @@
 //! Classes of the trees among events: two events have the same class if and only if the same tree
 //! begins at both.
 
-ghost use Rattle.std.specs.Prelude.{◌≡◌, ◌+◌, ◌<◌, ◌++◌, Some, length, map, slice_get, IfOk, OnOk};
+ghost use Rattle.std.specs.Prelude.{◌≡◌, ◌↔◌, ◌+◌, ◌<◌, ◌++◌, Some, length, map, slice_get, IfOk, IsTrue, OnOk};
 ghost use Rattle.plist_base.specs.Events.{shape_of};
 ghost use Rattle.plist_buffer.specs.Children.{half_of};
 ghost use Rattle.plist_buffer.specs.EventTable.{nth_number, plain_events, table_event};
 ghost use Rattle.plist_buffer.specs.declared.children.Half.TheVariants.{Keys, Values};
 ghost use Rattle.plist_buffer.specs.inner.Entries.{AreDistinct};
-ghost use Rattle.plist_share.specs.inner.Nodes.{AreEventClasses, SeparatesAll, Extends, node_of, nodes_seen, AreClassesFrom, IsClassAt, is_dictionary};
+ghost use Rattle.plist_binwrite.specs.inner.Scalars.{AreIdentities};
+ghost use Rattle.plist_share.specs.inner.Nodes.{SeparatesAll, Extends, node_of, AreClassesFrom, IsClassAt};
 
 use indexmap::IndexSet;
 use plist_base::EventShape;
@@ -38,12 +39,13 @@ pub struct Collection {
 // Returns the index of a collection in the set, and inserts it if the set contains no equal one.
 fn index_of(seen: &mut IndexSet<Collection>, collection: Collection) -> Result<usize, AllocError>
     // Result.
-    ensures stored { IfOk result (λ index. slice_get (nodes_seen seen.new.keys) index
+    ensures stored { IfOk result (λ index. slice_get (map node_of seen.new.keys) index
         ≡ Some (node_of collection)) }
-    ensures below { IfOk result (λ index. index < length (nodes_seen seen.new.keys)) }
+    ensures below { IfOk result (λ index. index < length (map node_of seen.new.keys)) }
     // State afterwards.
-    ensures extends { OnOk result (Extends (nodes_seen seen.old.keys) (nodes_seen seen.new.keys)) }
-    ensures apart { OnOk result (AreDistinct (nodes_seen seen.new.keys)) }
+    ensures extends { OnOk result
+        (Extends (map node_of seen.old.keys) (map node_of seen.new.keys)) }
+    ensures apart { OnOk result (AreDistinct (map node_of seen.new.keys)) }
 {
     match seen.insert_full(collection) {
         Ok((index, _)) => return Ok(index),
@@ -92,7 +94,8 @@ fn classes_within(
 // Returns whether a dictionary begins at an index.
 fn begins_dictionary(events: &EventTable<'_>, index: usize) -> bool
     requires { index < length (plain_events events.now) }
-    ensures { result ≡ is_dictionary (shape_of (table_event events.now index)) }
+    ensures { IsTrue result
+        ↔ (shape_of (table_event events.now index) ≡ EventShape.StartDictionary) }
 {
     match events.kind_at(index) {
         EventShape::StartDictionary => true,
@@ -112,13 +115,14 @@ fn class_of_collection(
     requires index { index < length (plain_events events.now) }
     requires long { length found.now.of ≡ length (plain_events events.now) }
     // Result.
-    ensures class { IfOk result (IsClassAt events.now found.now.of found.now.count seen.new.keys
-        index) }
+    ensures class { IfOk result (IsClassAt events.now found.now.of found.now.count
+        (map node_of seen.new.keys) index) }
     ensures below { IfOk result (λ class. class < found.now.count
-        + length (nodes_seen seen.new.keys)) }
+        + length (map node_of seen.new.keys)) }
     // State afterwards.
-    ensures extends { OnOk result (Extends (nodes_seen seen.old.keys) (nodes_seen seen.new.keys)) }
-    ensures apart { OnOk result (AreDistinct (nodes_seen seen.new.keys)) }
+    ensures extends { OnOk result
+        (Extends (map node_of seen.old.keys) (map node_of seen.new.keys)) }
+    ensures apart { OnOk result (AreDistinct (map node_of seen.new.keys)) }
 {
     let children = classes_within(alloc, events, &found.of, index)?;
     let collection = Collection {
@@ -141,13 +145,13 @@ fn give_class(
 ) -> Result<(), AllocError>
     requires index { index < length (plain_events events.now) }
     requires long { length found.old.of ≡ length (plain_events events.now) }
-    requires classes { AreClassesFrom events.now found.old.count found.old.of seen.old.keys
-        (index + 1) }
-    requires apart { AreDistinct (nodes_seen seen.old.keys) }
+    requires classes { AreClassesFrom events.now found.old.count found.old.of
+        (map node_of seen.old.keys) (index + 1) }
+    requires apart { AreDistinct (map node_of seen.old.keys) }
     ensures classes { OnOk result (AreClassesFrom events.now found.new.count found.new.of
-        seen.new.keys index) }
+        (map node_of seen.new.keys) index) }
     ensures long { OnOk result (length found.new.of ≡ length (plain_events events.now)) }
-    ensures apart { OnOk result (AreDistinct (nodes_seen seen.new.keys)) }
+    ensures apart { OnOk result (AreDistinct (map node_of seen.new.keys)) }
 {
     match events.kind_at(index) {
         EventShape::Scalar | EventShape::EndCollection => Ok(()),
@@ -168,9 +172,9 @@ fn give_classes(
     seen: &mut IndexSet<Collection>,
 ) -> Result<(), AllocError>
     requires long { length found.old.of ≡ length (plain_events events.now) }
-    requires classes { AreClassesFrom events.now found.old.count found.old.of seen.old.keys
-        (length found.old.of) }
-    requires apart { AreDistinct (nodes_seen seen.old.keys) }
+    requires classes { AreClassesFrom events.now found.old.count found.old.of
+        (map node_of seen.old.keys) (length found.old.of) }
+    requires apart { AreDistinct (map node_of seen.old.keys) }
     ensures { OnOk result (SeparatesAll events.now found.new) }
 {
     let mut index = found.of.len();
@@ -190,7 +194,8 @@ fn give_classes(
 // Returns a class for each event: equal scalars share a class, and any other event has its own.
 fn event_classes(alloc: Global, events: &EventTable<'_>) -> Result<TreeClasses, AllocError>
     ensures long { IfOk result (λ r. length r.of ≡ length (plain_events events.now)) }
-    ensures classes { IfOk result (AreEventClasses events.now) }
+    ensures classes { IfOk result (λ r. AreIdentities (plain_events events.now) (nth_number r.of)
+        r.count) }
 {
     let given = Classed {
         events,
@@ -214,7 +219,8 @@ fn give_trees(
     found: &mut TreeClasses,
 ) -> Result<(), AllocError>
     requires long { length found.old.of ≡ length (plain_events events.now) }
-    requires classes { AreEventClasses events.now found.old }
+    requires classes { AreIdentities (plain_events events.now) (nth_number found.old.of)
+        found.old.count }
     ensures { OnOk result (SeparatesAll events.now found.new) }
 {
     let mut seen = IndexSet::new(alloc);

@@ -1,9 +1,7 @@
 -- The root of an archive.
 use Rattle.std.specs.Prelude.{◌≡◌, ◌⊎◌, ℕ, List, Ok, Some, codes, map}
 use Rattle.plist_base.specs.Trees.{Tree}
-use Rattle.plist_keyed.specs.Archives.{resolved_tree}
-use Rattle.plist_keyed.specs.Contents.{IsArchiveOf, IsNoArchive, IsUidAt}
-use Rattle.plist_keyed.specs.Errors.{IsFaultOf}
+use Rattle.plist_keyed.specs.Archives.{IsArchiveOf, IsFaultOf, IsNoArchive, IsUidAt, resolved_tree}
 use Rattle.plist_keyed.specs.declared.error.KeyedError.{KeyedError}
 use Rattle.plist.specs.declared.value.Value.{Value}
 use Rattle.plist.specs.Accessors.{text_in}

@@ -1,12 +1,16 @@
 -- The steps of a walk over an archive: the events of its objects, with each Uid in them replaced by
--- the steps of the object that it names.
-use Rattle.std.specs.Prelude.{◌≡◌, ℕ, zero, suc, ◌-◌, ◌<◌, Bool, true, false, List, [], ◌∷◌, ◌++◌, length, map, Option, Some, None, Result, Ok, Err, nat_eq, slice_get, ⊤}
-use Rattle.std.specs.List.{list_any, flat_map}
+-- the steps of the object that it names. Settled Uids: their objects, and all objects that these
+-- lead to, were walked completely, and no fault was found. In lists of settled Uids the last one is
+-- first.
+use Rattle.std.specs.Prelude.{◌≡◌, ℕ, zero, suc, ◌-◌, ◌<◌, ◌≤◌, Bool, true, false, List, [], ◌∷◌, ◌++◌, length, map, reverse, Option, Some, None, Result, Ok, Err, nat_eq, slice_get, ⊤}
+use Rattle.std.specs.List.{AllByRecursion, filter_map, flat_map, list_any}
 use Rattle.std.specs.Option.{option_map_or}
+use Rattle.std.specs.Result.{result_ok}
+use Rattle.indexmap.specs.IndexMap.{IndexMap, get, keys}
 use Rattle.plist_base.specs.Events.{PlainEvent, ScalarEvent}
+use Rattle.plist_base.specs.Trees.{Uid}
 use Rattle.plist_keyed.specs.declared.error.WalkError.{WalkError}
-use Rattle.plist_keyed.specs.Archives.{ArchiveFault, UidOutOfRange, RecursiveUid, number_of_uid}
-use Rattle.plist_keyed.specs.Errors.{MatchError, error_of_walk}
+use Rattle.plist_keyed.specs.Archives.{ArchiveFault, UidOutOfRange, RecursiveUid, MatchError, error_of_walk, number_of_uid}
 
 -- an event, or the fault that replaces one
 abbrev pub Given : Type 0
@@ -18,15 +22,11 @@ Step = Option Given
 
 -- what these steps yield
 abbrev pub given_by : List Step → List Given
-given_by [] = []
-given_by (Some given ∷ steps) = given ∷ given_by steps
-given_by (None ∷ steps) = given_by steps
+given_by steps = filter_map (λ (step : Step). step) steps
 
 -- the events among what steps yield
 abbrev pub events_given : List Given → List PlainEvent
-events_given [] = []
-events_given (Ok event ∷ more) = event ∷ events_given more
-events_given (Err fault ∷ more) = events_given more
+events_given given = filter_map result_ok given
 
 -- the number of the Uid that an event is, if it is one
 abbrev pub uid_of_event : PlainEvent → Option ℕ
@@ -35,9 +35,7 @@ uid_of_event event = None
 
 -- the steps of an event, which are those of the named object if the event is a Uid
 abbrev pub steps_of_event : (follow : ℕ → List Step) → PlainEvent → List Step
-steps_of_event follow (ScalarEvent scalar) =
-    option_map_or follow (number_of_uid scalar) (Some (Ok (ScalarEvent scalar)) ∷ [])
-steps_of_event follow event = Some (Ok event) ∷ []
+steps_of_event follow event = option_map_or follow (uid_of_event event) (Some (Ok event) ∷ [])
 
 -- the steps of these events, in order
 abbrev pub steps_of_events : (follow : ℕ → List Step) → List PlainEvent → List Step
@@ -81,3 +79,60 @@ abbrev pub IsFirstFaultOf : (steps : List Step) → WalkError → Type 0
 IsFirstFaultOf steps error =
     MatchError (error_of_walk error) ⊥ ⊤ (λ fault. (events : List PlainEvent) × (more : List Given)
     × (given_by steps ≡ map Ok events ++ Err fault ∷ more))
+
+-- ---- settled Uids
+
+-- the Uid is one of these
+abbrev pub IsIn : (uid : ℕ) → (uids : List ℕ) → Type 0
+IsIn uid uids = list_any (nat_eq uid) uids ≡ true
+
+-- no Uid is in both
+abbrev pub AreApart : (left right : List ℕ) → Type 0
+AreApart left right = (uid : ℕ) → IsIn uid left → IsIn uid right → ⊥
+
+-- each Uid among the events is one of these
+abbrev pub NameOnly : List PlainEvent → (uids : List ℕ) → Type 0
+NameOnly events uids =
+    AllByRecursion (λ event. (uid : ℕ) → uid_of_event event ≡ Some uid → IsIn uid uids) events
+
+module _ (objects : List (List PlainEvent)) where
+  -- the Uid has an object, and each Uid in it is one of these
+  abbrev pub LeadsOnlyTo : (uid : ℕ) → (uids : List ℕ) → Type 0
+  LeadsOnlyTo uid uids =
+      (events : List PlainEvent) × (slice_get objects uid ≡ Some events) × NameOnly events uids
+
+  -- each Uid leads only to those that were settled before it, and none is settled twice
+  abbrev pub AreSettled : (uids : List ℕ) → Type 0
+  AreSettled [] = ⊤
+  AreSettled (uid ∷ uids) = LeadsOnlyTo uid uids × (IsIn uid uids → ⊥) × AreSettled uids
+
+  -- the object of the Uid, if it has one, isn't a Uid
+  abbrev pub IsNoUid : (uid : ℕ) → Type 0
+  IsNoUid uid = (next : ℕ) → slice_get objects uid ≡ Some (ScalarEvent (Uid next) ∷ []) → ⊥
+
+  -- the end's object isn't a Uid, and following the end yields the same items as following the Uid,
+  -- in as many steps or fewer
+  abbrev pub IsEndOf : (uids : List ℕ) → (uid end : ℕ) → Type 0
+  IsEndOf uids uid end =
+      IsIn end uids × IsNoUid end
+      × (given_by (steps_from objects uid) ≡ given_by (steps_from objects end))
+      × (length (steps_from objects end) ≤ length (steps_from objects uid))
+
+  -- each of these Uids is found with its end
+  abbrev pub AreEnds : (uids : List ℕ) → (find : ℕ → Option ℕ) → Type 0
+  AreEnds uids find =
+      (uid : ℕ) → IsIn uid uids → (end : ℕ) × (find uid ≡ Some end) × IsEndOf uids uid end
+
+-- the keys of a map of ends are the settled Uids
+abbrev pub settled_in : {S : Type 0} → IndexMap ℕ ℕ S → List ℕ
+settled_in ends = reverse (keys ends)
+
+-- all Uids in a map are settled, and the map has the end of each
+abbrev pub IsSettledIn : {S : Type 0} → (objects : List (List PlainEvent)) → IndexMap ℕ ℕ S → Type 0
+IsSettledIn objects ends =
+    AreSettled objects (settled_in ends) × AreEnds objects (settled_in ends) (get nat_eq ends)
+
+-- all Uids in a map are settled, and this one is among them
+abbrev pub IsSettledBelow : {S : Type 0} → (objects : List (List PlainEvent)) → (uid : ℕ)
+    → IndexMap ℕ ℕ S → Type 0
+IsSettledBelow objects uid ends = IsSettledIn objects ends × IsIn uid (settled_in ends)

@@ -1,14 +1,12 @@
 -- Collections, described by the classes of their children.
 use Rattle.std.specs.Prelude.{◌≡◌, ◌↔◌, ℕ, ◌+◌, ◌<◌, ◌≤◌, Bool, true, false, List, ◌++◌, length, map, Option, None, Some, slice_get}
-use Rattle.plist_base.specs.Events.{PlainEvent, shape_of}
+use Rattle.plist_base.specs.Events.{PlainEvent}
 use Rattle.plist_base.specs.Trees.{Tree, Leaf, Array, Dictionary}
-use Rattle.plist_binwrite.specs.Classes.{AreClasses}
-use Rattle.plist_buffer.specs.EventTable.{AllBelow, table_event, keys_in, nth_number, plain_events, values_in}
+use Rattle.plist_buffer.specs.EventTable.{AllBelow, keys_in, nth_number, plain_events, values_in}
 use Rattle.plist_buffer.specs.declared.event_table.EventTable.{EventTable}
-use Rattle.plist_base.specs.declared.event.EventShape.{EventShape}
-use Rattle.plist_base.specs.declared.event.EventShape.TheVariants as shape
-use Rattle.plist_binwrite.specs.inner.Scalars.{AreIdentities}
 use Rattle.plist_buffer.specs.Occurrences.{OccursAt}
+use Rattle.plist_binwrite.specs.Classes.{AreClasses}
+use Rattle.plist_binwrite.specs.inner.Scalars.{AreIdentities}
 use Rattle.plist_share.specs.declared.classes.Collection.{Collection}
 use Rattle.plist_share.specs.declared.classes.TreeClasses.{TreeClasses}
 
@@ -20,16 +18,10 @@ Node = Bool × List ℕ
 abbrev pub node_of : Collection → Node
 node_of collection = (collection.is_dictionary, collection.children.items)
 
--- the nodes of the collections found so far
-abbrev pub nodes_seen : List Collection → List Node
-nodes_seen collections = map node_of collections
-
 -- the new list begins with all nodes of the old one, to which others may have been appended
 pub record Extends (old new : List Node) : Type 0 where
   pub keeps : (i : ℕ) → i < length old → slice_get new i ≡ slice_get old i
   pub grows : length old ≤ length new
-
--- ---- the classes of trees
 
 -- a collection by the classes of its children, a dictionary's keys before its values
 abbrev pub node_by : (class : ℕ → ℕ) → (is_dictionary : Bool) → Tree → ℕ → Node
@@ -42,15 +34,18 @@ node_at class (Leaf x) p = None
 node_at class (Array items) p = Some (node_by class false (Array items) p)
 node_at class (Dictionary pairs) p = Some (node_by class true (Dictionary pairs) p)
 
-module _ (count : ℕ) (nodes : List Node) where
-  -- c is a collection's class: `count` plus its index among the collections found so far
-  abbrev pub IsIndexed : Node → ℕ → Type 0
-  IsIndexed node c = (i : ℕ) × (c ≡ count + i) × (slice_get nodes i ≡ Some node)
+-- c is the class of a tree: `own` for a scalar, and for a collection `count` plus the collection's
+-- index among those found so far
+abbrev pub IsClass : (count : ℕ) → (nodes : List Node) → (own : ℕ) → Option Node → ℕ → Type 0
+IsClass count nodes own None c = c ≡ own
+IsClass count nodes own (Some node) c =
+    (i : ℕ) × (c ≡ count + i) × (slice_get nodes i ≡ Some node)
 
-  -- the class of a tree: `own` for a scalar, and otherwise that of the collection
-  abbrev pub IsClass : (own : ℕ) → Option Node → ℕ → Type 0
-  IsClass own None c = c ≡ own
-  IsClass own (Some node) c = IsIndexed node c
+-- `class` is that of the tree that begins at an index, if that tree is a collection
+abbrev pub IsClassAt : EventTable → (classes : List ℕ) → (count : ℕ) → (nodes : List Node)
+    → (index class : ℕ) → Type 0
+IsClassAt held classes count nodes index class = (t : Tree) → OccursAt (plain_events held) t index
+    → IsClass count nodes class (node_at (nth_number classes) t index) class
 
 -- each tree from index `from` on has its class, and the classes before it are those of `scalar`
 pub record HaveTreeClasses (class : ℕ → ℕ) (count : ℕ) (scalar : ℕ → ℕ) (es : List PlainEvent)
@@ -60,39 +55,17 @@ pub record HaveTreeClasses (class : ℕ → ℕ) (count : ℕ) (scalar : ℕ →
   pub before : (p : ℕ) → p < from → class p ≡ scalar p
   pub below : (p : ℕ) → p < length es → class p < count + length nodes
 
+-- each tree from index `from` on has its class, and before it only scalars have theirs
+abbrev pub AreClassesFrom : EventTable → (count : ℕ) → (classes : List ℕ) → (nodes : List Node)
+    → (from : ℕ) → Type 0
+AreClassesFrom held count classes nodes from =
+    (scalar : ℕ → ℕ) × AreIdentities (plain_events held) scalar count
+    × HaveTreeClasses (nth_number classes) count scalar (plain_events held) nodes from
+
 -- two indices have the same class if and only if the same tree begins at both
 abbrev pub SeparatesTrees : List PlainEvent → (class : ℕ → ℕ) → Type 0
 SeparatesTrees es class =
     (t u : Tree) (p q : ℕ) → OccursAt es t p → OccursAt es u q → (class p ≡ class q) ↔ (t ≡ u)
-
--- ---- classes of buffered events
-
--- is the event the start of a dictionary?
-abbrev pub is_dictionary : EventShape → Bool
-is_dictionary shape.StartArray = false
-is_dictionary shape.StartDictionary = true
-is_dictionary shape.Scalar = false
-is_dictionary shape.EndCollection = false
-
--- `class` is that of the collection that begins at an index; the classes of collections start at
--- `base`
-abbrev pub IsClassAt : EventTable → (classes : List ℕ) → (base : ℕ) → (seen : List Collection)
-    → (index class : ℕ) → Type 0
-IsClassAt held classes base seen index class = (t : Tree) → OccursAt (plain_events held) t index
-    → IsIndexed base (nodes_seen seen)
-    (node_by (nth_number classes) (is_dictionary (shape_of (table_event held index))) t index) class
-
--- each tree from index `from` on has its class, and before it only scalars have theirs
-abbrev pub AreClassesFrom : EventTable → (base : ℕ) → (classes : List ℕ) → (seen : List Collection)
-    → (from : ℕ) → Type 0
-AreClassesFrom held base classes seen from =
-    (scalar : ℕ → ℕ) × AreIdentities (plain_events held) scalar base
-    × HaveTreeClasses (nth_number classes) base scalar (plain_events held) (nodes_seen seen) from
-
--- two events have the same class if and only if they are equal scalars, or the same event
-abbrev pub AreEventClasses : EventTable → TreeClasses → Type 0
-AreEventClasses held found =
-    AreIdentities (plain_events held) (nth_number found.of) found.count
 
 -- each event has a class below the count, and two have the same class if and only if the same tree
 -- begins at both

@@ -1,7 +1,7 @@
 use Rattle.std.proofs.Common.{ap, subst}
 use Rattle.std.specs.Borrow.{Bor}
-use Rattle.plist_keyed.specs.inner.Checking.{objects_seen}
-use Rattle.plist_keyed.specs.inner.Settled.{IsSettledBelow}
+use Rattle.plist_keyed.specs.inner.States.{objects_seen}
+use Rattle.plist_keyed.specs.inner.Walks.{IsSettledBelow}
 use Rattle.plist_keyed.proofs.check.settled_below.Goals as goal
 
 pub returns-clause-settled : goal.returns-clause-settled

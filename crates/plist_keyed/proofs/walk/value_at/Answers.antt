@@ -1,10 +1,8 @@
 use Rattle.std.proofs.Common.{Ok, subst}
 use Rattle.plist.specs.ValueOfItems.{IsValueOf}
 use Rattle.plist.specs.ValueTrees.{tree_of}
-use Rattle.plist_keyed.specs.inner.Checking.{objects_seen}
-use Rattle.plist_keyed.specs.inner.RemainingSteps.{items_of_steps}
-use Rattle.plist_keyed.specs.inner.Settled.{settled_in}
-use Rattle.plist_keyed.specs.inner.Walks.{IsFaultless, steps_from}
+use Rattle.plist_keyed.specs.inner.States.{objects_seen, items_of_steps}
+use Rattle.plist_keyed.specs.inner.Walks.{settled_in, IsFaultless, steps_from}
 use Rattle.plist_keyed.proofs.SettledUids.{settled-faultless}
 use Rattle.plist_keyed.proofs.walk.value_at.Goals as goal
 

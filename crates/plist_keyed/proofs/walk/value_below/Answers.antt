@@ -5,8 +5,7 @@ use Rattle.plist_base.specs.Faults.{fault_of}
 use Rattle.plist.specs.Collecting.{built_tree}
 use Rattle.plist.specs.ValueOfItems.{IsValueOf}
 use Rattle.plist_keyed.specs.inner.Walks.{steps_from}
-use Rattle.plist_keyed.specs.inner.Checking.{objects_seen}
-use Rattle.plist_keyed.specs.inner.RemainingSteps.{remaining_steps, IsWalk, items_of_steps}
+use Rattle.plist_keyed.specs.inner.States.{objects_seen, remaining_steps, IsWalk, items_of_steps}
 use Rattle.plist_keyed.proofs.WalkSteps.{begun, first-walk, only-memory}
 use Rattle.plist_keyed.proofs.walk.value_below.Goals as goal
 

@@ -1,4 +1,6 @@
-use Rattle.plist_reader.proofs.ReaderItems.{io-items, io-kind, io-place, other-source, refused-gives, xml-counts, xml-items, xml-kind, xml-place}
+use Rattle.std.proofs.Common.{inr}
+use Rattle.std.specs.Option.{is_some}
+use Rattle.plist_reader.proofs.ReaderItems.{io-fault, io-items, other-source, refused-gives, xml-counts, xml-fault, xml-items, xml-kind}
 use Rattle.plist_reader.proofs.reader.begin.Goals as goal
 
 pub returns-in-Ok-Binary-clause-yields : goal.returns-in-Ok-Binary-clause-yields
@@ -24,7 +26,7 @@ returns-in-Ok-Xml-clause-yields g c =
     (rw c.in-Ok-Xml.field-0-is at c.in-Ok-Xml.ensures.format))
     (xml-kind place error c.with_byte_offset.ensures.fault)
     (xml-counts place _ _ error c.with_byte_offset.ensures.fault c.in-Ok-Xml.ensures.failures)
-    (xml-place place error c.with_byte_offset.ensures.fault)
+    (xml-fault (is_some c.args.limits) place error c.with_byte_offset.ensures.fault)
 
 pub returns-in-Err-clause-yields : goal.returns-in-Err-clause-yields
 returns-in-Err-clause-yields g c =
@@ -32,5 +34,5 @@ returns-in-Err-clause-yields g c =
     refused-gives g.R.Source.known g.R.Source.failures c.args.source c.format_of.new.source
     c.args.limits c.args.dialect error
     (io-items (g.R.Source.known c.args.source) c.args.limits c.args.dialect error c.in-Err.ensures.refused)
-    (io-kind error c.in-Err.ensures.refused) c.in-Err.ensures.failures
-    (io-place error c.in-Err.ensures.refused c.in-Err.ensures.offset)
+    (inr c.in-Err.ensures.refused) c.in-Err.ensures.failures
+    (io-fault (is_some c.args.limits) error c.in-Err.ensures.refused c.in-Err.ensures.offset)

@@ -1,16 +1,20 @@
 use Rattle.std.proofs.Common.{rules, ◌≡◌, ◌+◌, ◌++◌, map, Some, ◌∙◌}
 use Rattle.plist_buffer.specs.EventTable.{plain_events, nth_number}
 use Rattle.plist_buffer.proofs.ChildIndices.{keys_are_in, values_are_in}
+use Rattle.plist_share.proofs.ClassTrees.{by_collection}
 use Rattle.plist_share.proofs.classes.class_of_collection.Goals as goal
 
 pub returns-clause-class : goal.returns-clause-class
-returns-clause-class c = λ t s.
+returns-clause-class c t s =
     let es = plain_events c.args.events.now in
     let class = nth_number c.args.found.now.of in
     let is = c.in_ok-children.ensures ∙ (λ i. map class (keys_are_in es t c.args.index s i)
     ++ map class (values_are_in es t c.args.index s i)) in
-    let class : c.in_ok-class.class ≡ c.args.found.now.count + c.in_ok-node.node = search rules in (
+    let class : c.in_ok-class.class ≡ c.args.found.now.count + c.in_ok-node.node = search rules in
+    by_collection es (nth_number c.args.found.now.of) c.args.found.now.count _
+    c.begins_dictionary.result t c.args.index c.in_ok-class.class s
+    c.begins_dictionary.ensures (
       c.in_ok-node.node,
       class,
-      c.in_ok-node.ensures.stored ∙ (λ i. Some (c.begins_dictionary.ensures i, is i)),
+      c.in_ok-node.ensures.stored ∙ (λ i. Some (c.begins_dictionary.result, is i)),
     )

@@ -1,5 +1,5 @@
 use Rattle.std.proofs.Common.{refl}
-use Rattle.plist_keyed.specs.Contents.{names_of, objects_of}
+use Rattle.plist_keyed.specs.Archives.{names_of, objects_of}
 use Rattle.plist_uses.proofs.archive.root_of.Goals as goal
 
 pub returns-in-None-clause-none : goal.returns-in-None-clause-none

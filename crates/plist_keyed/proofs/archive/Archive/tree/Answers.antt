@@ -1,5 +1,5 @@
 use Rattle.plist.specs.ValueTrees.{tree_of}
-use Rattle.plist_keyed.specs.Contents.{objects_of}
+use Rattle.plist_keyed.specs.Archives.{objects_of}
 use Rattle.plist_keyed.proofs.WalkValues.{tree-read, error-read}
 use Rattle.plist_keyed.proofs.archive.Archive.tree.Goals as goal
 

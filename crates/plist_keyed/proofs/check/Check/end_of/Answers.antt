@@ -1,8 +1,8 @@
 use Rattle.std.proofs.Common.{◌∙◌, ap, inl, inr, is_some, refl, sym, Some}
 use Rattle.std.specs.Option.{option_copied}
 use Rattle.std.proofs.lemmas.Option.{same_Some}
-use Rattle.plist_keyed.specs.inner.Checking.{objects_seen}
-use Rattle.plist_keyed.specs.inner.Settled.{settled_in}
+use Rattle.plist_keyed.specs.inner.States.{objects_seen}
+use Rattle.plist_keyed.specs.inner.Walks.{settled_in}
 use Rattle.plist_keyed.proofs.CheckStates.{no-member}
 use Rattle.plist_keyed.proofs.CheckSteps.{seen_at}
 use Rattle.plist_keyed.proofs.SettledUids.{named-member}

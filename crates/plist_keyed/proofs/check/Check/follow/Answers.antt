@@ -3,8 +3,8 @@ use Rattle.std.specs.Option.{option_copied}
 use Rattle.indexmap.specs.IndexMap.{get}
 use Rattle.plist_base.specs.Bracketing.{bracketing}
 use Rattle.plist.specs.ValueTrees.{tree_of}
-use Rattle.plist_keyed.specs.inner.Settled.{settled_in}
-use Rattle.plist_keyed.specs.inner.Checking.{open_uids, unchecked_steps, objects_seen}
+use Rattle.plist_keyed.specs.inner.Walks.{settled_in}
+use Rattle.plist_keyed.specs.inner.States.{open_uids, unchecked_steps, objects_seen}
 use Rattle.plist_keyed.proofs.CheckStates.{member, no-member, opened-checks, opened-passes}
 use Rattle.plist_keyed.proofs.CheckSteps.{any_reversed, fault-missing, fault-open, passes-settled, seen_at, settled-check}
 use Rattle.plist_keyed.proofs.check.Check.follow.Goals as goal

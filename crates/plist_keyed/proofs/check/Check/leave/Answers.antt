@@ -1,8 +1,8 @@
 use Rattle.std.proofs.Common.{◌≡◌, ◌∙◌, ◌∷◌, ap, nat_eq, refl, reverse}
 use Rattle.std.proofs.lemmas.Bool.{eq-eqb, or_left}
 use Rattle.indexmap.specs.IndexMap.{get}
-use Rattle.plist_keyed.specs.inner.Checking.{open_uids}
-use Rattle.plist_keyed.specs.inner.Settled.{IsIn, settled_in}
+use Rattle.plist_keyed.specs.inner.States.{open_uids}
+use Rattle.plist_keyed.specs.inner.Walks.{IsIn, settled_in}
 use Rattle.plist_keyed.proofs.CheckStates.{settles}
 use Rattle.plist_keyed.proofs.CheckSteps.{left-check, left-leads, reverse-snoc}
 use Rattle.plist_keyed.proofs.check.Check.leave.Goals as goal

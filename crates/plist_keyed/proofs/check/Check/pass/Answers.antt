@@ -1,9 +1,8 @@
 use Rattle.std.proofs.Common.{reverse, ◌∙◌, nat_eq, sym}
 use Rattle.indexmap.specs.IndexMap.{get}
 use Rattle.plist_base.specs.Events.{event_of}
-use Rattle.plist_keyed.specs.inner.Settled.{settled_in}
-use Rattle.plist_keyed.specs.inner.Checking.{open_uids, unchecked_steps, objects_seen}
-use Rattle.plist_keyed.specs.inner.Walks.{follow_in}
+use Rattle.plist_keyed.specs.inner.Walks.{settled_in, follow_in}
+use Rattle.plist_keyed.specs.inner.States.{open_uids, unchecked_steps, objects_seen}
 use Rattle.plist_keyed.proofs.CheckSteps.{passes-plain, plain-check}
 use Rattle.plist_keyed.proofs.check.Check.pass.Goals as goal
 

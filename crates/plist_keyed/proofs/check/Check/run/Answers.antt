@@ -1,8 +1,7 @@
 use Rattle.std.proofs.Common.{◌≡◌, ◌∙◌, ap, arith, length, refl, subst, sym}
 use Rattle.std.proofs.lemmas.Result.{err_from_is_err_and}
-use Rattle.plist_keyed.specs.inner.Checking.{objects_seen, unchecked_steps}
-use Rattle.plist_keyed.specs.inner.Settled.{IsSettledIn}
-use Rattle.plist_keyed.specs.inner.Walks.{IsFirstFaultOf, PassesEvents, given_by, steps_from}
+use Rattle.plist_keyed.specs.inner.States.{objects_seen, unchecked_steps}
+use Rattle.plist_keyed.specs.inner.Walks.{IsSettledIn, IsFirstFaultOf, PassesEvents, given_by, steps_from}
 use Rattle.plist_keyed.proofs.CheckStates.{begins-checked, begins-with, nothing-open, steps-with, with-left}
 use Rattle.plist_keyed.proofs.CheckSteps.{fault-on, passes-on}
 use Rattle.plist_keyed.proofs.check.Check.run.Goals as goal

@@ -1,6 +1,6 @@
 use Rattle.std.proofs.Common.{◌≡◌, List, ◌++◌, length, map, Ok}
 use Rattle.plist_base.specs.Events.{PlainEvent}
-use Rattle.plist_keyed.specs.inner.Checking.{IsCheck, IsReached, unchecked_steps, objects_seen}
+use Rattle.plist_keyed.specs.inner.States.{IsCheck, IsReached, unchecked_steps, objects_seen}
 use Rattle.plist_keyed.specs.inner.Walks.{given_by, steps_from}
 use Rattle.plist_keyed.proofs.check.Check.run.Given as goal
 

@@ -1,5 +1,5 @@
 use Rattle.std.proofs.Common.{◌≡◌, ◌≤◌, length}
-use Rattle.plist_keyed.specs.inner.RemainingSteps.{IsWalk, KeepsArchive, remaining_steps}
+use Rattle.plist_keyed.specs.inner.States.{IsWalk, KeepsArchive, remaining_steps}
 use Rattle.plist_keyed.specs.inner.Walks.{given_by}
 use Rattle.plist_keyed.proofs.walk.Walk.advance.Given as goal
 

@@ -1,8 +1,7 @@
 use Rattle.std.proofs.Common.{◌∙◌, sym}
 use Rattle.std.proofs.lemmas.Result.{err_from_is_err_and}
 use Rattle.plist_base.specs.Events.{event_of}
-use Rattle.plist_keyed.specs.inner.Checking.{objects_seen}
-use Rattle.plist_keyed.specs.inner.RemainingSteps.{remaining_steps}
+use Rattle.plist_keyed.specs.inner.States.{objects_seen, remaining_steps}
 use Rattle.plist_keyed.proofs.WalkSteps.{shorter}
 use Rattle.plist_keyed.proofs.walk.Walk.pass.Goals as goal
 

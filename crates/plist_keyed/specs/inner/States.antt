@@ -1,18 +1,26 @@
--- The state of the walk that settles an archive's Uids, and its remaining steps. In lists of open
--- Uids the innermost one is first.
-use Rattle.std.specs.Prelude.{◌≡◌, ◌⊎◌, ℕ, List, [], ◌∷◌, ◌++◌, length, map, Option, Some, None, reverse, nat_eq, slice_get, ⊤}
+-- The states of the two walks over an archive, and their remaining steps: of the one that settles
+-- its Uids, and of the one over settled Uids. In lists of levels and of open Uids the innermost one
+-- is first.
+use Rattle.std.specs.Prelude.{◌≡◌, ◌⊎◌, ℕ, ◌<◌, List, [], ◌∷◌, ◌++◌, length, map, Option, Some, None, Result, Ok, Err, reverse, nat_eq, slice_get, ⊤}
+use Rattle.std.specs.List.{AllByRecursion}
 use Rattle.indexmap.specs.IndexMap.{get}
 use Rattle.plist_base.specs.Bracketing.{bracketing}
 use Rattle.plist_base.specs.inner.Paths.{IsPath}
-use Rattle.plist_base.specs.Events.{PlainEvent, ScalarEvent}
+use Rattle.plist_base.specs.declared.error.Error.{Error}
+use Rattle.plist_base.specs.declared.event.Event.{Event}
+use Rattle.plist_base.specs.Events.{PlainEvent, Item, ScalarEvent, event_of}
+use Rattle.plist_base.specs.Faults.{fault_of, fault_without_offset, OutOfMemory}
+use Rattle.plist_base.specs.FirstItems.{GivesFirst}
 use Rattle.plist_base.specs.Trees.{Uid}
 use Rattle.plist.specs.declared.stream.events.Events.{Events}
 use Rattle.plist.specs.declared.value.Value.{Value}
 use Rattle.plist.specs.Events.{remaining_events}
 use Rattle.plist.specs.ValueTrees.{tree_of}
 use Rattle.plist_keyed.specs.declared.check.Check.{Check}
-use Rattle.plist_keyed.specs.inner.Settled.{AreApart, AreEnds, AreSettled, IsIn, IsNoUid, NameOnly, settled_in}
-use Rattle.plist_keyed.specs.inner.Walks.{Step, follow_in, steps_of_events}
+use Rattle.plist_keyed.specs.declared.walk.WalkStep.{WalkStep}
+use Rattle.plist_keyed.specs.declared.walk.WalkStep.TheVariants as walk_step
+use Rattle.plist_keyed.specs.declared.walk.Walk.{Walk}
+use Rattle.plist_keyed.specs.inner.Walks.{AreApart, AreEnds, AreSettled, IsIn, IsNoUid, IsSettledIn, NameOnly, Step, events_given, follow_in, given_by, settled_in, steps_from, steps_of_events}
 
 -- the events of each object
 abbrev pub objects_seen : List Value → List (List PlainEvent)
@@ -55,16 +63,16 @@ module _ (objects : List (List PlainEvent)) where
 abbrev pub open_uids : Check → List ℕ
 open_uids check = reverse check.path.keys
 
--- the state is consistent, while these events were taken from the innermost object and aren't
--- processed yet
-abbrev pub IsCheckAt : Check → (taken : List PlainEvent) → Type 0
-IsCheckAt check taken =
+-- the state is consistent, except that these remaining events of the innermost object were removed
+-- from it, and that the events that were taken last from that object aren't processed yet
+abbrev pub IsCheckWith : Check → (removed : List Events) → (taken : List PlainEvent) → Type 0
+IsCheckWith check removed taken =
     IsCheckOf (objects_seen check.objects.now) (open_uids check) (settled_in check.ends)
-    (reverse check.levels.items) (get nat_eq check.ends) taken
+    (removed ++ reverse check.levels.items) (get nat_eq check.ends) taken
 
 -- the state is consistent, and all events that were taken are processed
 abbrev pub IsCheck : Check → Type 0
-IsCheck check = IsCheckAt check []
+IsCheck check = IsCheckWith check [] []
 
 -- the Uid is open or settled
 abbrev pub IsReached : Check → ℕ → Type 0
@@ -74,11 +82,16 @@ IsReached check uid = IsIn uid (open_uids check) ⊎ IsIn uid (settled_in check.
 abbrev pub KeepsReached : (before after : Check) → Type 0
 KeepsReached before after = (uid : ℕ) → IsReached before uid → IsReached after uid
 
+-- the remaining steps, given the remaining events of the innermost object that were removed from the
+-- state
+abbrev pub unchecked_with : Check → (removed : List Events) → List Step
+unchecked_with check removed =
+    unchecked_steps_in (objects_seen check.objects.now) (removed ++ reverse check.levels.items)
+    (open_uids check)
+
 -- the remaining steps
 abbrev pub unchecked_steps : Check → List Step
-unchecked_steps check =
-    unchecked_steps_in (objects_seen check.objects.now) (reverse check.levels.items)
-    (open_uids check)
+unchecked_steps check = unchecked_with check []
 
 -- the steps of a Uid, and then the remaining steps
 abbrev pub unchecked_from : Check → ℕ → List Step
@@ -93,20 +106,6 @@ IsOpened old uid object new =
     × (remaining_events level ≡ bracketing (tree_of object)))
     × (new.ends ≡ old.ends)
 
--- the state is consistent with these remaining events of the innermost object, which were removed
--- from the state
-abbrev pub IsCheckWith : Check → (left : Events) → Type 0
-IsCheckWith check left =
-    IsCheckOf (objects_seen check.objects.now) (open_uids check) (settled_in check.ends)
-    (left ∷ reverse check.levels.items) (get nat_eq check.ends) []
-
--- the remaining steps, given these remaining events of the innermost object, which were removed
--- from the state
-abbrev pub unchecked_with : Check → (left : Events) → List Step
-unchecked_with check left =
-    unchecked_steps_in (objects_seen check.objects.now) (left ∷ reverse check.levels.items)
-    (open_uids check)
-
 -- the innermost object is left, and its Uid is settled
 abbrev pub Leaves : (before after : Check) → Type 0
 Leaves before after =
@@ -120,3 +119,51 @@ HasEnd check uid end =
     ((end ≡ uid) × IsNoUid (objects_seen check.objects.now) uid) ⊎ ((next : ℕ)
     × (slice_get (objects_seen check.objects.now) uid ≡ Some (ScalarEvent (Uid next) ∷ []))
     × (get nat_eq check.ends next ≡ Some end))
+
+-- ---- the walk over settled Uids
+
+-- one or more steps are done, none of which yields an item
+abbrev pub Skips : (before after : List Step) → Type 0
+Skips before after = (given_by before ≡ given_by after) × (length after < length before)
+
+-- the remaining steps of the levels: those of the remaining events of the innermost one, its end,
+-- and the remaining steps of the others
+abbrev pub steps_in_levels : (objects : List (List PlainEvent)) → List Events → List Step
+steps_in_levels objects [] = []
+steps_in_levels objects (level ∷ below) =
+    steps_of_events (steps_from objects) (remaining_events level)
+    ++ None ∷ steps_in_levels objects below
+
+-- each Uid among the remaining events is settled
+abbrev pub IsWalk : Walk → Type 0
+IsWalk walk =
+    IsSettledIn (objects_seen walk.objects.now) walk.ends
+    × AllByRecursion (λ level. NameOnly (remaining_events level) (settled_in walk.ends))
+    (reverse walk.levels.items)
+
+-- the archive and the ends of its Uids are unchanged
+abbrev pub KeepsArchive : (before after : Walk) → Type 0
+KeepsArchive before after = (after.objects ≡ before.objects) × (after.ends ≡ before.ends)
+
+-- the remaining steps
+abbrev pub remaining_steps : Walk → List Step
+remaining_steps walk = steps_in_levels (objects_seen walk.objects.now) (reverse walk.levels.items)
+
+-- a step is done, or memory ran out in it
+abbrev pub Yields : (before : List Step) → Result WalkStep Error → (after : List Step) → Type 0
+Yields before (Ok walk_step.End) after = (before ≡ []) × (after ≡ [])
+Yields before (Ok (walk_step.Event event)) after =
+    (given_by before ≡ Ok (event_of event) ∷ given_by after) × (length after < length before)
+Yields before (Ok walk_step.Skip) after = Skips before after
+Yields before (Err error) after =
+    (length after < length before) × (fault_of error ≡ fault_without_offset OutOfMemory)
+
+-- the items that these steps yield, without faults
+abbrev pub items_of_steps : List Step → List Item
+items_of_steps steps = map Ok (events_given (given_by steps))
+
+-- the remaining items begin with this one
+abbrev pub GivesItemOfUid : Walk → Option (Result Event Error) → Walk → Type 0
+GivesItemOfUid old item new =
+    GivesFirst event_of (items_of_steps (remaining_steps old)) item
+    (items_of_steps (remaining_steps new))
