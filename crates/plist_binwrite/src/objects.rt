@@ -123,7 +123,7 @@ pub fn put_objects<W: Write>(
     ensures { PutsObjects W.contents sink.old given.now plan.now result sink.new }
 {
     for index in 0..plan.order.len() {
-        let first = plan.numbering.first(plan.order.get(index));
+        let first = plan.order.get(index);
         if !try_put_object(sink, given.events, first) {
             put_object(sink, given, plan, first)?;
         }

@@ -16,7 +16,7 @@ use Rattle.plist_buffer.specs.declared.children.Half.TheVariants.{Keys, Values}
 use Rattle.plist_binwrite.specs.Written.{object_table}
 use Rattle.plist_binwrite.specs.declared.classes.Classed.{Classed}
 use Rattle.plist_binwrite.specs.declared.plan.FilePlan.{FilePlan}
-use Rattle.plist_binwrite.specs.inner.Layout.{file_of, AreObjectsOf}
+use Rattle.plist_binwrite.specs.inner.Layout.{file_of, AreObjectsOf, numbers_in}
 use Rattle.plist_binwrite.specs.inner.Numbering.{object_number}
 
 -- the references to a half of the children of the collection that begins at an index
@@ -41,9 +41,9 @@ module _ {W : Type 0} (contents : W → Option (List ℕ)) (old : Sink W) (given
   -- the objects are put in their order
   abbrev pub PutsObjects : Result (Unit {0}) Error → (new : Sink W) → Type 0
   PutsObjects result new = (objects : ℕ → Object) → AreObjectsOf given plan objects
-      → Puts contents old (object_table plan.width objects plan.order) result new
+      → Puts contents old (object_table plan.width objects (numbers_in given plan)) result new
 
   -- the whole file is put
   abbrev pub PutsFile : Result (Unit {0}) Error → (new : Sink W) → Type 0
   PutsFile result new = (objects : ℕ → Object) → AreObjectsOf given plan objects
-      → Puts contents old (file_of plan objects) result new
+      → Puts contents old (file_of given plan objects) result new
