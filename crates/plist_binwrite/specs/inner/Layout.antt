@@ -1,12 +1,13 @@
--- The order of a file's objects, their offsets, the size of the file, and a planned file.
-use Rattle.std.specs.Prelude.{◌≡◌, ◌≢◌, ℕ, ◌<◌, true, false, eqb, List, ◌++◌, length, get_or, map, ◌+◌, ◌^◌, ◌≤◌, Option, IfSome, ◌⊎◌, Some, Ok, Err}
+-- The order of a file's objects, their offsets, the size of the file, a planned file, and what its
+-- parts put into a sink.
+use Rattle.std.specs.Prelude.{◌≡◌, ◌≢◌, ℕ, ◌<◌, true, false, eqb, List, ◌++◌, length, get_or, map, ◌+◌, ◌^◌, ◌≤◌, Option, IfSome, ◌⊎◌, Some, Ok, Err, Result}
 use Rattle.std.specs.List.{list_any, AllByRecursion, IsDistinct}
 use Rattle.plist_format.specs.Container.{magic}
 use Rattle.plist_format.specs.Object.{Object}
 use Rattle.plist_binwrite.specs.Written.{object_table, table_and_trailer, Laid}
 use Rattle.plist_base.specs.Trees.{Tree}
 use Rattle.plist_buffer.specs.EventTable.{HasItem}
-use Rattle.plist_binwrite.specs.Numberings.{Describes}
+use Rattle.plist_binwrite.specs.Numberings.{Describes, object_of}
 use Rattle.plist_binwrite.specs.EventClasses.{events_in, class_in}
 use Rattle.plist_binwrite.specs.Sizes.{IsSizeOrNone, size_with}
 use Rattle.plist_binwrite.specs.Widths.{reference_width}
@@ -19,6 +20,15 @@ use Rattle.plist_base.specs.Faults.{Fault, Io, OutOfMemory, PlistTooLarge, fault
 use Rattle.plist_base.specs.Prefixes.{AppendsPrefix}
 use Rattle.plist_base.specs.Writing.{Answer}
 use Rattle.plist_binwrite.specs.Classes.{IsFileBy, IsOversized}
+use Rattle.plist_base.specs.declared.error.Error.{Error}
+use Rattle.plist_base.specs.declared.sink.Sink.{Sink}
+use Rattle.plist_base.specs.Sinks.{Puts}
+use Rattle.plist_format.specs.Marker.{high_half}
+use Rattle.plist_format.specs.declared.marker.CountedKind.{CountedKind}
+use Rattle.plist_binwrite.specs.Forms.{form, length_form, table_form}
+use Rattle.plist_buffer.specs.Children.{half_of}
+use Rattle.plist_buffer.specs.declared.children.Half.{Half}
+use Rattle.plist_buffer.specs.declared.children.Half.TheVariants.{Keys, Values}
 
 -- `order` contains numbers below the count, none of them twice, and exactly these have a mark other
 -- than 0
@@ -118,3 +128,34 @@ module _ {W : Type 0} (contents : W → Option (List ℕ)) where
   SendsPlan given plan (Err fault) old new = (fault ≡ fault_without_offset Io)
       × ((objects : ℕ → Object) → AreObjectsOf given plan objects
       → AppendsPrefix (contents old) (contents new) (file_of given plan objects))
+
+-- ---- what is put into a sink
+
+-- the references to a half of the children of the collection that begins at an index
+abbrev pub references_of : Classed → FilePlan → Half → (index : ℕ) → List ℕ
+references_of given plan half index = table_form plan.width
+    (map (object_number given plan.numbering) (half_of (events_in given) half index))
+
+-- the bytes of a collection: its length, the references to its keys, and those to its items or
+-- values
+abbrev pub collection_form : Classed → FilePlan → CountedKind → (index : ℕ) → List ℕ
+collection_form given plan kind index =
+    length_form (high_half kind) (length (half_of (events_in given) Values index))
+    ++ (references_of given plan Keys index ++ references_of given plan Values index)
+
+-- the bytes of the object of a tree that begins at an index
+abbrev pub tree_form : Classed → FilePlan → Tree → (index : ℕ) → List ℕ
+tree_form given plan tree index =
+    form plan.width (object_of (object_number given plan.numbering) tree index)
+
+module _ {W : Type 0} (contents : W → Option (List ℕ)) (old : Sink W) (given : Classed)
+    (plan : FilePlan) where
+  -- the objects are put in their order
+  abbrev pub PutsObjects : Result (Unit {0}) Error → (new : Sink W) → Type 0
+  PutsObjects result new = (objects : ℕ → Object) → AreObjectsOf given plan objects
+      → Puts contents old (object_table plan.width objects (numbers_in given plan)) result new
+
+  -- the whole file is put
+  abbrev pub PutsFile : Result (Unit {0}) Error → (new : Sink W) → Type 0
+  PutsFile result new = (objects : ℕ → Object) → AreObjectsOf given plan objects
+      → Puts contents old (file_of given plan objects) result new
