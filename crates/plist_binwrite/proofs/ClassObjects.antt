@@ -107,7 +107,7 @@ module _ {es : List PlainEvent} {class : ℕ → ℕ} {by_class : List ℕ} {cou
 
   first_class : (t : Tree) (p : ℕ) → OccursAt es t p → class (first (num p)) ≡ class p
   first_class t p s =
-      planned.numbered.same (class p) (planned.numbered.below p (occurs_in s))
+      planned.numbered.same (class p) (planned.numbered.below p (occurs_in s, begins t p s))
       (planned.all p (occurs_in s) (begins t p s))
 
   -- indices of one number have one class, and indices of one class have one number

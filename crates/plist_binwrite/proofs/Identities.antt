@@ -163,6 +163,14 @@ module _ (held : EventTable) where
     ];
   }
 
+  -- the events before an index have classes below this bound
+  pub classes_below : (p after : ℕ) → p < after → after ≤ length (plain_events held)
+      → class p < length scalars + after
+  classes_below p after h most = elim (told p (omega (arith, h, most))) [
+    | inl s ↦ omega (arith, slice_get_within scalars (class p) _ s.key)
+    | inr n ↦ omega (arith, n.own, h)
+  ]
+
   -- equal scalars have one class, and each other event has its own
   pub equal_scalars : AreIdentities (plain_events held) class top
   equal_scalars = owners (omega arith) have held.kept.apart (omega arith)

@@ -136,7 +136,7 @@ pub fn number_objects(alloc: Global, given: &Classed<'_, '_>) -> Result<Numberin
     requires classed { IsClassed given.now }
     ensures { IfOk result (IsNumberingOfEvents given.now) }
 {
-    let mut numbering = Numbering::new(alloc, given.bound())?;
+    let mut numbering = Numbering::new(alloc, given.bound_of_items())?;
     numbering.number_all(given)?;
     Ok(numbering)
 }

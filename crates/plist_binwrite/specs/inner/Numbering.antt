@@ -2,7 +2,7 @@
 -- has no number yet. The `count` numbers are those below it.
 use Rattle.std.specs.Prelude.{◌≡◌, ℕ, ◌+◌, ◌-◌, ◌^◌, ◌<◌, ◌≤◌, false, List, length, get_or}
 use Rattle.plist_base.specs.Events.{PlainEvent}
-use Rattle.plist_buffer.specs.EventTable.{is_end, event_at, IsBracketed}
+use Rattle.plist_buffer.specs.EventTable.{is_end, event_at, HasItem, IsBracketed}
 use Rattle.plist_binwrite.specs.Classes.{AreClasses}
 use Rattle.plist_binwrite.specs.EventClasses.{IsListed, class_in, events_in}
 use Rattle.plist_binwrite.specs.declared.classes.Classed.{Classed}
@@ -37,7 +37,7 @@ pub record KeepsNumbering (old new : ℕ → ℕ) : Type 0 where
 pub record IsPlan (es : List PlainEvent) (class : ℕ → ℕ) (by_class : List ℕ) (count : ℕ) : Type 0
   where
     pub first : ℕ → ℕ
-    pub below : (p : ℕ) → p < length es → class p < length by_class
+    pub below : (p : ℕ) → HasItem es p → class p < length by_class
     pub small : count < 2 ^ 64
     pub known : (k : ℕ) → k < count → (first k < length es)
         × (stored_by class by_class (first k) ≡ k + 1) × (is_end (event_at es (first k)) ≡ false)
