@@ -4,6 +4,7 @@ ghost use Rattle.std.specs.Prelude.{◌≡◌, ◌<◌, ◌≤◌, ◌∷◌, []
 ghost use Rattle.plist.specs.inner.CollectionSteps.{with_item};
 
 use crate::Value;
+use plist_buffer::compact_numbers::CompactNumbers;
 use std::alloc::{AllocError, Global};
 use std::marker::Model;
 use std::mem;
@@ -17,7 +18,7 @@ pub(crate) struct OpenArrays {
     // The items of all arrays, outermost first.
     items: Vec<Value>,
     // The index of the first item of each array, outermost first.
-    starts: Vec<usize>,
+    starts: CompactNumbers,
 }
 
 impl Model for OpenArrays {
@@ -31,9 +32,9 @@ impl Model for OpenArrays {
 
     ghost coded = { coded_list (coded_list value.the_row.coded) };
 
-    ghost view = { λ arrays. items_by_array (reverse arrays.starts.items) arrays.items.items };
+    ghost view = { λ arrays. items_by_array (reverse arrays.starts) arrays.items.items };
 
-    ghost invariant = { λ arrays. AreStarts (reverse arrays.starts.items)
+    ghost invariant = { λ arrays. AreStarts (reverse arrays.starts)
         (length arrays.items.items) };
 }
 
@@ -58,7 +59,7 @@ impl OpenArrays {
     {
         OpenArrays {
             items: Vec::new(alloc),
-            starts: Vec::new(alloc),
+            starts: CompactNumbers::new(alloc),
         }
     }
 
@@ -92,12 +93,11 @@ impl OpenArrays {
         ensures closed { IfOk result (λ items. self.old ≡ items.items ∷ self.new) }
         ensures unchanged { OnErr result (self.new ≡ self.old) }
     {
-        let start = match self.starts.last() {
-            Some(start) => *start,
-            None => 0,
+        let Some(start) = self.starts.last() else {
+            return Ok(Vec::new(alloc));
         };
         let items = split_off(alloc, &mut self.items, start)?;
-        let _ = self.starts.pop();
+        self.starts.pop();
         Ok(items)
     }
 

@@ -32,8 +32,8 @@ enum OpenDictionary {
 
 /// Open collections that are nested in one another, with their contents so far.
 ///
-/// An array that has no items yet takes nine bytes. Contracts see the contents of each collection,
-/// innermost first.
+/// An array that has no items yet takes five bytes, as long as the indices of items fit in four
+/// bytes. Contracts see the contents of each collection, innermost first.
 #[derive(Drop)]
 pub(crate) struct OpenCollections {
     // What each collection is, outermost first.

@@ -1,5 +1,5 @@
 -- A plan by classes is a numbering: each number has one object.
-use Rattle.std.proofs.Common.{◌≡◌, ◌⊎◌, inl, inr, ℕ, ◌+◌, ◌-◌, ◌<◌, ◌≤◌, List, [], ◌∷◌, length, get_or, refl, ap, sym, ◌∙◌, arith}
+use Rattle.std.proofs.Common.{◌≡◌, ◌⊎◌, inl, inr, ℕ, ◌+◌, ◌-◌, ◌<◌, ◌≤◌, List, [], ◌∷◌, get_or, refl, ap, sym, ◌∙◌, arith}
 use Rattle.std.proofs.lemmas.Bool.{cases_lt}
 use Rattle.plist_base.specs.Events.{PlainEvent}
 use Rattle.plist_base.specs.Trees as trees
@@ -94,20 +94,20 @@ pub record Numbered (es : List PlainEvent) (number : ℕ → ℕ) : Type 0 where
   pub objects : ℕ → Object
   pub describes : Describes es number objects
 
-module _ {es : List PlainEvent} {class : ℕ → ℕ} {by_class firsts : List ℕ}
-    (planned : IsPlanned es class by_class firsts) where
+module _ {es : List PlainEvent} {class : ℕ → ℕ} {by_class : List ℕ} {count : ℕ}
+    (planned : IsPlanned es class by_class count) where
   abbrev num : ℕ → ℕ
   num = number_by class by_class
 
   abbrev first : ℕ → ℕ
-  first k = get_or firsts k 0
+  first = planned.numbered.first
 
-  pub number_below : (t : Tree) (p : ℕ) → OccursAt es t p → num p < length firsts
+  pub number_below : (t : Tree) (p : ℕ) → OccursAt es t p → num p < count
   number_below t p s = numbers_below planned p (occurs_in s) (begins t p s)
 
   first_class : (t : Tree) (p : ℕ) → OccursAt es t p → class (first (num p)) ≡ class p
   first_class t p s =
-      planned.numbered.same (class p) (planned.numbered.below p (occurs_in s))
+      planned.numbered.same (class p) (planned.numbered.below p (occurs_in s, begins t p s))
       (planned.all p (occurs_in s) (begins t p s))
 
   -- indices of one number have one class, and indices of one class have one number
@@ -120,16 +120,16 @@ module _ {es : List PlainEvent} {class : ℕ → ℕ} {by_class firsts : List �
       → num p ≡ num q
   number_same t u p q s r e = ap (λ c. get_or by_class c 0 - 1) e
 
-  tree_of : (k : ℕ) → k < length firsts → (u : Tree) × OccursAt es u (first k)
+  tree_of : (k : ℕ) → k < count → (u : Tree) × OccursAt es u (first k)
   tree_of k h = let n = planned.numbered.known k h in occurs_at es planned.whole _ n.0 n.2
 
   -- the object of a number, and its rank
-  made_of : (k : ℕ) → (k < length firsts) ⊎ (length firsts ≤ k) → Object × ℕ
+  made_of : (k : ℕ) → (k < count) ⊎ (count ≤ k) → Object × ℕ
   made_of k (inl h) = let u = (tree_of k h).0 in (object_of num u (first k), event_count u)
   made_of k (inr h) = (obj.Array [], 0)
 
   made_is : (t : Tree) (p : ℕ) → OccursAt es t p
-      → (d : (num p < length firsts) ⊎ (length firsts ≤ num p))
+      → (d : (num p < count) ⊎ (count ≤ num p))
       → made_of (num p) d ≡ (object_of num t p, event_count t)
   unfolding made_of
   made_is t p s (inl h) =
@@ -140,7 +140,7 @@ module _ {es : List PlainEvent} {class : ℕ → ℕ} {by_class firsts : List �
 
   pub numbered : Numbered es num
   numbered =
-      let made = λ (k : ℕ). made_of k (cases_lt k (length firsts)) in record {
+      let made = λ (k : ℕ). made_of k (cases_lt k (count)) in record {
         rank = λ k. (made k).1;
         ranked = λ t p s. ap (λ m. m.1) (made_is t p s (cases_lt _ _));
         objects = λ k. (made k).0;

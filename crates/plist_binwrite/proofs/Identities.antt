@@ -1,21 +1,34 @@
 -- The objects that events have, and the classes of events.
 use Rattle.std.proofs.Common.{◌≡◌, ◌⊎◌, inl, inr, ℕ, ◌+◌, ◌<◌, ◌≤◌, Bool, true, false, eqb, List, length, Option, None, Some, refl, ap, sym, ◌∙◌, arith}
 use Rattle.std.specs.Prelude.{slice_get}
+use Rattle.std.specs.Option.{unwrap_or}
 use Rattle.std.proofs.lemmas.Bool.Decides.{eqb_tells}
 use Rattle.std.proofs.lemmas.Option.{slice_get_within}
 use Rattle.plist_base.specs.Events.{ScalarEvent, PlainEvent}
 use Rattle.plist_base.specs.Scalars.{scalar_eq}
 use Rattle.plist_base.specs.Trees.{Scalar}
-use Rattle.plist_binwrite.specs.EventClasses.{class_of, scalar_or_own}
+use Rattle.plist_binwrite.specs.EventClasses.{class_of}
 use Rattle.plist_buffer.specs.EventTable.{event_at, plain_events, scalars_of}
 use Rattle.plist_binwrite.specs.declared.classes.Classes.TheVariants.{EqualScalars}
 use Rattle.plist_buffer.specs.declared.event_table.EventTable.{EventTable}
 use Rattle.plist_buffer.specs.inner.Columns.{scalar_named}
 use Rattle.plist_buffer.specs.inner.Entries.{entry_at, AreDistinct, is_leaf}
-use Rattle.plist_binwrite.specs.inner.Scalars.{Identity, identity_at, identity_of, shared, alone, HaveClasses, AreIdentities}
+use Rattle.plist_binwrite.specs.inner.Scalars.{Identity, identity_at, identity_of, shared, alone, AreIdentities}
 use Rattle.plist_buffer.proofs.Columns.{named}
 use Rattle.plist_buffer.proofs.EntryEvents.{no_scalar, scalar_stored, scalar_is_leaf}
 use Rattle.plist_buffer.proofs.SameScalars.{Tells, scalars_tell, tells_made}
+
+-- the classes of the events before `index`: a scalar's class is its index among the different
+-- scalars, and any other event has a class of its own, which is above the classes of scalars and
+-- below `top`
+pub record HaveClasses (es : List PlainEvent) (class : ℕ
+    → ℕ) (keys : List PlainEvent) (top index : ℕ) : Type 0 where
+  pub scalars : (p : ℕ) → p < index → (x : Scalar) → event_at es p ≡ ScalarEvent x
+      → slice_get keys (class p) ≡ Some (ScalarEvent x)
+  pub others : (p : ℕ) → p < index → is_leaf (event_at es p) ≡ false
+      → (length keys ≤ class p) × (class p < top)
+  pub apart : (p q : ℕ) → p < index → q < index → is_leaf (event_at es p) ≡ false
+      → is_leaf (event_at es q) ≡ false → class p ≡ class q → p ≡ q
 
 abbrev pub owner_eq : Identity → Identity → Bool
 owner_eq (shared a) (shared b) = scalar_eq a b
@@ -120,12 +133,12 @@ module _ (held : EventTable) where
       by : (found : Option ℕ) → scalar_named (entry_at held.entries p) ≡ found
           → IsScalar p ⊎ IsOther p
       by None is = inr (record {
-        own = ap (λ o. scalar_or_own o (length scalars + p)) is;
+        own = ap (λ o. unwrap_or o (length scalars + p)) is;
         other = no_scalar held.kept lt is;
       })
       by (Some scalar) is =
           let entry = named _ _ is in
-          let same : class p ≡ scalar = ap (λ o. scalar_or_own o (length scalars + p)) is in
+          let same : class p ≡ scalar = ap (λ o. unwrap_or o (length scalars + p)) is in
           inl (record {
             key = ap (slice_get scalars) same ∙ scalar_stored held.kept lt entry;
             leaf = scalar_is_leaf held.kept lt entry;
@@ -149,6 +162,14 @@ module _ (held : EventTable) where
       ]
     ];
   }
+
+  -- the events before an index have classes below this bound
+  pub classes_below : (p after : ℕ) → p < after → after ≤ length (plain_events held)
+      → class p < length scalars + after
+  classes_below p after h most = elim (told p (omega (arith, h, most))) [
+    | inl s ↦ omega (arith, slice_get_within scalars (class p) _ s.key)
+    | inr n ↦ omega (arith, n.own, h)
+  ]
 
   -- equal scalars have one class, and each other event has its own
   pub equal_scalars : AreIdentities (plain_events held) class top

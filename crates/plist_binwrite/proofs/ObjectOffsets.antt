@@ -1,13 +1,13 @@
 -- Objects that lie back to back: their order, their offsets and their sizes.
-use Rattle.std.proofs.Common.{◌≡◌, ◌≢◌, ◌↔◌, ◌⊎◌, inl, inr, ℕ, ◌+◌, ◌<◌, ◌≤◌, true, false, ◌||◌, eqb, List, [], ◌∷◌, ◌++◌, length, get_or, set, refl, ap, sym, ◌∙◌, arith, append_assoc, length-append, Option, Some, None, IfSome, subst}
-use Rattle.std.specs.List.{list_any, IsDistinct}
+use Rattle.std.proofs.Common.{◌≡◌, ◌≢◌, ◌↔◌, ◌⊎◌, inl, inr, ℕ, ◌+◌, ◌<◌, ◌≤◌, true, false, ◌||◌, eqb, List, [], ◌∷◌, ◌++◌, length, get_or, set, map, refl, ap, sym, ◌∙◌, arith, append_assoc, length-append, Option, Some, None, IfSome, subst}
+use Rattle.std.specs.List.{list_any, AllByRecursion, IsDistinct}
 use Rattle.std.proofs.lemmas.Bool.{eqb-true, eqb-false, or_cases, or_parts, false_from_ne_true, true_from_ne_false, eq-eqb}
 use Rattle.std.proofs.lemmas.Cmp.{nat_eq_equiv}
 use Rattle.std.proofs.lemmas.Grind.{flat_map-append}
 use Rattle.std.proofs.lemmas.List.Recursion.{or_push}
 use Rattle.std.proofs.lemmas.Map.Keys.{IsDistinct-push}
 use Rattle.std.proofs.lemmas.Bool.Decides.{eqb_tells}
-use Rattle.std.proofs.lemmas.List.{get_or-set_same, get_or-set_other, length-set}
+use Rattle.std.proofs.lemmas.List.{get_or-map, get_or-set_same, get_or-set_other, length-set}
 use Rattle.plist_format.specs.Container.{magic}
 use Rattle.plist_format.specs.Object.{Object}
 use Rattle.plist_binwrite.specs.Forms.{form, IsWritable}
@@ -17,14 +17,13 @@ use Rattle.std.proofs.lemmas.List.Folds.{list_any_at}
 use Rattle.plist_base.specs.Events.{PlainEvent}
 use Rattle.plist_base.specs.Trees.{Tree, Leaf, Array, Dictionary}
 use Rattle.plist_buffer.specs.EventTable.{HasItem, IsBracketed}
-use Rattle.plist_binwrite.specs.inner.Numbering.{IsPlanned, number_by}
 use Rattle.plist_buffer.specs.Occurrences.{OccursAt}
 use Rattle.plist_binwrite.specs.Numberings.{object_of, Describes}
 use Rattle.plist_binwrite.specs.Sizes.{total, IsSizeOrNone, object_size}
+use Rattle.plist_buffer.proofs.Uniques.{any_has}
 use Rattle.plist_binwrite.proofs.TreeObjects.{occurs_at}
 use Rattle.plist_binwrite.proofs.Reading.{length-keys_of, length-values_of}
 use Rattle.plist_binwrite.proofs.ReadingNumbers.{length-table}
-use Rattle.plist_binwrite.proofs.NumberingSteps.{known_number}
 use Rattle.plist_binwrite.proofs.Totals.{total_below, total_all}
 use Rattle.plist_binwrite.proofs.Unfold.{length-references, length-pairs}
 
@@ -287,19 +286,17 @@ module _ {es : List PlainEvent} {number : ℕ → ℕ} (whole : IsBracketed es) 
         rw d.2 (good d.0 d.1),
       )
 
--- the object of a number is that of the tree which begins at its first event
-module _ {es : List PlainEvent} {class : ℕ → ℕ} {by_class firsts : List ℕ}
-    (planned : IsPlanned es class by_class firsts) (objects : ℕ → Object) (k first : ℕ)
-    (e : first ≡ get_or firsts k 0) (h : k < length firsts)
-    (describes : Describes es (number_by class by_class) objects) where
-  pub described : (u : Tree) × OccursAt es u first
-      × (objects k ≡ object_of (number_by class by_class) u first)
+-- the object at an index of the order is that of the tree which begins at the event there
+module _ {es : List PlainEvent} {number : ℕ → ℕ} (whole : IsBracketed es) (objects : ℕ → Object)
+    (describes : Describes es number objects) (order : List ℕ)
+    (items : AllByRecursion (HasItem es) order) (i p : ℕ) (within : i < length order)
+    (e : p ≡ get_or order i 0) where
+  pub described : (u : Tree) × OccursAt es u p
+      × (objects (get_or (map number order) i 0) ≡ object_of number u p)
   described =
-      let f = planned.numbered.known k h in
-      let u = occurs_at es planned.whole _ f.0 f.2 in
-      let s = subst (OccursAt es u.0) (sym e) u.1 in (
-        u.0,
-        s,
-        ap objects (sym (ap (number_by class by_class) e ∙ known_number planned.numbered k h))
-            ∙ describes u.0 _ s,
+      let here = any_has (HasItem es) order _ items (any_at order i within) in
+      let d = described_at whole objects describes p (subst (HasItem es) (sym e) here) in (
+        d.0,
+        d.1,
+        ap objects (get_or-map number order i 0 0 within ∙ ap number (sym e)) ∙ d.2,
       )

@@ -1,6 +1,6 @@
 -- The classes of a tree's positions correspond to the numbers of a plan: there are as many of each,
 -- and their objects have the same total size.
-use Rattle.std.proofs.Common.{◌≡◌, ℕ, ◌<◌, true, eqb, List, length, get_or, map, ap, sym, ◌∙◌}
+use Rattle.std.proofs.Common.{◌≡◌, ℕ, ◌<◌, true, eqb, List, length, map, ap, sym, ◌∙◌}
 use Rattle.std.specs.List.{AllByRecursion}
 use Rattle.std.specs.Set.{is_member, unique_keys}
 use Rattle.std.proofs.lemmas.Bool.Decides.{eqb_tells}
@@ -27,8 +27,8 @@ use Rattle.plist_buffer.proofs.Uniques.{all_from, all_unique, members_self, memb
 
 -- ---- a plan's numbers
 
-module _ {es : List PlainEvent} {class : ℕ → ℕ} {by_class firsts : List ℕ}
-    (planned : IsPlanned es class by_class firsts) (whole : Tree) (e : es ≡ lengthless whole) where
+module _ {es : List PlainEvent} {class : ℕ → ℕ} {by_class : List ℕ} {count : ℕ}
+    (planned : IsPlanned es class by_class count) (whole : Tree) (e : es ≡ lengthless whole) where
   stand : AllByRecursion (Stands es) (positions whole 0)
   stand = positions_stand es _ 0 (occurs_whole e)
 
@@ -39,19 +39,19 @@ module _ {es : List PlainEvent} {class : ℕ → ℕ} {by_class firsts : List �
   given = map number (positions whole 0)
 
   -- a plan's numbers are those below the count
-  total_numbers : (w : ℕ → ℕ) → total w (unique_keys eqb given) ≡ total_below w (length firsts)
+  total_numbers : (w : ℕ → ℕ) → total w (unique_keys eqb given) ≡ total_below w (count)
   total_numbers w =
-      total_all w (length firsts) (unique_keys eqb given) (unique_distinct eqb eqb_tells given)
-      (λ q h. member_has number (λ k. k < length firsts)
+      total_all w (count) (unique_keys eqb given) (unique_distinct eqb eqb_tells given)
+      (λ q h. member_has number (λ k. k < count)
       (positions whole 0) q
-      (all_from (λ one. number one < length firsts) (Stands es)
+      (all_from (λ one. number one < count) (Stands es)
       (λ one s. number_below planned one.1 one.0 s) (positions whole 0) stand)
       (sym (unique_member eqb eqb_tells given q) ∙ h))
       (λ q h. let f = planned.numbered.known q h in
       let m = positions_all es (λ p. is_member eqb given (number_by class by_class p)
       ≡ true) whole e
       (members_self number (positions whole 0))
-      (get_or firsts q 0) f.0 f.2 in
+      (planned.numbered.first q) f.0 f.2 in
       unique_member eqb eqb_tells given q ∙ ap (λ k. is_member eqb given k) (sym (known_number planned.numbered q h)) ∙ m)
 
   -- there is one number for each class of a position
@@ -66,9 +66,9 @@ module _ {es : List PlainEvent} {class : ℕ → ℕ} {by_class firsts : List �
       (positions whole 0) stand
 
   -- there are as many objects as classes
-  pub planned_count : length firsts ≡ count_by class whole
+  pub planned_count : count ≡ count_by class whole
   planned_count =
-      sym (count_below (length firsts)) ∙ sym (total_numbers (λ x. 1))
+      sym (count_below (count)) ∙ sym (total_numbers (λ x. 1))
       ∙ total_one (unique_keys eqb given)
       ∙ ap length (sym kept_numbers) ∙ length-map (representatives class whole)
       number
@@ -76,10 +76,10 @@ module _ {es : List PlainEvent} {class : ℕ → ℕ} {by_class firsts : List �
   -- the objects of a plan have as many bytes as one object for each class
   pub planned_size : (w : ℕ) (objects : ℕ → Object)
       → Describes es (number_by class by_class) objects
-      → (order : List ℕ) → AllOnce (length firsts) order
+      → (order : List ℕ) → AllOnce (count) order
       → length (object_table w objects order) ≡ objects_by class w whole
   planned_size w objects describes order all =
-      total_bodies w objects order (length firsts) all
+      total_bodies w objects order (count) all
       ∙ sym (total_numbers (λ k. length (form w (objects k))))
       ∙ ap (total (λ k. length (form w (objects k)))) (sym kept_numbers)
       ∙ total-map number (λ k. length (form w (objects k)))

@@ -18,8 +18,8 @@ use Rattle.plist_binwrite.specs.ObjectCounts.{collections_in}
 use Rattle.plist_binwrite.specs.Forms.{form, table_form, AllFit}
 use Rattle.plist_binwrite.specs.Numberings.{Describes}
 use Rattle.plist_binwrite.specs.EventClasses.{class_in, events_in}
-use Rattle.plist_binwrite.specs.inner.Layout.{laid_out, with_table_and_trailer, HasAll, file_of, IsFilePlan, SendsPlan, AreObjectsOf, ExceedsWith, FitsWith, IsLayout}
-use Rattle.plist_binwrite.specs.inner.Numbering.{IsPlanned, count_of, object_number, number_by}
+use Rattle.plist_binwrite.specs.inner.Layout.{laid_out, with_table_and_trailer, HasAll, file_of, numbers_in, IsFilePlan, SendsPlan, AreObjectsOf, ExceedsWith, FitsWith, IsLayout}
+use Rattle.plist_binwrite.specs.inner.Numbering.{IsPlanned, object_number, number_by}
 use Rattle.plist_buffer.specs.Occurrences.{positions}
 use Rattle.plist_binwrite.specs.Widths.{reference_width, offset_width}
 use Rattle.plist_binwrite.specs.Written.{Laid, object_table, table_and_trailer}
@@ -46,22 +46,22 @@ use Rattle.plist_binwrite.specs.Sizes.{IsSizeOrNone, size_with}
 use Rattle.plist_binwrite.specs.SendingAs.{IsFileAs, SendsAs}
 use Rattle.plist_buffer.proofs.Lengthless.{plain_lengthless}
 
-module _ {es : List PlainEvent} {class : ℕ → ℕ} {by_class firsts : List ℕ}
-    (planned : IsPlanned es class by_class firsts) (t : Tree) (e : es ≡ lengthless t)
+module _ {es : List PlainEvent} {class : ℕ → ℕ} {by_class : List ℕ} {count : ℕ}
+    (planned : IsPlanned es class by_class count) (t : Tree) (e : es ≡ lengthless t)
     (objects : ℕ → Object) (describes : Describes es (number_by class by_class) objects)
-    (order : List ℕ) (all : AllOnce (length firsts) order) where
+    (order : List ℕ) (all : AllOnce (count) order) where
   -- the magic and the objects have this length
-  pub laid_length : length (laid_out (reference_width (length firsts)) objects order)
+  pub laid_length : length (laid_out (reference_width (count)) objects order)
       ≡ 8 + objects_by class (reference_width (count_by class t)) t
   laid_length =
-      length-magic (object_table (reference_width (length firsts)) objects order)
+      length-magic (object_table (reference_width (count)) objects order)
       ∙ ap (λ k. 8 + k) (planned_size planned t e
-      (reference_width (length firsts)) objects describes order all)
+      (reference_width (count)) objects describes order all)
       ∙ ap (λ c. 8 + objects_by class (reference_width c) t)
       (planned_count planned t e)
 
   module _ (places : List ℕ) (laid : Laid (reference_width (length places)) objects places order 8)
-      (long : length places ≡ length firsts) (fits : size_by class t < 2 ^ 64) where
+      (long : length places ≡ count) (fits : size_by class t < 2 ^ 64) where
     abbrev w : ℕ
     w = reference_width (length places)
 
@@ -181,8 +181,11 @@ module _ {es : List PlainEvent} {class : ℕ → ℕ} {by_class firsts : List �
     }
 
 module _ {given : Classed} {plan : FilePlan} (l : IsLayout given plan)
-    (all : HasAll (count_of plan.numbering) plan.order) where
-  once : AllOnce (count_of plan.numbering) plan.order
+    (all : HasAll given plan) where
+  abbrev order : List ℕ
+  order = numbers_in given plan
+
+  once : AllOnce plan.numbering.count order
   once = record { distinct = l.order.distinct; numbered = λ k. (l.order.below k, all k) }
 
   module _ (t : Tree) (e : events_in given ≡ lengthless t) where
@@ -194,8 +197,8 @@ module _ {given : Classed} {plan : FilePlan} (l : IsLayout given plan)
     table_told =
         let of = numbered l.numbered.planned in
         subst (IsSizeOrNone plan.end)
-        (ap (λ v. length (laid_out v of.objects plan.order)) l.width
-        ∙ laid_length l.numbered.planned t e of.objects of.describes plan.order once)
+        (ap (λ v. length (laid_out v of.objects order)) l.width
+        ∙ laid_length l.numbered.planned t e of.objects of.describes order once)
         (l.laid of.objects of.describes).end
 
     -- the number of objects is that of the classes
@@ -234,10 +237,10 @@ module _ {given : Classed} {plan : FilePlan} (l : IsLayout given plan)
       file = λ objects d t e.
           subst
           (λ w. IsFileBy (class_in given) t
-          (with_table_and_trailer (laid_out w objects plan.order) plan.places))
+          (with_table_and_trailer (laid_out w objects order) plan.places))
           (sym widths)
-          (finished l.numbered.planned t e objects d plan.order once plan.places
-          (subst (λ w. Laid w objects plan.places plan.order 8) widths
+          (finished l.numbered.planned t e objects d order once plan.places
+          (subst (λ w. Laid w objects plan.places order 8) widths
           (rw known at (l.laid objects d).laid)) l.order.long (all_fit t e));
     }
 
@@ -255,7 +258,7 @@ pub sends_end : {W : Type 0} (contents : W → Option (List ℕ)) (given : Class
     → AppendsPrefix (written contents middle) (written contents new) (pending middle)
     → OnlyDevice answer
     → ((objects : ℕ → Object) → AreObjectsOf given plan objects
-    → PutsBytes contents old (file_of plan objects) (Ok tt) middle)
+    → PutsBytes contents old (file_of given plan objects) (Ok tt) middle)
     → SendsPlan contents given plan (answer_of answer) old.writer.now new.writer.now
 sends_end contents given plan old middle new empty (Ok done) sent prefix failed put =
     λ objects d. sent_whole _ empty (put objects d) sent
@@ -270,7 +273,7 @@ module _ {W : Type 0} (contents : W → Option (List ℕ)) (given : Classed) (ol
   of = numbered r.numbered.planned
 
   is_file : IsFileAs (files_by (class_in given)) (events_in given)
-      (file_of plan of.objects)
+      (file_of given plan of.objects)
   is_file = (
     complete_of_whole (events_in given) whole,
     λ t alike. r.file of.objects of.describes t (plain_lengthless given.events.now t alike),
@@ -278,6 +281,6 @@ module _ {W : Type 0} (contents : W → Option (List ℕ)) (given : Classed) (ol
 
   pub plan_sends : (answer : Answer) → SendsPlan contents given plan answer old new
       → SendsAs (files_by (class_in given)) contents (events_in given) answer old new
-  plan_sends (Ok done) s = (file_of plan of.objects, is_file, s of.objects of.describes)
+  plan_sends (Ok done) s = (file_of given plan of.objects, is_file, s of.objects of.describes)
   plan_sends (Err fault) s =
-      rw s.0 (refl, (file_of plan of.objects, is_file, s.1 of.objects of.describes))
+      rw s.0 (refl, (file_of given plan of.objects, is_file, s.1 of.objects of.describes))

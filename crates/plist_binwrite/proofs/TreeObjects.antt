@@ -10,7 +10,7 @@ use Rattle.plist_buffer.specs.Occurrences.{event_count, OccursAt, ItemsOccurAt, 
 use Rattle.plist_binwrite.specs.Numberings.{references, pairs, object_of}
 use Rattle.plist_binwrite.specs.Forms.{big_endian, length_form, units_of, is_ascii_text, text_form, scalar_form, form, key_numbers, value_numbers, IsWritable, IsWritableScalar, AllFit}
 use Rattle.plist_buffer.specs.EventTable.{is_end, event_at, item_indices, key_indices, value_indices, IsBracketed}
-use Rattle.plist_binwrite.specs.Sizes.{IsSizeOrNone, dictionary_size, marked_size}
+use Rattle.plist_binwrite.specs.Sizes.{IsSizeOrNone, marked_size}
 use Rattle.plist_buffer.specs.Children.{half_of}
 use Rattle.plist_buffer.specs.declared.children.Half.TheVariants.{Values}
 use Rattle.plist_format.specs.declared.marker.CountedKind.TheVariants as counted
@@ -18,7 +18,7 @@ use Rattle.plist_binwrite.specs.EventClasses.{events_in}
 use Rattle.plist_binwrite.specs.declared.classes.Classed.{Classed}
 use Rattle.plist_binwrite.specs.declared.plan.FilePlan.{FilePlan}
 use Rattle.plist_binwrite.specs.inner.Numbering.{object_number}
-use Rattle.plist_binwrite.specs.inner.Putting.{collection_form, tree_form}
+use Rattle.plist_binwrite.specs.inner.Layout.{collection_form, tree_form}
 use Rattle.plist_buffer.specs.inner.Entries.{is_leaf}
 use Rattle.plist_buffer.proofs.TreeOccurrences.{occurs_whole, occurs_items, occurs_pairs, occurs_item, occurs_next, occurs_key, occurs_value, occurs_next_pair}
 use Rattle.plist_buffer.proofs.TreeStarts.{stands_single, starts_array, starts_dictionary, no_start, begins, occurs_in}
@@ -187,7 +187,7 @@ module _ (given : Classed) (plan : FilePlan) where
 -- a size that is computed from the number of references is that of the dictionary
 pub dictionary_told : (given : Option ℕ) (w count pairs : ℕ) → count ≡ pairs
     → IsSizeOrNone given (marked_size 0xd count (2 * count * w))
-    → IsSizeOrNone given (dictionary_size w pairs)
+    → IsSizeOrNone given (marked_size 0xd pairs (pairs * w + pairs * w))
 dictionary_told given w count pairs h told_is =
     let two : 2 * count * w ≡ pairs * w + pairs * w = rw h (grind arith) in
     subst (IsSizeOrNone _) (λ i. length (length_form 0xd (h i)) + two i) told_is

@@ -14,7 +14,7 @@ use Rattle.plist_base.specs.Trees.{number_of_trees, number_of_members, Tree, Lea
 use Rattle.plist_format.specs.Object.{children_of}
 use Rattle.plist_format.specs.Unfolding.{TableEntry, items_of, until_fault, unfolding_of}
 use Rattle.plist_format.specs.Visits.{visits_within, visits_of}
-use Rattle.plist_binwrite.specs.ObjectCounts.{collection_of, collections_among}
+use Rattle.plist_binwrite.specs.ObjectCounts.{collection_of}
 use Rattle.plist_buffer.specs.Occurrences.{event_count, OccursAt, ItemsOccurAt, PairsOccurAt, positions, positions_in_items, positions_in_pairs}
 use Rattle.plist_binwrite.specs.Numberings.{references, pairs, object_of}
 use Rattle.plist_buffer.proofs.Uniques.{all_from}
@@ -34,7 +34,7 @@ length-pairs num (MemberAnd k t ms) q = omega (arith, length-pairs num ms (q + 1
 
 module _ (num : ℕ → ℕ) where
   abbrev numbers : List (ℕ × Tree) → List ℕ
-  numbers ones = map (λ one. num one.0) (collections_among ones)
+  numbers ones = map (λ one. num one.0) (flat_map collection_of ones)
 
   pub record Shows (shown : List Item) (entered : List ℕ) (es : List PlainEvent)
       (ones : List (ℕ × Tree)) : Type 0 where
@@ -50,7 +50,7 @@ module _ (num : ℕ → ℕ) where
           s.visits,
           t.visits,
           flat_map-append collection_of x y,
-          map-append (λ one. num one.0) (collections_among x) (collections_among y),
+          map-append (λ one. num one.0) (flat_map collection_of x) (flat_map collection_of y),
         ) refl;
   }
 

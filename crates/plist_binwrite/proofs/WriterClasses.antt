@@ -1,6 +1,6 @@
 -- The classes of `BinaryWriter`: one for each collection, and one for each different scalar.
 use Rattle.std.proofs.Common.{◌≡◌, ℕ, ◌+◌, ◌<◌, ◌≤◌, Bool, true, false, cond, ◌||◌, eqb, List, [], ◌∷◌, ◌++◌, length, map, refl, ap, sym, ◌∙◌, arith, append_assoc, append-nil, length-append}
-use Rattle.std.specs.List.{list_any, AllByRecursion, IsDistinct}
+use Rattle.std.specs.List.{list_any, flat_map, AllByRecursion, IsDistinct}
 use Rattle.std.specs.Set.{is_member, unique_keys}
 use Rattle.std.proofs.lemmas.Bool.{ne_eqb}
 use Rattle.std.proofs.lemmas.Bool.Decides.{eqb_tells}
@@ -10,7 +10,7 @@ use Rattle.plist_base.specs.Events.{PlainEvent, EndCollection}
 use Rattle.plist_base.specs.Trees.{Scalar, Tree, Leaf, Array, Dictionary, Trees, NoTrees, TreeAnd, Members, NoMembers, MemberAnd}
 use Rattle.plist_binwrite.specs.Classes.{AreClasses, same_class, representatives, count_by, objects_by, size_by}
 use Rattle.plist_base.specs.Scalars.{scalar_eq}
-use Rattle.plist_binwrite.specs.ObjectCounts.{collections_among, leaf_scalars, collections_in, scalars_in, object_count}
+use Rattle.plist_binwrite.specs.ObjectCounts.{collection_of, leaf_scalar, collections_in, scalars_in, object_count}
 use Rattle.plist_binwrite.specs.Numberings.{object_of}
 use Rattle.plist_binwrite.specs.inner.Scalars.{Identity, shared, alone, identity_of, identity_at, AreIdentities}
 use Rattle.plist_binwrite.specs.Sizes.{total, object_size, size_with, file_size}
@@ -124,7 +124,7 @@ positions_rise t = rw (← (append-nil (positions t 0))) (rising t 0 [] tt)
 -- ---- the weights of one of each kind
 
 text_member : (ones : List One) (p : ℕ) (x : Scalar)
-    → is_member owned_eq ones (p, Leaf x) ≡ is_member scalar_eq (leaf_scalars ones) x
+    → is_member owned_eq ones (p, Leaf x) ≡ is_member scalar_eq (flat_map leaf_scalar ones) x
 text_member [] p x = refl
 text_member ((q, Leaf y) ∷ ones) p x = ap (λ b. scalar_eq x y || b) (text_member ones p x)
 text_member ((q, t) ∷ ones) p x = text_member ones p x
@@ -143,15 +143,15 @@ module _ (weight : Tree → ℕ) where
 
   owned_total : (low : ℕ) (ones : List One) → Rise low ones
       → total weigh (unique_keys owned_eq ones)
-      ≡ total weigh (collections_among ones) + total (λ y. weight (Leaf y))
-      (unique_keys scalar_eq (leaf_scalars ones))
+      ≡ total weigh (flat_map collection_of ones) + total (λ y. weight (Leaf y))
+      (unique_keys scalar_eq (flat_map leaf_scalar ones))
   owned_total low [] r = refl
   owned_total low ((p, Leaf x) ∷ ones) r =
       let more = owned_total (p + 1) ones r.1 in
-      rw (text_member ones p x) (elim (is_member scalar_eq (leaf_scalars ones) x) as (λ b. total weigh
+      rw (text_member ones p x) (elim (is_member scalar_eq (flat_map leaf_scalar ones) x) as (λ b. total weigh
       (cond b (unique_keys owned_eq ones) ((p, Leaf x) ∷ unique_keys owned_eq ones))
-      ≡ total weigh (collections_among ones) + total (λ y. weight (Leaf y)) (cond b
-      (unique_keys scalar_eq (leaf_scalars ones)) (x ∷ unique_keys scalar_eq (leaf_scalars ones)))) [
+      ≡ total weigh (flat_map collection_of ones) + total (λ y. weight (Leaf y)) (cond b
+      (unique_keys scalar_eq (flat_map leaf_scalar ones)) (x ∷ unique_keys scalar_eq (flat_map leaf_scalar ones)))) [
         | true ↦ more
         | false ↦ omega (arith, more)
       ])
@@ -202,7 +202,7 @@ module _ {es : List PlainEvent} {class : ℕ → ℕ} {count : ℕ} (o : AreIden
     → class p ≡ class q) where
   all_apart : (a : One) → Stands es a → own_tree a.1 a.0 ≡ alone a.0 → (ones : List One)
       → AllByRecursion (Stands es) ones → AllByRecursion (λ later. a.0 < later.0) ones
-      → AllByRecursion (λ y. eqb (num a.0) y ≡ false) (map (λ one. num one.0) (collections_among ones))
+      → AllByRecursion (λ y. eqb (num a.0) y ≡ false) (map (λ one. num one.0) (flat_map collection_of ones))
   all_apart a s i [] r h = tt
   all_apart a s i ((q, Leaf y) ∷ ones) r h = all_apart a s i ones r.1 h.1
   all_apart a s i ((q, t) ∷ ones) r h = (
@@ -214,7 +214,7 @@ module _ {es : List PlainEvent} {class : ℕ → ℕ} {count : ℕ} (o : AreIden
   )
 
   distinct_at : (low : ℕ) (ones : List One) → AllByRecursion (Stands es) ones → Rise low ones
-      → IsDistinct eqb (map (λ one. num one.0) (collections_among ones))
+      → IsDistinct eqb (map (λ one. num one.0) (flat_map collection_of ones))
   unfolding IsDistinct
   distinct_at low [] s r = tt
   distinct_at low ((p, Leaf x) ∷ ones) s r = distinct_at (p + 1) ones s.1 r.1

@@ -1,5 +1,6 @@
 -- The classes of buffered events. Trees of one class share an object.
-use Rattle.std.specs.Prelude.{◌≡◌, ℕ, ◌+◌, ◌<◌, List, length, Option, None, Some, ⊤}
+use Rattle.std.specs.Prelude.{◌≡◌, ℕ, ◌+◌, ◌<◌, List, length, ⊤}
+use Rattle.std.specs.Option.{unwrap_or}
 use Rattle.plist_base.specs.Events.{PlainEvent}
 use Rattle.plist_binwrite.specs.Classes.{AreClasses}
 use Rattle.plist_buffer.specs.EventTable.{nth_number, plain_events, scalars_of}
@@ -10,15 +11,10 @@ use Rattle.plist_buffer.specs.declared.event_table.EventTable.{EventTable}
 use Rattle.plist_buffer.specs.inner.Columns.{scalar_named}
 use Rattle.plist_buffer.specs.inner.Entries.{entry_at}
 
--- the index of a scalar if there is one, and otherwise `own`
-abbrev pub scalar_or_own : Option ℕ → (own : ℕ) → ℕ
-scalar_or_own None own = own
-scalar_or_own (Some scalar) own = scalar
-
 -- the class of the event at an index
 abbrev pub class_of : Classes → EventTable → (index : ℕ) → ℕ
 class_of EqualScalars held index =
-    scalar_or_own (scalar_named (entry_at held.entries index)) (length (scalars_of held) + index)
+    unwrap_or (scalar_named (entry_at held.entries index)) (length (scalars_of held) + index)
 class_of (Listed classes bound) held index = nth_number classes index
 
 -- an exclusive upper bound of the classes

@@ -12,26 +12,18 @@ abbrev pub collection_of : ℕ × Tree → List (ℕ × Tree)
 collection_of (index, Leaf scalar) = []
 collection_of (index, tree) = (index, tree) ∷ []
 
--- the arrays and dictionaries among trees, with their indices
-abbrev pub collections_among : List (ℕ × Tree) → List (ℕ × Tree)
-collections_among ones = flat_map collection_of ones
-
 -- a tree's scalar, and nothing for a collection
 abbrev pub leaf_scalar : ℕ × Tree → List Scalar
 leaf_scalar (index, Leaf scalar) = scalar ∷ []
 leaf_scalar (index, tree) = []
 
--- the scalars among trees
-abbrev pub leaf_scalars : List (ℕ × Tree) → List Scalar
-leaf_scalars ones = flat_map leaf_scalar ones
-
 -- all arrays and dictionaries of a tree with their indices, even if some are equal
 abbrev pub collections_in : Tree → List (ℕ × Tree)
-collections_in tree = collections_among (positions tree 0)
+collections_in tree = flat_map collection_of (positions tree 0)
 
 -- the scalars of a tree, with its keys as strings
 abbrev pub scalars_in : Tree → List Scalar
-scalars_in tree = leaf_scalars (positions tree 0)
+scalars_in tree = flat_map leaf_scalar (positions tree 0)
 
 -- the number of objects: one for each collection, and one for each different scalar
 abbrev pub object_count : Tree → ℕ

@@ -10,31 +10,29 @@ use plist_buffer::children::{Children, Half, begins_collection};
 use plist_buffer::compact_numbers::CompactNumbers;
 use std::alloc::{AllocError, Global};
 
-/// The number of each class's object, and the first event of each object.
+/// The number of each class's object.
 #[derive(Drop)]
 pub struct Numbering {
     /// One more than the number of each class's object, indexed by the class, or 0 if the object
     /// has no number yet.
     pub by_class: CompactNumbers,
-    /// The index of the first event of each object, in the order of the objects' numbers.
-    pub firsts: CompactNumbers,
+    /// How many objects have numbers. These are the numbers below it.
+    pub count: usize,
 }
 
 impl Numbering {
-    ghost use Rattle.std.specs.Prelude.{◌≡◌, ◌<◌, [], length, replicate, IfOk, OnOk};
+    ghost use Rattle.std.specs.Prelude.{◌≡◌, ◌<◌, length, replicate, IfOk, OnOk};
     ghost use Rattle.plist_binwrite.specs.EventClasses.{IsListed, class_in, events_in};
-    ghost use Rattle.plist_buffer.specs.EventTable.{nth_number, HasItem, IsBracketed};
+    ghost use Rattle.plist_buffer.specs.EventTable.{HasItem, IsBracketed};
     ghost use Rattle.plist_binwrite.specs.inner.Numbering.{AllHaveNumbers, IsNumberedSoFar, KeepsNumbers, NumbersChildren, NumbersHalf, NumbersItem, object_number, stored_number};
 
-    // Creates a numbering in which no object has a number. The memory of `firsts` is reserved at
-    // once: if this list grew, it would leave gaps in the heap between the lists that don't grow.
+    // Creates a numbering in which no object has a number.
     fn new(alloc: Global, bound: usize) -> Result<Numbering, AllocError>
         ensures unknown { IfOk result (λ r. r.by_class ≡ replicate bound 0) }
-        ensures firsts { IfOk result (λ r. r.firsts ≡ []) }
+        ensures none { IfOk result (λ r. r.count ≡ 0) }
     {
         let by_class = CompactNumbers::zeros(alloc, bound)?;
-        let firsts = CompactNumbers::with_capacity(alloc, bound)?;
-        Ok(Numbering { by_class, firsts })
+        Ok(Numbering { by_class, count: 0 })
     }
 
     /// Returns the number of the object of the event at an index.
@@ -49,14 +47,6 @@ impl Numbering {
         self.by_class.get(given.class_at(index)) - 1
     }
 
-    /// Returns the index of the first event of an object.
-    pub fn first(&self, number: usize) -> usize
-        requires { number < length self.now.firsts }
-        ensures { result ≡ nth_number self.now.firsts number }
-    {
-        self.firsts.get(number)
-    }
-
     // Assigns the next number to the object of the event at an index, unless it has one already.
     #[inline(always)]
     fn number_one(&mut self, given: &Classed<'_, '_>, index: usize) -> Result<(), AllocError>
@@ -64,7 +54,7 @@ impl Numbering {
         requires item { HasItem (events_in given.now) index }
         // Result.
         ensures numbered { OnOk result (NumbersItem given.now index self.new) }
-        ensures first { OnOk result (length self.old.firsts ≡ 0
+        ensures first { OnOk result (self.old.count ≡ 0
             → stored_number given.now self.new index ≡ 1) }
         // State afterwards.
         ensures so_far { OnOk result (IsNumberedSoFar given.now self.new) }
@@ -74,8 +64,11 @@ impl Numbering {
         if self.by_class.get(class) != 0 {
             return Ok(());
         }
-        self.firsts.push(index)?;
-        self.by_class.set(class, self.firsts.len())?;
+        let Some(count) = self.count.checked_add(1) else {
+            return Err(AllocError);
+        };
+        self.by_class.set(class, count)?;
+        self.count = count;
         Ok(())
     }
 
@@ -120,7 +113,7 @@ impl Numbering {
     // events, its keys followed by its items or values.
     fn number_all(&mut self, given: &Classed<'_, '_>) -> Result<(), AllocError>
         requires so_far { IsNumberedSoFar given.now self.old }
-        requires none { self.old.firsts ≡ [] }
+        requires none { self.old.count ≡ 0 }
         requires whole { IsBracketed (events_in given.now) }
         ensures so_far { OnOk result (IsNumberedSoFar given.now self.new) }
         ensures all { OnOk result (AllHaveNumbers (events_in given.now)
@@ -143,7 +136,7 @@ pub fn number_objects(alloc: Global, given: &Classed<'_, '_>) -> Result<Numberin
     requires classed { IsClassed given.now }
     ensures { IfOk result (IsNumberingOfEvents given.now) }
 {
-    let mut numbering = Numbering::new(alloc, given.bound())?;
+    let mut numbering = Numbering::new(alloc, given.bound_of_items())?;
     numbering.number_all(given)?;
     Ok(numbering)
 }

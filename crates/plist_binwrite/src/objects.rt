@@ -8,8 +8,7 @@ ghost use Rattle.plist_binwrite.specs.EventClasses.{events_in};
 ghost use Rattle.plist_buffer.specs.EventTable.{plain_events, table_event};
 ghost use Rattle.plist_binwrite.specs.Forms.{scalar_form};
 ghost use Rattle.plist_buffer.specs.Occurrences.{OccursAt};
-ghost use Rattle.plist_binwrite.specs.inner.Layout.{IsFilePlan};
-ghost use Rattle.plist_binwrite.specs.inner.Putting.{PutsObjects, collection_form, references_of, tree_form};
+ghost use Rattle.plist_binwrite.specs.inner.Layout.{IsFilePlan, PutsObjects, collection_form, references_of, tree_form};
 
 use crate::classes::Classed;
 use crate::forms::{CountedKind, put_length, put_number, put_scalar, try_put_number};
@@ -123,7 +122,7 @@ pub fn put_objects<W: Write>(
     ensures { PutsObjects W.contents sink.old given.now plan.now result sink.new }
 {
     for index in 0..plan.order.len() {
-        let first = plan.numbering.first(plan.order.get(index));
+        let first = plan.order.get(index);
         if !try_put_object(sink, given.events, first) {
             put_object(sink, given, plan, first)?;
         }

@@ -23,7 +23,7 @@ pub struct FilePlan {
     pub numbering: Numbering,
     /// The number of bytes in a reference.
     pub width: usize,
-    /// The numbers of the objects that have offsets, in the order of the file.
+    /// The index of the first event of each object that has an offset, in the order of the file.
     pub order: CompactNumbers,
     /// The byte offset of each object, indexed by its number, or 0 while it has none.
     pub places: CompactNumbers,
@@ -46,7 +46,6 @@ impl FilePlan {
     ghost use Rattle.plist_binwrite.specs.EventClasses.{IsClassed, events_in};
     ghost use Rattle.plist_buffer.specs.EventTable.{HasItem, IsBracketed};
     ghost use Rattle.plist_binwrite.specs.inner.Layout.{HasAll, IsLayout, Places};
-    ghost use Rattle.plist_binwrite.specs.inner.Numbering.{count_of};
 
     // Numbers the objects, of which none has an offset yet. The first one will follow the magic,
     // which has 8 bytes.
@@ -56,7 +55,7 @@ impl FilePlan {
         ensures { IfOk result (IsLayout given.now) }
     {
         let numbering = number_objects(alloc, given)?;
-        let count = numbering.firsts.len();
+        let count = numbering.count;
         let places = CompactNumbers::zeros(alloc, count)?;
         let order = CompactNumbers::with_capacity(alloc, count)?;
         Ok(FilePlan {
@@ -87,7 +86,7 @@ impl FilePlan {
         if self.places.get(number) != 0 {
             return Ok(());
         }
-        self.order.push(number)?;
+        self.order.push(index)?;
         self.places.set(number, place_or_greatest(self.end))?;
         let size = size_of_object(given.events, self.width, index);
         self.end = add(self.end, size);
@@ -118,7 +117,7 @@ impl FilePlan {
     fn place_all(&mut self, given: &Classed<'_, '_>) -> Result<(), AllocError>
         requires layout { IsLayout given.now self.old }
         ensures layout { OnOk result (IsLayout given.now self.new) }
-        ensures all { OnOk result (HasAll (count_of self.new.numbering) self.new.order) }
+        ensures all { OnOk result (HasAll given.now self.new) }
     {
         for index in 0..given.events.len() {
             self.place_here(given, index)?;

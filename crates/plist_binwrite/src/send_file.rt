@@ -9,8 +9,7 @@ ghost use Rattle.plist_binwrite.specs.EventClasses.{IsClassed, class_in, events_
 ghost use Rattle.plist_buffer.specs.EventTable.{plain_events};
 ghost use Rattle.plist_binwrite.specs.Sending.{Sends};
 ghost use Rattle.plist_binwrite.specs.SendingAs.{SendsAs};
-ghost use Rattle.plist_binwrite.specs.inner.Layout.{IsFilePlan, SendsPlan};
-ghost use Rattle.plist_binwrite.specs.inner.Putting.{PutsFile};
+ghost use Rattle.plist_binwrite.specs.inner.Layout.{IsFilePlan, SendsPlan, PutsFile};
 
 use crate::classes::{Classed, Classes};
 use crate::forms::put_table_and_trailer;

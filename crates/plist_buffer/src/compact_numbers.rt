@@ -126,7 +126,7 @@ impl CompactNumbers {
         Ok(())
     }
 
-    /// Removes the last number, if any.
+    /// Removes the last number, if any. The memory is freed once the list is empty.
     pub fn pop(&mut self)
         ensures { self.new ≡ take (length self.old - 1) self.old }
     {
@@ -135,6 +135,17 @@ impl CompactNumbers {
             None => {
                 self.narrow.pop();
             }
+        }
+        self.free_if_empty();
+    }
+
+    // Frees the memory of an empty list.
+    fn free_if_empty(&mut self)
+        ensures { self.new ≡ self.old }
+    {
+        if self.narrow.is_empty() && self.wide.is_empty() {
+            self.narrow.shrink_to_fit();
+            self.wide.shrink_to_fit();
         }
     }
 

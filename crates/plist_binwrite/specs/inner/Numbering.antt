@@ -1,8 +1,8 @@
 -- The numbers of objects. `by_class` has 1 more than the number of each class's object, or 0 if that
--- has no number yet. `firsts` has the index of the first event of each object, by its number.
+-- has no number yet. The `count` numbers are those below it.
 use Rattle.std.specs.Prelude.{◌≡◌, ℕ, ◌+◌, ◌-◌, ◌^◌, ◌<◌, ◌≤◌, false, List, length, get_or}
 use Rattle.plist_base.specs.Events.{PlainEvent}
-use Rattle.plist_buffer.specs.EventTable.{is_end, event_at, IsBracketed}
+use Rattle.plist_buffer.specs.EventTable.{is_end, event_at, HasItem, IsBracketed}
 use Rattle.plist_binwrite.specs.Classes.{AreClasses}
 use Rattle.plist_binwrite.specs.EventClasses.{IsListed, class_in, events_in}
 use Rattle.plist_binwrite.specs.declared.classes.Classed.{Classed}
@@ -34,24 +34,25 @@ pub record KeepsNumbering (old new : ℕ → ℕ) : Type 0 where
   pub kept : (p : ℕ) → IsNumbered old p → new p ≡ old p
 
 -- each class has the number of the one object whose first event is of that class, or no number yet
-pub record IsPlan (es : List PlainEvent) (class : ℕ → ℕ) (by_class firsts : List ℕ) : Type 0 where
-  pub below : (p : ℕ) → p < length es → class p < length by_class
-  pub small : length firsts < 2 ^ 64
-  pub known : (k : ℕ) → k < length firsts → (get_or firsts k 0 < length es)
-      × (stored_by class by_class (get_or firsts k 0) ≡ k + 1)
-      × (is_end (event_at es (get_or firsts k 0)) ≡ false)
-  pub same : (c : ℕ) → c < length by_class → 0 < get_or by_class c 0
-      → class (get_or firsts (get_or by_class c 0 - 1) 0) ≡ c
-  pub few : (c : ℕ) → c < length by_class → get_or by_class c 0 ≤ length firsts
+pub record IsPlan (es : List PlainEvent) (class : ℕ → ℕ) (by_class : List ℕ) (count : ℕ) : Type 0
+  where
+    pub first : ℕ → ℕ
+    pub below : (p : ℕ) → HasItem es p → class p < length by_class
+    pub small : count < 2 ^ 64
+    pub known : (k : ℕ) → k < count → (first k < length es)
+        × (stored_by class by_class (first k) ≡ k + 1) × (is_end (event_at es (first k)) ≡ false)
+    pub same : (c : ℕ) → c < length by_class → 0 < get_or by_class c 0
+        → class (first (get_or by_class c 0 - 1)) ≡ c
+    pub few : (c : ℕ) → c < length by_class → get_or by_class c 0 ≤ count
 
 -- the events are those of a tree, and each of its objects has the number of its class
-pub record IsPlanned (es : List PlainEvent) (class : ℕ → ℕ) (by_class firsts : List ℕ) : Type 0
-  where
-    pub whole : IsBracketed es
-    pub classes : AreClasses es class
-    pub numbered : IsPlan es class by_class firsts
-    pub all : AllHaveNumbers es (stored_by class by_class)
-    pub root : number_by class by_class 0 ≡ 0
+pub record IsPlanned (es : List PlainEvent) (class : ℕ → ℕ) (by_class : List ℕ) (count : ℕ)
+    : Type 0 where
+  pub whole : IsBracketed es
+  pub classes : AreClasses es class
+  pub numbered : IsPlan es class by_class count
+  pub all : AllHaveNumbers es (stored_by class by_class)
+  pub root : number_by class by_class 0 ≡ 0
 
 -- 1 more than the number of an event's object, or 0 if that has no number yet
 abbrev pub stored_number : Classed → Numbering → (index : ℕ) → ℕ
@@ -61,20 +62,16 @@ stored_number given numbering = stored_by (class_in given) numbering.by_class
 abbrev pub object_number : Classed → Numbering → (index : ℕ) → ℕ
 object_number given numbering = number_by (class_in given) numbering.by_class
 
--- the number of objects
-abbrev pub count_of : Numbering → ℕ
-count_of numbering = length numbering.firsts
-
 -- all objects of a tree's events have numbers
 pub record IsNumberingOfEvents (given : Classed) (numbering : Numbering) : Type 0 where
   pub listed : IsListed given
-  pub planned : IsPlanned (events_in given) (class_in given) numbering.by_class numbering.firsts
+  pub planned : IsPlanned (events_in given) (class_in given) numbering.by_class numbering.count
   pub open planned use *
 
 -- each event has a class, and the numbers so far follow the classes
 pub record IsNumberedSoFar (given : Classed) (found : Numbering) : Type 0 where
   pub listed : IsListed given
-  pub plan : IsPlan (events_in given) (class_in given) found.by_class found.firsts
+  pub plan : IsPlan (events_in given) (class_in given) found.by_class found.count
 
 module _ (given : Classed) where
   -- each object that has a number keeps it

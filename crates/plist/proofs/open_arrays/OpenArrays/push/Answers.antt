@@ -11,7 +11,7 @@ invariant_of-self c =
     elim c.match-push.branch [
       | in-Ok w ↦ starts_pushed _ _ _ c.args.item w.in-Ok.ensures.items c.self.invariant
       | in-Err w ↦
-          subst (λ (l : List Value). AreStarts (reverse c.self.inside.starts.items) (length l))
+          subst (λ (l : List Value). AreStarts (reverse c.self.inside.starts) (length l))
           (sym w.in-Err.ensures.items) c.self.invariant
     ]
 

@@ -16,17 +16,17 @@ all_zero xs n e h k =
 
 pub returns : goal.returns
 returns c =
-    let count = c.len-count.result in
+    let count = c.in_ok-numbering.numbering.count in
     let zeros = c.in_ok-places.ensures.zeros in
-    let n = c.len-count.ensures in
     let long = ap length zeros ∙ length-replicate count 0 in
     let wide = c.reference_width.ensures in
     record {
       numbered = c.in_ok-numbering.ensures;
-      width = rw n at wide.value;
+      width = wide.value;
       narrow = wide.range.1;
-      fits = rw n at wide.holds;
-      order = rw c.in_ok-order.ensures (order_none _ _ (long ∙ n) (all_zero _ _ long
+      fits = wide.holds;
+      items = rw c.in_ok-order.ensures tt;
+      order = rw c.in_ok-order.ensures (order_none _ _ long (all_zero _ _ long
           (λ k h. ap (λ l. get_or l k 0) zeros ∙ get_or-replicate count k 0 0 h)));
       laid = λ objects d. rw c.in_ok-order.ensures (record { end = refl; laid = tt });
     }

@@ -1,8 +1,11 @@
-use Rattle.std.proofs.Common.{◌≡◌, ◌<◌, ℕ, get_or, ap, arith, sym, ◌∙◌}
+use Rattle.std.proofs.Common.{◌≡◌, ◌<◌, ℕ, [], ◌∷◌, ◌++◌, get_or, map, ap, arith, sym, ◌∙◌}
+use Rattle.std.proofs.lemmas.List.{map-append}
 use Rattle.plist_buffer.specs.EventTable.{scalars_of}
-use Rattle.plist_binwrite.specs.inner.Numbering.{count_of, object_number}
+use Rattle.plist_binwrite.specs.inner.Numbering.{object_number}
+use Rattle.plist_binwrite.specs.inner.Layout.{numbers_in}
 use Rattle.plist_binwrite.proofs.ClassObjects.{numbered}
 use Rattle.plist_buffer.proofs.EntryEvents.{long_shown}
+use Rattle.plist_buffer.proofs.Uniques.{all_both}
 use Rattle.plist_binwrite.proofs.ObjectOffsets.{end_positive, keeps_more, laid_next, marked_more, not_in_order, order_more, sized}
 use Rattle.plist_binwrite.proofs.NumberingSteps.{numbers_below}
 use Rattle.plist_binwrite.proofs.TreeObjects.{object_fits}
@@ -13,7 +16,7 @@ use Rattle.plist_binwrite.proofs.plan.FilePlan.place.Goals.{In_ok-set as Placed}
 abbrev number : Placed → ℕ
 number c = object_number c.args.given.now c.args.self.now.numbering c.args.index
 
-below : (c : Placed) → number c < count_of c.args.self.now.numbering
+below : (c : Placed) → number c < c.args.self.now.numbering.count
 below c = let item = c.requires.item in numbers_below c.requires.layout.numbered.planned _ item.0 item.1
 
 none : (c : Placed) → get_or c.args.self.now.places (number c) 0 ≡ 0
@@ -27,6 +30,11 @@ positive c =
     c.place_or_greatest.ensures.positive
     (end_positive _ of.objects _ _ (c.requires.layout.laid of.objects of.describes).end)
 
+-- the numbers in the longer order
+pushed : (c : Placed) → map (object_number c.args.given.now c.args.self.now.numbering) c.push.new.self
+    ≡ numbers_in c.args.given.now c.args.self.now ++ number c ∷ []
+pushed c = ap (map _) c.in_ok-push.ensures.pushed ∙ map-append _ c.args.self.now.order _
+
 pub returns : goal.returns
 returns c =
     let a = (goal.at.returns c).In_ok-set in
@@ -39,7 +47,9 @@ returns c =
         width = old.width;
         narrow = old.narrow;
         fits = old.fits;
-        order = rw (c.in_ok-set.ensures.set, c.in_ok-push.ensures.pushed, c.number-number.ensures)
+        items = rw c.in_ok-push.ensures.pushed
+            (all_both _ c.args.self.now.order _ old.items (c.requires.item, tt));
+        order = rw (c.in_ok-set.ensures.set, pushed a, c.number-number.ensures)
             (order_more (number a) _ old.order (below a) (none a) (positive a));
         laid = λ objects d.
             let fit = sized planned.whole objects d c.args.index c.requires.item _ _
@@ -47,8 +57,9 @@ returns c =
             (λ t. object_fits _ _ _ _ (numbers_below planned) old.fits
             (omega (arith, long_shown (scalars_of held) held.entries, held.few)) _
             c.size_of_object-size.ensures.writable t) in
-            rw (c.in_ok-set.ensures.set, c.in_ok-push.ensures.pushed, c.number-number.ensures)
-            (laid_next c.args.self.now.width objects c.args.self.now.order c.args.self.now.places
+            rw (c.in_ok-set.ensures.set, pushed a, c.number-number.ensures)
+            (laid_next c.args.self.now.width objects (numbers_in c.args.given.now c.args.self.now)
+            c.args.self.now.places
             (number a) _ c.args.self.now.end c.size_of_object-size.result _
             (omega (arith, below a, old.order.long))
             (not_in_order (number a) _ old.order (below a) (none a) (positive a)) fit
