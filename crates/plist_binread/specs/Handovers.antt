@@ -42,11 +42,12 @@ module _ {V : Type 0} (step : V → PlainEvent → Flow → V → Type 0) (old n
   Hands answer P = HandsItem (Some answer) P
 
 module _ {V : Type 0} (step : V → PlainEvent → Flow → V → Type 0) where
-  -- a visitor passes an event on to the visitor in it
+  -- a visitor is given an event, and passes it on to the visitor in it
   pub record PassesOn (old : Relay V) (event : PlainEvent) (flow : Flow) (new : Relay V) : Type 0
     where
       pub same : new.visitor.ghost_name ≡ old.visitor.ghost_name
       pub taken : step old.visitor.now event flow new.visitor.now
+      pub given : (handed : Event) × (event_of handed ≡ event)
 
   -- the limits admit the event, and the inner visitor takes it
   pub record TakesAdmitted (old : Within V) (event : PlainEvent) (flow : Flow) (new : Within V)

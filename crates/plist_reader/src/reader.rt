@@ -13,7 +13,7 @@ use plist_ascii::{AsciiReader, Dialect};
 use plist_base::{
     Error, ErrorKind, EventSource, EventVisitor, LimitedItems, Limits, OwnedEvent, Source, Visited,
 };
-use plist_binread::BinaryReader;
+use plist_binread::{BinaryReader, Relay};
 use std::alloc::Global;
 use std::mem;
 use std::ops::ControlFlow;
@@ -281,6 +281,9 @@ impl<R: Source> EventSource for Reader<R> {
                 Ok(ControlFlow::Continue(())) => {}
                 Ok(ControlFlow::Break(())) => return Ok(Visited::Stopped),
                 Err(error) => return Err(error),
+            }
+            if let State::Binary(reader) = &mut self.state {
+                return reader.visit(&mut Relay::new(visitor));
             }
         }
         Ok(Visited::Ended)
