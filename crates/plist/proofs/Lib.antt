@@ -6,6 +6,7 @@ pub mod Tops
 pub mod ValueLastWins
 pub mod Starts
 pub mod BuilderItems
+pub mod BuiltVisits
 pub mod PredictedItems
 pub mod ReadFaults
 pub mod LastWinsSizes

@@ -11,6 +11,7 @@ pub mod Builder
 pub mod Events
 pub mod Collecting
 pub mod ValueOfItems
+pub mod ValueVisits
 pub mod ReadingBack
 pub mod WrittenEvents
 pub mod SendingValues

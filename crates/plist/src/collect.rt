@@ -1,13 +1,16 @@
-//! Builds a value from the items of an iterator.
+//! Builds a value from the items of an iterator, or from the events that a source hands over.
 
 ghost use Rattle.std.specs.Iterator.{IsFinite};
+ghost use Rattle.std.specs.Prelude.{◌≡◌};
 ghost use Rattle.plist.specs.Collecting.{Collects, CollectsTo, built_tree};
 ghost use Rattle.plist.specs.ValueOfItems.{AnswersAsPredicted};
 
 use crate::Value;
 use crate::stream::builder::{AnyEvent, Builder};
-use plist_base::Error;
+use plist_base::{Error, ErrorKind, Event, EventSource, EventVisitor, Visited};
 use std::alloc::Global;
+use std::mem;
+use std::ops::ControlFlow;
 
 // Builds a value from an iterator's items. It fails at the first item that is an error, or whose
 // event can't come next, and takes no item after that one.
@@ -39,4 +42,55 @@ pub(crate) fn collect<E: AnyEvent, I: Iterator<Item = Result<E, Error>> + Drop>(
 {
     let mut rest = items;
     collect_from(alloc, &mut rest)
+}
+
+// A visitor that builds a value.
+#[derive(Drop)]
+struct ValueVisitor {
+    builder: Builder,
+    // The error of the event that the builder rejected. It is unspecified until then.
+    refusal: Error,
+}
+
+impl EventVisitor for ValueVisitor {
+    ghost use Rattle.plist.specs.ValueVisits.{BuildsEvent};
+
+    ghost step = { BuildsEvent };
+
+    fn event(&mut self, event: Event<'_>) -> ControlFlow<()> {
+        match self.builder.take(event) {
+            Ok(()) => ControlFlow::Continue(()),
+            Err(error) => {
+                self.refusal = error;
+                ControlFlow::Break(())
+            }
+        }
+    }
+}
+
+// Takes the error of the event that the builder rejected.
+#[cold]
+fn take_refusal(refusal: &mut Error) -> Error
+    ensures { result ≡ refusal.old }
+{
+    mem::replace(refusal, ErrorKind::OutOfMemory.without_position())
+}
+
+/// Builds a value from the events that a source hands over. It fails at the first error that
+/// replaces an event, or at the first event that can't come next, and visits no further.
+pub(crate) fn collect_visited<S: EventSource>(
+    alloc: Global,
+    source: &mut S,
+) -> Result<Value, Error>
+    ensures { CollectsTo (λ event. event) S.yields source.old (built_tree result) source.new }
+{
+    let mut visitor = ValueVisitor {
+        builder: Builder::new(alloc),
+        refusal: ErrorKind::OutOfMemory.without_position(),
+    };
+    match source.visit(&mut visitor) {
+        Ok(Visited::Ended) => visitor.builder.finish(),
+        Ok(Visited::Stopped) => Err(take_refusal(&mut visitor.refusal)),
+        Err(error) => Err(error),
+    }
 }

@@ -24,7 +24,7 @@ mod dropping;
 mod from;
 
 use crate::Dictionary;
-use crate::collect::collect;
+use crate::collect::{collect, collect_visited};
 use crate::copy::copy;
 use crate::stream::Events;
 use crate::stream::builder::AnyEvent;
@@ -216,8 +216,8 @@ impl Value {
         ensures fault { IfFault result (IsReadingFault false) }
         ensures reads_back { ReadsBackIn (R.known source) result }
     {
-        let reader = Reader::with_dialect(alloc, source, dialect);
-        collect(alloc, reader)
+        let mut reader = Reader::with_dialect(alloc, source, dialect);
+        collect_visited(alloc, &mut reader)
     }
 
     /// Like [`Value::from_reader`], but fails once a limit is exceeded. The value nests at most
