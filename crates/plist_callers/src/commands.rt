@@ -2,13 +2,11 @@
 //! are no arguments, and how a run ends.
 
 ghost use Rattle.std.specs.Prelude.{◌≡◌, ◌++◌, Bool, Err, IfSome, Ok, Some, codes, false, true};
-ghost use Rattle.plist_commands.specs.Commands.{Answered};
-ghost use Rattle.plist_commands.specs.Failures.{PlainFailure, plain_failure_of, failure_text};
-ghost use Rattle.plist_commands.specs.Converting.{IfOkIs, LeavesToValue, SendsBytes};
+ghost use Rattle.plist_commands.specs.Commands.{Answered, MayEnd, PlainFailure, plain_failure_of, failure_text, Fault, Usage};
+ghost use Rattle.plist_commands.specs.Converting.{IfOkIs, LeavesToValue, SendsRead};
 ghost use Rattle.plist_print.specs.Printing.{PrintsKnown};
 ghost use Rattle.plist_commands.specs.declared.convert.FastPath.TheVariants.{NotApplicable, Sent};
 ghost use Rattle.plist_format.specs.Unfolding.{items_of_file};
-ghost use Rattle.plist_commands.specs.Messages.{Fault, Usage};
 
 use plist_base::Error;
 use plist_commands::{
@@ -38,7 +36,8 @@ pub fn print_bytes(alloc: Global, bytes: &[u8], out: &mut Vec<u8>) -> Result<(),
 ///
 /// The errors are those of [`convert_binary`].
 pub fn convert_bytes(alloc: Global, bytes: &[u8], out: &mut Vec<u8>) -> Result<FastPath, Error>
-    ensures sent { IfOkIs result Sent (SendsBytes bytes.now out.old.items out.new.items) }
+    ensures sent { IfOkIs result Sent
+        (SendsRead Some (Some bytes.now) (Ok tt) out.old.items out.new.items) }
     ensures left { IfOkIs result NotApplicable (LeavesToValue (Some bytes.now) out.old out.new) }
 {
     convert_binary(alloc, bytes, out)
@@ -92,7 +91,7 @@ pub fn is_done<R: Commands, O: Write, E: Messages>(
     err: &mut E,
 ) -> bool
     ensures answer { result ≡ true
-        → Answered (R.answers rt.now) O.contents words.now out.old (Ok tt) out.new }
+        → Answered (MayEnd (R.answers rt.now) O.contents) words.now out.old (Ok tt) out.new }
     ensures silent { result ≡ true → err.new ≡ err.old }
 {
     run_words(rt, alloc, words, out, err) == 0
@@ -108,7 +107,7 @@ pub fn is_refused<R: Commands, O: Write, E: Messages>(
     err: &mut E,
 ) -> bool
     ensures { result ≡ true → (failure : PlainFailure)
-        × Answered (R.answers rt.now) O.contents words.now out.old (Err failure) out.new
+        × Answered (MayEnd (R.answers rt.now) O.contents) words.now out.old (Err failure) out.new
         × (whole : Bool) × E.reports err.old (Fault failure) whole err.new }
 {
     run_words(rt, alloc, words, out, err) == 1

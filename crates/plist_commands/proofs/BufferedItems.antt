@@ -26,7 +26,7 @@ use Rattle.plist.proofs.EventTables.{sends_tree}
 use Rattle.plist.proofs.PredictedItems.{all-events, event-more, no-events, stops-there}
 use Rattle.plist.proofs.KeysOnce.{keys-once}
 use Rattle.plist_keyed.proofs.WalkValues.{same_of}
-use Rattle.plist_commands.specs.Converting.{HoldsTree, AreNoTree, BytesHaveKeysOnce, SendsRead, items_of_known}
+use Rattle.plist_commands.specs.Converting.{HoldsTree, BytesHaveKeysOnce, SendsRead}
 
 -- the items are some events, which are equal to the buffered ones up to lengths, and then those
 -- that remain
@@ -161,7 +161,7 @@ module _ (all before : List Item) (held : List PlainEvent) (took : TookOf all be
 pub binary_items : (known inner : Option (List ℕ)) (coming : List ℕ → List Item) → inner ≡ known
     → IfSome known (λ bytes. format.Binary ≡ format_of bytes)
     → IfSome known (λ bytes. coming bytes ≡ items_of_file bytes)
-    → option_map coming inner ≡ items_of_known known
+    → option_map coming inner ≡ option_map items_of_input known
 binary_items None inner coming e is h = ap (option_map coming) e
 binary_items (Some bytes) inner coming e is h =
     ap (option_map coming) e ∙ ap Some (h ∙ binary-input bytes is)
@@ -169,7 +169,7 @@ binary_items (Some bytes) inner coming e is h =
 -- ---- what is written
 
 pub not_direct : (known : Option (List ℕ)) (held : List PlainEvent)
-    → HoldsTree (items_of_known known) held → (repeats : Bool)
+    → HoldsTree (option_map items_of_input known) held → (repeats : Bool)
     → ((tree : Tree) → AreAlike held (bracketing tree) → (repeats ≡ false) ↔ HasKeysOnce tree)
     → (repeats ≡ false → ⊥) → IfSome known (λ bytes. BytesHaveKeysOnce bytes → ⊥)
 not_direct None held h repeats once repeated = tt
@@ -179,8 +179,8 @@ not_direct (Some bytes) held (_, (t, are, alike)) repeats once repeated =
     repeated ((once t alike).1 ((keys-once t).1 (ap last_wins same ∙ last ∙ sym same)))
 
 pub sends_read : (known : Option (List ℕ)) (held : List PlainEvent)
-    → HoldsTree (items_of_known known) held → {W : Type 0} (contents : W → Option (List ℕ))
-    (answer : Answer) (old new : W)
+    → HoldsTree (option_map items_of_input known) held
+    → {W : Type 0} (contents : W → Option (List ℕ)) (answer : Answer) (old new : W)
     → ((tree : Tree) → AreAlike held (bracketing tree) → HasKeysOnce tree)
     → Sends contents held answer old new → SendsRead contents known answer old new
 sends_read None held ((t, alike), _) contents answer old new once sent =
@@ -192,7 +192,8 @@ sends_read (Some bytes) held (_, (t, are, alike)) contents answer old new once s
 )
 
 -- known bytes whose items aren't those of a tree aren't a property list without repeated keys
-pub not_read : (known : Option (List ℕ)) → AreNoTree (items_of_known known)
+pub not_read : (known : Option (List ℕ))
+    → IfSome (option_map items_of_input known) (λ all. (tree : Tree) → AreItemsOfTree all tree → ⊥)
     → IfSome known (λ bytes. BytesHaveKeysOnce bytes → ⊥)
 not_read None h = tt
 not_read (Some bytes) h = λ (tree, of, last). h tree of

@@ -7,7 +7,7 @@ use Rattle.plist_base.specs.Events.{PlainEvent}
 use Rattle.plist_base.specs.Faults.{OutOfMemory, fault_without_offset, fault_of}
 use Rattle.plist_base.specs.Visits.{YieldsAll, PlainItem}
 use Rattle.plist_base.proofs.Visits.{given_more}
-use Rattle.plist_commands.specs.BufferRuns.{BuffersRun}
+use Rattle.plist_commands.specs.Converting.{BuffersRun}
 
 -- some events were yielded, and all of them are buffered
 abbrev pub HasHeld : {I : Type 0} (yields : I → PlainItem → I → Type 0) (old now : I)

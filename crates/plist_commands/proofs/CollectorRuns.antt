@@ -18,7 +18,7 @@ use Rattle.plist.specs.ValueOfItems.{IsReadIfKnown}
 use Rattle.plist_base.specs.declared.source.Source.{Ghosts}
 use Rattle.plist_binread.specs.BinaryReader.{Steps, binary_source}
 use Rattle.plist_reader.specs.Reader.{BinaryReaderOf}
-use Rattle.plist_commands.specs.Converting.{CollectsItems}
+use Rattle.plist_commands.specs.Converting.{BuffersRun, CollectsItems}
 use Rattle.plist_print.specs.Printing.{items_left}
 use Rattle.plist_commands.specs.declared.collector.Collector.{Collector}
 use Rattle.plist_commands.specs.declared.collector.StopReason.{StopReason}
@@ -26,7 +26,6 @@ use Rattle.plist_commands.specs.declared.collector.StopReason.TheVariants.{Faile
 use Rattle.plist_commands.specs.CollectorSteps.{AnswersVisit, HasPaused, HoldsMore, IsEmpty, MatchStop, MayPause, CollectsEvent, collected, is_complete}
 use Rattle.plist_base.specs.FirstItems.{GivesFirstIfKnown}
 use Rattle.plist_print.specs.Printing.{CountsReads}
-use Rattle.plist_commands.specs.BufferRuns.{BuffersRun}
 use Rattle.plist_print.proofs.SourceItems.{binary_comes}
 use Rattle.plist_print.proofs.PendingBytes.{fault_counts, memory_own, own_counts}
 use Rattle.plist_commands.proofs.BufferedRuns.{HasHeld, held_faulted, held_more, held_none, held_refused, held_stopped, held_whole}

@@ -6,7 +6,7 @@ use Rattle.std.proofs.lemmas.Fmt.{contents_after_writes}
 use Rattle.arrayvec.specs.ArrayString.{ArrayString}
 use Rattle.plist_base.specs.declared.error.Error.{Error}
 use Rattle.plist_base.specs.Prefixes.{AppendsPrefix}
-use Rattle.plist_commands.specs.Messages.{PlainMessage, TakesMessage, message_text}
+use Rattle.plist_commands.specs.Commands.{PlainMessage, TakesMessage, message_text}
 
 -- a line that was empty consists of what was written to it
 pub line_written : (old new : ArrayString) (text : List ℕ) → old.bytes ≡ []

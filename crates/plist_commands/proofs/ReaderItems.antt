@@ -1,6 +1,7 @@
 -- The items of a reader and of a value, which are yielded one by one.
 use Rattle.std.proofs.Common.{◌≡◌, ℕ, true, List, Option, None, Some, Result, Ok, Err, map, refl, ap}
 use Rattle.std.specs.Prelude.{is_some, ⊤}
+use Rattle.std.specs.Option.{option_map_or}
 use Rattle.plist_base.specs.declared.error.Error.{Error}
 use Rattle.plist_base.specs.declared.event.Event.{Event}
 use Rattle.plist_base.specs.declared.source.Source.{Ghosts}
@@ -15,7 +16,7 @@ use Rattle.plist.specs.Events.{GivesEvent, remaining_events}
 use Rattle.plist.specs.declared.stream.events.Events.{Events}
 use Rattle.plist_base.specs.FirstItems.{GivesFirst, GivesFirstIfKnown}
 use Rattle.plist_base.proofs.FirstItems.{plain_first}
-use Rattle.plist_commands.specs.BufferRuns.{failures_if_held, failures_in}
+use Rattle.plist_commands.specs.Converting.{failures_in}
 
 -- ---- a reader of either format
 
@@ -31,8 +32,8 @@ IsOpen reader = is_some (reader_source reader) ≡ true
 
 source_counts : {S : Type 0} (failures : S → ℕ) (old new : Option S)
     (given : Option (Result Event Error)) → is_some old ≡ true → HoldsSource failures old given new
-    → ItemCountsIo (plain_item given) (failures_if_held failures old)
-    (failures_if_held failures new) × (is_some new ≡ true)
+    → ItemCountsIo (plain_item given) (option_map_or failures old 0)
+    (option_map_or failures new 0) × (is_some new ≡ true)
 source_counts failures None new given some h = absurd (cc)
 source_counts failures (Some source) None given some h = absurd h
 source_counts failures (Some source) (Some kept) None some h = (h, refl)

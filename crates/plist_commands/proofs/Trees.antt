@@ -4,11 +4,9 @@ use Rattle.plist.specs.declared.value.Value.{Value}
 use Rattle.plist.specs.ValueTrees.{tree_of}
 use Rattle.plist_keyed.specs.declared.error.KeyedError.{KeyedError}
 use Rattle.plist_keyed.specs.declared.error.KeyedError.TheVariants as error
-use Rattle.plist_keyed.specs.Archives.{resolved_tree}
-use Rattle.plist_keyed.specs.Contents.{IsArchiveOf, IsUidAt}
-use Rattle.plist_keyed.specs.Errors.{IsFaultOf}
+use Rattle.plist_keyed.specs.Archives.{IsArchiveOf, IsFaultOf, IsUidAt, resolved_tree}
 use Rattle.plist_commands.specs.Archives.{IsRefusedAt}
-use Rattle.plist_commands.specs.Failures.{OfArchive}
+use Rattle.plist_commands.specs.Commands.{OfArchive}
 
 pub refused : (root : Value) (key : List ℕ) (objects : List Value) (names : List (List ℕ × Value))
     (uid : ℕ) (e : KeyedError) → IsArchiveOf root objects names → IsUidAt key names uid

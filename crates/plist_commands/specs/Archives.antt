@@ -7,11 +7,9 @@ use Rattle.plist_base.specs.Prefixes.{AppendsPrefix}
 use Rattle.plist_base.specs.Trees.{Tree}
 use Rattle.plist.specs.declared.value.Value.{Value}
 use Rattle.plist.specs.ValueTrees.{tree_of}
-use Rattle.plist_keyed.specs.Archives.{ArchiveFault, resolved_tree}
-use Rattle.plist_keyed.specs.Contents.{IsArchive, IsArchiveOf, IsUidAt}
-use Rattle.plist_keyed.specs.Errors.{MatchError}
+use Rattle.plist_keyed.specs.Archives.{ArchiveFault, IsArchive, IsArchiveOf, IsUidAt, MatchError, resolved_tree}
 use Rattle.plist_print.specs.EscapedLines.{lines_of_events}
-use Rattle.plist_commands.specs.Failures.{PlainFailure, OfPlist, OfArchive, NoSuchTop}
+use Rattle.plist_commands.specs.Commands.{PlainFailure, OfPlist, OfArchive, NoSuchTop}
 
 -- the property list is an archive, in which the key names an object with this tree, or this fault
 abbrev pub IsResolvedAt : (root : Value) → (key : List ℕ) → Result Tree ArchiveFault → Type 0
@@ -20,12 +18,8 @@ IsResolvedAt root key answer =
     × IsArchiveOf root objects names × IsUidAt key names uid
     × (resolved_tree (map tree_of objects) uid ≡ answer)
 
--- the property list is an archive, in which the key names an object with this tree
-abbrev pub IsTreeAt : (root : Value) → (key : List ℕ) → Tree → Type 0
-IsTreeAt root key tree = IsResolvedAt root key (Ok tree)
-
--- the failure says why there is no tree, and `NoSuchTop` that the key names no object of the archive;
--- `OutOfMemory` is always possible
+-- the failure says why there is no tree, and `NoSuchTop` that the key names no object of the
+-- archive; `OutOfMemory` is always possible
 abbrev pub IsRefusedAt : (root : Value) → (key : List ℕ) → PlainFailure → Type 0
 IsRefusedAt root key (OfPlist fault) = ⊥
 IsRefusedAt root key (OfArchive error) =
@@ -38,7 +32,7 @@ IsRefusedAt root key NoSuchTop =
 abbrev pub PrintsTreeAt : {W : Type 0} → (contents : W → Option (List ℕ)) → (root : Value)
     → (key : List ℕ) → (old new : W) → Type 0
 PrintsTreeAt contents root key old new =
-    (tree : Tree) × IsTreeAt root key tree
+    (tree : Tree) × IsResolvedAt root key (Ok tree)
     × Appends (contents old) (contents new) (lines_of_events (bracketing tree))
 
 -- the failure says why the lines weren't written: there is no tree at the key, and nothing was
@@ -47,6 +41,6 @@ abbrev pub IsUnprintedAt : {W : Type 0} → (contents : W → Option (List ℕ))
     → (key : List ℕ) → PlainFailure → (old new : W) → Type 0
 IsUnprintedAt contents root key (OfPlist fault) old new =
     (fault.offset ≡ None) × IsIoOrMemory fault.kind
-    × ((tree : Tree) × IsTreeAt root key tree
+    × ((tree : Tree) × IsResolvedAt root key (Ok tree)
     × AppendsPrefix (contents old) (contents new) (lines_of_events (bracketing tree)))
 IsUnprintedAt contents root key failure old new = IsRefusedAt root key failure × (new ≡ old)

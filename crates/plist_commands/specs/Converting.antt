@@ -1,47 +1,42 @@
--- What is written for a source's property list if no value is made of it.
-use Rattle.std.specs.Prelude.{◌≡◌, ◌⊎◌, ℕ, Bool, true, List, false, ◌++◌, Option, Result, Ok, Err, IfErr, IfOk, IfSome}
-use Rattle.std.specs.Option.{option_map}
-use Rattle.plist_base.specs.Bracketing.{bracketing, AreAlike, AreTreeEvents}
+-- What is written for a source's property list if no value is made of it, and what is buffered for
+-- that, whatever the source returns.
+use Rattle.std.specs.Prelude.{◌≡◌, ◌⊎◌, ℕ, Bool, true, false, List, map, Option, None, Some, Result, Ok, Err, IfErr, IfOk, IfSome, IsErrAnd, MatchResult}
+use Rattle.std.specs.Option.{option_map, option_map_or}
+use Rattle.plist_base.specs.Bracketing.{bracketing, without_length, AreAlike, AreTreeEvents}
 use Rattle.plist_base.specs.declared.error.Error.{Error}
+use Rattle.plist_base.specs.declared.source.Source.{Ghosts}
 use Rattle.plist_base.specs.Events.{PlainEvent, Item}
-use Rattle.plist_base.specs.Faults.{Fault, fault_of}
+use Rattle.plist_base.specs.Faults.{IsIo, OutOfMemory, error_kind_of, fault_without_offset, fault_of, kind_of, offset_of}
+use Rattle.plist_base.specs.Sources.{Rises}
 use Rattle.plist_base.specs.Trees.{Tree}
+use Rattle.plist_base.specs.Visits.{YieldsAll, YieldsPlain, PlainItem}
 use Rattle.plist_base.specs.Writing.{Answer}
-use Rattle.plist_binwrite.specs.Files.{IsFileOf}
-use Rattle.plist_commands.specs.declared.convert.FastPath.{FastPath}
-use Rattle.plist_commands.specs.declared.convert.FastPath.TheVariants.{NotApplicable, Sent}
-use Rattle.plist_reader.specs.Reader.{items_of_input}
-use Rattle.plist.specs.ValueOfItems.{AreItemsOfTree, IsValueOf, IsReadIfKnown}
+use Rattle.plist_decode.specs.FaultOffsets.{HasOffset}
+use Rattle.plist_binread.specs.BinaryReader.{Steps, is_new, binary_source}
+use Rattle.plist_reader.specs.declared.reader.Reader.{Reader}
+use Rattle.plist_reader.specs.Reader.{reader_source, Gives, BinaryReaderOf, IsNewReader, items_of_input}
+use Rattle.plist_print.specs.Printing.{CountsReads, CountsReadsOf}
+use Rattle.plist.specs.ValueOfItems.{AreItemsOfTree, IsReadIfKnown}
 use Rattle.plist.specs.LastWins.{last_wins}
 use Rattle.plist.specs.SendingValues.{SendsTree}
+use Rattle.plist_commands.specs.declared.convert.FastPath.{FastPath}
+use Rattle.plist_commands.specs.declared.convert.FastPath.TheVariants.{NotApplicable, Sent}
 
 -- the bytes are a property list in which no dictionary has a key twice
 abbrev pub BytesHaveKeysOnce : List ℕ → Type 0
-BytesHaveKeysOnce bytes = (tree : Tree) × AreItemsOfTree (items_of_input bytes) tree × (last_wins tree ≡ tree)
-
--- the items of known bytes
-abbrev pub items_of_known : (known : Option (List ℕ)) → Option (List Item)
-items_of_known known = option_map items_of_input known
-
--- if the bytes are known, reading a value from them returns this tree, or this fault
-abbrev pub IsReadAs : (known : Option (List ℕ)) → Result Tree Fault → Type 0
-IsReadAs known answer = IsReadIfKnown (items_of_known known) answer
+BytesHaveKeysOnce bytes =
+    (tree : Tree) × AreItemsOfTree (items_of_input bytes) tree × (last_wins tree ≡ tree)
 
 -- nothing was written; if the bytes are known, they aren't a property list without repeated keys
 abbrev pub LeavesToValue : {W : Type 0} → (known : Option (List ℕ)) → (old new : W) → Type 0
 LeavesToValue known old new = (new ≡ old) × IfSome known (λ bytes. BytesHaveKeysOnce bytes → ⊥)
 
--- the bytes are read as some tree, and writing a file of it had this result
+-- the bytes, if they are known, are read as some tree, and writing a file of it had this result
 abbrev pub SendsRead : {W : Type 0} → (contents : W → Option (List ℕ)) → (known : Option (List ℕ))
     → Answer → (old new : W) → Type 0
 SendsRead contents known answer old new =
-    (tree : Tree) × IsReadAs known (Ok tree) × SendsTree contents tree answer old new
-
--- these bytes are read as some tree, and a file of it was written
-abbrev pub SendsBytes : (bytes old new : List ℕ) → Type 0
-SendsBytes bytes old new =
-    (tree : Tree) × IsValueOf (items_of_input bytes) (Ok tree)
-    × ((file : List ℕ) × IsFileOf tree file × (new ≡ old ++ file))
+    (tree : Tree) × IsReadIfKnown (option_map items_of_input known) (Ok tree)
+    × SendsTree contents tree answer old new
 
 -- if the call returned `Ok` with this value, the fact is true
 abbrev pub IfOkIs : {A E : Type 0} → Result A E → A → Type 0 → Type 0
@@ -54,7 +49,8 @@ pub record Converts {W : Type 0} (contents : W → Option (List ℕ)) (known : O
     (answer : Result FastPath Error) (old new : W) : Type 0 where
   pub sent : IfOkIs answer Sent (SendsRead contents known (Ok tt) old new)
   pub left : IfOkIs answer NotApplicable (LeavesToValue known old new)
-  pub refused : IfErr answer (λ error. ((new ≡ old) × IsReadAs known (Err (fault_of error)))
+  pub refused : IfErr answer (λ error. ((new ≡ old)
+      × IsReadIfKnown (option_map items_of_input known) (Err (fault_of error)))
       ⊎ SendsRead contents known (Err (fault_of error)) old new)
 
 -- ---- the buffered events of a reader
@@ -62,23 +58,78 @@ pub record Converts {W : Type 0} (contents : W → Option (List ℕ)) (known : O
 -- the buffered events are those of a tree, and known items are those of the same tree
 abbrev pub HoldsTree : (items : Option (List Item)) → (held : List PlainEvent) → Type 0
 HoldsTree items held =
-    AreTreeEvents held
-    × IfSome items (λ all. (tree : Tree) × AreItemsOfTree all tree × AreAlike held (bracketing tree))
-
--- `P` is true of bytes that are unknown, or whose items are those of the tree of the buffered
--- events
-abbrev pub ForBytesOf : (held : List PlainEvent) → (Option (List ℕ) → Type 0) → Type 0
-ForBytesOf held P = (known : Option (List ℕ)) → HoldsTree (items_of_known known) held → P known
-
--- known items aren't those of a tree
-abbrev pub AreNoTree : (items : Option (List Item)) → Type 0
-AreNoTree items = IfSome items (λ all. (tree : Tree) → AreItemsOfTree all tree → ⊥)
+    AreTreeEvents held × IfSome items (λ all.
+    (tree : Tree) × AreItemsOfTree all tree × AreAlike held (bracketing tree))
 
 -- What collecting items does. If it returns `true`, the buffered events are those of the items'
 -- tree. If it returns `false`, the items aren't those of a tree. If it fails, reading a value from
 -- the items may fail with the same error.
-pub record CollectsItems (items : Option (List Item)) (answer : Result Bool Error) (events : List PlainEvent)
-    : Type 0 where
+pub record CollectsItems (items : Option (List Item)) (answer : Result Bool Error)
+    (events : List PlainEvent) : Type 0 where
   pub held : IfOkIs answer true (HoldsTree items events)
-  pub none : IfOkIs answer false (AreNoTree items)
+  pub none : IfOkIs answer false (IfSome items (λ all. (tree : Tree) → AreItemsOfTree all tree → ⊥))
   pub refused : IfErr answer (λ error. IsReadIfKnown items (Err (fault_of error)))
+
+module _ {I : Type 0} (gives : I → PlainItem → I → Type 0) where
+  -- The source yielded events, and then nothing, or one that isn't buffered. If the result is
+  -- `true`, nothing followed them, and they are buffered. Or the source yielded the error that is
+  -- returned. Or an allocation failed.
+  abbrev pub BuffersRun : (old : I) → Result Bool Error → (new : I) → (held : List PlainEvent)
+      → Type 0
+  BuffersRun old answer new held =
+      (events : List PlainEvent) × (left : I) × YieldsAll gives old events left × MatchResult answer
+      (λ whole. (gives left None new ⊎ ((event : PlainEvent) × gives left (Some (Ok event)) new))
+      × (whole ≡ true → gives left None new × (held ≡ map without_length events)))
+      (λ error. gives left (Some (Err error)) new
+      ⊎ ((fault_of error ≡ fault_without_offset OutOfMemory) × (new ≡ left)))
+
+-- the number of failed calls of a reader's source, or 0 if it has none
+abbrev pub failures_in : {S : Type 0} {g : Ghosts S} → (failures : S → ℕ) → Reader S g → ℕ
+failures_in failures reader = option_map_or failures (reader_source reader) 0
+
+module _ {S : Type 0} (known : S → Option (List ℕ)) (failed : S → ℕ) where
+  -- the events of a new reader of this binary source were buffered, and its failed reads were
+  -- counted
+  abbrev pub HoldsBinary : (source : S) → Result Bool Error → (held : List PlainEvent) → Type 0
+  HoldsBinary source answer held =
+      (reader : BinaryReaderOf S (record { known = known; failures = failed }))
+      × (left : BinaryReaderOf S (record { known = known; failures = failed }))
+      × (binary_source reader ≡ source) × (is_new reader ≡ true)
+      × BuffersRun Steps reader answer left held
+      × CountsReadsOf failed reader answer left
+
+  -- the events of a new reader of this source, of any format, were buffered
+  abbrev pub HoldsOther : (source : S) → Result Bool Error → (held : List PlainEvent) → Type 0
+  HoldsOther source answer held =
+      (reader : Reader S (record { known = known; failures = failed }))
+      × (left : Reader S (record { known = known; failures = failed }))
+      × IsNewReader reader source
+      × BuffersRun (YieldsPlain (Gives known failed)) reader answer left held
+      × CountsReads answer (failures_in failed reader) (failures_in failed left)
+
+  -- A read failed while the format was determined; or no read failed, and a reader of the source
+  -- was used.
+  abbrev pub ReadsSource : (source : S) → Result Bool Error → (held : List PlainEvent) → Type 0
+  ReadsSource source answer held =
+      (front : S) × (known front ≡ known source)
+      × (IsErrAnd answer (λ error. IsIo (kind_of (error_kind_of error))
+      × HasOffset (offset_of error) × Rises (failed source) (failed front))
+      ⊎ ((failed front ≡ failed source)
+      × (HoldsBinary front answer held ⊎ HoldsOther front answer held)))
+
+-- The result of a conversion, given that of buffering the events. If the events are those of a
+-- whole property list, a file of them was written, or a value is needed, or writing failed. If they
+-- aren't, a value is needed. If buffering failed, its error is returned.
+abbrev pub ComesOfReading : (sent : Type 0) → Result Bool Error → Result FastPath Error → Type 0
+ComesOfReading sent (Ok true) answer =
+    MatchResult answer (λ found. found ≡ Sent → sent) (λ error. offset_of error ≡ None)
+ComesOfReading sent (Ok false) answer = answer ≡ Ok NotApplicable
+ComesOfReading sent (Err error) answer = answer ≡ Err error
+
+-- a source's events were buffered, and this is the result of the conversion; `sends` says what was
+-- written for them
+abbrev pub ConvertsSource : {S : Type 0} (known : S → Option (List ℕ)) (failed : S → ℕ)
+    (source : S) → Result FastPath Error → (sends : List PlainEvent → Type 0) → Type 0
+ConvertsSource known failed source answer sends =
+    (read : Result Bool Error) × (held : List PlainEvent)
+    × ReadsSource known failed source read held × ComesOfReading (sends held) read answer

@@ -1,9 +1,7 @@
 //! The commands that the arguments ask for, and how they are run.
 
 ghost use Rattle.std.specs.Prelude.{◌≡◌, ℕ, ◌↔◌, List, Option, Bool, map, string_bytes, IfSome, IsNone};
-ghost use Rattle.plist_commands.specs.Failures.{CommandOutcome, outcome_of};
-ghost use Rattle.plist_commands.specs.Commands.{PlainCommand, plain_command_of, words_for, IsNoCommand, MayEnd, RunEnds};
-ghost use Rattle.plist_commands.specs.Messages.{Usage};
+ghost use Rattle.plist_commands.specs.Commands.{CommandOutcome, outcome_of, PlainCommand, plain_command_of, words_for, IsNoCommand, MayEnd, RunEnds, Usage};
 
 use crate::convert::convert_file;
 use crate::failure::Failure;

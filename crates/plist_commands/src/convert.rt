@@ -1,14 +1,15 @@
 //! Writes a property list in the binary format.
 
-ghost use Rattle.std.specs.Prelude.{◌≡◌, IfErr, IfSome, None};
+ghost use Rattle.std.specs.Prelude.{◌≡◌, ℕ, List, Option, IfErr, IfSome, None};
+ghost use Rattle.std.specs.Option.{option_map};
 ghost use Rattle.plist_base.specs.Bracketing.{AreTreeEvents};
 ghost use Rattle.plist_base.specs.Faults.{offset_of};
 ghost use Rattle.plist_buffer.specs.EventBuffers.{buffered_events};
 ghost use Rattle.plist_binwrite.specs.Sending.{Sends};
 ghost use Rattle.plist_reader.specs.Formats.{format_of};
-ghost use Rattle.plist_commands.specs.Converting.{CollectsItems, Converts, IfOkIs, ForBytesOf, items_of_known};
+ghost use Rattle.plist_reader.specs.Reader.{items_of_input};
+ghost use Rattle.plist_commands.specs.Converting.{CollectsItems, Converts, ConvertsSource, HoldsBinary, HoldsOther, HoldsTree, IfOkIs, ReadsSource};
 ghost use Rattle.plist_commands.specs.CollectorSteps.{IsEmpty, collected, is_complete};
-ghost use Rattle.plist_commands.specs.BufferRuns.{ConvertsSource, HoldsBinary, HoldsOther, ReadsSource};
 ghost use Rattle.plist_commands.specs.declared.convert.FastPath.TheVariants.{Sent};
 
 use crate::collector::Collector;
@@ -44,7 +45,7 @@ fn collect_binary<S: Source>(
 ) -> Result<bool, Error>
     requires empty { IsEmpty (is_complete collector.old) (collected collector.old) }
     requires binary { IfSome (S.known source) (λ bytes. Format.Binary ≡ format_of bytes) }
-    ensures collects { CollectsItems (items_of_known (S.known source)) result
+    ensures collects { CollectsItems (option_map items_of_input (S.known source)) result
         (collected collector.new) }
     ensures answers { HoldsBinary S.known S.failures source result (collected collector.new) }
 {
@@ -68,7 +69,7 @@ fn collect_other<S: Source>(
     collector: &mut Collector,
 ) -> Result<bool, Error>
     requires empty { IsEmpty (is_complete collector.old) (collected collector.old) }
-    ensures collects { CollectsItems (items_of_known (S.known source)) result
+    ensures collects { CollectsItems (option_map items_of_input (S.known source)) result
         (collected collector.new) }
     ensures answers { HoldsOther S.known S.failures source result (collected collector.new) }
 {
@@ -86,7 +87,7 @@ fn collect_source<S: Source>(
     collector: &mut Collector,
 ) -> Result<bool, Error>
     requires empty { IsEmpty (is_complete collector.old) (collected collector.old) }
-    ensures collects { CollectsItems (items_of_known (S.known source)) result
+    ensures collects { CollectsItems (option_map items_of_input (S.known source)) result
         (collected collector.new) }
     ensures answers { ReadsSource S.known S.failures source result (collected collector.new) }
 {
@@ -104,8 +105,9 @@ fn send_events<W: Write>(
     writer: &mut W,
 ) -> Result<FastPath, Error>
     requires { AreTreeEvents (buffered_events pending.now) }
-    ensures converts { ForBytesOf (buffered_events pending.now)
-        (λ known. Converts W.contents known result writer.old writer.new) }
+    ensures converts { (known : Option (List ℕ))
+        → HoldsTree (option_map items_of_input known) (buffered_events pending.now)
+        → Converts W.contents known result writer.old writer.new }
     ensures wrote { IfOkIs result Sent (Sends W.contents (buffered_events pending.now) (Ok tt)
         writer.old writer.new) }
     ensures without_offset { IfErr result (λ error. offset_of error ≡ None) }

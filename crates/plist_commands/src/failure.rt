@@ -2,7 +2,7 @@
 
 ghost use Rattle.std.specs.Prelude.{◌≡◌, Some};
 ghost use Rattle.plist_base.specs.Faults.{fault_of};
-ghost use Rattle.plist_commands.specs.Failures.{plain_failure_of, failure_text, OfPlist};
+ghost use Rattle.plist_commands.specs.Commands.{plain_failure_of, failure_text, OfPlist};
 
 use plist_base::Error;
 use plist_keyed::KeyedError;

@@ -1,9 +1,9 @@
 //! Prints a tree of a keyed archive.
 
-ghost use Rattle.std.specs.Prelude.{IfErr, IfOk, OnOk};
+ghost use Rattle.std.specs.Prelude.{IfErr, IfOk, Ok, OnOk};
 ghost use Rattle.plist.specs.ValueTrees.{tree_of};
-ghost use Rattle.plist_commands.specs.Archives.{IsRefusedAt, IsTreeAt, IsUnprintedAt, PrintsTreeAt};
-ghost use Rattle.plist_commands.specs.Failures.{plain_failure_of};
+ghost use Rattle.plist_commands.specs.Archives.{IsRefusedAt, IsResolvedAt, IsUnprintedAt, PrintsTreeAt};
+ghost use Rattle.plist_commands.specs.Commands.{plain_failure_of};
 
 use crate::failure::Failure;
 use crate::print::print_value;
@@ -15,7 +15,7 @@ use std::rt::Files;
 
 // Returns the tree of the object that the `$top` of an archive names by this key.
 fn tree_at(alloc: Global, root: &Value, key: &str) -> Result<Value, Failure>
-    ensures tree { IfOk result (λ value. IsTreeAt root.now key.now (tree_of value)) }
+    ensures tree { IfOk result (λ value. IsResolvedAt root.now key.now (Ok (tree_of value))) }
     ensures refused { IfErr result
         (λ error. IsRefusedAt root.now key.now (plain_failure_of error)) }
 {

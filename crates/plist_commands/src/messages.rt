@@ -1,8 +1,7 @@
 //! The messages that the program writes to standard error.
 
 ghost use Rattle.std.specs.Prelude.{◌≡◌, Bool, IfOk, is_ok};
-ghost use Rattle.plist_commands.specs.Failures.{plain_failure_of};
-ghost use Rattle.plist_commands.specs.Messages.{PlainMessage, message_text, plain_message_of, TakesMessage, Fault};
+ghost use Rattle.plist_commands.specs.Commands.{plain_failure_of, PlainMessage, message_text, plain_message_of, TakesMessage, Fault};
 
 use crate::failure::Failure;
 use arrayvec::ArrayString;

@@ -1,17 +1,16 @@
 -- What the status of a run says of its arguments.
 use Rattle.std.proofs.Common.{◌≡◌, ◌≢◌, ◌↔◌, ◌⊎◌, ℕ, Bool, true, false, eqb, List, inl, inr}
 use Rattle.std.proofs.lemmas.Bool.Decides.{eqb_tells}
-use Rattle.plist_commands.specs.Commands.{IsNoCommand, IsStatusAfter, PlainCommand, words_for}
-use Rattle.plist_commands.specs.Failures.{CommandOutcome}
-use Rattle.plist_commands.specs.Messages.{PlainMessage, Usage}
+use Rattle.plist_commands.specs.Commands.{CommandOutcome, IsNoCommand, IsStatusAfter, PlainCommand, PlainMessage, Usage, words_for}
 use Rattle.plist_tool.specs.Exits.{RunsWords}
 
 pub runs : {O E : Type 0} (reports : E → PlainMessage → Bool → E → Type 0)
     (words : List (List ℕ)) (status : ℕ) (old new : O) (err told : E)
     → (status ≡ 2) ↔ IsNoCommand words → (status ≡ 2 → new ≡ old)
     → (status ≡ 2 → (whole : Bool) × reports err Usage whole told)
-    → (status ≢ 2 → (asked : PlainCommand) × (answer : CommandOutcome)
-    × (words ≡ words_for asked) × Unit {0} × IsStatusAfter reports answer status err told)
+    → (status ≢ 2 → (answer : CommandOutcome)
+    × ((asked : PlainCommand) × (words ≡ words_for asked) × Unit {0})
+    × IsStatusAfter reports answer status err told)
     → RunsWords reports status old new err told
 runs reports words status old new err told wrong silent usage ends = by (eqb_tells status 2)
   where
@@ -19,5 +18,5 @@ runs reports words status old new err told wrong silent usage ends = by (eqb_tel
         → RunsWords reports status old new err told
     by (inl (test, is)) = (words, inl (wrong.0 is, is, silent is, usage is))
     by (inr (test, other)) =
-        let (asked, answer, same, any, ended) = ends other in
+        let (answer, (asked, same, any), ended) = ends other in
         (words, inr (asked, same, (answer, ended)))

@@ -2,9 +2,7 @@
 use Rattle.std.specs.Prelude.{◌≡◌, ◌⊎◌, ℕ, Bool, List, Result, MatchResult}
 use Rattle.plist_base.specs.declared.error.Error.{Error}
 use Rattle.plist_base.specs.Faults.{fault_of}
-use Rattle.plist_commands.specs.Commands.{IsNoCommand, IsStatusAfter, PlainCommand, words_for}
-use Rattle.plist_commands.specs.Failures.{CommandOutcome, OfPlist}
-use Rattle.plist_commands.specs.Messages.{PlainMessage, Fault, Usage}
+use Rattle.plist_commands.specs.Commands.{CommandOutcome, IsNoCommand, IsStatusAfter, OfPlist, PlainCommand, PlainMessage, Fault, Usage, words_for}
 
 -- this is the status of a run with some arguments: either they ask for no command, nothing is
 -- printed, and the usage is reported; or they ask for one, and the status follows from its outcome

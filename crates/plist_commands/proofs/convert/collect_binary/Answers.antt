@@ -1,6 +1,8 @@
 use Rattle.std.proofs.Common.{◌≡◌, ap, subst, true}
+use Rattle.std.specs.Option.{option_map}
+use Rattle.plist_reader.specs.Reader.{items_of_input}
 use Rattle.plist_binread.specs.BinaryReader.{Steps, binary_source, items_to_come}
-use Rattle.plist_commands.specs.Converting.{CollectsItems, items_of_known}
+use Rattle.plist_commands.specs.Converting.{CollectsItems}
 use Rattle.plist_print.specs.Printing.{items_left}
 use Rattle.plist_commands.specs.CollectorSteps.{collected}
 use Rattle.plist_commands.proofs.CollectorRuns.{Concludes, binary_once, binary_twice}
@@ -10,7 +12,8 @@ use Rattle.plist_commands.proofs.convert.collect_binary.Goals.{After-answer, Aft
 
 -- the reader's items are those of the input
 same_items : (g : _) (c : After-visit-first g)
-    → items_left g.S.Source.known c.new-reader.result ≡ items_of_known (g.S.Source.known c.args.source)
+    → items_left g.S.Source.known c.new-reader.result
+    ≡ option_map items_of_input (g.S.Source.known c.args.source)
 same_items g c =
     binary_items (g.S.Source.known c.args.source)
     (g.S.Source.known (binary_source c.new-reader.result))

@@ -1,8 +1,7 @@
 use Rattle.std.proofs.Common.{◌∙◌}
-use Rattle.plist_commands.specs.Failures.{plain_failure_of}
 use Rattle.plist_commands.proofs.ErrorMessages.{takes_sent}
 use Rattle.plist_commands.proofs.messages.AnyMessages.report.Goals as goal
-use Rattle.plist_commands.specs.Messages.{Fault, Usage}
+use Rattle.plist_commands.specs.Commands.{Fault, Usage, plain_failure_of}
 
 pub returns-in-Usage : goal.returns-in-Usage
 returns-in-Usage g c =
