@@ -98,7 +98,8 @@ abbrev pub escape_by : ℕ → List ℕ → Taken (List ℕ)
 escape_by c rest =
     if is_one_of "U" c then unicode rest
     else if is_digit c 8 then octal c rest
-    else taken 0 (option_map_or (λ byte. Ok (byte ∷ [])) (simple_escape c) (Err InvalidUtf8AsciiStream))
+    else taken 0
+    (option_map_or (λ byte. Ok (byte ∷ [])) (simple_escape c) (Err InvalidUtf8AsciiStream))
 
 -- the bytes that an escape stands for
 unfoldable pub escape : List ℕ → Taken (List ℕ)

@@ -35,8 +35,8 @@ front zero bytes = Some []
 front (suc n) [] = None
 front (suc n) (c ∷ bytes) = option_map (λ cs. c ∷ cs) (front n bytes)
 
--- `count` bytes are taken with their meaning; if there are fewer, all bytes are taken, and the string
--- is unclosed
+-- `count` bytes are taken with their meaning; if there are fewer, all are taken, and the string is
+-- unclosed
 abbrev pub needs : {A : Type 0} → ℕ → List ℕ → (List ℕ → Result A FaultKind) → Taken A
 needs count bytes meaning = option_map_or (λ digits. taken count (meaning digits))
     (front count bytes) (taken (length bytes) (Err UnclosedString))
