@@ -2,6 +2,7 @@
 use Rattle.std.proofs.Common.{◌≡◌, ℕ, zero, suc, ◌+◌, ◌-◌, ◌^◌, ◌<◌, ◌≤◌, Bool, true, false, List, [], ◌∷◌, ◌++◌, length, take, drop, Option, Some, Ok, None, refl, sym, ap, ◌∙◌, subst, append-nil, arith, length-drop}
 use Rattle.std.proofs.lemmas.List.{take-append-le, drop-append-le}
 use Rattle.std.specs.Option.{option_map_or}
+use Rattle.std.specs.Result.{result_flatten, result_map_both}
 use Rattle.std.specs.Str.{is_utf8}
 use Rattle.std.specs.Prelude.{not, slice_get}
 use Rattle.plist_base.specs.declared.event.Event.{Event}
@@ -10,13 +11,12 @@ use Rattle.plist_base.specs.Trees.{Integer, String}
 use Rattle.plist_base.specs.IntegerText.{integer_of_text}
 use Rattle.plist_ascii.specs.declared.stop.Stop.{Stop}
 use Rattle.plist_ascii.specs.declared.stop.Stop.TheVariants as stop
-use Rattle.plist_ascii.specs.Ascii.{is_blank, lead_of, token_by}
+use Rattle.plist_ascii.specs.Ascii.{is_blank, lead_of, token_by, IfBracket, IsAsciiEvent}
 use Rattle.plist_ascii.specs.declared.input.Input.{Input}
 use Rattle.plist_ascii.specs.declared.reader.AsciiReader.{AsciiReader}
 use Rattle.plist_ascii.specs.AsciiReader.{GivesAscii, bytes_to_come}
-use Rattle.plist_ascii.specs.Kinds.{IfBracket, IsAsciiEvent}
 use Rattle.plist_ascii.specs.TokenPrefixes.{Taken, past_one, run, taken}
-use Rattle.plist_ascii.specs.Texts.{ends_run, quoted, quoted_outcome, run_end, bare_event, quoted_event, scalar_of_text}
+use Rattle.plist_ascii.specs.Texts.{ends_run, quoted, run_end, bare_event, quoted_event, scalar_of_text}
 use Rattle.plist_ascii.specs.Unread.{IfKnown, stops, unread}
 use Rattle.plist_ascii.specs.inner.Inputs.{hand_of}
 use Rattle.plist_ascii.specs.inner.Parts.{BeginWithText, IsBareFront, IsQuotedFront, LeadsToText}
@@ -108,7 +108,7 @@ quoted_begins (c ∷ cs) n count text begins size is utf8 ends = λ more.
     let text-is : take m ys ++ [] ≡ text =
     append-nil (take m ys) ∙ ap (λ k. take k ys) same ∙ take-append-le n cs more le ∙ sym is in
     ap (λ l. past_one (token_by ends l c ys)) begins.0
-    ∙ ap (λ t. past_one (taken t.bytes (quoted_outcome t.gives))) closes
+    ∙ ap (λ t. past_one (taken t.bytes (result_flatten (result_map_both quoted_event (λ fault. fault) t.gives)))) closes
     ∙ ap (λ k. taken k (quoted_event (take m ys ++ []))) all
     ∙ ap (λ l. taken count (quoted_event l)) text-is
     ∙ ap (taken count) (quoted_is text utf8)

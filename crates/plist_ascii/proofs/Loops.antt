@@ -12,8 +12,7 @@ use Rattle.std.proofs.lemmas.List.Folds.{prefix_len-append}
 use Rattle.std.proofs.Math.Seq.{take-append-add, drop-append-add}
 use Rattle.std.specs.Prelude.{◌==◌}
 use Rattle.std.specs.Option.{option_map, option_map_or}
-use Rattle.plist_ascii.specs.Ascii.{close_at, begins_with, block_comment}
-use Rattle.plist_ascii.specs.Texts.{Token}
+use Rattle.plist_ascii.specs.Texts.{close_at, begins_with, block_comment, Token}
 
 -- no byte was put back and no failure was counted, and `P` relates the bytes that remained, those
 -- that remain now, and their offsets

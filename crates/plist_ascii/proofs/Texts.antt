@@ -9,18 +9,18 @@ use Rattle.plist_base.specs.Faults.{InvalidUtf8AsciiStream, FaultKind, UnclosedS
 use Rattle.plist_base.specs.Events.{PlainEvent, ScalarEvent, event_of}
 use Rattle.plist_base.specs.Trees.{Integer, Scalar, String}
 use Rattle.std.specs.Option.{option_map_or}
-use Rattle.std.specs.Result.{result_map_both}
-use Rattle.std.specs.Prelude.{ℤ, SomeIff, ⊤, ◌==◌, length, encode_utf8}
-use Rattle.plist_ascii.specs.Texts.{Token, utf8_or_fault, bare, bare_event, quoted_event, escape_then, run_end, quoted_by, quoted_in, quoted, quoted_outcome, quoted_token}
-use Rattle.plist_ascii.specs.Kinds.{IsTextEvent, IsTextFault}
+use Rattle.std.specs.Result.{result_flatten, result_map_both}
+use Rattle.std.specs.Prelude.{ℤ, SomeIff, ⊤, ◌==◌, length, encode_utf8, slice_get}
+use Rattle.plist_ascii.specs.Texts.{Token, utf8_or_fault, bare, bare_event, quoted_event, escape_then, run_end, quoted_by, quoted_in, quoted, quoted_token, slash}
+use Rattle.plist_ascii.specs.Ascii.{IsTextEvent, IsTextFault, IsTextToken, lead_of, token_by}
 use lib.Utf8.{low_scalar}
 use Rattle.std.specs.Char.{IsScalar, is_digit}
-use Rattle.plist_ascii.specs.TokenPrefixes.{Taken, taken, past_one, past_outcome, front, run}
+use Rattle.plist_ascii.specs.TokenPrefixes.{Taken, taken, past_one, followed, front, run}
 use Rattle.plist_ascii.specs.Escapes.{is_surrogate, bad_unit, escape, escape_by, simple_escape, octal_text, unit, first_unit, second_unit, second_letter, second_digits, pair_text}
 use Rattle.plist_ascii.specs.declared.token.Lead.{Lead}
-use Rattle.plist_ascii.specs.Ascii.{IsTextToken, lead_of, token_by, slash}
-use Rattle.plist_ascii.specs.Unread.{IfKnown, first, GivesFront}
+use Rattle.plist_ascii.specs.Unread.{IfKnown}
 use Rattle.std.proofs.lemmas.Bool.{ne_eqb}
+use Rattle.plist_ascii.proofs.TokenOutcomes.{GivesFront}
 use Rattle.plist_ascii.proofs.UnreadBytes.{first_splits}
 
 pub text_gives : (xs : List ℕ) (e : Scalar) (f : PlainEvent) → is_utf8 xs ≡ true → f ≡ ScalarEvent e
@@ -68,7 +68,7 @@ needs_in n xs (Some ds) meaning h = h ds
 
 followed_in : {A B : Type 0} (xs : List ℕ) (n : ℕ) (g : Result A FaultKind)
     (next : A → List ℕ → Taken B) → InText g → ((a : A) (ys : List ℕ) → InText (next a ys).gives)
-    → InText (past_outcome xs n g next).gives
+    → InText (followed xs n g next).gives
 followed_in xs n (Ok a) next h k = k a (drop n xs)
 followed_in xs n (Err fault) next h k = h
 
@@ -161,7 +161,8 @@ quoted_in_text quote zero xs = part_in _ (λ _. taken 0 (Err UnclosedString)) xs
 quoted_in_text quote (suc fuel) xs =
     part_in quote (quoted_in _ _) xs (λ ys. quoted_in_text quote fuel ys)
 
-outcome_wants : (r : Result (List ℕ) FaultKind) → InText r → IsTextToken (quoted_outcome r)
+outcome_wants : (r : Result (List ℕ) FaultKind) → InText r → IsTextToken (result_flatten
+    (result_map_both quoted_event (λ fault. fault) r))
 unfolding quoted_event
 outcome_wants (Ok text) h = utf8_wants _ text (String text) refl tt
 outcome_wants (Err fault) h = h
@@ -171,7 +172,7 @@ quoted_wants quote xs = outcome_wants (quoted quote xs).gives (quoted_in_text _ 
 
 -- a slash begins a bare string, unless the next byte is a slash or a star
 pub bare_looked : (stops : ℕ → Bool) (old mid : Option (List ℕ)) (c : ℕ)
-    → IfKnown old (λ xs. (mid ≡ Some xs) × (Some c ≡ first xs)) → c ≢ 47 → c ≢ 42
+    → IfKnown old (λ xs. (mid ≡ Some xs) × (Some c ≡ slice_get xs 0)) → c ≢ 47 → c ≢ 42
     → IfKnown old (λ xs. (mid ≡ Some xs) × (slash stops xs ≡ bare stops 47 xs))
 bare_looked stops old mid c looked a b =
     λ xs e. let h = looked xs e in

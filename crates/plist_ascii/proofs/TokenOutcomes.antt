@@ -5,9 +5,17 @@ use Rattle.std.specs.Option.{option_map}
 use Rattle.std.specs.Result.{IsErrAnd, IfErr, OnOk}
 use Rattle.plist_base.specs.Faults.{FaultKind, UnclosedString}
 use Rattle.plist_ascii.specs.declared.fault.TokenFault.{TokenFault}
-use Rattle.plist_ascii.specs.Unread.{IfKnown, GivesFront}
+use Rattle.plist_ascii.specs.Unread.{IfKnown}
 use Rattle.plist_ascii.specs.TokenPrefixes.{Taken, taken, past_one, front}
 use Rattle.plist_ascii.specs.inner.Inputs.{kind_in_bytes, said}
+
+-- from offset p to offset q, what is at the front of the old bytes was taken, with this meaning or
+-- fault; without an outcome, nothing is said about the bytes
+abbrev pub GivesFront : {A : Type 0} → (front : List ℕ → Taken A) → (old : Option (List ℕ))
+    → (p : ℕ) → (new : Option (List ℕ)) → (q : ℕ) → Option (Result A FaultKind) → Type 0
+GivesFront front old p new q said =
+    (p ≤ q) × IfSome said (λ outcome. IfKnown old (λ bytes. ((front bytes).gives ≡ outcome)
+    × (new ≡ Some (drop (front bytes).bytes bytes)) × (q ≡ p + (front bytes).bytes)))
 
 -- from offset p to offset q these bytes were taken, with this meaning or fault
 abbrev pub TakesFront : {A : Type 0} → Taken A → Result A FaultKind → (new : Option (List ℕ))

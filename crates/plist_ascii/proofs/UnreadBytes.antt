@@ -1,14 +1,14 @@
 -- How looking at bytes and taking them changes the bytes that remain.
-use Rattle.std.proofs.Common.{◌≡◌, ℕ, zero, suc, ◌+◌, ◌-◌, ◌^◌, ◌<◌, ◌≤◌, ◌≢◌, Bool, true, false, List, [], ◌∷◌, ◌++◌, length, take, drop, Option, None, Some, refl, sym, ap, ◌∙◌, rules, arith}
+use Rattle.std.proofs.Common.{◌≡◌, ℕ, zero, suc, ◌+◌, ◌-◌, ◌^◌, ◌<◌, ◌≤◌, ◌≢◌, Bool, true, false, List, [], ◌∷◌, ◌++◌, length, take, drop, Option, None, Some, refl, sym, ap, ◌∙◌, rules, arith, slice_get}
 use Rattle.std.specs.Prelude.{is_some, MatchOption, IfSome, nat_eq}
 use Rattle.std.specs.Option.{option_map}
 use Rattle.std.specs.Io.KnownBytes.{Consumes}
 use Rattle.std.proofs.lemmas.List.{length-take, length-take-le, take-append-le, take-append-drop, take_all, drop_at}
 use Rattle.std.proofs.Math.Seq.{take-append-add, take-nil}
 use Rattle.std.proofs.lemmas.Bool.{ne_eqb, eqb-true, eqb-false}
-use Rattle.plist_ascii.specs.Unread.{GivesByte, unread_of, first, readable_with, IfKnown}
+use Rattle.plist_ascii.specs.Unread.{GivesByte, unread_of, readable_with, IfKnown}
 use Rattle.plist_ascii.specs.TokenPrefixes.{run}
-use Rattle.plist_ascii.specs.Ascii.{begins_with}
+use Rattle.plist_ascii.specs.Texts.{begins_with}
 use Rattle.plist_ascii.specs.inner.Inputs.{hand_of}
 
 pub ended_unread : (k : Option (List ℕ)) (e : Bool) (p : Option ℕ) (t : ℕ) (xs : List ℕ) → e ≡ true
@@ -209,7 +209,7 @@ peeked_hand window false b t e l =
 -- ---- looking at a byte
 
 abbrev pub LooksAt : Option (List ℕ) → Option ℕ → List ℕ → Type 0
-LooksAt now o xs = (now ≡ Some xs) × (o ≡ first xs)
+LooksAt now o xs = (now ≡ Some xs) × (o ≡ slice_get xs 0)
 
 pub none_looks : (now : Option (List ℕ)) (xs : List ℕ) → xs ≡ [] → now ≡ Some xs
     → LooksAt now None xs
@@ -228,7 +228,7 @@ module _ (k now : Option (List ℕ)) (e : Bool) (p : Option ℕ) (t : ℕ) (xs :
   one_looks c room r =
       let known : unread_of k false None t ≡ Some xs = rw (← h, ← q) g in
       let read : unread_of now false (Some c) t ≡ Some xs = one_unread k _ c t xs r known in
-      (rw h read, sym (ap first (window_unread now c t xs room read).1))
+      (rw h read, sym (ap (λ xs. slice_get xs 0) (window_unread now c t xs room read).1))
 
 -- if all bytes at hand were taken, the offset rose by their number
 pub all_taken : (hand bytes : List ℕ) (n p q : ℕ) → bytes ≡ hand → q ≡ p + n
@@ -242,26 +242,26 @@ pub drops_known : (now : Option (List ℕ)) (stop : ℕ → Bool) (zs ys : List 
     → now ≡ Some ys → run stop zs ≡ 0 → run stop ys ≡ 0
 drops_known now stop zs ys a b h = let same : zs ≡ ys = cc in rw (sym same) h
 
-pub first_splits : (b : ℕ) (xs : List ℕ) → Some b ≡ first xs → xs ≡ b ∷ drop 1 xs
+pub first_splits : (b : ℕ) (xs : List ℕ) → Some b ≡ slice_get xs 0 → xs ≡ b ∷ drop 1 xs
 first_splits b [] h = cc
 first_splits b (c ∷ xs) h = let same : b ≡ c = cc in ap (λ d. d ∷ xs) (sym same)
 
-pub first_none : (xs : List ℕ) → None ≡ first xs → xs ≡ []
+pub first_none : (xs : List ℕ) → None ≡ slice_get xs 0 → xs ≡ []
 first_none [] h = refl
 first_none (c ∷ xs) h = cc
 
-pub begins_none : (b : ℕ) (xs : List ℕ) → None ≡ first xs → begins_with b xs ≡ false
+pub begins_none : (b : ℕ) (xs : List ℕ) → None ≡ slice_get xs 0 → begins_with b xs ≡ false
 begins_none b [] h = refl
 begins_none b (c ∷ xs) h = cc
 
-pub begins_other : (b c : ℕ) (xs : List ℕ) → c ≢ b → Some c ≡ first xs → begins_with b xs ≡ false
+pub begins_other : (b c : ℕ) (xs : List ℕ) → c ≢ b → Some c ≡ slice_get xs 0 → begins_with b xs ≡ false
 begins_other b c [] n h = cc
 begins_other b c (d ∷ xs) n h =
     let same : c ≡ d = cc in rw (sym same) (ne_eqb c b n)
 
 -- the byte that was looked at is taken
 pub takes_looked : (old mid new : Option (List ℕ)) (b : ℕ)
-    → IfKnown old (λ xs. (mid ≡ Some xs) × (Some b ≡ first xs))
+    → IfKnown old (λ xs. (mid ≡ Some xs) × (Some b ≡ slice_get xs 0))
     → IfKnown mid (λ xs. new ≡ Some (drop 1 xs))
     → IfKnown old (λ xs. (rest : List ℕ) × (xs ≡ b ∷ rest) × (new ≡ Some rest))
 takes_looked old mid new b looked taken =
@@ -269,7 +269,7 @@ takes_looked old mid new b looked taken =
 
 -- ---- runs
 
-pub none_stops : (stop : ℕ → Bool) (xs : List ℕ) → None ≡ first xs → run stop xs ≡ 0
+pub none_stops : (stop : ℕ → Bool) (xs : List ℕ) → None ≡ slice_get xs 0 → run stop xs ≡ 0
 none_stops stop xs h = rw (first_none xs h) refl
 
 -- a stop among the bytes at hand ends the run

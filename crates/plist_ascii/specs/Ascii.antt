@@ -1,42 +1,15 @@
--- The tokens of an old-style ASCII property list, and their items.
-use Rattle.std.specs.Prelude.{◌≡◌, ◌⊎◌, ℕ, zero, suc, ◌+◌, ◌&&◌, ◌==◌, Bool, true, false, if◌then◌else◌, List, [], ◌∷◌, length, drop, map, Option, None, Some, Result, Ok, Err}
-use Rattle.std.specs.Option.{option_map, option_map_or}
-use Rattle.plist_base.specs.Faults.{FaultKind, IncompleteComment, fault_at}
-use Rattle.plist_base.specs.Events.{PlainEvent, StartArray, StartDictionary, EndCollection, Item}
+-- The tokens of an old-style ASCII property list, their items, and which events and faults they are.
+use Rattle.std.specs.Prelude.{◌≡◌, ◌⊎◌, ℕ, zero, suc, ◌+◌, Bool, true, false, if◌then◌else◌, List, [], ◌∷◌, length, drop, map, Option, None, Some, Result, Ok, Err, IfOk, IfSome, ⊤}
+use Rattle.plist_base.specs.declared.error.Error.{Error}
+use Rattle.plist_base.specs.declared.event.Event.{Event}
+use Rattle.plist_base.specs.Events.{PlainEvent, StartArray, StartDictionary, EndCollection, Item, ScalarEvent, event_of}
+use Rattle.plist_base.specs.Faults.{FaultKind, IncompleteComment, InvalidOctalString, InvalidUtf16String, InvalidUtf8AsciiStream, UnclosedString, fault_at}
+use Rattle.plist_base.specs.FirstItems.{MatchItem}
+use Rattle.plist_base.specs.Trees.{Integer, String}
 use Rattle.plist_ascii.specs.declared.token.Lead.{Lead}
 use Rattle.plist_ascii.specs.declared.token.Lead.TheVariants as lead
-use Rattle.plist_ascii.specs.TokenPrefixes.{is_one_of, taken, past_one, run}
-use Rattle.plist_ascii.specs.Texts.{Token, bare, lax_stops, quoted_token}
-use Rattle.plist_ascii.specs.Kinds.{IsTextEvent, IsTextFault}
-
--- ---- what a slash begins
-
--- a line comment, up to the LF, which isn't taken
-abbrev pub line_comment : List ℕ → Token
-line_comment rest = taken (run (λ c. c == 10) rest) (Ok None)
-
--- is c the first byte?
-abbrev pub begins_with : ℕ → List ℕ → Bool
-begins_with c [] = false
-begins_with c (d ∷ rest) = d == c
-
--- the offset of the first `*/`
-abbrev pub close_at : List ℕ → Option ℕ
-close_at [] = None
-close_at (c ∷ rest) =
-    if (c == 42) && begins_with 47 rest then Some 0 else option_map suc (close_at rest)
-
--- a block comment, up to and including the first `*/`
-abbrev pub block_comment : List ℕ → Token
-block_comment rest = option_map_or (λ place. taken (suc (suc place)) (Ok None)) (close_at rest)
-    (taken (length rest) (Err IncompleteComment))
-
--- the token that a slash begins: a comment, or a bare string
-abbrev pub slash : (stops : ℕ → Bool) → List ℕ → Token
-slash stops [] = taken 0 (Err IncompleteComment)
-slash stops (c ∷ rest) =
-    if c == 47 then past_one (line_comment rest)
-    else if c == 42 then past_one (block_comment rest) else bare stops 47 (c ∷ rest)
+use Rattle.plist_ascii.specs.TokenPrefixes.{is_one_of, taken, past_one}
+use Rattle.plist_ascii.specs.Texts.{Token, bare, lax_stops, quoted_token, slash}
 
 -- ---- tokens
 
@@ -111,6 +84,49 @@ placed_items stops bytes place = items_in stops (length bytes) bytes place
 -- the items of some bytes, if the first byte is at this offset
 abbrev pub items_of_ascii : (stops : ℕ → Bool) → List ℕ → (place : ℕ) → List Item
 items_of_ascii stops bytes place = map (λ p. p.item) (placed_items stops bytes place)
+
+-- ---- which events and faults there are
+
+-- a fault of a string
+abbrev pub IsTextFault : FaultKind → Type 0
+IsTextFault UnclosedString = ⊤
+IsTextFault InvalidUtf8AsciiStream = ⊤
+IsTextFault InvalidOctalString = ⊤
+IsTextFault InvalidUtf16String = ⊤
+IsTextFault kind = ⊥
+
+-- bytes can have a fault of this kind
+abbrev pub IsFaultOfBytes : FaultKind → Type 0
+IsFaultOfBytes IncompleteComment = ⊤
+IsFaultOfBytes kind = IsTextFault kind
+
+-- the event is a string or an integer
+abbrev pub IsTextEvent : PlainEvent → Type 0
+IsTextEvent (ScalarEvent (String text)) = ⊤
+IsTextEvent (ScalarEvent (Integer number)) = ⊤
+IsTextEvent event = ⊥
+
+-- the event is a string, an integer, an end, or a start without a length
+abbrev pub IsAsciiEvent : PlainEvent → Type 0
+IsAsciiEvent (StartArray None) = ⊤
+IsAsciiEvent (StartDictionary None) = ⊤
+IsAsciiEvent EndCollection = ⊤
+IsAsciiEvent event = IsTextEvent event
+
+-- the item, if there is one, is one of these events or faults
+abbrev pub IsAsciiItem : Option (Result Event Error) → Type 0
+IsAsciiItem item =
+    MatchItem item ⊤ (λ event. IsAsciiEvent (event_of event)) ⊤ ⊤ (λ f. IsFaultOfBytes f.kind)
+
+-- if the event is a start or an end, the fact is true
+abbrev pub IfBracket : PlainEvent → (fact : Type 0) → Type 0
+IfBracket (ScalarEvent scalar) fact = ⊤
+IfBracket other fact = fact
+
+-- if the item is a start or an end, the fact is true
+abbrev pub IfBracketItem : Option (Result Event Error) → (fact : Type 0) → Type 0
+IfBracketItem item fact =
+    IfSome item (λ answer. IfOk answer (λ event. IfBracket (event_of event) fact))
 
 -- ---- where memory may run out
 

@@ -1,5 +1,5 @@
 -- A reader as contracts describe it: the bytes that it hasn't taken yet, and their items.
-use Rattle.std.specs.Prelude.{◌≡◌, ℕ, ◌-◌, ◌^◌, ◌<◌, ◌≤◌, Bool, true, false, List, [], ◌∷◌, take, drop, Option, None, Some, Result, Ok, Err, IfErr, IfSome, OnOk, ⊤}
+use Rattle.std.specs.Prelude.{◌≡◌, ℕ, ◌-◌, ◌^◌, ◌<◌, ◌≤◌, Bool, true, if◌then◌else◌, List, [], ◌∷◌, take, drop, Option, None, Some, Result, Ok, Err, IfErr, IfSome, OnOk, ⊤}
 use Rattle.std.specs.Option.{option_map}
 use Rattle.plist_base.specs.declared.error.Error.{Error}
 use Rattle.plist_base.specs.declared.event.Event.{Event}
@@ -10,8 +10,7 @@ use Rattle.plist_ascii.specs.declared.reader.AsciiReader.{AsciiReader}
 use Rattle.plist_ascii.specs.declared.dialect.Dialect.{Dialect}
 use Rattle.plist_ascii.specs.Texts.{ends_bare}
 use Rattle.plist_ascii.specs.declared.token.Lead.{Lead}
-use Rattle.plist_ascii.specs.Ascii.{PlacedItem, placed, placed_items, items_of_ascii, BeginsWithText, FirstIsQuoted}
-use Rattle.plist_ascii.specs.Kinds.{IsAsciiItem, IsFaultOfBytes, IfBracketItem}
+use Rattle.plist_ascii.specs.Ascii.{PlacedItem, placed, placed_items, items_of_ascii, BeginsWithText, FirstIsQuoted, IsAsciiItem, IsFaultOfBytes, IfBracketItem}
 use Rattle.plist_ascii.specs.Unread.{ItemCountsIoIfCounted, unread, IfKnown}
 
 -- the inner reader
@@ -109,8 +108,7 @@ pub record GivesAscii {R : Type 0} (known : R → Option (List ℕ)) (failed : R
 
 -- an upper bound on the number of remaining items, given the number of bytes taken
 abbrev pub bytes_to_come : (ended : Bool) → (taken : ℕ) → ℕ
-bytes_to_come true taken = 0
-bytes_to_come false taken = 2 ^ 64 - taken
+bytes_to_come ended taken = if ended then 0 else 2 ^ 64 - taken
 
 -- an upper bound on the number of a reader's remaining items
 abbrev pub ascii_steps : {R : Type 0} → AsciiReader R → ℕ

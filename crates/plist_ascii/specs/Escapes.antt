@@ -1,6 +1,6 @@
 -- What an escape in a quoted string stands for, from the byte after its backslash on:
 --
---     letter                        its byte in `letters`
+--     letter                        its byte in `simple_escape`
 --     octal octal octal             the character of that number
 --     U unit                        the unit's character, unless it is a surrogate
 --     U unit \ U unit               the character of a surrogate pair; the second `U` may be small
@@ -16,13 +16,10 @@ use Rattle.std.specs.Str.Parse.{digits_value}
 use Rattle.plist_base.specs.Faults.{FaultKind, InvalidUtf16String, InvalidUtf8AsciiStream, InvalidOctalString}
 use Rattle.plist_ascii.specs.TokenPrefixes.{Taken, taken, past_one, after_byte, followed, is_one_of, needs}
 
--- each letter, and the byte that it stands for
-abbrev pub letters : List (ℕ × ℕ)
-letters = zip (codes "\\\"'abfnrtv") (codes "\\\"'\u{7}\u{8}\u{c}\n\r\t\u{b}")
-
 -- the byte that a letter stands for, or `None`
 abbrev pub simple_escape : ℕ → Option ℕ
-simple_escape c = lookup (λ letter. c == letter) letters
+simple_escape c = lookup (λ letter. c == letter)
+    (zip (codes "\\\"'abfnrtv") (codes "\\\"'\u{7}\u{8}\u{c}\n\r\t\u{b}"))
 
 -- NeXTSTEP's characters 128 to 255 in Unicode
 abbrev pub nextstep : List ℕ
@@ -72,7 +69,8 @@ pair_text high None = Err InvalidUtf16String
 
 -- the digits of the second unit, after its letter
 abbrev pub second_digits : ℕ → List ℕ → Taken (List ℕ)
-second_digits high rest = followed rest (unit rest) (λ low _. taken 0 (pair_text high low))
+second_digits high rest = followed rest (unit rest).bytes (unit rest).gives
+    (λ low _. taken 0 (pair_text high low))
 
 -- the letter of the second unit, which is taken only if it is `u` or `U`
 abbrev pub second_letter : ℕ → List ℕ → Taken (List ℕ)
@@ -93,14 +91,15 @@ first_unit None rest = bad_unit 0
 
 -- what follows `\U`
 abbrev pub unicode : List ℕ → Taken (List ℕ)
-unicode rest = followed rest (unit rest) first_unit
+unicode rest = followed rest (unit rest).bytes (unit rest).gives first_unit
 
 -- what an escape with the first byte c stands for
 abbrev pub escape_by : ℕ → List ℕ → Taken (List ℕ)
 escape_by c rest =
     if is_one_of "U" c then unicode rest
     else if is_digit c 8 then octal c rest
-    else taken 0 (option_map_or (λ byte. Ok (byte ∷ [])) (simple_escape c) (Err InvalidUtf8AsciiStream))
+    else taken 0
+    (option_map_or (λ byte. Ok (byte ∷ [])) (simple_escape c) (Err InvalidUtf8AsciiStream))
 
 -- the bytes that an escape stands for
 unfoldable pub escape : List ℕ → Taken (List ℕ)

@@ -1,7 +1,6 @@
 pub mod TokenPrefixes
 pub mod Escapes
 pub mod Texts
-pub mod Kinds
 pub mod Ascii
 pub mod Unread
 pub mod AsciiReader

@@ -1,9 +1,9 @@
--- Bare and quoted strings, and their meaning.
-use Rattle.std.specs.Prelude.{ℕ, zero, suc, ◌+◌, Bool, if◌then◌else◌, ◌||◌, ◌==◌, List, [], ◌∷◌, ◌++◌, length, take, drop, Option, Some, Result, Ok, Err}
-use Rattle.std.specs.Option.{option_map_or}
-use Rattle.std.specs.Result.{result_map_both}
+-- Bare strings, quoted strings and comments, and their meaning.
+use Rattle.std.specs.Prelude.{ℕ, zero, suc, ◌+◌, Bool, false, if◌then◌else◌, ◌&&◌, ◌||◌, ◌==◌, List, [], ◌∷◌, ◌++◌, length, take, drop, Option, None, Some, Result, Ok, Err}
+use Rattle.std.specs.Option.{option_map, option_map_or}
+use Rattle.std.specs.Result.{result_flatten, result_map_both}
 use Rattle.std.specs.Str.{is_utf8}
-use Rattle.plist_base.specs.Faults.{FaultKind, InvalidUtf8AsciiStream, UnclosedString}
+use Rattle.plist_base.specs.Faults.{FaultKind, IncompleteComment, InvalidUtf8AsciiStream, UnclosedString}
 use Rattle.plist_base.specs.Events.{PlainEvent, ScalarEvent}
 use Rattle.plist_base.specs.Trees.{Scalar, Integer, String}
 use Rattle.plist_base.specs.IntegerText.{integer_of_text}
@@ -89,11 +89,36 @@ quoted_in quote (suc fuel) bytes = quoted_by quote (quoted_in quote fuel) bytes
 abbrev pub quoted : (quote : ℕ) → List ℕ → Taken (List ℕ)
 quoted quote bytes = quoted_in quote (length bytes) bytes
 
--- the meaning of the bytes of a quoted string, or their fault
-abbrev pub quoted_outcome : Result (List ℕ) FaultKind → Result (Option PlainEvent) FaultKind
-quoted_outcome (Ok text) = quoted_event text
-quoted_outcome (Err fault) = Err fault
-
--- the token of a quoted string, from the byte after the opening quote on
+-- the token of a quoted string: the meaning of its bytes, or their fault
 abbrev pub quoted_token : ℕ → List ℕ → Token
-quoted_token quote rest = taken (quoted quote rest).bytes (quoted_outcome (quoted quote rest).gives)
+quoted_token quote rest = taken (quoted quote rest).bytes
+    (result_flatten (result_map_both quoted_event (λ fault. fault) (quoted quote rest).gives))
+
+-- ---- what a slash begins
+
+-- a line comment, up to the LF, which isn't taken
+abbrev pub line_comment : List ℕ → Token
+line_comment rest = taken (run (λ c. c == 10) rest) (Ok None)
+
+-- is c the first byte?
+abbrev pub begins_with : ℕ → List ℕ → Bool
+begins_with c [] = false
+begins_with c (d ∷ rest) = d == c
+
+-- the offset of the first `*/`
+abbrev pub close_at : List ℕ → Option ℕ
+close_at [] = None
+close_at (c ∷ rest) =
+    if (c == 42) && begins_with 47 rest then Some 0 else option_map suc (close_at rest)
+
+-- a block comment, up to and including the first `*/`
+abbrev pub block_comment : List ℕ → Token
+block_comment rest = option_map_or (λ place. taken (suc (suc place)) (Ok None)) (close_at rest)
+    (taken (length rest) (Err IncompleteComment))
+
+-- the token that a slash begins: a comment, or a bare string
+abbrev pub slash : (stops : ℕ → Bool) → List ℕ → Token
+slash stops [] = taken 0 (Err IncompleteComment)
+slash stops (c ∷ rest) =
+    if c == 47 then past_one (line_comment rest)
+    else if c == 42 then past_one (block_comment rest) else bare stops 47 (c ∷ rest)

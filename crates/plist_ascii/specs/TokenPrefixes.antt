@@ -24,14 +24,10 @@ past n t = record { bytes = n + t.bytes; gives = t.gives }
 
 -- n bytes are taken, and then, given their meaning, what `next` takes; after a fault nothing more
 -- is taken
-abbrev pub past_outcome : {A B : Type 0} → List ℕ → ℕ → Result A FaultKind → (A → List ℕ → Taken B)
+abbrev pub followed : {A B : Type 0} → List ℕ → ℕ → Result A FaultKind → (A → List ℕ → Taken B)
     → Taken B
-past_outcome bytes n (Ok a) next = past n (next a (drop n bytes))
-past_outcome bytes n (Err fault) next = taken n (Err fault)
-
--- a part is taken, and then, given its meaning, what `next` takes of the bytes after it
-abbrev pub followed : {A B : Type 0} → List ℕ → Taken A → (A → List ℕ → Taken B) → Taken B
-followed bytes t next = past_outcome bytes t.bytes t.gives next
+followed bytes n (Ok a) next = past n (next a (drop n bytes))
+followed bytes n (Err fault) next = taken n (Err fault)
 
 -- the first n bytes, or `None` if there are fewer
 abbrev pub front : ℕ → List ℕ → Option (List ℕ)
@@ -39,8 +35,8 @@ front zero bytes = Some []
 front (suc n) [] = None
 front (suc n) (c ∷ bytes) = option_map (λ cs. c ∷ cs) (front n bytes)
 
--- `count` bytes are taken with their meaning; if there are fewer, all bytes are taken, and the string
--- is unclosed
+-- `count` bytes are taken with their meaning; if there are fewer, all are taken, and the string is
+-- unclosed
 abbrev pub needs : {A : Type 0} → ℕ → List ℕ → (List ℕ → Result A FaultKind) → Taken A
 needs count bytes meaning = option_map_or (λ digits. taken count (meaning digits))
     (front count bytes) (taken (length bytes) (Err UnclosedString))

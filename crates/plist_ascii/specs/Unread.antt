@@ -1,30 +1,26 @@
 -- The bytes that an input hasn't taken yet, what a read or a part of a token takes of them, and how
 -- the count of failures changes.
-use Rattle.std.specs.Prelude.{◌≡◌, ℕ, ◌+◌, ◌-◌, ◌^◌, ◌≤◌, Bool, true, false, not, ◌==◌, List, [], ◌∷◌, take, drop, Option, None, Some, Result, IfSome, slice_get, ⊤}
+use Rattle.std.specs.Prelude.{◌≡◌, ℕ, ◌-◌, ◌^◌, Bool, true, false, not, ◌==◌, List, [], ◌∷◌, take, Option, Some, Result, IfSome, IsSomeAnd, MatchOption}
 use Rattle.std.specs.Io.KnownBytes.{Consumes, IsAtEnd}
 use Rattle.std.specs.List.{cons_option}
 use Rattle.std.specs.Option.{option_map}
 use Rattle.plist_base.specs.declared.error.Error.{Error}
-use Rattle.plist_base.specs.Faults.{FaultKind}
 use Rattle.plist_base.specs.FirstItems.{MatchItem}
 use Rattle.plist_base.specs.Sources.{Rises}
 use Rattle.plist_ascii.specs.declared.input.Input.{Input}
 use Rattle.plist_ascii.specs.declared.stop.Stop.{Stop}
 use Rattle.plist_ascii.specs.declared.stop.Stop.TheVariants as stop
-use Rattle.plist_ascii.specs.TokenPrefixes.{Taken}
 use Rattle.plist_ascii.specs.Texts.{ends_bare, ends_run}
 use Rattle.plist_ascii.specs.Ascii.{is_blank}
 
 -- the byte that was returned is removed from the known bytes; `None` is returned only at their end
 abbrev pub GivesByte : Option (List ℕ) → Option ℕ → Option (List ℕ) → Type 0
-GivesByte old None new = Consumes old new [] × IsAtEnd new
-GivesByte old (Some byte) new = Consumes old new (byte ∷ [])
+GivesByte old byte new = MatchOption byte (Consumes old new [] × IsAtEnd new)
+    (λ byte. Consumes old new (byte ∷ []))
 
 -- if failures are counted, their count rose or is at its maximum
 abbrev pub RisesIfCounted : Option ℕ → Option ℕ → Type 0
-RisesIfCounted None new = ⊤
-RisesIfCounted (Some old) None = ⊥
-RisesIfCounted (Some old) (Some new) = Rises old new
+RisesIfCounted old new = IfSome old (λ old. IsSomeAnd new (Rises old))
 
 -- the count of failures rose if the iterator yielded `Io`, and otherwise is unchanged
 abbrev pub ItemCountsIoIfCounted : {A : Type 0} → Option (Result A Error) → Option ℕ → Option ℕ
@@ -54,10 +50,6 @@ unread known input = unread_of (known input.inner) input.ended input.peeked inpu
 abbrev pub IfKnown : Option (List ℕ) → (List ℕ → Type 0) → Type 0
 IfKnown known P = (bytes : List ℕ) → known ≡ Some bytes → P bytes
 
--- the first byte, or `None` if there are no bytes
-abbrev pub first : List ℕ → Option ℕ
-first bytes = slice_get bytes 0
-
 -- does the byte end a run?
 abbrev pub stops : Stop → ℕ → Bool
 stops stop.Lead c = not (is_blank c)
@@ -65,11 +57,3 @@ stops (stop.Bare dialect) c = ends_bare dialect c
 stops stop.LineEnd c = c == 10
 stops stop.Star c = c == 42
 stops (stop.Quoted quote) c = ends_run quote c
-
--- from offset p to offset q, what is at the front of the old bytes was taken, with this meaning or
--- fault; without an outcome, nothing is said about the bytes
-abbrev pub GivesFront : {A : Type 0} → (front : List ℕ → Taken A) → (old : Option (List ℕ))
-    → (p : ℕ) → (new : Option (List ℕ)) → (q : ℕ) → Option (Result A FaultKind) → Type 0
-GivesFront front old p new q said =
-    (p ≤ q) × IfSome said (λ outcome. IfKnown old (λ bytes. ((front bytes).gives ≡ outcome)
-    × (new ≡ Some (drop (front bytes).bytes bytes)) × (q ≡ p + (front bytes).bytes)))

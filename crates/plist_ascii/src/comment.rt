@@ -3,7 +3,7 @@
 ghost use Rattle.std.specs.Prelude.{◌≡◌, ◌+◌, ◌^◌, ◌<◌, ◌≤◌, drop, None, Some, IfErr, IfOk, OnOk};
 ghost use Rattle.plist_ascii.specs.TokenPrefixes.{run};
 ghost use Rattle.plist_ascii.specs.Unread.{IfKnown, stops, unread};
-ghost use Rattle.plist_ascii.specs.Ascii.{line_comment, block_comment};
+ghost use Rattle.plist_ascii.specs.Texts.{line_comment, block_comment};
 ghost use Rattle.plist_ascii.specs.inner.Inputs.{CountsFailed, CountsRead, GivesBy, IfCame, TakesPast};
 
 use crate::byte_reader::ByteReader;

@@ -3,7 +3,7 @@
 ghost use Rattle.std.specs.Prelude.{◌≡◌, ◌+◌, ◌++◌, ◌^◌, ◌<◌, ◌≤◌, ℕ, List, [], drop, length, None, Some, true, false, IfOk, IfErr, IfSome, IsSome, OnOk, ⊤};
 ghost use Rattle.plist_ascii.specs.Unread.{IfKnown, unread};
 ghost use Rattle.plist_base.specs.Faults.{UnclosedString, fault_of};
-ghost use Rattle.plist_ascii.specs.inner.Inputs.{fault_after, kind_in_bytes, CountsByte, CountsFailed, CountsRead, EndsInput, HasNothingLeft, IfCame, Looks, TakesHand, TakesIf, TakesNext, TakesOneMore, TakesPart, hand};
+ghost use Rattle.plist_ascii.specs.inner.Inputs.{fault_after, kind_in_bytes, CountsByte, CountsFailed, CountsRead, EndsInput, IfCame, Looks, TakesHand, TakesIf, TakesNext, TakesOneMore, TakesPart, hand};
 
 use crate::byte_reader::ByteReader;
 use crate::fault::TokenFault;
@@ -210,7 +210,7 @@ impl<R: ByteReader> Input<R> {
         ensures value { IfOk result (λ c. TakesNext R.remaining self.old (Some c) self.new) }
         // Errors.
         ensures fault { IfErr result (λ f. IfSome (kind_in_bytes f) (λ kind. (kind ≡ UnclosedString)
-            × HasNothingLeft R.remaining self.old self.new)) }
+            × TakesNext R.remaining self.old None self.new)) }
         // State afterwards.
         ensures peeked { IfOk result (λ _. self.new.peeked ≡ None) }
         ensures place { OnOk result (TakesOneMore self.old self.new) }

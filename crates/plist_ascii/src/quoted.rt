@@ -4,7 +4,7 @@ ghost use Rattle.std.specs.Prelude.{◌≡◌, ◌+◌, ◌^◌, ◌<◌, ◌++�
 ghost use Rattle.plist_base.specs.Events.{event_of};
 ghost use Rattle.plist_ascii.specs.Texts.{quoted, quoted_by, quoted_token, run_end};
 ghost use Rattle.plist_ascii.specs.inner.Parts.{escaped_bytes, EndsRun, Quotes};
-ghost use Rattle.plist_ascii.specs.Kinds.{IsTextEvent};
+ghost use Rattle.plist_ascii.specs.Ascii.{IsTextEvent};
 ghost use Rattle.plist_ascii.specs.inner.Inputs.{CountsFailed, TakesFirst, FailsAfter, GivesBy};
 
 use crate::byte_reader::ByteReader;

@@ -1,8 +1,7 @@
 //! The reader of ASCII property lists.
 
 ghost use Rattle.std.specs.Prelude.{◌≡◌, ◌-◌, ◌<◌, ℕ, List, None, Some, true, IfSome};
-ghost use Rattle.plist_ascii.specs.Kinds.{IsAsciiItem, IfBracketItem};
-ghost use Rattle.plist_ascii.specs.Ascii.{placed_items};
+ghost use Rattle.plist_ascii.specs.Ascii.{IsAsciiItem, IfBracketItem, placed_items};
 ghost use Rattle.plist_ascii.specs.Unread.{ItemCountsIoIfCounted, IfKnown, stops, unread};
 ghost use Rattle.plist_ascii.specs.AsciiReader.{GivesAsciiItem, TakesBytes, FaultIsAt, IfQuotedItem, EndsAfterIoOrMemory, bytes_to_come, readable};
 

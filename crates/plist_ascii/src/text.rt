@@ -4,7 +4,7 @@ ghost use Rattle.std.specs.Prelude.{◌≡◌, ◌==◌, ◌||◌, ◌+◌, ◌�
 ghost use Rattle.plist_base.specs.IntegerText.{integer_of_text};
 ghost use Rattle.plist_base.specs.Events.{ScalarEvent, event_of};
 ghost use Rattle.plist_ascii.specs.Texts.{bare, bare_event, quoted_event, scalar_of_text};
-ghost use Rattle.plist_ascii.specs.Kinds.{IsTextEvent};
+ghost use Rattle.plist_ascii.specs.Ascii.{IsTextEvent};
 ghost use Rattle.plist_ascii.specs.Unread.{stops};
 ghost use Rattle.plist_ascii.specs.inner.Inputs.{Means, kind_in_bytes, AddsRun, CountsFailed, GivesBy};
 ghost use Rattle.std.specs.Char.{is_digit};

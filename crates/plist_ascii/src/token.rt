@@ -3,8 +3,8 @@
 ghost use Rattle.std.specs.Prelude.{◌≡◌, None, Some, IfErr, IfOk};
 ghost use Rattle.plist_base.specs.Events.{event_of};
 ghost use Rattle.std.specs.Option.{option_map};
-ghost use Rattle.plist_ascii.specs.Ascii.{slash, lead_of, is_blank, token_by};
-ghost use Rattle.plist_ascii.specs.Kinds.{IsTextEvent, IsAsciiEvent, IfBracket};
+ghost use Rattle.plist_ascii.specs.Texts.{slash};
+ghost use Rattle.plist_ascii.specs.Ascii.{lead_of, is_blank, token_by, IsTextEvent, IsAsciiEvent, IfBracket};
 ghost use Rattle.plist_ascii.specs.Unread.{stops};
 ghost use Rattle.plist_ascii.specs.inner.Inputs.{CountsFailed, IfCame, GivesBy, AllocatesForText};
 

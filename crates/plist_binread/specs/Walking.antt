@@ -39,7 +39,8 @@ IsBounded walk bytes = walk_objects walk ≤ objects_in_head bytes
 
 -- this is a walk over the file with these bytes
 abbrev pub IsWalkOf : (bytes : List ℕ) → Bounds → Walk → Type 0
-IsWalkOf bytes bounds walk = MatchesFile bytes bounds walk.tags.items walk.contents.items (open_in walk)
+IsWalkOf bytes bounds walk =
+    MatchesFile bytes bounds walk.tags.items walk.contents.items (open_in walk)
 
 -- if the bytes are known, this is a walk over their file
 abbrev pub IsKnownWalk : (known : Option (List ℕ)) → Bounds → Walk → Type 0

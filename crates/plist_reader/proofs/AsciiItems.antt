@@ -21,9 +21,8 @@ use Rattle.plist_base.proofs.Refusals.{MatchFault-weaker}
 use Rattle.plist_binread.proofs.LimitedSteps.{limits_remain}
 use Rattle.plist_decode.specs.FaultOffsets.{HasOffset, MatchGiven}
 use Rattle.plist_binread.specs.Remaining.{SomeRemain}
-use Rattle.plist_ascii.specs.Ascii.{items_of_ascii, items_in, BeginsWithText}
+use Rattle.plist_ascii.specs.Ascii.{items_of_ascii, items_in, BeginsWithText, IsAsciiItem, IsFaultOfBytes}
 use Rattle.plist_ascii.specs.AsciiReader as ascii
-use Rattle.plist_ascii.specs.Kinds.{IsAsciiItem, IsFaultOfBytes}
 use Rattle.plist_ascii.specs.Unread as incoming
 use Rattle.plist_ascii.specs.declared.dialect.Dialect.{Dialect}
 use Rattle.plist_ascii.specs.Texts.{ends_bare}

@@ -1,6 +1,6 @@
 -- What calls of an input do to the bytes that remain, to the number of bytes taken, and to the
 -- count of failures, and which errors they return.
-use Rattle.std.specs.Prelude.{◌≡◌, ℕ, ◌+◌, ◌-◌, ◌^◌, ◌<◌, ◌≤◌, Bool, true, false, List, [], ◌∷◌, ◌++◌, length, take, drop, Option, None, Some, Result, Ok, Err, IfOk, IfSome, IsSome, MatchOption, MatchResult}
+use Rattle.std.specs.Prelude.{◌≡◌, ℕ, ◌+◌, ◌-◌, ◌^◌, ◌<◌, ◌≤◌, Bool, true, false, List, [], ◌∷◌, ◌++◌, length, take, drop, Option, None, Some, Result, Ok, Err, IfOk, IfSome, IsSome, MatchOption, MatchResult, slice_get}
 use Rattle.std.specs.Option.{option_map, option_map_or}
 use Rattle.std.specs.declared.alloc.Global.{Global}
 use Rattle.std.specs.declared.vec.Vec.{Vec}
@@ -12,13 +12,12 @@ use Rattle.plist_ascii.specs.declared.fault.TokenFault.TheVariants as fault
 use Rattle.plist_ascii.specs.declared.input.Input.{Input}
 use Rattle.plist_ascii.specs.declared.stop.Stop.{Stop}
 use Rattle.plist_ascii.specs.TokenPrefixes.{Taken, run}
-use Rattle.plist_ascii.specs.Texts.{Token}
-use Rattle.plist_ascii.specs.Kinds.{IsTextEvent}
-use Rattle.plist_ascii.specs.Ascii.{IsTextToken, begins_with}
-use Rattle.plist_ascii.specs.Unread.{IfKnown, GivesFront, RisesIfCounted, first, stops, unread}
+use Rattle.plist_ascii.specs.Texts.{Token, begins_with}
+use Rattle.plist_ascii.specs.Ascii.{IsTextEvent, IsTextToken}
+use Rattle.plist_ascii.specs.Unread.{IfKnown, RisesIfCounted, stops, unread}
 use Rattle.plist_ascii.specs.inner.Parts.{EndsAt}
 
--- ---- the errors of a token
+-- ---- errors and failures
 
 -- the kind of a fault in the bytes, or `None` if a read or an allocation failed
 abbrev pub kind_in_bytes : TokenFault → Option FaultKind
@@ -49,8 +48,6 @@ Means answer outcome = MatchResult answer
     (λ event. (outcome ≡ Ok (Some (event_of event))) × IsTextEvent (event_of event))
     (λ f. (f ≡ fault.InvalidUtf8) × (outcome ≡ Err InvalidUtf8AsciiStream))
 
--- ---- failures
-
 module _ {R : Type 0} (failures : R → Option ℕ) (old : Input R) where
   -- the inner reader's count of failures rose, and the error of the read that failed is stored
   abbrev pub ReadFailed : Input R → Type 0
@@ -66,7 +63,7 @@ module _ {R : Type 0} (failures : R → Option ℕ) (old : Input R) where
   CountsRead answer new = MatchResult answer (λ _. failures new.inner ≡ failures old.inner)
       (λ f. (f ≡ fault.Io) × ReadFailed new)
 
--- ---- the bytes at hand
+-- ---- the bytes at hand, and the number of bytes taken
 
 -- the byte that was looked at, or else the buffered bytes, up to a total of 2^64 - 1 bytes taken;
 -- no bytes after the input has ended
@@ -84,8 +81,6 @@ hand window input = hand_of (window input.inner) input.ended input.peeked input.
 abbrev pub TakesHand : {R : Type 0} → (R → List ℕ) → Input R → Input R → Type 0
 TakesHand window old new =
     (new.taken ≡ old.taken + length (hand window old)) × (new.taken < 2 ^ 64)
-
--- ---- the number of bytes taken
 
 -- if the call returned `Ok(Some(..))`, `P` is true of the value
 abbrev pub IfCame : {A : Type 0} → Result (Option A) TokenFault → (A → Type 0) → Type 0
@@ -113,18 +108,14 @@ module _ {R : Type 0} (known : R → Option (List ℕ)) where
   -- the byte is the first of those that remain, or `None` if no byte remains, and it wasn't taken
   abbrev pub Looks : Input R → Option ℕ → Input R → Type 0
   Looks old byte new =
-      IfKnown (unread known old) (λ xs. (unread known new ≡ Some xs) × (byte ≡ first xs))
+      IfKnown (unread known old) (λ xs. (unread known new ≡ Some xs) × (byte ≡ slice_get xs 0))
 
-  -- no bytes remain, and none were taken
-  abbrev pub HasNothingLeft : Input R → Input R → Type 0
-  HasNothingLeft old new =
-      IfKnown (unread known old) (λ xs. (unread known new ≡ Some xs) × (xs ≡ []))
-
-  -- the first byte was taken, or none remains
+  -- the first byte was taken, or none remains and none was taken
   abbrev pub TakesNext : Input R → Option ℕ → Input R → Type 0
   TakesNext old (Some byte) new = IfKnown (unread known old) (λ xs. (rest : List ℕ)
       × (xs ≡ byte ∷ rest) × (unread known new ≡ Some rest))
-  TakesNext old None new = HasNothingLeft old new
+  TakesNext old None new =
+      IfKnown (unread known old) (λ xs. (unread known new ≡ Some xs) × (xs ≡ []))
 
   -- this byte was taken, or the next byte isn't this one
   abbrev pub TakesIf : ℕ → Input R → (is : Bool) → Input R → Type 0
@@ -172,11 +163,13 @@ module _ {R : Type 0} (known : R → Option (List ℕ)) where
       TakesFirst (λ xs n. EndsAt by xs n (Err kind)) old new)
 
   -- what is at the front was taken, and its meaning is the value of the result, mapped by `view`,
-  -- or its fault is the error
+  -- or its fault is the error; if a read or an allocation failed, nothing is said about the bytes
   abbrev pub GivesBy : {X A : Type 0} → (view : X → A) → (List ℕ → Taken A) → Input R
       → Result X TokenFault → Input R → Type 0
   GivesBy view front old answer new =
-      GivesFront front (unread known old) old.taken (unread known new) new.taken (said view answer)
+      (old.taken ≤ new.taken) × IfSome (said view answer) (λ outcome. IfKnown (unread known old)
+      (λ bytes. let t = front bytes in (t.gives ≡ outcome)
+      × (unread known new ≡ Some (drop t.bytes bytes)) × (new.taken ≡ old.taken + t.bytes)))
 
   -- `OutOfMemory` is returned only for a token that is a string, an integer or a string's fault
   abbrev pub AllocatesForText : (List ℕ → Token) → Input R → TokenFault → Type 0

@@ -1,6 +1,6 @@
 -- What has been taken of a string: its characters, its escapes, and parts that end with an escape
 -- or the closing quote. And strings that end among the bytes at hand.
-use Rattle.std.specs.Prelude.{◌≡◌, ℕ, ◌+◌, ◌<◌, Bool, true, false, not, List, [], ◌∷◌, ◌++◌, length, drop, slice_get, Option, None, Some, Result, Ok, Err, MatchOption, encode_utf8}
+use Rattle.std.specs.Prelude.{◌≡◌, ℕ, ◌+◌, ◌<◌, Bool, not, List, [], ◌∷◌, ◌++◌, length, drop, slice_get, Option, None, Some, Result, Ok, Err, MatchBool, MatchOption, encode_utf8}
 use Rattle.std.specs.declared.alloc.Global.{Global}
 use Rattle.std.specs.declared.vec.Vec.{Vec}
 use Rattle.plist_base.specs.Events.{ScalarEvent}
@@ -34,11 +34,6 @@ module _ (by : (List ℕ → Taken (List ℕ)) → List ℕ → Taken (List ℕ)
   GoesOn part =
       (more : List ℕ → Taken (List ℕ)) → by more bytes ≡ piece_then n part (more (drop n bytes))
 
--- the first n bytes are taken and stand for `part`; after them the string is closed, or continues
-abbrev pub Parts : (quote : ℕ) → List ℕ → (closed : Bool) → ℕ → List ℕ → Type 0
-Parts quote bytes true n part = EndsAt (quoted_by quote) bytes n (Ok part)
-Parts quote bytes false n part = GoesOn (quoted_by quote) bytes n part
-
 -- after a run, n bytes are taken: the closing quote, or an escape that stands for `piece`
 abbrev pub EndsRun : (quote : ℕ) → List ℕ → Option Escaped → ℕ → Type 0
 EndsRun quote bytes None n = EndsAt (run_end quote) bytes n (Ok [])
@@ -49,7 +44,8 @@ EndsRun quote bytes (Some piece) n = GoesOn (run_end quote) bytes n (escaped_byt
 abbrev pub Quotes : (quote : ℕ) → (closed : Bool) → (text longer : Vec ℕ Global) → List ℕ → ℕ
     → Type 0
 Quotes quote closed text longer bytes n =
-    (part : List ℕ) × Parts quote bytes closed n part × (longer.items ≡ text.items ++ part)
+    (part : List ℕ) × MatchBool closed (EndsAt (quoted_by quote) bytes n (Ok part))
+    (GoesOn (quoted_by quote) bytes n part) × (longer.items ≡ text.items ++ part)
 
 -- ---- strings at hand
 

@@ -2,8 +2,7 @@ use Rattle.std.proofs.Common.{arith, None, Some, Ok, Err, refl}
 use Rattle.std.specs.Option.{option_map}
 use Rattle.plist_base.specs.Faults.{IncompleteComment}
 use Rattle.plist_base.specs.Events.{event_of}
-use Rattle.plist_ascii.specs.Texts.{bare}
-use Rattle.plist_ascii.specs.Ascii.{slash, line_comment, block_comment}
+use Rattle.plist_ascii.specs.Texts.{bare, slash, line_comment, block_comment}
 use Rattle.plist_ascii.specs.Unread.{stops}
 use Rattle.plist_ascii.specs.inner.Inputs.{AllocatesForText}
 use Rattle.plist_ascii.proofs.TokenOutcomes.{front_from, gives_passed, gives_past, gives_looked, gives_here, passed_on}
