@@ -148,10 +148,12 @@ module _ (weight : Tree → ℕ) where
   owned_total low [] r = refl
   owned_total low ((p, Leaf x) ∷ ones) r =
       let more = owned_total (p + 1) ones r.1 in
-      rw (text_member ones p x) (elim (is_member scalar_eq (flat_map leaf_scalar ones) x) as (λ b. total weigh
+      rw (text_member ones p x) (elim (is_member scalar_eq (flat_map leaf_scalar ones) x) as
+      (λ b. total weigh
       (cond b (unique_keys owned_eq ones) ((p, Leaf x) ∷ unique_keys owned_eq ones))
       ≡ total weigh (flat_map collection_of ones) + total (λ y. weight (Leaf y)) (cond b
-      (unique_keys scalar_eq (flat_map leaf_scalar ones)) (x ∷ unique_keys scalar_eq (flat_map leaf_scalar ones)))) [
+      (unique_keys scalar_eq (flat_map leaf_scalar ones))
+      (x ∷ unique_keys scalar_eq (flat_map leaf_scalar ones)))) [
         | true ↦ more
         | false ↦ omega (arith, more)
       ])
@@ -202,7 +204,8 @@ module _ {es : List PlainEvent} {class : ℕ → ℕ} {count : ℕ} (o : AreIden
     → class p ≡ class q) where
   all_apart : (a : One) → Stands es a → own_tree a.1 a.0 ≡ alone a.0 → (ones : List One)
       → AllByRecursion (Stands es) ones → AllByRecursion (λ later. a.0 < later.0) ones
-      → AllByRecursion (λ y. eqb (num a.0) y ≡ false) (map (λ one. num one.0) (flat_map collection_of ones))
+      → AllByRecursion (λ y. eqb (num a.0) y ≡ false)
+      (map (λ one. num one.0) (flat_map collection_of ones))
   all_apart a s i [] r h = tt
   all_apart a s i ((q, Leaf y) ∷ ones) r h = all_apart a s i ones r.1 h.1
   all_apart a s i ((q, t) ∷ ones) r h = (

@@ -31,7 +31,8 @@ positive c =
     (end_positive _ of.objects _ _ (c.requires.layout.laid of.objects of.describes).end)
 
 -- the numbers in the longer order
-pushed : (c : Placed) → map (object_number c.args.given.now c.args.self.now.numbering) c.push.new.self
+pushed : (c : Placed)
+    → map (object_number c.args.given.now c.args.self.now.numbering) c.push.new.self
     ≡ numbers_in c.args.given.now c.args.self.now ++ number c ∷ []
 pushed c = ap (map _) c.in_ok-push.ensures.pushed ∙ map-append _ c.args.self.now.order _
 
