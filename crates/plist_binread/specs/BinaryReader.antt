@@ -1,5 +1,5 @@
 -- What contracts say about a reader: its remaining items, its open collections and its cache.
-use Rattle.std.specs.Prelude.{◌≡◌, ℕ, ◌+◌, ◌^◌, ◌<◌, ◌≤◌, Bool, true, false, List, [], length, Option, None, Some, Result, Ok, Err, MatchBool, MatchOption, OnErr, IfSome, ⊤}
+use Rattle.std.specs.Prelude.{◌≡◌, ℕ, ◌+◌, ◌^◌, ◌<◌, ◌≤◌, Bool, true, false, List, [], length, reverse, Option, None, Some, Result, Ok, Err, MatchBool, MatchOption, OnErr, IfSome, ⊤}
 use Rattle.std.specs.Option.{is_some}
 use Rattle.plist_base.specs.declared.error.Error.{Error}
 use Rattle.plist_base.specs.declared.event.Event.{Event}
@@ -15,9 +15,12 @@ use Rattle.plist_format.specs.Unfolding.{items_of_file, until_fault}
 use Rattle.plist_decode.specs.FaultOffsets.{ItemGivenWithin}
 use Rattle.plist_decode.specs.declared.counter.DecodeCounter.{Ghosts as CounterGhosts}
 use Rattle.plist_binread.specs.declared.reader.BinaryReader.{BinaryReader}
-use Rattle.plist_binread.specs.declared.reader.WalkState.TheVariants.{Ended}
-use Rattle.plist_binread.specs.Remaining.{AllocatesFirst, AreBoundsOf, CountsObjects, MarksOpenPath, SomeRemain, by_state, entries_of, is_fresh, is_walking, next_number, objects_in_head, walk_steps}
-use Rattle.plist_binread.specs.Walking.{IsCachedIfSmall, cached_in, open_in, remaining_in, root_with, weight_in}
+use Rattle.plist_binread.specs.declared.reader.WalkState.{WalkState}
+use Rattle.plist_binread.specs.declared.reader.WalkState.TheVariants.{Ended, Fresh, Walking}
+use Rattle.plist_binread.specs.declared.frames.Frame.{Frame}
+use Rattle.plist_decode.specs.declared.head.Bounds.{Bounds}
+use Rattle.plist_binread.specs.Remaining.{AllocatesFirst, AreBoundsOf, CountsObjects, MarksOpenPath, SomeRemain, by_state, entries_of, is_fresh, is_walking, next_number, objects_in_head, remaining_items, walk_steps}
+use Rattle.plist_binread.specs.Walking.{IsCachedIfSmall, cached_in, open_in, root_with, weight_in}
 
 -- The item is the first that remained, and the others remain; after `None` and any error no item
 -- remains. `Io` is yielded only if an item remained, and `OutOfMemory` only if the reader is new or
@@ -28,6 +31,19 @@ GivesAs shown new before item after =
     GivesFirst shown before item after × MatchItem item (after ≡ []) (λ _. ⊤)
     ((after ≡ []) × SomeRemain before)
     ((after ≡ []) × MatchBool new (SomeRemain before) (AllocatesFirst before)) (λ _. after ≡ [])
+
+-- the items that remain in this state, without regard to limits
+abbrev pub remaining_now : List ℕ → WalkState → Bounds → List Frame → List Item
+remaining_now bytes Fresh bounds frames = items_of_file bytes
+remaining_now bytes Walking bounds frames =
+    until_fault (remaining_items (entries_of bytes bounds) (reverse frames))
+remaining_now bytes Ended bounds frames = []
+
+-- the number of the object that is entered next in this state, or `None` if there is none
+abbrev pub upcoming_number : List ℕ → WalkState → Bounds → List Frame → Option ℕ
+upcoming_number bytes Fresh bounds frames = root_with (head_of bytes)
+upcoming_number bytes Walking bounds frames = next_number (entries_of bytes bounds) (reverse frames)
+upcoming_number bytes Ended bounds frames = None
 
 -- the items of a file, cut by the limits if there are any
 abbrev pub file_under : Option LimitCounter → List ℕ → List Item
@@ -44,8 +60,8 @@ module _ {R C : Type 0} {g : Ghosts R} {h : CounterGhosts C} where
 
   -- the items of the file that remain, without regard to limits
   abbrev pub unlimited_items : List ℕ → BinaryReader R C g h → List Item
-  unlimited_items bytes reader = by_state reader.state (items_of_file bytes)
-      (until_fault (remaining_in bytes reader.decoder.bounds reader.walk)) []
+  unlimited_items bytes reader =
+      remaining_now bytes reader.state reader.decoder.bounds reader.walk.frames
 
   -- the items that remain if these are the bytes of the file
   abbrev pub items_to_come : List ℕ → BinaryReader R C g h → List Item
@@ -74,8 +90,8 @@ module _ {R C : Type 0} {g : Ghosts R} {h : CounterGhosts C} where
 
   -- the number of the object that is entered next, or `None` if there is none
   abbrev pub number_to_come : List ℕ → BinaryReader R C g h → Option ℕ
-  number_to_come bytes reader = by_state reader.state (root_with (head_of bytes))
-      (next_number (entries_of bytes reader.decoder.bounds) (open_in reader.walk)) None
+  number_to_come bytes reader =
+      upcoming_number bytes reader.state reader.decoder.bounds reader.walk.frames
 
   -- an upper bound on the number of items that remain
   abbrev pub binary_steps : BinaryReader R C g h → ℕ
