@@ -40,8 +40,8 @@ module _ {I : Type 0} (yields : I → PlainItem → I → Type 0) where
     taken = here.taken ++ Ok event ∷ [];
     gave = it.Yields-more yields first here.taken now.0 (Ok event) new.0 here.gave one.given;
     holds = seen-more see here.taken (Ok event) (λ xs. TookAll xs (built_of new.1.builder))
-    (took-more (map see here.taken) (Ok event) (built_of now.1.builder) (built_of new.1.builder)
-    here.holds one.taken);
+        (took-more (map see here.taken) (Ok event) (built_of now.1.builder) (built_of new.1.builder)
+        here.holds one.taken);
   }
 
   -- all events that were handed over were taken
@@ -64,11 +64,15 @@ module _ {I : Type 0} (yields : I → PlainItem → I → Type 0) where
         → CollectsTo (λ (event : PlainEvent). event) yields old.0 (built_tree value) new.0
     collected_end value visited is ends complete unfinished =
         let visit = subst (λ v. Visits yields BuildsEvent old (Ok v) new) is ends in
-        let all = taken_all old visit.left visit.events empty visit.handed in
-        (all.taken, visit.left.0, all.gave, finished (new.0 ≡ visit.left.0)
-        (yields visit.left.0 None new.0) (map see all.taken) (built_of new.1.builder) value
-        visit.ended.0 (subst (λ (v : ValueVisitor). TookAll (map see all.taken) (built_of v.builder))
-        (sym visit.ended.1) all.holds) complete unfinished)
+        let all = taken_all old visit.left visit.events empty visit.handed in (
+          all.taken,
+          visit.left.0,
+          all.gave,
+          finished (new.0 ≡ visit.left.0)
+              (yields visit.left.0 None new.0) (map see all.taken) (built_of new.1.builder) value
+              visit.ended.0 (subst (λ (v : ValueVisitor). TookAll (map see all.taken) (built_of v.builder))
+              (sym visit.ended.1) all.holds) complete unfinished,
+        )
 
     -- the builder rejected the last event
     pub collected_stop : (visited : Visited) → visited ≡ Stopped
@@ -78,27 +82,31 @@ module _ {I : Type 0} (yields : I → PlainItem → I → Type 0) where
         let visit = subst (λ v. Visits yields BuildsEvent old (Ok v) new) is stops in
         let all = taken_all old visit.left visit.events empty visit.handed in
         let (event, one) = visit.ended in
-        let ends = yields new.0 None new.0 in
-        (all.taken ++ Ok event ∷ [], new.0,
-        it.Yields-more yields old.0 all.taken visit.left.0 (Ok event) new.0 all.gave one.given,
-        seen-more see all.taken (Ok event)
-        (λ xs. IsBuiltFrom (new.0 ≡ new.0) ends xs (Err (fault_of new.1.refusal)))
-        (refused-last (new.0 ≡ new.0) ends (map see all.taken) (Ok event)
-        (built_of visit.left.1.builder) (fault_of new.1.refusal) refl all.holds
-        (one.taken all.holds.2)))
+        let ends = yields new.0 None new.0 in (
+          all.taken ++ Ok event ∷ [],
+          new.0,
+          it.Yields-more yields old.0 all.taken visit.left.0 (Ok event) new.0 all.gave one.given,
+          seen-more see all.taken (Ok event)
+              (λ xs. IsBuiltFrom (new.0 ≡ new.0) ends xs (Err (fault_of new.1.refusal)))
+              (refused-last (new.0 ≡ new.0) ends (map see all.taken) (Ok event)
+              (built_of visit.left.1.builder) (fault_of new.1.refusal) refl all.holds
+              (one.taken all.holds.2)),
+        )
 
     -- an error replaced an event
     pub collected_error : (error : Error) → Visits yields BuildsEvent old (Err error) new
         → CollectsTo (λ (event : PlainEvent). event) yields old.0 (Err (fault_of error)) new.0
     collected_error error visit =
         let all = taken_all old visit.left visit.events empty visit.handed in
-        let ends = yields new.0 None new.0 in
-        (all.taken ++ Err error ∷ [], new.0,
-        it.Yields-more yields old.0 all.taken visit.left.0 (Err error) new.0 all.gave visit.ended.0,
-        seen-more see all.taken (Err error)
-        (λ xs. IsBuiltFrom (new.0 ≡ new.0) ends xs (Err (fault_of error)))
-        (refused-last (new.0 ≡ new.0) ends (map see all.taken) (Err (fault_of error))
-        (built_of visit.left.1.builder) (fault_of error) refl all.holds refl))
+        let ends = yields new.0 None new.0 in (
+          all.taken ++ Err error ∷ [],
+          new.0,
+          it.Yields-more yields old.0 all.taken visit.left.0 (Err error) new.0 all.gave visit.ended.0,
+          seen-more see all.taken (Err error)
+              (λ xs. IsBuiltFrom (new.0 ≡ new.0) ends xs (Err (fault_of error)))
+              (refused-last (new.0 ≡ new.0) ends (map see all.taken) (Err (fault_of error))
+              (built_of visit.left.1.builder) (fault_of error) refl all.holds refl),
+        )
 
 -- ---- a source that is an iterator
 
@@ -156,9 +164,16 @@ module _ {I : Type 0} (next_gives : I → Option (Result Event Error) → I → 
       → Collects (λ (event : PlainEvent). event) (YieldsPlain next_gives) iter answer
       → Collects event_of next_gives iter answer
   collects_items iter answer (after, (taken, left, gave, built)) =
-      let items = given_of iter left taken gave in
-      (after, (items.given, left, items.gave, ends_as (after ≡ left)
-      (YieldsPlain next_gives left None after) (next_gives left None after)
-      (map (item_by event_of) items.given) answer (end_of left after)
-      (subst (λ xs. IsBuiltFrom (after ≡ left) (YieldsPlain next_gives left None after) xs answer)
-      (sym items.seen) built)))
+      let items = given_of iter left taken gave in (
+        after,
+        (
+          items.given,
+          left,
+          items.gave,
+          ends_as (after ≡ left)
+              (YieldsPlain next_gives left None after) (next_gives left None after)
+              (map (item_by event_of) items.given) answer (end_of left after)
+              (subst (λ xs. IsBuiltFrom (after ≡ left) (YieldsPlain next_gives left None after) xs answer)
+              (sym items.seen) built),
+        ),
+      )

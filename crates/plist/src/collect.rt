@@ -78,10 +78,7 @@ fn take_refusal(refusal: &mut Error) -> Error
 
 /// Builds a value from the events that a source hands over. It fails at the first error that
 /// replaces an event, or at the first event that can't come next, and visits no further.
-pub(crate) fn collect_visited<S: EventSource>(
-    alloc: Global,
-    source: &mut S,
-) -> Result<Value, Error>
+pub(crate) fn collect_visited<S: EventSource>(alloc: Global, source: &mut S) -> Result<Value, Error>
     ensures { CollectsTo (λ event. event) S.yields source.old (built_tree result) source.new }
 {
     let mut visitor = ValueVisitor {

@@ -11,7 +11,7 @@ use std::alloc::Global;
 use std::borrow::{CowSlice, CowStr};
 use std::ops::ControlFlow;
 
-/// Passes all events on to another visitor.
+/// Passes all events on to another visitor. Each of them was given to it as an [`Event`].
 ///
 /// The code that enters an object, and the code that hands over a small scalar, are compiled once
 /// for each type of visitor that they are called with. The first event of a file, and each scalar

@@ -1,5 +1,5 @@
 -- The events of a table, and the indices of trees among them.
-use Rattle.std.specs.Prelude.{◌≡◌, ℕ, ◌+◌, ◌<◌, ◌≤◌, Bool, true, false, List, [], ◌∷◌, length, get_or, map, ◌++◌, ◌⊎◌, Some, slice_get}
+use Rattle.std.specs.Prelude.{◌≡◌, ℕ, ◌+◌, ◌<◌, ◌≤◌, Bool, true, false, List, [], ◌∷◌, length, slice_index, slice_index_or, map, ◌++◌, ◌⊎◌, Some, slice_get}
 use Rattle.plist_base.specs.declared.event.Event.{Event}
 use Rattle.plist_base.specs.Events.{PlainEvent, event_of, EndCollection}
 use Rattle.plist_buffer.specs.declared.event_table.EventTable.{EventTable}
@@ -33,7 +33,7 @@ is_end event = false
 
 -- the event at an index, or an end if there is none
 abbrev pub event_at : List PlainEvent → ℕ → PlainEvent
-event_at es p = get_or es p EndCollection
+event_at es p = slice_index_or es p EndCollection
 
 -- a tree begins at an index
 abbrev pub HasItem : List PlainEvent → (index : ℕ) → Type 0
@@ -88,8 +88,8 @@ values_in (Dictionary ms) p = value_indices ms (p + 1)
 
 -- each number of a list is below n
 abbrev pub AllBelow : ℕ → List ℕ → Type 0
-AllBelow n ps = (i : ℕ) → i < length ps → get_or ps i 0 < n
+AllBelow n ps = (i : ℕ) → i < length ps → slice_index ps i < n
 
 -- the number at an index, or 0 if there is none
 abbrev pub nth_number : List ℕ → ℕ → ℕ
-nth_number numbers p = get_or numbers p 0
+nth_number numbers p = slice_index numbers p

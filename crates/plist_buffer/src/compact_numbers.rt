@@ -1,6 +1,6 @@
 //! Lists of numbers. A list stores each number in four bytes until a number doesn't fit.
 
-ghost use Rattle.std.specs.Prelude.{◌≡◌, ◌^◌, ◌<◌, ◌++◌, ◌∷◌, [], length, get_or, replicate, set, take, None, IfSome, IfOk, OnOk, OnErr, ◌-◌};
+ghost use Rattle.std.specs.Prelude.{◌≡◌, ◌^◌, ◌<◌, ◌++◌, ◌∷◌, [], length, slice_index, replicate, set, take, None, IfSome, IfOk, OnOk, OnErr, ◌-◌};
 
 use std::alloc::{AllocError, Global};
 use std::marker::Model;
@@ -90,7 +90,7 @@ impl CompactNumbers {
     #[inline(always)]
     pub fn get(&self, index: usize) -> usize
         requires { index < length self.now }
-        ensures { result ≡ get_or self.now index 0 }
+        ensures { result ≡ slice_index self.now index }
     {
         let below = self.narrow.len();
         if index < below {

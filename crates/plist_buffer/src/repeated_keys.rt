@@ -1,6 +1,6 @@
 //! Finds out whether a dictionary contains a key twice.
 
-ghost use Rattle.std.specs.Prelude.{◌≡◌, ◌≢◌, ◌+◌, ◌<◌, true, false, length, get_or, set, IfOk};
+ghost use Rattle.std.specs.Prelude.{◌≡◌, ◌≢◌, ◌+◌, ◌<◌, true, false, length, slice_index, set, IfOk};
 ghost use Rattle.plist_base.specs.Outcomes.{OnlyMemory};
 ghost use Rattle.plist_base.specs.Events.{shape_of};
 ghost use Rattle.plist_buffer.specs.EventTable.{plain_events, scalars_of, AllBelow, table_event};
@@ -15,8 +15,8 @@ use std::alloc::Global;
 // Sets the stamp of a scalar, and returns whether it had this stamp already.
 fn stamp(stamps: &mut Vec<usize>, scalar: usize, mark: usize) -> bool
     requires { scalar < length stamps.old.items }
-    ensures repeated { result ≡ true → get_or stamps.old.items scalar 0 ≡ mark }
-    ensures other { result ≡ false → get_or stamps.old.items scalar 0 ≢ mark }
+    ensures repeated { result ≡ true → slice_index stamps.old.items scalar ≡ mark }
+    ensures other { result ≡ false → slice_index stamps.old.items scalar ≢ mark }
     ensures stamped { stamps.new.items ≡ set stamps.old.items scalar mark }
 {
     let stood = stamps.as_slice()[scalar] == mark;

@@ -104,10 +104,12 @@ module _ {R : Type 0} {g : Ghosts R} (alloc : Global) where
   yields_event : (from to : BinaryReaderOf R g) (event : PlainEvent) (handed : Event)
       → event_of handed ≡ event → Steps from (Some (Ok event)) to
       → Yields (chosen from) (Some (Ok event)) (chosen to)
-  yields_event from to event handed is step = (Some (Ok handed),
-      binary-gives from to (Some (Ok handed)) (gives_event from to handed
-      (subst (λ (e : PlainEvent). Steps from (Some (Ok e)) to) (sym is) step)),
-      ap (λ (e : PlainEvent). Some (Ok e)) (sym is))
+  yields_event from to event handed is step = (
+    Some (Ok handed),
+    binary-gives from to (Some (Ok handed)) (gives_event from to handed
+        (subst (λ (e : PlainEvent). Steps from (Some (Ok e)) to) (sym is) step)),
+    ap (λ (e : PlainEvent). Some (Ok e)) (sym is),
+  )
 
   module _ {V : Type 0} (step : V → PlainEvent → Flow → V → Type 0) where
     hands_one : (from to : BinaryReaderOf R g) (v w : Relay V) (event : PlainEvent) (flow : Flow)
@@ -140,8 +142,11 @@ module _ {R : Type 0} {g : Ghosts R} (alloc : Global) where
     ends_visit (Ok Stopped) from to v w (event, one) =
         (event, hands_one from to v w event _ one)
     ends_visit (Err error) from to v w (fault, same) = (
-      (Some (Err error), binary-gives from to (Some (Err error)) (gives_error from to error fault),
-      refl),
+      (
+        Some (Err error),
+        binary-gives from to (Some (Err error)) (gives_error from to error fault),
+        refl,
+      ),
       ap (λ (r : Relay V). r.visitor.now) same,
     )
 

@@ -22,9 +22,8 @@ use Rattle.plist_decode.specs.contracts.counter.UncountedDecodeCounter.TheImpl.{
 use Rattle.plist_decode.specs.FaultOffsets.{HasOffset, MatchGiven}
 use Rattle.plist_binread.specs.Remaining.{SomeRemain, walk_steps}
 use Rattle.plist_format.specs.Unfolding.{items_of_file}
-use Rattle.plist_ascii.specs.Ascii.{items_of_ascii}
+use Rattle.plist_ascii.specs.Ascii.{IsFaultOfBytes, items_of_ascii}
 use Rattle.plist_ascii.specs.AsciiReader as ascii
-use Rattle.plist_ascii.specs.Kinds.{IsFaultOfBytes}
 use Rattle.plist_ascii.specs.declared.reader.AsciiReader.{AsciiReader}
 use Rattle.plist_reader.specs.declared.bytes.BufferedSource.{BufferedSource}
 use Rattle.plist_ascii.specs.Texts.{ends_bare}

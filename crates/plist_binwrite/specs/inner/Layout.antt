@@ -1,6 +1,6 @@
 -- The order of a file's objects, their offsets, the size of the file, a planned file, and what its
 -- parts put into a sink.
-use Rattle.std.specs.Prelude.{◌≡◌, ◌≢◌, ℕ, ◌<◌, true, false, eqb, List, ◌++◌, length, get_or, map, ◌+◌, ◌^◌, ◌≤◌, Option, IfSome, ◌⊎◌, Some, Ok, Err, Result}
+use Rattle.std.specs.Prelude.{◌≡◌, ◌≢◌, ℕ, ◌<◌, true, false, eqb, List, ◌++◌, length, slice_index, map, ◌+◌, ◌^◌, ◌≤◌, Option, IfSome, ◌⊎◌, Some, Ok, Err, Result}
 use Rattle.std.specs.List.{list_any, AllByRecursion, IsDistinct}
 use Rattle.plist_format.specs.Container.{magic}
 use Rattle.plist_format.specs.Object.{Object}
@@ -36,8 +36,8 @@ pub record IsOrder (count : ℕ) (order marks : List ℕ) : Type 0 where
   pub long : length marks ≡ count
   pub distinct : IsDistinct eqb order
   pub below : (k : ℕ) → list_any (eqb k) order ≡ true → k < count
-  pub marked : (k : ℕ) → list_any (eqb k) order ≡ true → get_or marks k 0 ≢ 0
-  pub others : (k : ℕ) → list_any (eqb k) order ≡ false → get_or marks k 0 ≡ 0
+  pub marked : (k : ℕ) → list_any (eqb k) order ≡ true → slice_index marks k ≢ 0
+  pub others : (k : ℕ) → list_any (eqb k) order ≡ false → slice_index marks k ≡ 0
 
 -- the magic and the objects in this order
 abbrev pub laid_out : (width : ℕ) (objects : ℕ → Object) (order : List ℕ) → List ℕ
@@ -91,7 +91,7 @@ pub record IsLayout (given : Classed) (plan : FilePlan) : Type 0 where
 
 -- the object of the event at this index has an offset
 abbrev pub HasPlace : Classed → FilePlan → (index : ℕ) → Type 0
-HasPlace given plan index = get_or plan.places (object_number given plan.numbering index) 0 ≢ 0
+HasPlace given plan index = slice_index plan.places (object_number given plan.numbering index) ≢ 0
 
 -- the object of the event at this index has an offset now, unless the event is an end, and each
 -- object that had an offset has one

@@ -1,6 +1,6 @@
 -- The numbers of objects. `by_class` has 1 more than the number of each class's object, or 0 if that
 -- has no number yet. The `count` numbers are those below it.
-use Rattle.std.specs.Prelude.{◌≡◌, ℕ, ◌+◌, ◌-◌, ◌^◌, ◌<◌, ◌≤◌, false, List, length, get_or}
+use Rattle.std.specs.Prelude.{◌≡◌, ℕ, ◌+◌, ◌-◌, ◌^◌, ◌<◌, ◌≤◌, false, List, length, slice_index}
 use Rattle.plist_base.specs.Events.{PlainEvent}
 use Rattle.plist_buffer.specs.EventTable.{is_end, event_at, HasItem, IsBracketed}
 use Rattle.plist_binwrite.specs.Classes.{AreClasses}
@@ -14,7 +14,7 @@ use Rattle.plist_buffer.specs.declared.children.Half.TheVariants.{Keys, Values}
 
 -- 1 more than the number of an event's object, or 0 if that has no number yet
 abbrev pub stored_by : (class : ℕ → ℕ) (by_class : List ℕ) → (index : ℕ) → ℕ
-stored_by class by_class index = get_or by_class (class index) 0
+stored_by class by_class index = slice_index by_class (class index)
 
 -- the number of an event's object
 abbrev pub number_by : (class : ℕ → ℕ) (by_class : List ℕ) → (index : ℕ) → ℕ
@@ -41,9 +41,9 @@ pub record IsPlan (es : List PlainEvent) (class : ℕ → ℕ) (by_class : List 
     pub small : count < 2 ^ 64
     pub known : (k : ℕ) → k < count → (first k < length es)
         × (stored_by class by_class (first k) ≡ k + 1) × (is_end (event_at es (first k)) ≡ false)
-    pub same : (c : ℕ) → c < length by_class → 0 < get_or by_class c 0
-        → class (first (get_or by_class c 0 - 1)) ≡ c
-    pub few : (c : ℕ) → c < length by_class → get_or by_class c 0 ≤ count
+    pub same : (c : ℕ) → c < length by_class → 0 < slice_index by_class c
+        → class (first (slice_index by_class c - 1)) ≡ c
+    pub few : (c : ℕ) → c < length by_class → slice_index by_class c ≤ count
 
 -- the events are those of a tree, and each of its objects has the number of its class
 pub record IsPlanned (es : List PlainEvent) (class : ℕ → ℕ) (by_class : List ℕ) (count : ℕ)

@@ -1,5 +1,5 @@
 -- The entries in which events are buffered: the events that they represent, and their invariants.
-use Rattle.std.specs.Prelude.{◌≡◌, ℕ, ◌+◌, ◌<◌, ◌==◌, Bool, true, false, List, [], ◌∷◌, ◌++◌, length, get_or, set, map, reverse, None, Some, slice_get}
+use Rattle.std.specs.Prelude.{◌≡◌, ℕ, ◌+◌, ◌<◌, ◌==◌, Bool, true, false, List, [], ◌∷◌, ◌++◌, length, slice_index_or, set, map, reverse, None, Some, slice_get}
 use Rattle.std.specs.List.{list_any}
 use Rattle.plist_base.specs.Bracketing.{without_length}
 use Rattle.plist_base.specs.Events.{PlainEvent, StartArray, StartDictionary, EndCollection, ScalarEvent}
@@ -21,13 +21,13 @@ is_leaf event = false
 
 -- the entry at an index, or an end if there is none
 abbrev pub entry_at : List EventEntry → ℕ → EventEntry
-entry_at entries index = get_or entries index entry.End
+entry_at entries index = slice_index_or entries index entry.End
 
 -- the event of an entry, given the different scalars
 abbrev pub event_of_entry : (scalars : List PlainEvent) → EventEntry → PlainEvent
 event_of_entry scalars (entry.Array following) = StartArray None
 event_of_entry scalars (entry.Dictionary following) = StartDictionary None
-event_of_entry scalars (entry.Scalar index) = without_length (get_or scalars index EndCollection)
+event_of_entry scalars (entry.Scalar index) = without_length (slice_index_or scalars index EndCollection)
 event_of_entry scalars entry.End = EndCollection
 
 -- the events of entries, given the different scalars
@@ -36,7 +36,7 @@ events_of_entries scalars entries = map (event_of_entry scalars) entries
 
 -- if the entry is a scalar's, does its index belong to one of the scalars?
 abbrev pub is_sound : (scalars : List PlainEvent) → EventEntry → Bool
-is_sound scalars (entry.Scalar index) = is_leaf (get_or scalars index EndCollection)
+is_sound scalars (entry.Scalar index) = is_leaf (slice_index_or scalars index EndCollection)
 is_sound scalars other = true
 
 -- does the entry refer to the scalar with this number?

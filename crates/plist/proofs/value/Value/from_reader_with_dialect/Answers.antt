@@ -23,11 +23,13 @@ returns-clause-reads_back g c = reads-back c.args.dialect _ (built_tree c.collec
     (returns-clause-value g c)
 
 pub returns-clause-read : goal.returns-clause-read
-returns-clause-read g c =
-    (c.with_dialect-reader.result, c.with_dialect-reader.ensures.new,
-    collects_items (Gives g.R.Source.known g.R.Source.failures) c.with_dialect-reader.result
-    (built_tree c.collect_visited.result)
-    (c.collect_visited.new.source, c.collect_visited.ensures))
+returns-clause-read g c = (
+  c.with_dialect-reader.result,
+  c.with_dialect-reader.ensures.new,
+  collects_items (Gives g.R.Source.known g.R.Source.failures) c.with_dialect-reader.result
+      (built_tree c.collect_visited.result)
+      (c.collect_visited.new.source, c.collect_visited.ensures),
+)
 
 pub returns-clause-fault : goal.returns-clause-fault
 returns-clause-fault g c =
