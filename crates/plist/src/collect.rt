@@ -1,7 +1,6 @@
 //! Builds a value from the items of an iterator, or from the events that a source hands over.
 
 ghost use Rattle.std.specs.Iterator.{IsFinite};
-ghost use Rattle.std.specs.Prelude.{◌≡◌};
 ghost use Rattle.plist.specs.Collecting.{Collects, CollectsTo, built_tree};
 ghost use Rattle.plist.specs.ValueOfItems.{AnswersAsPredicted};
 
@@ -9,7 +8,6 @@ use crate::Value;
 use crate::stream::builder::{AnyEvent, Builder};
 use plist_base::{Error, ErrorKind, Event, EventSource, EventVisitor, Visited};
 use std::alloc::Global;
-use std::mem;
 use std::ops::ControlFlow;
 
 // Builds a value from an iterator's items. It fails at the first item that is an error, or whose
@@ -68,14 +66,6 @@ impl EventVisitor for ValueVisitor {
     }
 }
 
-// Takes the error of the event that the builder rejected.
-#[cold]
-fn take_refusal(refusal: &mut Error) -> Error
-    ensures { result ≡ refusal.old }
-{
-    mem::replace(refusal, ErrorKind::OutOfMemory.without_position())
-}
-
 /// Builds a value from the events that a source hands over. It fails at the first error that
 /// replaces an event, or at the first event that can't come next, and visits no further.
 pub(crate) fn collect_visited<S: EventSource>(alloc: Global, source: &mut S) -> Result<Value, Error>
@@ -87,7 +77,7 @@ pub(crate) fn collect_visited<S: EventSource>(alloc: Global, source: &mut S) -> 
     };
     match source.visit(&mut visitor) {
         Ok(Visited::Ended) => visitor.builder.finish(),
-        Ok(Visited::Stopped) => Err(take_refusal(&mut visitor.refusal)),
+        Ok(Visited::Stopped) => Err(visitor.refusal),
         Err(error) => Err(error),
     }
 }

@@ -1,4 +1,4 @@
--- The tokens of an old-style ASCII property list, their items, and which events and faults they are.
+-- The tokens of an old-style ASCII property list, their items, and the events and faults there are.
 use Rattle.std.specs.Prelude.{◌≡◌, ◌⊎◌, ℕ, zero, suc, ◌+◌, Bool, true, false, if◌then◌else◌, List, [], ◌∷◌, length, drop, map, Option, None, Some, Result, Ok, Err, IfOk, IfSome, ⊤}
 use Rattle.plist_base.specs.declared.error.Error.{Error}
 use Rattle.plist_base.specs.declared.event.Event.{Event}

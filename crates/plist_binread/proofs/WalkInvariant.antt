@@ -1,6 +1,6 @@
 -- What a walk has stored about the file's objects, and how each step changes it.
-use Rattle.std.proofs.Common.{◌≡◌, ℕ, ◌-◌, ◌<◌, ◌≤◌, inl, inr, Bool, true, false, nat_eq, List, [], ◌∷◌, ◌++◌, length, take, drop, get_or, slice_set, Option, Some, Ok, Err, IfSome, MatchBool, refl, ap, sym, subst, ◌∙◌, arith}
-use Rattle.std.specs.Prelude.{⊤}
+use Rattle.std.proofs.Common.{◌≡◌, ℕ, ◌-◌, ◌<◌, ◌≤◌, inl, inr, Bool, true, false, nat_eq, List, [], ◌∷◌, ◌++◌, length, take, drop, get_or, slice_set, Option, None, Some, Ok, Err, IfSome, MatchBool, refl, ap, sym, subst, ◌∙◌, arith}
+use Rattle.std.specs.Prelude.{⊤, IsSomeAnd}
 use Rattle.std.specs.List.{AllByRecursion, slice_get}
 use Rattle.std.proofs.lemmas.Bool.Decides.{eqb_tells, nat_tests}
 use Rattle.std.proofs.lemmas.List.{get_or-set_same, get_or-set_other}
@@ -37,19 +37,22 @@ not_zero t h = grind (arith, nat_tests)
 -- the content is the offset of the entry, or else the entry's object is this scalar
 abbrev HoldsPlaceOr : (is_place : Bool) → Option Scalar → (content : ℕ) → Option TableEntry → Type 0
 HoldsPlaceOr is_place scalar content entry =
-    MatchBool is_place (content ≡ place_at entry) (scalar_at entry ≡ scalar)
+    MatchBool is_place (content ≡ place_at entry)
+    (IsSomeAnd scalar (λ found. scalar_at entry ≡ Some found))
 
 -- a content that isn't an offset stores this scalar
 held_as : (b : Bool) (scalar : Option Scalar) (content : ℕ) (entry : Option TableEntry) → b ≡ false
     → HoldsPlaceOr b scalar content entry → scalar_at entry ≡ scalar
 held_as true scalar content entry b h = absurd (cc)
-held_as false scalar content entry b h = h
+held_as false None content entry b h = absurd h
+held_as false (Some s) content entry b h = h
 
 from_scalar : (b : Bool) (found : Option Scalar) (content : ℕ) (entry : Option TableEntry)
     (scalar : Scalar) → b ≡ false → found ≡ Some scalar → scalar_at entry ≡ Some scalar
     → HoldsPlaceOr b found content entry
 from_scalar true found content entry scalar b is h = absurd (cc)
-from_scalar false found content entry scalar b is h = h ∙ sym is
+from_scalar false None content entry scalar b is h = absurd (cc)
+from_scalar false (Some s) content entry scalar b is h = h ∙ sym is
 
 module _ (bytes : List ℕ) (bounds : Bounds) where
   abbrev table : List TableEntry

@@ -136,7 +136,8 @@ module _ {R C : Type 0} {g : Ghosts R} {h : CounterGhosts C} (old : BinaryReader
     pub cached : IfSome (g.known (binary_source old))
         (λ bytes. IsCachedIfSmall shown (number_to_come bytes old) item new.walk.tags.items)
     pub leaves : KeepsInvariant old new
-    -- after any item, the reader counts as many objects as the head
+    -- after an event, and after an error other than `Io` and `OutOfMemory`, the reader counts as many
+    -- objects as the head
     pub objects : IfSome (g.known (binary_source old))
         (λ bytes. IfSome item (λ answer. CountsObjects bytes answer (objects_in_file new)))
     -- whether there are limits never changes, nor does the number of objects after the first item

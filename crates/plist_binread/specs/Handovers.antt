@@ -42,7 +42,7 @@ module _ {V : Type 0} (step : V → PlainEvent → Flow → V → Type 0) (old n
   Hands answer P = HandsItem (Some answer) P
 
 module _ {V : Type 0} (step : V → PlainEvent → Flow → V → Type 0) where
-  -- a visitor is given an event, and passes it on to the visitor in it
+  -- an event, which is what contracts see of some `Event`, is passed on to the inner visitor
   pub record PassesOn (old : Relay V) (event : PlainEvent) (flow : Flow) (new : Relay V) : Type 0
     where
       pub same : new.visitor.ghost_name ≡ old.visitor.ghost_name

@@ -1,5 +1,5 @@
 -- The items that remain in the middle of a walk. A list of frames has the innermost one first.
-use Rattle.std.specs.Prelude.{◌≡◌, ℕ, zero, suc, ◌+◌, ◌-◌, ◌*◌, ◌^◌, ◌<◌, ◌≤◌, Bool, true, false, if◌then◌else◌, List, [], ◌∷◌, ◌++◌, length, take, drop, slice_index, nat_eq, nat_lt, Result, Ok, Err, Option, None, Some, option_and_then, IsOkAnd, MatchBool, MatchResult, ⊤}
+use Rattle.std.specs.Prelude.{◌≡◌, ℕ, zero, suc, ◌+◌, ◌-◌, ◌*◌, ◌^◌, ◌<◌, ◌≤◌, Bool, true, false, if◌then◌else◌, List, [], ◌∷◌, ◌++◌, length, take, drop, slice_index, nat_eq, nat_lt, Result, Ok, Err, Option, None, Some, option_and_then, IsOkAnd, MatchBool, MatchResult, ⊤, IsSomeAnd}
 use Rattle.std.specs.List.{list_any, flat_map, IsDistinct, AllByRecursion, slice_get}
 use Rattle.std.specs.Option.{option_map_or}
 use Rattle.plist_base.specs.declared.error.Error.{Error}
@@ -98,7 +98,7 @@ AreBoundsOf answer bounds = IsOkAnd answer (λ head.
 -- the content is the offset of the entry, or the tag and the content encode the entry's scalar
 abbrev pub IsHeld : Option TableEntry → (tag content : ℕ) → Type 0
 IsHeld entry tag content = MatchBool (nat_eq (unmarked tag) 0) (content ≡ place_at entry)
-    (scalar_at entry ≡ cached tag content)
+    (IsSomeAnd (cached tag content) (λ scalar. scalar_at entry ≡ Some scalar))
 
 -- the tag of an open collection says where the references to its children lie
 abbrev pub LocatesReferences : List ℕ → Bounds → Option TableEntry → (tag : ℕ) → Type 0

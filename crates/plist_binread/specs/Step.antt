@@ -156,7 +156,8 @@ pub record YieldsRoot {A : Type 0} (known : Option (List ℕ)) (bounds : Bounds)
       IsCachedIfSmall (λ _. event) (root_with (head_of bytes)) (Some answer) new.tags.items)
 
 -- over known bytes, the item is the first that remained and the others remain, and the object that
--- was entered is cached if it is small; a collection without another child was closed
+-- was entered is cached if it is small; if the innermost collection has no child left, the event is
+-- its end
 pub record YieldsItem {A : Type 0} (known : Option (List ℕ)) (bounds : Bounds) (old : Walk)
     (item : Option (Result A Error)) (event : PlainEvent) (new : Walk) : Type 0 where
   pub first : IfSome known (λ bytes.

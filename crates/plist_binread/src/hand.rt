@@ -22,7 +22,7 @@ use plist_decode::fault_slot::{FaultSlot, StepError};
 use plist_decode::long_content::{read_long, wide_text_event};
 use plist_decode::packed::PackedKind;
 use plist_decode::utf8::text_in;
-use plist_decode::utf16::{MOST_UNITS, large_text_in};
+use plist_decode::utf16::{MAX_UNITS, utf16_text_in};
 use std::borrow::{CowSlice, CowStr};
 use std::ops::ControlFlow;
 
@@ -114,8 +114,8 @@ fn hand_text<V: EventVisitor>(
     }
 }
 
-// Hands over a string in UTF-16 that may have many units, or stores the error of the object at this
-// offset if it is invalid.
+// Hands over a string in UTF-16 of any length, decoded into memory of its own, or stores the error of
+// the object at this offset if it is invalid.
 #[cold]
 #[inline(never)]
 fn hand_long_wide_text<V: EventVisitor>(
@@ -136,7 +136,11 @@ fn hand_long_wide_text<V: EventVisitor>(
 }
 
 // Hands over a string in UTF-16, or stores the error of the object at this offset if it is invalid.
-// A string of few units is decoded on the stack.
+// A string of at most `MAX_UNITS` units is decoded on the stack.
+//
+// A string of at most eight bytes in UTF-8 is decoded together with the first bytes of its object.
+// So there can be one here only if the source returned other bytes before. The error is
+// `OutOfMemory` then.
 #[inline(never)]
 fn hand_wide_text<V: EventVisitor>(
     bytes: &[u8],
@@ -151,13 +155,14 @@ fn hand_wide_text<V: EventVisitor>(
     ensures fault { (end : ℕ) → ErrWithin place end (result_in result slot.new) }
     ensures failures { (count : ℕ) → ResultCountsIo (result_in result slot.new) count count }
 {
-    if bytes.len() > 2 * MOST_UNITS {
+    if bytes.len() > 2 * MAX_UNITS {
         return hand_long_wide_text(bytes, place, slot, visitor);
     }
-    let mut text = [0; 3 * MOST_UNITS];
-    match large_text_in(bytes, &mut text) {
-        Ok(text) => Ok(visitor.string(CowStr::Borrowed(text))),
-        Err(fault) => Err(slot.refuse_object(fault, place)),
+    let mut text = [0; 3 * MAX_UNITS];
+    match utf16_text_in(bytes, &mut text) {
+        Some(text) if text.len() > 8 => Ok(visitor.string(CowStr::Borrowed(text))),
+        Some(_) => Err(slot.refuse_memory()),
+        None => Err(slot.refuse_object(ObjectFault::NotUtf16, place)),
     }
 }
 

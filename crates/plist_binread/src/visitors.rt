@@ -11,11 +11,13 @@ use std::alloc::Global;
 use std::borrow::{CowSlice, CowStr};
 use std::ops::ControlFlow;
 
-/// Passes all events on to another visitor. Each of them was given to it as an [`Event`].
+/// Passes all events on to another visitor. Its contract says that each of them is what contracts
+/// see of some [`Event`]. A reader whose contract describes owned events needs that, in order to hand
+/// over the events of a [`BinaryReader`](crate::BinaryReader).
 ///
 /// The code that enters an object, and the code that hands over a small scalar, are compiled once
-/// for each type of visitor that they are called with. The first event of a file, and each scalar
-/// that is found in the cache, are handed to a `Relay`. All other events are handed to the inner
+/// for each type of visitor that they are called with. A `BinaryReader` hands the first event of a
+/// file, and each scalar that is found in the cache, to a `Relay`. It hands all other events to its
 /// visitor directly. So the code for these has only one caller, and becomes part of the loop over
 /// the events. This saves a tenth of the instructions for each event.
 #[derive(Drop)]

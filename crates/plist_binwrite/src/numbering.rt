@@ -16,7 +16,7 @@ pub struct Numbering {
     /// One more than the number of each class's object, indexed by the class, or 0 if the object
     /// has no number yet.
     pub by_class: CompactNumbers,
-    /// How many objects have numbers. These are the numbers below it.
+    /// The number of objects that have numbers. Their numbers are those below `count`.
     pub count: usize,
 }
 
@@ -64,6 +64,7 @@ impl Numbering {
         if self.by_class.get(class) != 0 {
             return Ok(());
         }
+        // This can't overflow, since each number belongs to a class. The test replaces a proof of it.
         let Some(count) = self.count.checked_add(1) else {
             return Err(AllocError);
         };

@@ -126,7 +126,7 @@ impl CompactNumbers {
         Ok(())
     }
 
-    /// Removes the last number, if any. The memory is freed once the list is empty.
+    /// Removes the last number, if any.
     pub fn pop(&mut self)
         ensures { self.new ≡ take (length self.old - 1) self.old }
     {
@@ -136,11 +136,10 @@ impl CompactNumbers {
                 self.narrow.pop();
             }
         }
-        self.free_if_empty();
     }
 
-    // Frees the memory of an empty list.
-    fn free_if_empty(&mut self)
+    /// Frees the memory if the list is empty.
+    pub fn free_if_empty(&mut self)
         ensures { self.new ≡ self.old }
     {
         if self.narrow.is_empty() && self.wide.is_empty() {

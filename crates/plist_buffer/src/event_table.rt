@@ -204,6 +204,7 @@ impl<'e> EventTable<'e> {
             Some(start) => {
                 self.entries.close(start)?;
                 self.unclosed.pop();
+                self.unclosed.free_if_empty();
                 Ok(())
             }
             None => {

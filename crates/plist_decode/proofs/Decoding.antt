@@ -49,25 +49,24 @@ by_kind kind place e is inside reader = (
 -- the error that reports an object's fault is the error of the object, with an offset, and leaves
 -- the count of failures unchanged
 pub fault_there : (f : ObjectFault) (kind : FaultKind) (place : ℕ) (e : Error)
-    → (f ≡ fault.NoMemory → ⊥) → kind ≡ kind_of_object_fault f → fault_of e ≡ fault_at kind place
+    → kind ≡ kind_of_object_fault f → fault_of e ≡ fault_at kind place
     → ((object : Object) → IsObjectFault object f → IsRefusedAs object place e)
     × ((end : ℕ) → FailsWithin place end (fault_of e)) × ((count : ℕ) → CountsIo e count count)
-fault_there fault.NoMemory kind place e other same is = absurd (other refl)
-fault_there fault.Overrun kind place e other same is =
+fault_there fault.Overrun kind place e same is =
     by_kind faults.ObjectOffsetTooLarge place e (is ∙ ap (λ k. fault_at k place) same) tt tt
-fault_there fault.Null kind place e other same is =
+fault_there fault.Null kind place e same is =
     by_kind faults.NullObjectUnimplemented place e (is ∙ ap (λ k. fault_at k place) same) tt tt
-fault_there fault.Fill kind place e other same is =
+fault_there fault.Fill kind place e same is =
     by_kind faults.FillObjectUnimplemented place e (is ∙ ap (λ k. fault_at k place) same) tt tt
-fault_there (fault.Unknown marker) kind place e other same is =
+fault_there (fault.Unknown marker) kind place e same is =
     by_kind (faults.UnknownObjectType marker) place e (is ∙ ap (λ k. fault_at k place) same) tt tt
-fault_there fault.OutOfRange kind place e other same is =
+fault_there fault.OutOfRange kind place e same is =
     by_kind faults.IntegerOutOfRange place e (is ∙ ap (λ k. fault_at k place) same) tt tt
-fault_there fault.NoDate kind place e other same is =
+fault_there fault.NoDate kind place e same is =
     by_kind faults.OverflowOrNanDate place e (is ∙ ap (λ k. fault_at k place) same) tt tt
-fault_there fault.NotUtf8 kind place e other same is =
+fault_there fault.NotUtf8 kind place e same is =
     by_kind faults.InvalidUtf8String place e (is ∙ ap (λ k. fault_at k place) same) tt tt
-fault_there fault.NotUtf16 kind place e other same is =
+fault_there fault.NotUtf16 kind place e same is =
     by_kind faults.InvalidUtf16String place e (is ∙ ap (λ k. fault_at k place) same) tt tt
 
 -- ---- strings and data

@@ -1,11 +1,11 @@
 -- What is decoded from the bytes at an object's front, whatever follows them.
 use Rattle.std.specs.Prelude.{◌≡◌, ℕ, ◌+◌, ◌*◌, ◌^◌, ◌<◌, ◌≤◌, List, ◌∷◌, ◌++◌, length, take, drop, true, Option, Result, IfSome, MatchResult, ⊤}
 use Rattle.plist_base.specs.declared.error.Error.{Error}
-use Rattle.plist_base.specs.Faults.{FaultKind, ObjectOffsetTooLarge, NullObjectUnimplemented, FillObjectUnimplemented, UnknownObjectType, IntegerOutOfRange, OverflowOrNanDate, InvalidUtf8String, InvalidUtf16String, OutOfMemory}
+use Rattle.plist_base.specs.Faults.{FaultKind, ObjectOffsetTooLarge, NullObjectUnimplemented, FillObjectUnimplemented, UnknownObjectType, IntegerOutOfRange, OverflowOrNanDate, InvalidUtf8String, InvalidUtf16String}
 use Rattle.plist_format.specs.Object.{Object, Scalar, Faulty, date, meaning_of_front, object_in}
 use Rattle.plist_decode.specs.CountedContent.{content_means, unit_size}
 use Rattle.plist_base.specs.declared.event.Event.{Event}
-use Rattle.plist_decode.specs.Decoding.{Allocates, AreReferencesAt, Decodes, IsCollection, IsRefusedAs, child_count, children_in, start_event}
+use Rattle.plist_decode.specs.Decoding.{AreReferencesAt, Decodes, IsCollection, IsRefusedAs, child_count, children_in, start_event}
 use Rattle.plist_decode.specs.Reading.{bytes_at, object_at}
 use Rattle.plist_decode.specs.Packed.{content_bytes, is_packed, unpacked}
 use Rattle.plist_decode.specs.FaultOffsets.{ErrWithin}
@@ -30,12 +30,10 @@ kind_of_object_fault fault.OutOfRange = IntegerOutOfRange
 kind_of_object_fault fault.NoDate = OverflowOrNanDate
 kind_of_object_fault fault.NotUtf8 = InvalidUtf8String
 kind_of_object_fault fault.NotUtf16 = InvalidUtf16String
-kind_of_object_fault fault.NoMemory = OutOfMemory
 
--- the object has this fault, or an allocation for it failed
+-- the object has this fault
 abbrev pub IsObjectFault : Object → ObjectFault → Type 0
-IsObjectFault object fault.NoMemory = Allocates object
-IsObjectFault object other = object ≡ Faulty (kind_of_object_fault other)
+IsObjectFault object fault = object ≡ Faulty (kind_of_object_fault fault)
 
 -- ---- what is decoded
 

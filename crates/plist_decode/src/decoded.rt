@@ -145,8 +145,6 @@ pub enum ObjectFault {
     NotUtf8,
     /// The units of a string aren't UTF-16.
     NotUtf16,
-    /// An allocation for a string failed.
-    NoMemory,
 }
 
 impl ObjectFault {
@@ -163,12 +161,10 @@ impl ObjectFault {
             ObjectFault::NoDate => ErrorKind::OverflowOrNanDate,
             ObjectFault::NotUtf8 => ErrorKind::InvalidUtf8String,
             ObjectFault::NotUtf16 => ErrorKind::InvalidUtf16String,
-            ObjectFault::NoMemory => ErrorKind::OutOfMemory,
         }
     }
 
-    /// Returns the error of the object at this offset. `OutOfMemory` is the only error without an
-    /// offset.
+    /// Returns the error of the object at this offset.
     #[cold]
     #[inline(never)]
     pub fn at(self, place: u64) -> Error
@@ -177,9 +173,6 @@ impl ObjectFault {
         ensures fault { (end : ℕ) → FailsWithin place end (fault_of result) }
         ensures failures { (count : ℕ) → CountsIo result count count }
     {
-        match self {
-            ObjectFault::NoMemory => ErrorKind::OutOfMemory.without_position(),
-            fault => fault.kind().with_byte_offset(place),
-        }
+        self.kind().with_byte_offset(place)
     }
 }

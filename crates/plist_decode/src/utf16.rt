@@ -1,18 +1,16 @@
 //! Decodes short strings in UTF-16.
 
-ghost use Rattle.std.specs.Prelude.{◌≡◌, ◌+◌, ◌*◌, ◌/◌, ◌++◌, ◌<◌, ◌≤◌, length, take, encode_utf8, IfOk, MatchOption, MatchResult};
+ghost use Rattle.std.specs.Prelude.{◌≡◌, ◌+◌, ◌*◌, ◌/◌, ◌++◌, ◌<◌, ◌≤◌, length, take, encode_utf8, MatchOption};
 ghost use Rattle.std.specs.Char.{len_utf8};
 ghost use Rattle.plist_base.specs.Faults.{InvalidUtf16String};
 ghost use Rattle.plist_base.specs.Trees.{String};
 ghost use Rattle.plist_format.specs.Object.{Faulty, Scalar, wide_text};
-ghost use Rattle.plist_decode.specs.Decoded.{IsObjectFault};
 ghost use Rattle.plist_decode.specs.inner.Utf16.{IsNextChar, IsUnpaired, unit_at};
 
-use crate::decoded::ObjectFault;
 use crate::numbers::unit_from;
 
-/// The most units of a string that is decoded without an allocation.
-pub const MOST_UNITS: usize = 128;
+/// The maximum number of units of a string that is decoded without an allocation.
+pub const MAX_UNITS: usize = 128;
 
 // Returns the unit at an index.
 #[inline(always)]
@@ -59,7 +57,9 @@ fn char_at(bytes: &[u8], at: usize) -> Option<(char, usize)>
     Some((unsafe { char::from_u32_unchecked(unit) }, at + 1))
 }
 
-// Writes a character in UTF-8 after the first `size` bytes, and returns where it ends.
+// Writes a character in UTF-8 after the first `size` bytes, and returns where it ends. The contract
+// of `encode_utf8` says nothing of the bytes that it writes to, only of the string that it returns,
+// so that string is copied.
 #[inline(always)]
 fn write_char(text: &mut [u8], size: usize, c: char) -> usize
     requires { size + len_utf8 c ≤ length text.old }
@@ -94,24 +94,4 @@ pub fn utf16_text_in<'t>(bytes: &[u8], text: &'t mut [u8]) -> Option<&'t str>
         at = next;
     }
     Some(unsafe { str::from_utf8_unchecked(&text[..size]) })
-}
-
-/// Writes a string in UTF-16 to `text` in UTF-8, and returns it. There must be room for three bytes
-/// for each unit.
-///
-/// A string of at most eight bytes in UTF-8 is decoded together with the first bytes of its object.
-/// So there can be one here only if the source returned other bytes before. Then, or if a surrogate
-/// is unpaired, the fault is returned.
-#[inline(always)]
-pub fn large_text_in<'t>(bytes: &[u8], text: &'t mut [u8]) -> Result<&'t str, ObjectFault>
-    requires { 3 * (length bytes.now / 2) ≤ length text.old }
-    ensures value { MatchResult result (λ text. wide_text bytes.now ≡ Scalar (String text.now))
-        (IsObjectFault (wide_text bytes.now)) }
-    ensures large { IfOk result (λ text. 8 < length text.now) }
-{
-    match utf16_text_in(bytes, text) {
-        Some(text) if text.len() > 8 => Ok(text),
-        Some(_) => Err(ObjectFault::NoMemory),
-        None => Err(ObjectFault::NotUtf16),
-    }
 }

@@ -1,5 +1,5 @@
--- The contents of a keyed archive, the tree of each of its objects, in which each Uid is replaced by
--- the tree of the object that it names, and the errors.
+-- Keyed archives: their contents, their errors, and the tree of each object, in which each Uid is
+-- replaced by the tree of the object that it names.
 use Rattle.std.specs.Prelude.{◌≡◌, ℕ, zero, suc, Bool, true, false, List, [], ◌∷◌, ◌++◌, length, map, Option, Some, None, Result, Ok, Err, codes, decimal, nat_eq, slice_get, ⊤}
 use Rattle.std.specs.List.{list_any}
 use Rattle.std.specs.Map.{lookup}

@@ -276,16 +276,16 @@ impl<R: Source> EventSource for Reader<R> {
     ghost yields = { YieldsPlain (Gives R.known R.failures) };
 
     fn visit<V: EventVisitor>(&mut self, visitor: &mut V) -> Result<Visited, Error> {
-        while let Some(turn) = self.hand_over(visitor) {
-            match turn {
-                Ok(ControlFlow::Continue(())) => {}
-                Ok(ControlFlow::Break(())) => return Ok(Visited::Stopped),
-                Err(error) => return Err(error),
-            }
+        loop {
             if let State::Binary(reader) = &mut self.state {
                 return reader.visit(&mut Relay::new(visitor));
             }
+            match self.hand_over(visitor) {
+                None => return Ok(Visited::Ended),
+                Some(Ok(ControlFlow::Continue(()))) => {}
+                Some(Ok(ControlFlow::Break(()))) => return Ok(Visited::Stopped),
+                Some(Err(error)) => return Err(error),
+            }
         }
-        Ok(Visited::Ended)
     }
 }

@@ -38,7 +38,8 @@ abbrev mutual
       bytes_eq k l && (tree_eq t u && members_eq ms ns)
   members_eq ms ns = false
 
--- the tree and all trees in it, with each key as a string
+-- the tree and all trees in it, with each key as a string, in the order of their events (`positions`
+-- also has their indices)
 abbrev pub subtrees : Tree → List Tree
 subtrees tree = map (λ (one : ℕ × Tree). one.1) (positions tree 0)
 

@@ -1,5 +1,5 @@
 -- What has been taken of a string: its characters, its escapes, and parts that end with an escape
--- or the closing quote. And strings that end among the bytes at hand.
+-- or the closing quote; and strings that end among the bytes at hand.
 use Rattle.std.specs.Prelude.{◌≡◌, ℕ, ◌+◌, ◌<◌, Bool, not, List, [], ◌∷◌, ◌++◌, length, drop, slice_get, Option, None, Some, Result, Ok, Err, MatchBool, MatchOption, encode_utf8}
 use Rattle.std.specs.declared.alloc.Global.{Global}
 use Rattle.std.specs.declared.vec.Vec.{Vec}

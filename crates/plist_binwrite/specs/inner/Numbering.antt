@@ -1,5 +1,5 @@
 -- The numbers of objects. `by_class` has 1 more than the number of each class's object, or 0 if that
--- has no number yet. The `count` numbers are those below it.
+-- has no number yet. `count` objects have numbers, which are those below `count`.
 use Rattle.std.specs.Prelude.{◌≡◌, ℕ, ◌+◌, ◌-◌, ◌^◌, ◌<◌, ◌≤◌, false, List, length, slice_index}
 use Rattle.plist_base.specs.Events.{PlainEvent}
 use Rattle.plist_buffer.specs.EventTable.{is_end, event_at, HasItem, IsBracketed}
@@ -33,7 +33,8 @@ AllHaveNumbers es stored =
 pub record KeepsNumbering (old new : ℕ → ℕ) : Type 0 where
   pub kept : (p : ℕ) → IsNumbered old p → new p ≡ old p
 
--- each class has the number of the one object whose first event is of that class, or no number yet
+-- each class has the number of one object, or no number yet; `first` is the index of an event of each
+-- object; the ends need no class
 pub record IsPlan (es : List PlainEvent) (class : ℕ → ℕ) (by_class : List ℕ) (count : ℕ) : Type 0
   where
     pub first : ℕ → ℕ
@@ -68,7 +69,8 @@ pub record IsNumberingOfEvents (given : Classed) (numbering : Numbering) : Type 
   pub planned : IsPlanned (events_in given) (class_in given) numbering.by_class numbering.count
   pub open planned use *
 
--- each event has a class, and the numbers so far follow the classes
+-- the classes are as many as the list says, each event but an end has one, and the numbers so far
+-- follow the classes
 pub record IsNumberedSoFar (given : Classed) (found : Numbering) : Type 0 where
   pub listed : IsListed given
   pub plan : IsPlan (events_in given) (class_in given) found.by_class found.count

@@ -1,7 +1,6 @@
 -- The steps of a walk over an archive: the events of its objects, with each Uid in them replaced by
--- the steps of the object that it names. Settled Uids: their objects, and all objects that these
--- lead to, were walked completely, and no fault was found. In lists of settled Uids the last one is
--- first.
+-- the steps of the object that it names. A Uid is settled if its object, and all objects to which
+-- that leads, were walked completely without a fault. In lists of settled Uids the last one is first.
 use Rattle.std.specs.Prelude.{◌≡◌, ℕ, zero, suc, ◌-◌, ◌<◌, ◌≤◌, Bool, true, false, List, [], ◌∷◌, ◌++◌, length, map, reverse, Option, Some, None, Result, Ok, Err, nat_eq, slice_get, ⊤}
 use Rattle.std.specs.List.{AllByRecursion, filter_map, flat_map, list_any}
 use Rattle.std.specs.Option.{option_map_or}

@@ -41,7 +41,7 @@ IsClass count nodes own None c = c ≡ own
 IsClass count nodes own (Some node) c =
     (i : ℕ) × (c ≡ count + i) × (slice_get nodes i ≡ Some node)
 
--- `class` is that of the tree that begins at an index, if that tree is a collection
+-- if a collection begins at the index, `class` is its class; nothing is said about a scalar
 abbrev pub IsClassAt : EventTable → (classes : List ℕ) → (count : ℕ) → (nodes : List Node)
     → (index class : ℕ) → Type 0
 IsClassAt held classes count nodes index class = (t : Tree) → OccursAt (plain_events held) t index

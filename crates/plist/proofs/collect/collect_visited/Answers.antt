@@ -8,8 +8,8 @@ returns-in-Ok-Ended g c =
 
 pub returns-in-Ok-Stopped : goal.returns-in-Ok-Stopped
 returns-in-Ok-Stopped g c =
-    rw c.take_refusal.ensures (collected_stop g.S.EventSource.yields _ _ c.new.ensures _
-    c.in-Ok-Stopped.field-0-is c.in-Ok-Stopped.ensures)
+    collected_stop g.S.EventSource.yields _ _ c.new.ensures _
+    c.in-Ok-Stopped.field-0-is c.in-Ok-Stopped.ensures
 
 pub returns : goal.returns
 returns g c =

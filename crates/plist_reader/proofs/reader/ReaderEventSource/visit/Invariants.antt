@@ -5,11 +5,11 @@ use Rattle.plist_reader.proofs.reader.ReaderEventSource.visit.Given as goal
 use Rattle.std.proofs.Common.{List}
 
 -- these events were handed over
-abbrev pub invariant-loop-turn : goal.invariant-loop-turn
-invariant-loop-turn g l =
+abbrev pub invariant-loop-self : goal.invariant-loop-self
+invariant-loop-self g l =
     (events : List PlainEvent)
     × HandsOverAll (YieldsPlain (Gives g.R.Source.known g.R.Source.failures)) g.V.EventVisitor.step
     (l.initial.self, l.initial.visitor) events (l.self, l.visitor)
 
-abbrev pub decreases-loop-turn : goal.decreases-loop-turn
-decreases-loop-turn g l = steps_in_state l.self.state
+abbrev pub decreases-loop-self : goal.decreases-loop-self
+decreases-loop-self g l = steps_in_state l.self.state
