@@ -138,16 +138,6 @@ impl CompactNumbers {
         }
     }
 
-    /// Frees the memory if the list is empty.
-    pub fn free_if_empty(&mut self)
-        ensures { self.new ≡ self.old }
-    {
-        if self.narrow.is_empty() && self.wide.is_empty() {
-            self.narrow.shrink_to_fit();
-            self.wide.shrink_to_fit();
-        }
-    }
-
     /// Replaces the number at an index, which must be less than the length. If an allocation fails,
     /// nothing changes.
     #[inline(always)]

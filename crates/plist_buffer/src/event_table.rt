@@ -204,7 +204,6 @@ impl<'e> EventTable<'e> {
             Some(start) => {
                 self.entries.close(start)?;
                 self.unclosed.pop();
-                self.unclosed.free_if_empty();
                 Ok(())
             }
             None => {
