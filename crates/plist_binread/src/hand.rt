@@ -114,8 +114,8 @@ fn hand_text<V: EventVisitor>(
     }
 }
 
-// Hands over a string in UTF-16 of any length, decoded into memory of its own, or stores the error of
-// the object at this offset if it is invalid.
+// Decodes a string in UTF-16 of any length into memory of its own, and hands it over. Stores the
+// error of the object at this offset if the string is invalid.
 #[cold]
 #[inline(never)]
 fn hand_long_wide_text<V: EventVisitor>(

@@ -12,7 +12,7 @@ use std::borrow::{CowSlice, CowStr};
 use std::ops::ControlFlow;
 
 /// Passes all events on to another visitor. Its contract says that each of them is what contracts
-/// see of some [`Event`]. A reader whose contract describes owned events needs that, in order to hand
+/// see of some [`Event`]. A reader whose contract describes owned events needs this when it hands
 /// over the events of a [`BinaryReader`](crate::BinaryReader).
 ///
 /// The code that enters an object, and the code that hands over a small scalar, are compiled once

@@ -64,7 +64,8 @@ impl Numbering {
         if self.by_class.get(class) != 0 {
             return Ok(());
         }
-        // This can't overflow, since each number belongs to a class. The test replaces a proof of it.
+        // This can't overflow, since each number belongs to a class. The test replaces a proof of
+        // that.
         let Some(count) = self.count.checked_add(1) else {
             return Err(AllocError);
         };

@@ -6,7 +6,7 @@
 ghost use Rattle.std.specs.Prelude.{◌≡◌, ◌+◌, ◌-◌, ◌*◌, ◌%◌, ◌^◌, ◌<◌, ◌≤◌, length, IfNone, IfSome};
 ghost use Rattle.plist_base.specs.Trees.{String};
 ghost use Rattle.plist_format.specs.Object.{Scalar, text, wide_text};
-ghost use Rattle.plist_decode.specs.CountedContent.{AreUnits, EndsBefore, IsCount, IsLength, IsLengthCut, LiesAfter, RefusesCounted, counted_with};
+ghost use Rattle.plist_decode.specs.CountedContent.{EndsBefore, IsCount, IsLength, IsLengthCut, LiesAfter, RefusesCounted, counted_with};
 ghost use Rattle.plist_decode.specs.Decoded.{DecodesAfter, DecodesScalar, MeansDecoded};
 ghost use Rattle.plist_decode.specs.Front.{ShowsContent};
 ghost use Rattle.plist_decode.specs.Reading.{counted_kind, object_counted};
