@@ -59,6 +59,7 @@ impl<'a> Event<'a> {
     /// # Errors
     ///
     /// `OutOfMemory`, without an offset, if the copy can't be allocated. The event is dropped then.
+    #[inline(always)]
     pub fn into_owned(self, alloc: Global) -> Result<OwnedEvent, Error>
         ensures event { IfOk result (λ owned. event_of owned ≡ event_of self.entry) }
         ensures memory { OnlyMemory result }

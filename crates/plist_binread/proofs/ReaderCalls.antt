@@ -13,6 +13,7 @@ use Rattle.plist_binread.specs.declared.reader.BinaryReader.{BinaryReader}
 use Rattle.plist_decode.specs.declared.head.Bounds.{Bounds}
 use Rattle.plist_binread.specs.declared.walk.Walk.{Walk}
 use Rattle.plist_format.specs.Container.{head_of}
+use Rattle.plist_binread.specs.Handovers.{IsEventOrMemory}
 use Rattle.plist_binread.specs.Walking.{IsBounded, IsCachedIfSmall, IsKnownWalk, cached_in, walk_objects}
 use Rattle.plist_binread.specs.BinaryReader.{EndsThere, GivesAs, KeepsInvariant, is_new, items_to_come, number_to_come}
 use Rattle.plist_binread.specs.Remaining.{AllocatesFirst, AreBoundsOf, SomeRemain, objects_in_head}
@@ -78,6 +79,14 @@ wanted_text event items h = search rules
 abbrev pub IsKept : Result Event Error → (current : PlainEvent) → Type 0
 IsKept kept current = MatchResult kept (λ owned. event_of owned ≡ current)
     (λ error. (fault_of error ≡ fault_without_offset OutOfMemory) × IsTextOrDataEvent current)
+
+-- the result for an event that was kept, or for none, is the event or the error
+pub kept_result : (kept : Option Event) (result : Result Event Error) (current : PlainEvent)
+    → IsEventOrMemory kept result
+    → MatchOption kept (IsTextOrDataEvent current) (λ owned. event_of owned ≡ current)
+    → IsKept result current
+kept_result kept (Ok owned) current is was = rw is at was
+kept_result kept (Err error) current is was = (is.1, rw is.0 at was)
 
 kept_first : (new : Bool) (before after rest : List Item) (current : PlainEvent)
     (kept : Result Event Error) → GivesAs (λ event. event) new before (Some (Ok current)) after

@@ -4,8 +4,7 @@
 ghost use Rattle.std.specs.Prelude.{◌≡◌};
 
 use plist_base::{
-    Allowance, Error, ErrorKind, Event, EventVisitor, Integer, LimitCounter, OwnedEvent, RealBits,
-    Uid,
+    Allowance, Error, Event, EventVisitor, Integer, LimitCounter, OwnedEvent, RealBits, Uid,
 };
 use std::alloc::Global;
 use std::borrow::{CowSlice, CowStr};
@@ -129,18 +128,15 @@ impl<'v, V: EventVisitor> EventVisitor for Within<'v, V> {
 #[derive(Drop)]
 pub struct FirstEvent {
     alloc: Global,
-    /// The event, or `OutOfMemory` if no event was received yet, or if an allocation for the
-    /// event's string or data failed.
-    pub kept: Result<OwnedEvent, Error>,
+    /// The event, or `None` if no event was received yet, or if an allocation for the event's
+    /// string or data failed.
+    pub kept: Option<OwnedEvent>,
 }
 
 impl FirstEvent {
     /// Creates a visitor that hasn't received an event yet.
     pub fn new(alloc: Global) -> FirstEvent {
-        FirstEvent {
-            alloc,
-            kept: Err(ErrorKind::OutOfMemory.without_position()),
-        }
+        FirstEvent { alloc, kept: None }
     }
 }
 
@@ -151,7 +147,7 @@ impl EventVisitor for FirstEvent {
 
     #[inline(always)]
     fn event(&mut self, event: Event<'_>) -> ControlFlow<()> {
-        self.kept = event.into_owned(self.alloc);
+        self.kept = event.into_owned(self.alloc).ok();
         ControlFlow::Break(())
     }
 }

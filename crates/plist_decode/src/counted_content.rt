@@ -85,6 +85,7 @@ fn long_content(kind: ContentKind, rest: &[u8], following: &[u8], count: u64) ->
 }
 
 /// Decodes data.
+#[inline(always)]
 pub fn decode_data(low: LowHalf, rest: &[u8], to_trailer: u64) -> Decoded
     requires to_trailer { length rest.now ≤ to_trailer }
     requires shown { ShowsContent to_trailer rest.now }
@@ -112,6 +113,7 @@ fn small_text(text: &str) -> Decoded
 }
 
 // Decodes a UTF-8 string of at most eight bytes.
+#[inline(always)]
 fn short_text(bytes: &[u8]) -> Decoded
     requires { length bytes.now ≤ 8 }
     ensures { MeansDecoded (text bytes.now) result }
@@ -154,6 +156,7 @@ fn short_wide_text(bytes: &[u8]) -> Option<Decoded>
 }
 
 /// Decodes a string in UTF-16.
+#[inline(always)]
 pub fn decode_wide_text(low: LowHalf, rest: &[u8], to_trailer: u64) -> Decoded
     requires to_trailer { length rest.now ≤ to_trailer }
     requires shown { ShowsContent to_trailer rest.now }

@@ -78,6 +78,7 @@ pub fn decode_signed(rest: &[u8], to_trailer: u64) -> Decoded
 
 /// Decodes an integer of sixteen bytes. The first eight bytes have to be zero, because no other
 /// integer fits into a `u64`.
+#[inline(always)]
 pub fn decode_wide_integer(rest: &[u8], to_trailer: u64) -> Decoded
     requires { ShowsContent to_trailer rest.now }
     ensures { DecodesFixed to_trailer 16 wide_integer rest.now result }
@@ -94,6 +95,7 @@ pub fn decode_wide_integer(rest: &[u8], to_trailer: u64) -> Decoded
 }
 
 /// Decodes a Uid.
+#[inline(always)]
 pub fn decode_uid(rest: &[u8], to_trailer: u64, width: UidWidth) -> Decoded
     requires { ShowsContent to_trailer rest.now }
     ensures { DecodesFixed to_trailer width uid_of_content rest.now result }
