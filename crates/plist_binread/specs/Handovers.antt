@@ -1,5 +1,5 @@
 -- What is handed over to a visitor.
-use Rattle.std.specs.Prelude.{◌≡◌, ◌⊎◌, Option, None, Some, Result, Ok, Err, MatchOption, MatchResult}
+use Rattle.std.specs.Prelude.{◌≡◌, ◌⊎◌, Option, Some, Result, Ok, Err, MatchOption, MatchResult}
 use Rattle.std.specs.declared.ops.ControlFlow.TheVariants.{Break}
 use Rattle.plist_base.specs.declared.error.Error.{Error}
 use Rattle.plist_base.specs.declared.event.Event.{Event}
@@ -23,10 +23,10 @@ abbrev pub KeepsEvent : PlainEvent → Flow → FirstEvent → Type 0
 KeepsEvent event flow visitor = (flow ≡ Break tt) × MatchOption visitor.kept
     (IsTextOrDataEvent event) (λ owned. event_of owned ≡ event)
 
--- the event that was kept, or `OutOfMemory` if there is none
-abbrev pub IsEventOrMemory : Option Event → Result Event Error → Type 0
-IsEventOrMemory kept result = MatchResult result (λ event. kept ≡ Some event)
-    (λ error. (kept ≡ None) × (fault_of error ≡ fault_without_offset OutOfMemory))
+-- the item is `OutOfMemory`, without an offset
+abbrev pub IsMemoryItem : {A : Type 0} → Option (Result A Error) → Type 0
+IsMemoryItem item = MatchOption item ⊥ (λ answer. MatchResult answer (λ _. ⊥)
+    (λ error. fault_of error ≡ fault_without_offset OutOfMemory))
 
 module _ {V : Type 0} (step : V → PlainEvent → Flow → V → Type 0) (old new : V) where
   -- the visitor took this event, or is unchanged after an error or if there is no item

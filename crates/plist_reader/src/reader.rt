@@ -183,6 +183,8 @@ impl<R: Source> Reader<R> {
     // Reads the first item. Only this call moves the state, which is large if the source stores
     // windows. The state that is replaced is dropped by a call, since the drop of an assignment is
     // more expensive to prove.
+    #[cold]
+    #[inline(never)]
     fn first(&mut self) -> Option<Result<OwnedEvent, Error>>
         ensures yields { IfUnread self.old.state
             (StateGives R.known R.failures self.old.state result self.new.state) }
